@@ -3,11 +3,11 @@
 
     tests/names.py
 
-MEANT lists the names that crates share on purpose, with what each says; LEFT those that still mean
-different things. Fields of records are skipped, and so is what a crate re-exports.
+MEANT lists the names that crates share on purpose, with what each says. Fields of records are
+skipped, and so is what a crate re-exports.
 
-Builds nothing. Prints each name that is in neither list and in two crates, and ends with status 1
-then. It also reports a listed name that is in one crate only.
+Builds nothing. Prints each other name that is in two crates, and ends with status 1 then. It also
+reports a listed name that is in one crate only.
 """
 import collections
 import pathlib
@@ -35,13 +35,6 @@ MEANT = {
     "a record under its key, in the register and in the maps":
         "IsDeliveryAt IsInspectionAt IsOrderAt",
 }
-LEFT = """
-    Adds Answers AreInOrder Ends AreWithin FollowsLine IsAfterStep IsFound IsKept IsLeftOpen IsOneOf IsQuery IsThere
-    Keeps Lacks Line Lists ListsRows Migrates Puts Ran Rows Run StaysOpen Writes
-    agree_at begun changes_of checked clearance command_of counted greatest intersection_rows is_among
-    is_of is_same keyed list listed mode_of moved open_by open_orders opening_of order_columns parts
-    reopened rows_of subject_of text_in
-"""
 
 
 def defined():
@@ -56,7 +49,7 @@ def defined():
 
 def main():
     shared = {name: crates for name, crates in defined().items() if len(crates) > 1}
-    known = {name for names in [*MEANT.values(), LEFT] for name in names.split()}
+    known = {name for names in MEANT.values() for name in names.split()}
     told = [f"{name} stands in one crate alone: take it off the list"
             for name in sorted(known - shared.keys())]
     for name in sorted(shared.keys() - known):

@@ -1,7 +1,8 @@
 //! Inspections that are overdue.
 
 ghost use Rattle.std.specs.Prelude.{◌≡◌, map, option_map, IfOk};
-ghost use Rattle.cabinet_core.specs.Overdue.{greater, latest_day, overdue_list, listed, lateness};
+ghost use Rattle.cabinet_core.specs.Overdue.{greater, latest_day, overdue_list, listed_of};
+ghost use Rattle.cabinet_core.specs.Overdue.{lateness};
 
 use crate::day::{Date, Day, due};
 use crate::record::Inspection;
@@ -52,7 +53,7 @@ pub fn latest(inspections: &[Inspection]) -> Option<Day>
 /// The row of an intersection that is overdue on the day: that was never inspected, or whose
 /// inspection fell due before the day. There is none where it is not overdue.
 pub fn overdue_row(day: Day, seen: &Seen) -> Result<Option<OverdueRow>, NoMemory>
-    ensures { IfOk result (λ row. lateness day seen.now ≡ option_map listed row) }
+    ensures { IfOk result (λ row. lateness day seen.now ≡ option_map listed_of row) }
 {
     let due = match seen.last {
         None => None,
@@ -74,7 +75,7 @@ pub fn overdue_row(day: Day, seen: &Seen) -> Result<Option<OverdueRow>, NoMemory
 /// The intersections that are overdue on the day: those that were never inspected, and those
 /// whose inspection fell due before the day. They come in the order of the rows.
 pub fn overdue(alloc: Global, day: Day, rows: &[Seen]) -> Result<Vec<OverdueRow>, NoMemory>
-    ensures { IfOk result (λ found. map listed found.items ≡ overdue_list day rows.now) }
+    ensures { IfOk result (λ found. map listed_of found.items ≡ overdue_list day rows.now) }
 {
     let mut found = Vec::new(alloc);
     for seen in rows {

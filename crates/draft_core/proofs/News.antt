@@ -1,17 +1,17 @@
 -- That the rows which a commit adds are new.
-use Rattle.std.proofs.Common.{◌≡◌, ◌⊎◌, true, false, cond, List, [], ◌∷◌, map, Option, Result}
-use Rattle.std.proofs.Common.{Ok, Err, refl, ap, sym, subst, ◌∙◌, inl, inr}
+use Rattle.std.proofs.Common.{◌≡◌, ◌⊎◌, ℕ, true, false, cond, List, [], ◌∷◌, map, Option}
+use Rattle.std.proofs.Common.{arith, refl, ap, sym, subst, ◌∙◌, inl, inr}
 use Rattle.std.proofs.lemmas.Bool.{cases_Bool}
-use Rattle.std.specs.{Prelude.IfOk, Cmp.tied_itself, FinMap.get, List.AllByRecursion, List.Sorted.IsStrictlySortedBy, Ordering.eq_by_cmp}
+use Rattle.std.specs.{Cmp.tied_itself, FinMap.get, List.AllByRecursion, List.Sorted.IsStrictlySortedBy, Ordering.eq_by_cmp}
 use Rattle.std.specs.{Ordering.is_eq, declared.cmp.Ordering.TheVariants.Less}
 use Rattle.signal_records.specs.{Key.key_cmp, KeyOrder.key_total, TimingSet.Rows, declared.key.Key.Key, declared.record.Row.Row}
 use Rattle.signal_records.specs.{declared.record.Change.Change, declared.record.Change.TheVariants.Put}
-use Rattle.draft_core.specs.{declared.refusal.DraftRefusal.DraftRefusal, declared.timing.Move.Move, declared.timing.Reach.Reach}
+use Rattle.draft_core.specs.{declared.step.Step.Step, declared.timing.Move.Move, declared.timing.Reach.Reach, Drafting.AreAmong, Moves.move_to}
 use Rattle.draft_core.specs.{declared.timing.Timing.Timing, DraftRows.Said, DraftRows.silent, DraftRows.said_by, DraftRows.later_of}
 use Rattle.draft_core.specs.{DraftRows.overlaid, DraftRows.row_at, Drafting.is_said, Moves.committed_by, Moves.said_after, News.AddsOnlyNew}
-use Rattle.draft_core.specs.{News.AreInOrder, News.AreNewAt, News.IsNewAt, Writes.settled_by, Writes.settling}
+use Rattle.draft_core.specs.{News.AreInOrder, News.AreNewAt, News.IsNewAt, Steps.StepWrites, Steps.asked_changes, Steps.reach_of, Writes.settled_by, Writes.settling}
 use Rattle.draft_core.specs.declared.timing.Reach.TheVariants as reach
-use Rattle.draft_state.specs.ChangedRows.{changed_key}
+use Rattle.draft_state.specs.{ChangedRows.changed_key, declared.state.Holding.Holding, declared.state.Verdict.Verdict}
 use Rattle.draft_core.proofs.{OnlyChanges.same_key, Pushed.later_of-silent}
 use Rattle.draft_core.proofs.Written.{committing, settled_commits, settled_either}
 
@@ -96,15 +96,23 @@ settling_new set [] order key said = tt
 settling_new set (change ∷ changes) order key said =
     (tt, committing_new set (change ∷ changes) order key (get set key) silent (λ named. refl))
 
--- ---- a move without rows adds none
+-- ---- a move that drafts no row, and one without rows
 
-pub none_new : (how : Reach) (timing : Timing) (result : Result Move DraftRefusal)
-    → IfOk result (λ move. move.changes ≡ [])
-    → IfOk result (λ move. AddsOnlyNew how timing move.changes)
-none_new how timing (Ok move) none = subst (AddsOnlyNew how timing) (sym none) (go how)
+pub among_none : (some changes : List Change) → some ≡ [] → AreAmong some changes
+among_none some changes none =
+    subst (λ list. AreAmong list changes) (sym none) (λ change has.
+    absurd (omega (arith, has.1)))
+
+pub idle_writes : {step : Step} {timing : Timing} {move : Move} {revision : ℕ} {holder : Holding}
+    {verdict : Verdict} → move ≡ move_to revision holder verdict [] → StepWrites step timing move
+idle_writes {step} {timing} {move} is = record {
+  news = rw is (go (reach_of step));
+  drafts = rw is (among_none [] (asked_changes step) refl);
+  committed = rw is (omega arith);
+  drafted = rw is (omega arith);
+}
   where
     go : (r : Reach) → AddsOnlyNew r timing []
     go reach.Row = tt
     go reach.Drafts = tt
     go reach.Plan = λ order key. tt
-none_new how timing (Err refusal) none = tt

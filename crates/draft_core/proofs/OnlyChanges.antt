@@ -1,7 +1,7 @@
 -- What an edit writes, one change after the other, and what that makes of the draft rows.
 use Rattle.std.proofs.Common.{◌≡◌, ◌⊎◌, Bool, true, false, not, cond, List, [], ◌∷◌, ◌++◌}
-use Rattle.std.proofs.Common.{Option, Result, Ok, Err, refl, ap, sym, subst, ◌∙◌, inl, inr, arith}
-use Rattle.std.specs.{Prelude.IfOk, BTreeSet.BTreeSet, BTreeSet.contains, Cmp.eq_by_cmp_equiv}
+use Rattle.std.proofs.Common.{Option, refl, ap, sym, subst, ◌∙◌, inl, inr, arith}
+use Rattle.std.specs.{BTreeSet.BTreeSet, BTreeSet.contains, Cmp.eq_by_cmp_equiv}
 use Rattle.std.specs.{FinMap.get, List.Contains, Ordering.eq_by_cmp, Ordering.is_eq}
 use Rattle.std.specs.declared.cmp.Ordering.TheVariants.{Less, Equal, Greater}
 use Rattle.std.proofs.{lemmas.List.append-nil, lemmas.List.length-append, lemmas.List.Elements.All-contains}
@@ -10,9 +10,9 @@ use Rattle.std.proofs.lemmas.List.Elements.{Contains-push_cases, recursion_from_
 use Rattle.signal_records.specs.{Key.key_cmp, KeyOrder.key_exact, KeyOrder.key_total, TimingSet.Rows, Within.IsChangeWithin}
 use Rattle.signal_records.specs.{Within.current_limits, declared.key.Key.Key, declared.record.Row.Row, declared.record.Change.Change}
 use Rattle.signal_records.specs.declared.record.Change.TheVariants.{Put, Remove}
-use Rattle.draft_core.specs.declared.timing.{Move.Move, TimingChange.TimingChange}
+use Rattle.draft_core.specs.declared.timing.TimingChange.{TimingChange}
 use Rattle.draft_core.specs.declared.timing.TimingChange.TheVariants.{CommittedNew, Committed, DraftGone}
-use Rattle.draft_core.specs.{declared.refusal.DraftRefusal.DraftRefusal, DraftRows.Said, DraftRows.silent, DraftRows.leaves}
+use Rattle.draft_core.specs.{DraftRows.Said, DraftRows.silent, DraftRows.leaves}
 use Rattle.draft_core.specs.DraftRows.{removes, said_by, said_at, later_of, overlaid, row_at, SaysOtherwise}
 use Rattle.draft_core.specs.Drafting.{AreAmong, DraftsChanges, KeepsIfDiffers, KeepsOnlyChange, SaysCommitted, drafted_as, is_said}
 use Rattle.draft_core.specs.{Within.AreChangesWithin, Moves.committed_after, Moves.drafted_in, Moves.row_after, Moves.timing_writes}
@@ -350,12 +350,3 @@ among_within some changes among within =
     (λ change has. All-contains (IsChangeWithin current_limits) changes change
     (All-from_recursion (IsChangeWithin current_limits) changes within) (among change has)) some
     (All-contains_itself some))
-
--- the same of a move
-pub moved_within : (result : Result Move DraftRefusal) (changes : List Change)
-    → IfOk result (λ move. AreAmong (drafted_in move.changes) changes)
-    → AreChangesWithin changes
-    → IfOk result (λ move. AreChangesWithin (drafted_in move.changes))
-moved_within (Ok move) changes among within =
-    among_within (drafted_in move.changes) changes among within
-moved_within (Err refusal) changes among within = tt

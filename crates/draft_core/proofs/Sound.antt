@@ -4,9 +4,10 @@ use Rattle.std.specs.Str.{bytes_eq}
 use Rattle.signal_rules.specs.{Violations.violations_of, declared.violation.Violation.Violation}
 use Rattle.draft_state.specs.{declared.revision.TheConstants.LAST_REVISION, declared.state.Stage.Stage}
 use Rattle.draft_state.specs.declared.state.Stage.TheVariants.{Done}
+use Rattle.draft_core.specs.declared.step.Step.TheVariants.{Commit}
 use Rattle.draft_core.specs.declared.refusal.DraftRefusal.{DraftRefusal}
 use Rattle.draft_core.specs.declared.refusal.DraftRefusal.TheVariants.{NotDone, NotOwner, RevisionFull, VerifyFailed}
-use Rattle.draft_core.specs.Transaction.{TimingSide, Draft, holder_of, is_stage, owned, committed, committed_with}
+use Rattle.draft_core.specs.Transaction.{TimingSide, Draft, holder_of, is_stage, owned, committed_with, table_line}
 
 -- what an owned command gives is the step of the draft that is held
 pub record OwnedStep (side : TimingSide) (step : Draft → Result TimingSide DraftRefusal) (next : TimingSide) : Type 0 where
@@ -58,7 +59,7 @@ commits_with side draft [] next is e =
     let parts = before_last side draft (side.revision == LAST_REVISION) next e in
     record { sound = is; before = parts.0; becomes = parts.1 }
 
-pub committed_inverts : (side : TimingSide) (clerk : List ℕ) (next : TimingSide) → committed side clerk ≡ Ok next
+pub committed_inverts : (side : TimingSide) (clerk : List ℕ) (next : TimingSide) → table_line Commit clerk side ≡ Ok next
     → (draft : Draft) × (side.draft ≡ Some draft) × Commits side draft next
 committed_inverts side clerk next e =
     let step = owned_inverts side Done NotDone clerk (λ draft. committed_with side draft (violations_of draft.set)) next e in

@@ -137,6 +137,6 @@ settling_writes set (change ∷ changes) =
     let all = committing_writes set (change ∷ changes) in
     (omega (arith, all.0), omega (arith, all.1))
 
-pub dropping_writes : (changes : List Change) → (timing_writes (dropping changes) ≡ 0) × (draft_writes (dropping changes) ≤ length changes)
-dropping_writes [] = (refl, omega arith)
+pub dropping_writes : (changes : List Change) → (timing_writes (dropping changes) ≤ 0) × (draft_writes (dropping changes) ≤ length changes)
+dropping_writes [] = (omega arith, omega arith)
 dropping_writes (change ∷ changes) = (omega arith, omega arith)

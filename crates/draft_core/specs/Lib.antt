@@ -4,6 +4,7 @@ pub mod DraftRows
 pub mod Moves
 pub mod News
 pub mod Drafting
+pub mod Steps
 pub mod Writes
 pub mod Sound
 pub mod Refusal

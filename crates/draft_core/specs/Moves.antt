@@ -1,5 +1,5 @@
--- What a decision of the transaction has to give.
-use Rattle.std.specs.Prelude.{◌≡◌, ◌⊎◌, ℕ, ◌+◌, List, [], ◌∷◌, cond, Option, Some, None, Result, Ok, Err, IfErr}
+-- What a list of changes makes of the rows, and what a move makes of a timing side.
+use Rattle.std.specs.Prelude.{◌≡◌, ◌⊎◌, ℕ, ◌+◌, List, [], ◌∷◌, cond, Option, Some, None, Result, Ok, Err}
 use Rattle.std.specs.Option.{option_map}
 use Rattle.std.specs.FinMap.{get}
 use Rattle.std.specs.Ordering.{eq_by_cmp}
@@ -8,7 +8,6 @@ use Rattle.signal_records.specs.declared.key.Key.{Key}
 use Rattle.signal_records.specs.declared.record.Row.{Row}
 use Rattle.signal_records.specs.declared.record.Change.{Change}
 use Rattle.signal_records.specs.declared.record.Change.TheVariants.{Put}
-use Rattle.signal_rules.specs.Violations.{violations_of}
 use Rattle.draft_state.specs.declared.state.DbState.{DbState}
 use Rattle.draft_state.specs.declared.state.DbState.TheVariants.{Normal, Transaction as InTransaction}
 use Rattle.draft_state.specs.declared.state.Stage.TheVariants.{Transaction}
@@ -16,16 +15,14 @@ use Rattle.draft_state.specs.declared.state.Verdict.{Verdict}
 use Rattle.draft_state.specs.declared.state.Holder.{Holder}
 use Rattle.draft_state.specs.declared.state.Holding.{Holding}
 use Rattle.draft_state.specs.declared.state.Holding.TheVariants.{Begun, Kept, Dropped}
-use Rattle.draft_core.specs.declared.timing.Timing.{Timing}
-use Rattle.draft_core.specs.declared.timing.Reach.{Reach}
 use Rattle.draft_core.specs.declared.timing.Move.{Move}
 use Rattle.draft_core.specs.declared.timing.TimingChange.{TimingChange}
 use Rattle.draft_core.specs.declared.timing.TimingChange.TheVariants.{CommittedNew, Committed}
 use Rattle.draft_core.specs.declared.timing.TimingChange.TheVariants.{DraftedNew, Drafted}
 use Rattle.draft_core.specs.declared.timing.TimingChange.TheVariants.{DraftGone, DraftDropped}
 use Rattle.draft_core.specs.declared.refusal.DraftRefusal.{DraftRefusal}
-use Rattle.draft_core.specs.declared.refusal.DraftRefusal.TheVariants.{NotNormal, NotTransaction, NotOwner, NotVerify, NotDone, VerifyFailed, RevisionFull, NoMemory}
-use Rattle.draft_core.specs.DraftRows.{HaveOnlyChanges, Said, silent, RowsByKey, RowStands, Stands}
+use Rattle.draft_core.specs.declared.refusal.DraftRefusal.TheVariants.{NoMemory}
+use Rattle.draft_core.specs.DraftRows.{HaveOnlyChanges, Said, silent, RowsByKey, RowStands}
 use Rattle.draft_core.specs.DraftRows.{later_of, overlaid, said_at}
 use Rattle.draft_core.specs.Transaction.{TimingSide, holder_of, in_stage, state_of, verdict_of}
 
@@ -98,7 +95,7 @@ drafted_in (Drafted change ∷ changes) = change ∷ drafted_in changes
 drafted_in (DraftGone gone ∷ changes) = drafted_in changes
 drafted_in (DraftDropped ∷ changes) = drafted_in changes
 
--- ---- a move, and the line of the table that it follows
+-- ---- a move, and the timing side that it makes
 
 -- who holds the draft after a step that this clerk asked for
 abbrev pub next_holder : Holding → List ℕ → Option Holder → Option Holder
@@ -145,42 +142,3 @@ abbrev pub Follows : RowsByKey → TimingSide → List ℕ → Result Move Draft
 Follows rows side clerk (Ok move) (Ok next) = Makes rows side clerk move next
 Follows rows side clerk (Ok move) (Err refusal) = ⊥
 Follows rows side clerk (Err refusal) line = (refusal ≡ NoMemory) ⊎ (line ≡ Err refusal)
-
--- THE LAW OF READING. What is decided on as much as is read follows the line of the table, for
--- whichever timing side that is read of, and whichever draft rows stand for its draft.
-abbrev pub FollowsLine : Reach → Timing → List ℕ → Result Move DraftRefusal
-    → (TimingSide → Result TimingSide DraftRefusal) → Type 0
-FollowsLine reach timing clerk result line =
-    (rows : RowsByKey) (side : TimingSide) → Stands reach timing rows side →
-    Follows rows side clerk result (line side)
-
--- the same, if the committed set breaks no rule
-abbrev pub FollowsSoundLine : Reach → Timing → List ℕ → Result Move DraftRefusal
-    → (TimingSide → Result TimingSide DraftRefusal) → Type 0
-FollowsSoundLine reach timing clerk result line =
-    (rows : RowsByKey) (side : TimingSide) → Stands reach timing rows side →
-    violations_of side.committed ≡ [] → Follows rows side clerk result (line side)
-
--- ---- refusals, whichever timing side is stood for, or none
-
--- what the test of state and owner refuses is refused so, never for want of memory; what it passes is refused, if at all, for what comes after it
-abbrev pub RefusesFirst : Option DraftRefusal → (DraftRefusal → Type 0) → Result Move DraftRefusal → Type 0
-RefusesFirst (Some why) Later result = result ≡ Err why
-RefusesFirst None Later result = IfErr result Later
-
-abbrev pub Never : DraftRefusal → Type 0
-Never why = ⊥
-
-abbrev pub IsMemory : DraftRefusal → Type 0
-IsMemory why = why ≡ NoMemory
-
--- a draft that was checked is not committed
-abbrev pub IsUnsettled : DraftRefusal → Type 0
-IsUnsettled (VerifyFailed count) = Unit {0}
-IsUnsettled RevisionFull = Unit {0}
-IsUnsettled NoMemory = Unit {0}
-IsUnsettled NotNormal = ⊥
-IsUnsettled NotTransaction = ⊥
-IsUnsettled NotOwner = ⊥
-IsUnsettled NotVerify = ⊥
-IsUnsettled NotDone = ⊥

@@ -1,4 +1,4 @@
--- The timing side of an intersection, and what each command of the transaction makes of it (NTCIP 1201, `dbCreateTransaction`; the profile is this project's).
+-- The timing side of an intersection, and what each step of the transaction makes of it (NTCIP 1201, `dbCreateTransaction`; the profile is this project's).
 use Rattle.std.specs.Prelude.{ℕ, ◌+◌, Bool, true, false, not, List, [], ◌∷◌, length, ◌==◌, if◌then◌else◌, Option, Some, None, Result, Ok, Err}
 use Rattle.std.specs.Str.{bytes_eq}
 use Rattle.std.specs.Result.{result_err}
@@ -14,6 +14,8 @@ use Rattle.draft_state.specs.declared.state.DbState.TheVariants.{Normal, Transac
 use Rattle.draft_state.specs.declared.state.Verdict.{Verdict}
 use Rattle.draft_state.specs.declared.state.Verdict.TheVariants.{NotDone as NotJudged, DoneWithError, DoneWithNoError}
 use Rattle.draft_state.specs.declared.state.Holder.{Holder}
+use Rattle.draft_core.specs.declared.step.Step.{Step}
+use Rattle.draft_core.specs.declared.step.Step.TheVariants as step
 use Rattle.draft_core.specs.declared.refusal.DraftRefusal.{DraftRefusal}
 use Rattle.draft_core.specs.declared.refusal.DraftRefusal.TheVariants.{NotNormal, NotTransaction, NotOwner, NotVerify, NotDone, VerifyFailed, RevisionFull}
 
@@ -63,7 +65,7 @@ is_stage Verify Verify = true
 is_stage Done Done = true
 is_stage _ _ = false
 
--- A COMMAND OF THE OWNER, in one stage. Without a draft, or with one in another stage, the state
+-- A STEP OF THE OWNER, in one stage. Without a draft, or with one in another stage, the state
 -- is wrong; for another clerk it is NotOwner; else the step is taken. It is asked of a draft, or of
 -- its holder alone.
 abbrev pub owned : {Held T : Type 0} → (Held → Holder) → Option Held → Stage → DraftRefusal
@@ -91,45 +93,34 @@ refused_if_free (Some holder) = None
 abbrev pub with_draft : TimingSide → Draft → TimingSide
 with_draft side draft = record side { draft = Some draft }
 
--- ---- the transaction table, a line for each command: the next timing side, or why not
-
+-- a draft begins as the committed set, where nobody holds one
 abbrev pub begun_from : TimingSide → List ℕ → Option Draft → Result TimingSide DraftRefusal
 begun_from side clerk None = Ok (with_draft side (record { stage = Transaction; owner = clerk; set = side.committed }))
 begun_from side clerk (Some draft) = Err NotNormal
-
-abbrev pub begun : TimingSide → List ℕ → Result TimingSide DraftRefusal
-begun side clerk = begun_from side clerk side.draft
-
-abbrev pub edited : TimingSide → List ℕ → List Change → Result TimingSide DraftRefusal
-edited side clerk changes = owned holder_of side.draft Transaction NotTransaction clerk (λ draft.
-    Ok (with_draft side
-    (record draft { stage = Transaction; set = after_changes draft.set changes })))
-
-abbrev pub verified : TimingSide → List ℕ → Result TimingSide DraftRefusal
-verified side clerk = owned holder_of side.draft Transaction NotTransaction clerk (λ draft.
-    Ok (with_draft side (record draft { stage = Verify })))
-
-abbrev pub checked : TimingSide → List ℕ → Result TimingSide DraftRefusal
-checked side clerk = owned holder_of side.draft Verify NotVerify clerk (λ draft.
-    Ok (with_draft side (record draft { stage = Done })))
-
-abbrev pub reopened : TimingSide → List ℕ → Result TimingSide DraftRefusal
-reopened side clerk = owned holder_of side.draft Done NotDone clerk (λ draft.
-    Ok (with_draft side (record draft { stage = Transaction })))
 
 -- with violations first, and then at the last revision, nothing is committed
 abbrev pub committed_with : TimingSide → Draft → List Violation → Result TimingSide DraftRefusal
 committed_with side draft [] = if side.revision == LAST_REVISION then Err RevisionFull else Ok (record { revision = side.revision + 1; committed = draft.set; draft = None })
 committed_with side draft (violation ∷ violations) = Err (VerifyFailed (length (violation ∷ violations)))
 
-abbrev pub committed : TimingSide → List ℕ → Result TimingSide DraftRefusal
-committed side clerk = owned holder_of side.draft Done NotDone clerk (λ draft.
-    committed_with side draft (violations_of draft.set))
-
 -- any clerk may abandon a draft
 abbrev pub abandoned_from : TimingSide → Option Draft → Result TimingSide DraftRefusal
 abandoned_from side None = Err NotTransaction
 abandoned_from side (Some draft) = Ok (record side { draft = None })
 
-abbrev pub abandoned : TimingSide → Result TimingSide DraftRefusal
-abandoned side = abandoned_from side side.draft
+-- THE TRANSACTION TABLE, a line for each step: the next timing side, or why not.
+abbrev pub table_line : Step → List ℕ → TimingSide → Result TimingSide DraftRefusal
+table_line step.Begin clerk side = begun_from side clerk side.draft
+table_line (step.Edit changes) clerk side =
+    owned holder_of side.draft Transaction NotTransaction clerk (λ draft. Ok (with_draft side
+    (record draft { stage = Transaction; set = after_changes draft.set changes })))
+table_line step.Verify clerk side =
+    owned holder_of side.draft Transaction NotTransaction clerk (λ draft.
+    Ok (with_draft side (record draft { stage = Verify })))
+table_line step.Check clerk side = owned holder_of side.draft Verify NotVerify clerk (λ draft.
+    Ok (with_draft side (record draft { stage = Done })))
+table_line step.Reopen clerk side = owned holder_of side.draft Done NotDone clerk (λ draft.
+    Ok (with_draft side (record draft { stage = Transaction })))
+table_line step.Commit clerk side = owned holder_of side.draft Done NotDone clerk (λ draft.
+    committed_with side draft (violations_of draft.set))
+table_line step.Abandon clerk side = abandoned_from side side.draft

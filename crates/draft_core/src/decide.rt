@@ -1,16 +1,13 @@
 //! The transaction table as decisions: what each command changes, or why it is refused.
 
-ghost use Rattle.std.specs.Prelude.{◌≡◌, ◌≤◌, [], length, Some, IfErr, IfOk, List, ℕ};
+ghost use Rattle.std.specs.Prelude.{◌≡◌, [], Some, IfErr, IfOk, List, ℕ};
 ghost use Rattle.signal_rules.specs.Violations.{violations_of};
-ghost use Rattle.draft_core.specs.Transaction as table;
-ghost use Rattle.draft_core.specs.Transaction.{TimingSide, Draft};
-ghost use Rattle.draft_core.specs.Drafting.{AreAmong, KeepsOnlyChanges};
+ghost use Rattle.draft_core.specs.Transaction.{TimingSide, Draft, committed_with};
+ghost use Rattle.draft_core.specs.Drafting.{KeepsOnlyChanges};
 ghost use Rattle.draft_core.specs.DraftRows.{RowsByKey, Stands};
-ghost use Rattle.draft_core.specs.News.{AddsOnlyNew};
 ghost use Rattle.draft_core.specs.Moves as moves;
-ghost use Rattle.draft_core.specs.Moves.{Follows, FollowsLine, FollowsSoundLine, IsMemory};
-ghost use Rattle.draft_core.specs.Moves.{IsUnsettled, Never, RefusesFirst};
-ghost use Rattle.draft_core.specs.Moves.{drafted_in, draft_writes, timing_writes};
+ghost use Rattle.draft_core.specs.Moves.{Follows};
+ghost use Rattle.draft_core.specs.Steps.{IsUnsettled, StepWrites, Takes};
 
 use crate::drafting::drafting;
 use crate::holding::{refused_by, state_after};
@@ -19,6 +16,7 @@ use crate::overlaying::violations_after;
 use crate::refusal::DraftRefusal;
 use crate::revision::Revision;
 use crate::state::{Holding, Stage, Verdict};
+use crate::step::Step;
 use crate::timing::{Move, Reach, Timing, TimingChanges};
 use crate::writes::{dropping, settling};
 use signal_records::{Change, Words};
@@ -49,12 +47,9 @@ fn stays(alloc: Global, timing: &Timing, holder: Holding, verdict: Verdict) -> M
 ///
 /// `NotNormal` in each state but Normal.
 pub fn begin(alloc: Global, timing: &Timing, _clerk: &Words<40>) -> Result<Move, DraftRefusal>
-    ensures line { FollowsLine Reach.Row timing.now _clerk.now result
-        (λ side. table.begun side _clerk.now) }
-    ensures refuses { RefusesFirst (table.refused_if_held timing.now.holder) Never result }
+    ensures takes { Takes Step.Begin timing.now _clerk.now result }
     ensures owner { IfOk result (λ move. moves.next_holder move.holder _clerk.now timing.now.holder
         ≡ Some (record { stage = Stage.Transaction; owner = _clerk.now })) }
-    ensures bounds { IfOk result (λ move. move.changes ≡ []) }
 {
     if timing.holder.is_some() {
         return Err(DraftRefusal::NotNormal);
@@ -72,15 +67,9 @@ pub fn edit(
     clerk: &Words<40>,
     changes: &[Change],
 ) -> Result<Move, DraftRefusal>
-    ensures line { FollowsLine Reach.Plan timing.now clerk.now result
-        (λ side. table.edited side clerk.now changes.now) }
-    ensures refuses { RefusesFirst (table.refused_by timing.now.holder Stage.Transaction DraftRefusal.NotTransaction clerk.now) IsMemory result }
+    ensures takes { Takes (Step.Edit changes.now) timing.now clerk.now result }
     ensures keeps { IfOk result (λ move.
         KeepsOnlyChanges timing.now.committed timing.now.delta changes.now move.changes) }
-    ensures news { IfOk result (λ move. AddsOnlyNew Reach.Plan timing.now move.changes) }
-    ensures drafts { IfOk result (λ move. AreAmong (drafted_in move.changes) changes.now) }
-    ensures bounds { IfOk result (λ move. (timing_writes move.changes ≡ 0)
-        × (draft_writes move.changes ≤ length changes.now)) }
 {
     let wrong = DraftRefusal::NotTransaction;
     if let Some(refusal) = refused_by(&timing.holder, Stage::Transaction, wrong, clerk) {
@@ -95,10 +84,7 @@ pub fn edit(
 ///
 /// `NotTransaction` in each state but Transaction, and then `NotOwner` for another clerk.
 pub fn verify(alloc: Global, timing: &Timing, clerk: &Words<40>) -> Result<Move, DraftRefusal>
-    ensures line { FollowsLine Reach.Row timing.now clerk.now result
-        (λ side. table.verified side clerk.now) }
-    ensures refuses { RefusesFirst (table.refused_by timing.now.holder Stage.Transaction DraftRefusal.NotTransaction clerk.now) Never result }
-    ensures bounds { IfOk result (λ move. move.changes ≡ []) }
+    ensures { Takes Step.Verify timing.now clerk.now result }
 {
     let wrong = DraftRefusal::NotTransaction;
     if let Some(refusal) = refused_by(&timing.holder, Stage::Transaction, wrong, clerk) {
@@ -112,10 +98,7 @@ pub fn verify(alloc: Global, timing: &Timing, clerk: &Words<40>) -> Result<Move,
 ///
 /// `NotVerify` in each state but Verify, and then `NotOwner` for another clerk.
 pub fn check(alloc: Global, timing: &Timing, clerk: &Words<40>) -> Result<Move, DraftRefusal>
-    ensures line { FollowsSoundLine Reach.Plan timing.now clerk.now result
-        (λ side. table.checked side clerk.now) }
-    ensures refuses { RefusesFirst (table.refused_by timing.now.holder Stage.Verify DraftRefusal.NotVerify clerk.now) IsMemory result }
-    ensures bounds { IfOk result (λ move. move.changes ≡ []) }
+    ensures { Takes Step.Check timing.now clerk.now result }
 {
     let wrong = DraftRefusal::NotVerify;
     if let Some(refusal) = refused_by(&timing.holder, Stage::Verify, wrong, clerk) {
@@ -131,13 +114,7 @@ pub fn check(alloc: Global, timing: &Timing, clerk: &Words<40>) -> Result<Move, 
 /// `NotDone` in each state but Done, `NotOwner` for another clerk, `VerifyFailed` for a draft that
 /// breaks rules, and `RevisionFull` at the last revision, in this order.
 pub fn commit(alloc: Global, timing: &Timing, clerk: &Words<40>) -> Result<Move, DraftRefusal>
-    ensures line { FollowsSoundLine Reach.Plan timing.now clerk.now result
-        (λ side. table.committed side clerk.now) }
-    ensures refuses { RefusesFirst (table.refused_by timing.now.holder Stage.Done DraftRefusal.NotDone clerk.now) IsUnsettled result }
-    ensures news { IfOk result (λ move. AddsOnlyNew Reach.Plan timing.now move.changes) }
-    ensures drafts { IfOk result (λ move. drafted_in move.changes ≡ []) }
-    ensures bounds { IfOk result (λ move. (timing_writes move.changes ≤ length timing.now.delta)
-        × (draft_writes move.changes ≤ length timing.now.delta)) }
+    ensures { Takes Step.Commit timing.now clerk.now result }
 {
     let wrong = DraftRefusal::NotDone;
     if let Some(refusal) = refused_by(&timing.holder, Stage::Done, wrong, clerk) {
@@ -151,12 +128,9 @@ fn settled(alloc: Global, timing: &Timing) -> Result<Move, DraftRefusal>
     ensures line { (rows : RowsByKey) (side : TimingSide) (draft : Draft) (clerk : List ℕ) →
         Stands Reach.Plan timing.now rows side → side.draft ≡ Some draft →
         violations_of side.committed ≡ [] → Follows rows side clerk result
-        (table.committed_with side draft (violations_of draft.set)) }
+        (committed_with side draft (violations_of draft.set)) }
     ensures refuses { IfErr result IsUnsettled }
-    ensures news { IfOk result (λ move. AddsOnlyNew Reach.Plan timing.now move.changes) }
-    ensures drafts { IfOk result (λ move. drafted_in move.changes ≡ []) }
-    ensures bounds { IfOk result (λ move. (timing_writes move.changes ≤ length timing.now.delta)
-        × (draft_writes move.changes ≤ length timing.now.delta)) }
+    ensures writes { IfOk result (StepWrites Step.Commit timing.now) }
 {
     let found = violations_after(alloc, &timing.committed, timing.delta.as_slice())?;
     let revision = next_revision(timing.revision, found.as_slice())?;
@@ -168,10 +142,7 @@ fn settled(alloc: Global, timing: &Timing) -> Result<Move, DraftRefusal>
 ///
 /// `NotDone` in each state but Done, and then `NotOwner` for another clerk.
 pub fn reopen(alloc: Global, timing: &Timing, clerk: &Words<40>) -> Result<Move, DraftRefusal>
-    ensures line { FollowsLine Reach.Row timing.now clerk.now result
-        (λ side. table.reopened side clerk.now) }
-    ensures refuses { RefusesFirst (table.refused_by timing.now.holder Stage.Done DraftRefusal.NotDone clerk.now) Never result }
-    ensures bounds { IfOk result (λ move. move.changes ≡ []) }
+    ensures { Takes Step.Reopen timing.now clerk.now result }
 {
     let wrong = DraftRefusal::NotDone;
     if let Some(refusal) = refused_by(&timing.holder, Stage::Done, wrong, clerk) {
@@ -185,12 +156,7 @@ pub fn reopen(alloc: Global, timing: &Timing, clerk: &Words<40>) -> Result<Move,
 ///
 /// `NotTransaction` in state Normal.
 pub fn abandon(alloc: Global, timing: &Timing, _clerk: &Words<40>) -> Result<Move, DraftRefusal>
-    ensures line { FollowsLine Reach.Drafts timing.now _clerk.now result table.abandoned }
-    ensures refuses { RefusesFirst (table.refused_if_free timing.now.holder) IsMemory result }
-    ensures news { IfOk result (λ move. AddsOnlyNew Reach.Drafts timing.now move.changes) }
-    ensures drafts { IfOk result (λ move. drafted_in move.changes ≡ []) }
-    ensures bounds { IfOk result (λ move. (timing_writes move.changes ≡ 0)
-        × (draft_writes move.changes ≤ length timing.now.delta)) }
+    ensures { Takes Step.Abandon timing.now _clerk.now result }
 {
     if timing.holder.is_none() {
         return Err(DraftRefusal::NotTransaction);

@@ -8,6 +8,7 @@ mod holding;
 mod judging;
 mod overlaying;
 pub mod refusal;
+pub mod step;
 pub mod timing;
 mod writes;
 
@@ -20,4 +21,5 @@ pub use holding::next_holder;
 pub use judging::verdict;
 pub use overlaying::{changed_key, copy_change, overlay};
 pub use refusal::DraftRefusal;
+pub use step::Step;
 pub use timing::{Move, Reach, Timing, TimingChange, TimingChanges};

@@ -49,7 +49,7 @@ pub enum TimingChange {
 /// Rows that a decision changes, in their order.
 pub type TimingChanges = Listing<TimingChange>;
 
-/// A step of the transaction.
+/// What a step of the transaction makes.
 #[derive(Drop)]
 pub struct Move {
     pub revision: Revision,

@@ -7,7 +7,7 @@ use Rattle.cabinet_core.specs.{Step.after_line, Step.line_at, Step.with_record, 
 use Rattle.office_tables_shelf.specs.{Change.AddNew, Change.changed_by, Content.Content, Counts.writes_in, Shelf.IsTold}
 use Rattle.office_tables_shelf.specs.declared.{shelf.ShelfFault.ShelfFault, rows.RowChange.RowChange, rows.Table.Table}
 use Rattle.office_tables_shelf.specs.RegisterStands.{RegisterStandsSound}
-use Rattle.office_desk_decisions.specs.{Open.StaysOpen, RegisterDamage.KeepsDamage, RegisterDamage.MeetsRecordDamage}
+use Rattle.office_desk_decisions.specs.{Open.DatabaseStaysOpen, RegisterDamage.KeepsDamage, RegisterDamage.MeetsRecordDamage}
 use Rattle.office_desk_decisions.specs.{RegisterDamage.SparesDamage, RecordBounds.most_record_writes, declared.decided.Decided.Decided}
 use Rattle.office_desk_cabinet.specs.{Registers.RegistersFrom, Decides.DecidesRecord, declared.registered.Registered.Registered}
 use Rattle.office_desk_cabinet.proofs.{KeptDamage.kept_after, KeptDamage.meets_still, KeptDamage.nothing_kept, News.news_after, News.tells_new}
@@ -189,7 +189,7 @@ first_or_later (suc n) = inr (λ e. let never : ⊥ = omega (arith, e) in never)
 
 -- the first record is read, and a later one leaves open what was open
 pub taken_open : {S A : Type 0} (is_clean is_honest : S → Type 0) (pending : List RowChange) (index : ℕ) (result : Result A ShelfFault) (old new : S) → (index ≡ 0 → pending ≡ []) → (is_clean old → index ≢ 0 → is_honest old)
-    → StaysOpen is_clean is_honest (pending ≡ []) result old new → is_clean new → IsTold result → is_honest new
+    → DatabaseStaysOpen is_clean is_honest (pending ≡ []) result old new → is_clean new → IsTold result → is_honest new
 taken_open is_clean is_honest pending index result old new fresh read opens clean told =
     elim (first_or_later index) [
       | inl start ↦ opens.read (fresh start) clean told

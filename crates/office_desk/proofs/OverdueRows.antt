@@ -2,7 +2,7 @@
 use Rattle.std.proofs.Common.{◌≡◌, ◌≤◌, ℕ, List, [], ◌∷◌, map, length, take, suc, Option, None, Some, ap, sym, subst, ◌∙◌, arith}
 use Rattle.std.proofs.lemmas.List.{length-map, take_all}
 use Rattle.std.specs.{FinMap.entries, List.cons_option}
-use Rattle.cabinet_core.specs.Overdue.{Listed, lateness, latest_day, listed, overdue_list}
+use Rattle.cabinet_core.specs.Overdue.{Listed, lateness, latest_day, listed_of, overdue_list}
 use Rattle.cabinet_core.specs.Register.{Register}
 use Rattle.cabinet_core.specs.declared.{overdue_inspections.OverdueRow.OverdueRow, overdue_inspections.Seen.Seen}
 use Rattle.office_tables_shelf.specs.Overdue.{seen_row, IsSeen, AreSeenOf, AreSeen, ListsOverdue}
@@ -33,7 +33,7 @@ are_seen tables office stands rows lists =
     (seen_entries tables office.register (register_of tables office stands) es)
 
 -- the first rows of the query
-pub first_overdue : (tables : Content) (office : Office) (day most : ℕ) (found : List OverdueRow) → StandForSound tables office → ListsOverdue tables day most found → map listed found ≡ take most (overdue_on office day)
+pub first_overdue : (tables : Content) (office : Office) (day most : ℕ) (found : List OverdueRow) → StandForSound tables office → ListsOverdue tables day most found → map listed_of found ≡ take most (overdue_on office day)
 first_overdue tables office day most found stands lists = lists (map (seen_of office.register) (entries office.intersections)) (are_seen tables office stands)
 
 -- ---- all of them
@@ -61,6 +61,6 @@ all_overdue office day most many sound =
 
 pub overdue_shows : (tables : Content) (office : Office) (day most : ℕ) (found : List OverdueRow) → 9999 ≤ most
     → StandForSound tables office → ListsOverdue tables day most found
-    → answered office (command.Overdue day) ≡ (reply.Overdue (map listed found), office)
+    → answered office (command.Overdue day) ≡ (reply.Overdue (map listed_of found), office)
 overdue_shows tables office day most found many stands lists =
     λ k. (reply.Overdue (sym (first_overdue tables office day most found stands lists ∙ all_overdue office day most many stands.sound) k), office)

@@ -4,7 +4,7 @@ use Rattle.std.specs.{Prelude.IsSome, Option.option_map, FinMap.get}
 use Rattle.cabinet_core.specs.declared.{command.RecordCommand.RecordCommand, record.CabinetView.CabinetView, refusal.CabinetRefusal.CabinetRefusal}
 use Rattle.cabinet_core.specs.{Orders.open_at, Register.Register, Step.after_record, Stock.stock_of}
 use Rattle.cabinet_core.specs.declared.refusal.CabinetRefusal.TheVariants as cabinet
-use Rattle.office_tables_shelf.specs.{Cells.Cell, Cells.Rows, Change.AddNew, Change.changed_by, Content.Content, Counts.writes_in}
+use Rattle.office_tables_shelf.specs.{Cells.Cell, Cells.TableRows, Change.AddNew, Change.changed_by, Content.Content, Counts.writes_in}
 use Rattle.office_tables_shelf.specs.{Shelf.ReadsIntersection, Rows.intersection_columns, Rows.intersection_key, Rows.timing_key}
 use Rattle.office_tables_shelf.specs.declared.{rows.IntersectionRow.IntersectionRow, rows.RowChange.RowChange, rows.Table.Table}
 use Rattle.office_tables_shelf.specs.{declared.shelf.ShelfFault.ShelfFault, RegisterStands.RegisterStandsSound}
@@ -66,15 +66,15 @@ pub stands_after : (tables : Content) (changes : List RowChange) (office : Offic
 stands_after tables changes office next stands leaves register = record {
   stand = record {
     intersection = leaves.intersection ∙ stands.stand.intersection;
-    timing = λ id key. ap (λ (rows : Rows). get rows (timing_key id key)) leaves.timing ∙ stands.stand.timing id key;
-    timing_keys = λ cells columns at. stands.stand.timing_keys cells columns (sym (ap (λ (rows : Rows). get rows cells) leaves.timing) ∙ at);
+    timing = λ id key. ap (λ (rows : TableRows). get rows (timing_key id key)) leaves.timing ∙ stands.stand.timing id key;
+    timing_keys = λ cells columns at. stands.stand.timing_keys cells columns (sym (ap (λ (rows : TableRows). get rows cells) leaves.timing) ∙ at);
     draft = λ id key. let held = stands.stand.draft id key in record {
       said = held.said;
-      stored = ap (λ (rows : Rows). get rows (timing_key id key)) leaves.draft ∙ held.stored;
+      stored = ap (λ (rows : TableRows). get rows (timing_key id key)) leaves.draft ∙ held.stored;
       stands = held.stands;
       within = held.within;
     };
-    draft_keys = λ cells columns at. stands.stand.draft_keys cells columns (sym (ap (λ (rows : Rows). get rows cells) leaves.draft) ∙ at);
+    draft_keys = λ cells columns at. stands.stand.draft_keys cells columns (sym (ap (λ (rows : TableRows). get rows cells) leaves.draft) ∙ at);
     register = register.stand;
   };
   sound = record { numbers = stands.sound.numbers; intersections = stands.sound.intersections; register = register.sound };

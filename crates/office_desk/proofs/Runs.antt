@@ -8,7 +8,7 @@ use Rattle.office_tables_shelf.specs.{Change.AddNew, Change.changed_by, Content.
 use Rattle.office_tables_shelf.specs.declared.{rows.RowChange.RowChange, shelf.Shelf.Ghosts, shelf.ShelfFault.ShelfFault}
 use Rattle.office_tables_shelf.specs.declared.shelf.ShelfFault.TheVariants.{Damaged}
 use Rattle.office_tables_shelf.specs.RegisterStands.{RegisterStandsSound}
-use Rattle.office_desk.specs.Answers.{AnswersAny, Answers, IsAfterStep}
+use Rattle.office_desk.specs.Answers.{AnswersAny, Answers, StandsAfterStep}
 use Rattle.office_desk.specs.Deciding.{AddsNothing, DecidesIdly, IsAnswered, IsDecision, IsIdle}
 use Rattle.office_desk.specs.Damage.{HasDamageIn, IsTurnedAway, MeetsAfter, MeetsCabinetDamage, MeetsImportDamage, MeetsDamage}
 use Rattle.office_desk.specs.{Blaming.BlamesRightly, Changes.IsRefused, Changes.most_writes, Running.AreRun, Running.HoldsTables, Running.IsRun, Running.MakesTables, Running.RunsAny, Running.RunsTo, Running.TellsTables}
@@ -225,7 +225,7 @@ answered_clean is_clean is_honest tables command decided shut is = record {
 
 -- the changes of an answer make the office after the command's own step
 after_step : (tables new : Content) (command : Command) (decided : Decided) → AnswersAny tables command decided.reply (changed_by tables decided.changes.items) → ¬ IsRefused decided.reply
-    → new ≡ changed_by tables decided.changes.items → IsAfterStep tables command new
+    → new ≡ changed_by tables decided.changes.items → StandsAfterStep tables command new
 after_step tables new command decided answers accepted made office stands =
     let is = answers office stands in
     subst (λ t. StandForSound t (answered office command).1) (sym made) (own is.next is.step is.stand)
@@ -280,7 +280,7 @@ module _ {S : Type 0} (g : Ghosts S) (law : (s : S) → g.is_honest s → g.is_c
 
   module _ (new : S) (some : decided.changes.items ≢ []) (clean : g.is_clean new → g.is_clean mid) (honest : g.is_honest new → g.is_honest mid)
       (crash : (tables : Content) → g.may_leave new tables → g.may_leave mid tables ⊎ (g.is_honest mid × (tables ≡ changed_by (g.content mid) decided.changes.items))) where
-    left_by : (tables : Content) → g.may_leave new tables → g.may_leave old tables ⊎ (g.is_honest old × IsAfterStep (g.content old) command tables)
+    left_by : (tables : Content) → g.may_leave new tables → g.may_leave old tables ⊎ (g.is_honest old × StandsAfterStep (g.content old) command tables)
     left_by tables left =
         elim (crash tables left) [
           | inl before ↦ inl (kept.same_outcomes tables before)

@@ -15,7 +15,7 @@ use Rattle.cabinet_core.proofs.{EntryLemmas.entries_stand, EntryLemmas.tied, Key
 use Rattle.cabinet_core.proofs.{Puts.all_put, Puts.if_more, RecordLaws.open_law, RecordLaws.delivered_law, RecordLaws.used_law, StockList.stock_has}
 use Rattle.cabinet_core.proofs.{Sound.usable, Sound.receivable, StockLemmas.line_stocked, StockLemmas.delivery_stocked, StockLemmas.hand_adds}
 use Rattle.office_tables_shelf.proofs.ListLemmas.{less, parts}
-use Rattle.office_machine.specs.RegisterRuns.{is_among, pieces_in}
+use Rattle.office_machine.specs.RegisterRuns.{is_among_numbers, pieces_in}
 
 -- ---- what stays over records that are accepted
 
@@ -97,11 +97,11 @@ one_more true true true rest found same none = refl
 one_more true true false rest found same none = same ∙ none refl
 
 among_more : (n : ℕ) (b : Bool) (order : Order) (orders : List Order)
-    → is_among (numbers_of (cond b (order ∷ orders) orders)) n ≡ cond b (cond (is_open order) ((order.number == n) || is_among (numbers_of orders) n) (is_among (numbers_of orders) n)) (is_among (numbers_of orders) n)
+    → is_among_numbers (numbers_of (cond b (order ∷ orders) orders)) n ≡ cond b (cond (is_open order) ((order.number == n) || is_among_numbers (numbers_of orders) n) (is_among_numbers (numbers_of orders) n)) (is_among_numbers (numbers_of orders) n)
 among_more n false order orders = refl
 among_more n true order orders = go (is_open order)
   where
-    go : (b : Bool) → is_among (map (λ (o : Order). o.number) (cond b (order ∷ filter is_open orders) (filter is_open orders))) n ≡ cond b ((order.number == n) || is_among (numbers_of orders) n) (is_among (numbers_of orders) n)
+    go : (b : Bool) → is_among_numbers (map (λ (o : Order). o.number) (cond b (order ∷ filter is_open orders) (filter is_open orders))) n ≡ cond b ((order.number == n) || is_among_numbers (numbers_of orders) n) (is_among_numbers (numbers_of orders) n)
     go true = refl
     go false = refl
 
@@ -114,20 +114,20 @@ open_order true order there = refl
 open_order false order there = refl
 
 open_listed : (id n : ℕ) (es : List (Entry)) → T (is_sorted record_cmp es) → AllByRecursion (λ e. IsNumbered e.0 e.1) es
-    → is_among (open_of id es) n ≡ is_open_order (finite.find record_cmp (id, n) es)
+    → is_among_numbers (open_of id es) n ≡ is_open_order (finite.find record_cmp (id, n) es)
 open_listed id n [] sorted each = refl
 open_listed id n (e ∷ es) sorted each =
-    let later = is_among (open_of id es) n in
+    let later = is_among_numbers (open_of id es) n in
     let there = is_open_order (finite.find record_cmp (id, n) es) in
     let ties : eq_by_cmp record_cmp (id, n) e.0 ≡ ((e.0.0 == id) && (e.1.number == n)) = record_ties id n e.0.0 e.0.1 ∙ ap (λ m. (e.0.0 == id) && (m == n)) (sym each.0) in
-    ap (λ (orders : List Order). is_among (numbers_of orders) n) (chosen (of_id id e.0) e (where_key record_cmp (of_id id) es))
+    ap (λ (orders : List Order). is_among_numbers (numbers_of orders) n) (chosen (of_id id e.0) e (where_key record_cmp (of_id id) es))
     ∙ among_more n (of_id id e.0) e.1 (map (λ (d : Entry). d.1) (where_key record_cmp (of_id id) es))
     ∙ one_more (e.0.0 == id) (e.1.number == n) (is_open e.1) later there (open_listed id n es (parts _ _ sorted).1 each.1)
     (λ both. ap is_open_order (none_above (id, n) e.0 es (ties ∙ both) (parts _ _ sorted).0))
     ∙ sym (open_order (eq_by_cmp record_cmp (id, n) e.0) e.1 (finite.find record_cmp (id, n) es) ∙ ap (λ b. cond b (is_open e.1) there) ties)
 
 -- the orders that are shown are those that records that were accepted left open
-pub open_shown : (first now : Register) (so_far : List RecordCommand) → AreAccepted first so_far now → IsTidy now → (id n : ℕ) → is_among (open_at now id) n ≡ open_by id n (is_open_at first id n) so_far
+pub open_shown : (first now : Register) (so_far : List RecordCommand) → AreAccepted first so_far now → IsTidy now → (id n : ℕ) → is_among_numbers (open_at now id) n ≡ open_by id n (is_open_at first id n) so_far
 open_shown first now so_far run tidy id n =
     open_listed id n (entries now.orders) (entries_sorted now.orders) (entries_stand record_total IsNumbered now.orders tidy.orders)
     ∙ ap is_open_order (sym (get-entries now.orders (id, n)))

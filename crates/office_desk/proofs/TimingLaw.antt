@@ -2,7 +2,7 @@
 use Rattle.std.proofs.Common.{◌≡◌, ℕ, Bool, true, false, List, [], ◌∷◌, Option, Some, None, Result, Ok, Err, cond, refl, ap, sym, subst, ◌∙◌, eq-eqb, ne_eqb}
 use Rattle.std.specs.{Prelude.◌&&◌, FinMap.get}
 use Rattle.signal_records.specs.TimingSet.{Rows}
-use Rattle.draft_core.specs.Transaction.{TimingSide, Draft, holder_of, owned, with_draft, begun_from, committed, abandoned_from}
+use Rattle.draft_core.specs.Transaction.{TimingSide, Draft, holder_of, owned, with_draft, begun_from, abandoned_from, table_line}
 use Rattle.draft_core.specs.declared.refusal.DraftRefusal.{DraftRefusal}
 use Rattle.draft_core.specs.declared.refusal.DraftRefusal.TheVariants.{NotNormal, NotTransaction}
 use Rattle.draft_state.specs.declared.state.Stage.{Stage}
@@ -13,9 +13,8 @@ use Rattle.office_machine.specs.{Timing.running, declared.command.Command.Comman
 use Rattle.office_machine.specs.declared.command.Command.TheVariants as command
 use Rattle.office_desk_timing.proofs.Stands.{same_id, other_id, side_after}
 use Rattle.office_desk.proofs.Walks.{HoldsOfEach, records_so, step_so}
-use Rattle.office_desk_decisions.specs.{Asking.command_of, declared.ask.Ask.Ask, declared.ask.Ask.TheVariants.Begin}
-use Rattle.office_desk_decisions.specs.declared.ask.Ask.TheVariants.{Commit, Abandon}
-use Rattle.office_desk_timing.specs.Transacting.{line_of}
+use Rattle.office_desk_decisions.specs.Asking.{asking_command}
+use Rattle.draft_core.specs.declared.step.{Step.Step as DraftStep, Step.TheVariants.Begin, Step.TheVariants.Commit, Step.TheVariants.Abandon}
 
 -- ---- the lines of the table
 
@@ -49,23 +48,23 @@ abandoned_keeps side next e = go side.draft e
     go None e = absurd (let f : Err NotTransaction ≡ Ok next = e in cc)
     go (Some draft) e = same_set _ next e
 
-commit_takes : (clerk : List ℕ) (side next : TimingSide) (instead : Rows) → committed side clerk ≡ Ok next → next.committed ≡ set_of_draft side.draft instead
+commit_takes : (clerk : List ℕ) (side next : TimingSide) (instead : Rows) → table_line Commit clerk side ≡ Ok next → next.committed ≡ set_of_draft side.draft instead
 commit_takes clerk side next instead e =
     let made = committed_inverts side clerk next e in
     ap (λ (s : TimingSide). s.committed) made.2.becomes
     ∙ sym (ap (λ d. set_of_draft d instead) made.1)
 
 -- what the set is after a step: the draft, where it is committed
-abbrev set_after : Ask → TimingSide → Rows
+abbrev set_after : DraftStep → TimingSide → Rows
 set_after Commit side = set_of_draft side.draft side.committed
 set_after _ side = side.committed
 
-ask_keeps : (ask : Ask) (clerk : List ℕ) (side next : TimingSide) → line_of ask clerk side ≡ Ok next
-    → next.committed ≡ set_after ask side
-ask_keeps Begin clerk side next e = begun_keeps clerk side next e
-ask_keeps Commit clerk side next e = commit_takes clerk side next side.committed e
-ask_keeps Abandon clerk side next e = abandoned_keeps side next e
-ask_keeps _ clerk side next e = owned_keeps _ _ clerk _ side next e
+step_keeps : (step : DraftStep) (clerk : List ℕ) (side next : TimingSide) → table_line step clerk side ≡ Ok next
+    → next.committed ≡ set_after step side
+step_keeps Begin clerk side next e = begun_keeps clerk side next e
+step_keeps Commit clerk side next e = commit_takes clerk side next side.committed e
+step_keeps Abandon clerk side next e = abandoned_keeps side next e
+step_keeps _ clerk side next e = owned_keeps _ _ clerk _ side next e
 
 -- ---- one step
 
@@ -83,13 +82,13 @@ put_keeps q id office i same = elim (side_after office id i q) [
 ]
 
 commit_after : (q id : ℕ) (clerk : List ℕ) (office : Office) (i : Intersection) (next : TimingSide)
-    → get office.intersections id ≡ Some i → committed i.timing clerk ≡ Ok next
+    → get office.intersections id ≡ Some i → table_line Commit clerk i.timing ≡ Ok next
     → After q office (command.Commit id clerk) (moved_to next)
     (with_intersection office id (record i { timing = next }))
 commit_after q id clerk office i next there took = elim (side_after office id after q) [
   | same_id e is ↦ subst Wanted (sym (eq-eqb q id e)) (
       ap (λ (s : TimingSide). s.committed) is
-      ∙ ask_keeps Commit clerk i.timing next took
+      ∙ step_keeps Commit clerk i.timing next took
       ∙ sym (ap (λ (o : Option Intersection). set_of_draft (side_of o).draft (side_of o).committed)
       (ap (λ n. get office.intersections n) e ∙ there)))
   | other_id ne is ↦ subst Wanted (sym (ne_eqb q id ne)) (ap (λ (s : TimingSide). s.committed) is)
@@ -101,13 +100,13 @@ commit_after q id clerk office i next there took = elim (side_after office id af
     Wanted : Bool → Type 0
     Wanted b = (side_at (with_intersection office id after) q).committed ≡ cond (b && true) (set_of_draft (side_at office q).draft (side_at office q).committed) (side_at office q).committed
 
-move_after : (ask : Ask) (q id : ℕ) (clerk : List ℕ) (office : Office) (i : Intersection) (next : TimingSide)
-    → get office.intersections id ≡ Some i → line_of ask clerk i.timing ≡ Ok next
-    → After q office (command_of id clerk ask) (moved_to next)
+move_after : (step : DraftStep) (q id : ℕ) (clerk : List ℕ) (office : Office) (i : Intersection) (next : TimingSide)
+    → get office.intersections id ≡ Some i → table_line step clerk i.timing ≡ Ok next
+    → After q office (asking_command id clerk step) (moved_to next)
     (with_intersection office id (record i { timing = next }))
 move_after Commit q id clerk office i next there took = commit_after q id clerk office i next there took
-move_after ask q id clerk office i next there took =
-    put_keeps q id office (record i { timing = next }) (ask_keeps ask clerk i.timing next took
+move_after step q id clerk office i next there took =
+    put_keeps q id office (record i { timing = next }) (step_keeps step clerk i.timing next took
     ∙ sym (ap (λ (o : Option Intersection). (side_of o).committed) there))
 
 -- a reply that accepts no step
@@ -120,7 +119,7 @@ each_after q office = record {
   stays = λ asked said unmoved none. unmoved_keeps (is_commit_of q asked) (is_moved said) _ _ unmoved;
   adds = λ id interval name absent. put_keeps q id office (new_intersection interval name)
       (sym (ap (λ (o : Option Intersection). (side_of o).committed) absent));
-  moves = λ id clerk ask i next there took. move_after ask q id clerk office i next there took;
+  moves = λ id clerk step i next there took. move_after step q id clerk office i next there took;
   records = λ c line. refl;
   imports = λ records done made. records_so
       (λ first cs last. (side_at last q).committed ≡ (side_at first q).committed) (record {

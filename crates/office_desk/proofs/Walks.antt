@@ -5,7 +5,9 @@ use Rattle.std.specs.{FinMap.get, Str.bytes_eq}
 use Rattle.cabinet_core.specs.Cabinet.{Line, added as added_line, same as same_line, refused as refused_line}
 use Rattle.cabinet_core.specs.{Step.line_at, Step.with_record, Step.after_line, Orders.open_at}
 use Rattle.cabinet_core.specs.declared.command.RecordCommand.{RecordCommand}
-use Rattle.draft_core.specs.{Transaction.Draft, Transaction.TimingSide, declared.refusal.DraftRefusal.DraftRefusal}
+use Rattle.draft_core.specs.{Transaction.Draft, Transaction.TimingSide, Transaction.table_line, declared.refusal.DraftRefusal.DraftRefusal}
+use Rattle.draft_core.specs.declared.step.Step.{Step as DraftStep}
+use Rattle.draft_core.specs.declared.step.Step.TheVariants as step
 use Rattle.office_machine.specs.Step.{Step, answered, added, new_intersection, with_intersection, transacted, moved, moved_to, shown, state_shown, timing_shown, draft_shown, told, recorded, recorded_at, known, cabinet_of, is_known, with_recorded, import_by, import_from, imported, cabinet_shown}
 use Rattle.office_machine.specs.{Office.Office, Office.Intersection, RegisterRuns.accepted_of, RegisterRuns.is_accepted, RegisterRuns.records_asked}
 use Rattle.office_machine.specs.Timing.{is_moved}
@@ -13,10 +15,7 @@ use Rattle.office_machine.specs.declared.{command.Command.Command, refusal.Refus
 use Rattle.office_machine.specs.declared.command.Command.TheVariants as command
 use Rattle.office_machine.specs.declared.refusal.Refusal.TheVariants as refusal
 use Rattle.office_machine.specs.declared.reply.Reply.TheVariants as reply
-use Rattle.office_desk_decisions.specs.Asking.{command_of, edit_of}
-use Rattle.office_desk_decisions.specs.declared.ask.Ask.TheVariants.{Begin, Verify, Check, Commit, Reopen, Abandon}
-use Rattle.office_desk_decisions.specs.declared.ask.Ask.{Ask}
-use Rattle.office_desk_timing.specs.Transacting.{line_of}
+use Rattle.office_desk_decisions.specs.Asking.{asking_command}
 
 -- ---- one command
 
@@ -29,9 +28,9 @@ pub record HoldsOfEach (office : Office) (Holds : Command → Reply → Office �
   pub adds : (id interval : ℕ) (name : List ℕ) → get office.intersections id ≡ None
       → Holds (command.AddIntersection id interval name) reply.Added
       (with_intersection office id (new_intersection interval name))
-  pub moves : (id : ℕ) (clerk : List ℕ) (ask : Ask) (i : Intersection) (next : TimingSide)
-      → get office.intersections id ≡ Some i → line_of ask clerk i.timing ≡ Ok next
-      → Holds (command_of id clerk ask) (moved_to next)
+  pub moves : (id : ℕ) (clerk : List ℕ) (step : DraftStep) (i : Intersection) (next : TimingSide)
+      → get office.intersections id ≡ Some i → table_line step clerk i.timing ≡ Ok next
+      → Holds (asking_command id clerk step) (moved_to next)
       (with_intersection office id (record i { timing = next }))
   pub records : (c : RecordCommand) → line_at office.register c ≡ added_line
       → Holds (command.Record c) reply.Added (with_recorded office c)
@@ -71,20 +70,20 @@ module _ (office : Office) (Holds : Command → Reply → Office → Type 0)
   add_so id interval name (Some i) is = quiet (command.AddIntersection id interval name) _
       (same_unmoved (bytes_eq i.name name && (i.interval == interval))) refl
 
-  move_so : (id : ℕ) (clerk : List ℕ) (ask : Ask) (i : Intersection)
+  move_so : (id : ℕ) (clerk : List ℕ) (step : DraftStep) (i : Intersection)
       (side : Result TimingSide DraftRefusal) → get office.intersections id ≡ Some i
-      → line_of ask clerk i.timing ≡ side → Has (command_of id clerk ask) (moved office id i side)
-  move_so id clerk ask i (Ok next) there took = each.moves id clerk ask i next there took
-  move_so id clerk ask i (Err why) there took = each.stays (command_of id clerk ask) _ refl refl
+      → table_line step clerk i.timing ≡ side → Has (asking_command id clerk step) (moved office id i side)
+  move_so id clerk step i (Ok next) there took = each.moves id clerk step i next there took
+  move_so id clerk step i (Err why) there took = each.stays (asking_command id clerk step) _ refl refl
 
-  transact_so : (id : ℕ) (clerk : List ℕ) (ask : Ask) → Has (command_of id clerk ask)
-      (transacted office id (line_of ask clerk) (get office.intersections id))
-  transact_so id clerk ask = at (get office.intersections id) refl
+  transact_so : (id : ℕ) (clerk : List ℕ) (step : DraftStep) → Has (asking_command id clerk step)
+      (transacted office id (table_line step clerk) (get office.intersections id))
+  transact_so id clerk step = at (get office.intersections id) refl
     where
       at : (there : Option Intersection) → get office.intersections id ≡ there
-          → Has (command_of id clerk ask) (transacted office id (line_of ask clerk) there)
-      at None is = each.stays (command_of id clerk ask) _ refl refl
-      at (Some i) is = move_so id clerk ask i (line_of ask clerk i.timing) is refl
+          → Has (asking_command id clerk step) (transacted office id (table_line step clerk) there)
+      at None is = each.stays (asking_command id clerk step) _ refl refl
+      at (Some i) is = move_so id clerk step i (table_line step clerk i.timing) is refl
 
   show_so : (asked : Command) (id : ℕ) (show : Intersection → Reply)
       → records_asked office asked ≡ [] → ((i : Intersection) → is_moved (show i) ≡ false)
@@ -129,13 +128,13 @@ module _ (office : Office) (Holds : Command → Reply → Office → Type 0)
   answer_so : (asked : Command) → Has asked (answered office asked)
   answer_so (command.AddIntersection id interval name) =
       add_so id interval name (get office.intersections id) refl
-  answer_so (command.Begin id clerk) = transact_so id clerk Begin
-  answer_so (command.Edit id clerk changes) = transact_so id clerk (edit_of changes)
-  answer_so (command.Verify id clerk) = transact_so id clerk Verify
-  answer_so (command.Check id clerk) = transact_so id clerk Check
-  answer_so (command.Commit id clerk) = transact_so id clerk Commit
-  answer_so (command.Reopen id clerk) = transact_so id clerk Reopen
-  answer_so (command.Abandon id clerk) = transact_so id clerk Abandon
+  answer_so (command.Begin id clerk) = transact_so id clerk step.Begin
+  answer_so (command.Edit id clerk changes) = transact_so id clerk (step.Edit changes)
+  answer_so (command.Verify id clerk) = transact_so id clerk step.Verify
+  answer_so (command.Check id clerk) = transact_so id clerk step.Check
+  answer_so (command.Commit id clerk) = transact_so id clerk step.Commit
+  answer_so (command.Reopen id clerk) = transact_so id clerk step.Reopen
+  answer_so (command.Abandon id clerk) = transact_so id clerk step.Abandon
   answer_so (command.State id) =
       show_so (command.State id) id (λ i. reply.State (state_shown id i)) refl (λ i. refl)
   answer_so (command.Timing id) =

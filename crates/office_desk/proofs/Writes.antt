@@ -3,7 +3,7 @@ use Rattle.std.proofs.Common.{◌≡◌, ℕ, ◌+◌, ◌≤◌, List, [], ◌�
 use Rattle.std.proofs.lemmas.Bool.Decides.{nat_tests}
 use Rattle.cabinet_core.specs.declared.command.RecordCommand.{RecordCommand}
 use Rattle.cabinet_core.specs.declared.command.RecordCommand.TheVariants as register
-use Rattle.office_tables_shelf.specs.Counts.{count_of, count_at, counted, counts_after, is_same_table, writes_in}
+use Rattle.office_tables_shelf.specs.Counts.{count_of, count_at, next_count, counts_after, is_same_table, writes_in}
 use Rattle.office_tables_shelf.specs.{Change.table_of, Content.Content}
 use Rattle.office_tables_shelf.specs.declared.{counts.WriteCounts.WriteCounts, rows.RowChange.RowChange, rows.Table.Table}
 use Rattle.office_tables_shelf.specs.declared.rows.Table.TheVariants as table
@@ -12,7 +12,7 @@ use Rattle.office_desk.specs.Changes.{RiseAtMost, most_import_writes, most_write
 use Rattle.office_machine.specs.declared.command.Command.{Command}
 use Rattle.office_machine.specs.declared.command.Command.TheVariants as command
 
-capped : (n : ℕ) → counted n ≤ n + 1
+capped : (n : ℕ) → next_count n ≤ n + 1
 capped n = grind (arith, nat_tests)
 
 stays : (n : ℕ) → n ≤ n + 0

@@ -12,7 +12,7 @@ use Rattle.office_desk_cabinet.specs.Registers.{LeavesTiming}
 use Rattle.office_tables_shelf.specs.RegisterStands.{RegisterStandsSound}
 use Rattle.office_machine.specs.Office.{Office}
 use Rattle.office_desk_decisions.specs.RegisterDamage.{KeepsDamage, MeetsRecordDamage}
-use Rattle.office_desk.specs.Blaming.{FollowsLine, IsRefusedAfter}
+use Rattle.office_desk.specs.Blaming.{FollowsRegisterLine, IsRefusedAfter}
 use Rattle.office_desk.specs.Named.{number_of, numbers_of}
 use Rattle.office_desk.specs.Recording.{HasDamagedAbout, TellsAbout}
 use Rattle.office_machine.specs.Refusal.{line_of}
@@ -63,8 +63,8 @@ pub record TakesWhole (stored : Content) (before : List RowChange) (c : RecordCo
 
 -- how a record is taken, on the rows that stand under its keys, whatever else is stored
 abbrev pub TakesLine : (stored : Content) (before : List RowChange) → RecordCommand → Taken → (after : List RowChange) → Type 0
-TakesLine stored before c Added after = (rows : List RowChange) × FollowsLine stored before c added_line rows × (after ≡ before ++ rows)
-TakesLine stored before c Same after = (rows : List RowChange) × FollowsLine stored before c same_line rows × (after ≡ before ++ rows)
+TakesLine stored before c Added after = (rows : List RowChange) × FollowsRegisterLine stored before c added_line rows × (after ≡ before ++ rows)
+TakesLine stored before c Same after = (rows : List RowChange) × FollowsRegisterLine stored before c same_line rows × (after ≡ before ++ rows)
 TakesLine stored before c (Refused why) after = IsRefusedAfter stored before c (number_of why)
 
 -- from an office: the pending rows made a register, and the import of all the records goes on from there with those that are left

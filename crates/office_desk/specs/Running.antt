@@ -2,7 +2,7 @@
 use Rattle.std.specs.Prelude.{◌≡◌, ◌≢◌, ◌⊎◌, ℕ, List, [], ◌∷◌}
 use Rattle.office_tables_shelf.specs.Content.{Content}
 use Rattle.office_tables_shelf.specs.declared.shelf.Shelf.{Ghosts}
-use Rattle.office_desk.specs.Answers.{AnswersAny, EndsIn, IsAfterStep}
+use Rattle.office_desk.specs.Answers.{AnswersAny, EndsIn, StandsAfterStep}
 use Rattle.office_desk.specs.Changes.{IsRefused, RiseAtMost}
 use Rattle.office_desk.specs.Damage.{IsTurnedAway, MeetsDamage}
 use Rattle.office_desk.specs.Deciding.{IsIdle}
@@ -57,7 +57,7 @@ pub record IsWritten {S : Type 0} (g : Ghosts S) (command : Command) (reply : Re
 -- A crash leaves what it could before, or the office after the command's own step; that alone where the command changed the tables, or wrote rows,
 -- and was answered.
 pub record IsStopped {S : Type 0} (g : Ghosts S) (command : Command) (reply : Reply) (old new : S) : Type 0 where
-  pub crash : (tables : Content) → g.may_leave new tables → g.may_leave old tables ⊎ (g.is_honest old × IsAfterStep (g.content old) command tables)
+  pub crash : (tables : Content) → g.may_leave new tables → g.may_leave old tables ⊎ (g.is_honest old × StandsAfterStep (g.content old) command tables)
   pub settled : g.is_honest new → reply ≢ Refused Unavailable → g.content new ≢ g.content old → (tables : Content) → g.may_leave new tables → tables ≡ g.content new
   pub made : reply ≢ Refused Unavailable → g.written new ≢ g.written old → (tables : Content) → g.may_leave new tables → tables ≡ g.content new
 

@@ -1,7 +1,7 @@
 //! How a command is decided over a shelf.
 ghost use Rattle.std.specs.Prelude.{◌≡◌, IfOk, ◌≢◌, [], IsOkAnd};
 ghost use Rattle.office_tables_shelf.specs.Keeps.{KeepsShelf};
-ghost use Rattle.office_desk_decisions.specs.Open.{StaysOpen};
+ghost use Rattle.office_desk_decisions.specs.Open.{DatabaseStaysOpen};
 ghost use Rattle.office_desk.specs.Blaming.{BlamesRightly};
 ghost use Rattle.office_desk.specs.Deciding.{AddsNothing, Decides};
 ghost use Rattle.office_desk_timing.specs.Decisions.{refusal_of};
@@ -10,7 +10,7 @@ use crate::importing::decide_import;
 use crate::overdue::decide_overdue;
 use crate::recording::decide_record_command;
 use crate::register_showing::{decide_cabinet, decide_open_orders, decide_stock};
-use office_desk_decisions::ask::Ask;
+use draft_core::step::Step;
 use office_desk_decisions::decided::Decided;
 use office_desk_timing::{decide_add, decide_draft, decide_state, decide_timing, transact};
 use office_machine::command::Command;
@@ -38,7 +38,7 @@ pub(crate) fn try_decide<S: Shelf>(
     ensures blames { IfOk result (λ decided. BlamesRightly (S.is_honest shelf.new)
         (S.content shelf.old) command.now decided.reply) }
     ensures kept { KeepsShelf S.Shelf shelf.old shelf.new }
-    ensures open { StaysOpen S.is_clean S.is_honest (command.now ≢ Command.Import [])
+    ensures open { DatabaseStaysOpen S.is_clean S.is_honest (command.now ≢ Command.Import [])
         result shelf.old shelf.new }
     ensures nothing { command.now ≡ Command.Import [] → IsOkAnd result AddsNothing }
 {
@@ -46,15 +46,15 @@ pub(crate) fn try_decide<S: Shelf>(
         Command::AddIntersection { id, interval, name } => {
             decide_add(shelf, alloc, *id, *interval, name)
         }
-        Command::Begin { id, clerk } => transact(shelf, alloc, *id, clerk, Ask::Begin),
+        Command::Begin { id, clerk } => transact(shelf, alloc, *id, clerk, &Step::Begin),
         Command::Edit { id, clerk, changes } => {
-            transact(shelf, alloc, *id, clerk, Ask::Edit(changes))
+            transact(shelf, alloc, *id, clerk, &Step::edit(changes))
         }
-        Command::Verify { id, clerk } => transact(shelf, alloc, *id, clerk, Ask::Verify),
-        Command::Check { id, clerk } => transact(shelf, alloc, *id, clerk, Ask::Check),
-        Command::Commit { id, clerk } => transact(shelf, alloc, *id, clerk, Ask::Commit),
-        Command::Reopen { id, clerk } => transact(shelf, alloc, *id, clerk, Ask::Reopen),
-        Command::Abandon { id, clerk } => transact(shelf, alloc, *id, clerk, Ask::Abandon),
+        Command::Verify { id, clerk } => transact(shelf, alloc, *id, clerk, &Step::Verify),
+        Command::Check { id, clerk } => transact(shelf, alloc, *id, clerk, &Step::Check),
+        Command::Commit { id, clerk } => transact(shelf, alloc, *id, clerk, &Step::Commit),
+        Command::Reopen { id, clerk } => transact(shelf, alloc, *id, clerk, &Step::Reopen),
+        Command::Abandon { id, clerk } => transact(shelf, alloc, *id, clerk, &Step::Abandon),
         Command::State { id } => decide_state(shelf, alloc, *id),
         Command::Timing { id } => decide_timing(shelf, alloc, *id),
         Command::Draft { id } => decide_draft(shelf, alloc, *id),

@@ -3,8 +3,8 @@ ghost use Rattle.std.specs.Prelude.{◌≡◌, ◌≢◌, true, false, Ok, Err};
 ghost use Rattle.std.specs.Prelude.{IfOk, IsSome, IsTrue, OnErr, OnOk};
 ghost use Rattle.office_tables_shelf.specs.Content.{Content};
 ghost use Rattle.office_tables_shelf.specs.Keeps.{KeepsShelf};
-ghost use Rattle.office_desk_decisions.specs.Open.{StaysOpen};
-ghost use Rattle.office_desk.specs.Recording.{AreFound, IsAmong, IsFound};
+ghost use Rattle.office_desk_decisions.specs.Open.{DatabaseStaysOpen};
+ghost use Rattle.office_desk.specs.Recording.{AreFound, IsAmong, IsIntersectionFound};
 ghost use Rattle.office_desk.specs.Recording.{IsKnownIn, HasDamagedAbout, TellsAbout};
 
 use crate::recording::is_known;
@@ -26,7 +26,7 @@ fn is_among(found: &BTreeSet<InterId>, about: Option<InterId>) -> bool
 /// Keeps the one that was asked for, beside these.
 fn keep(found: &mut BTreeSet<InterId>, about: Option<InterId>) -> Result<(), NoMemory>
     ensures kept { OnOk result ((tables : Content) → AreFound tables found.old →
-        IsFound tables about → AreFound tables found.new) }
+        IsIntersectionFound tables about → AreFound tables found.new) }
     ensures fault { OnErr result (IsSome about) }
 {
     let Some(id) = about else {
@@ -57,7 +57,7 @@ pub(crate) fn is_found<S: Shelf>(
     ensures damaged { result ≡ Err ShelfFault.Damaged → S.is_honest shelf.new →
         HasDamagedAbout (S.content shelf.old) about }
     ensures kept { KeepsShelf S.Shelf shelf.old shelf.new }
-    ensures open { StaysOpen S.is_clean S.is_honest (result ≢ Ok true)
+    ensures open { DatabaseStaysOpen S.is_clean S.is_honest (result ≢ Ok true)
         result shelf.old shelf.new }
 {
     if is_among(found, about) {

@@ -2,7 +2,7 @@
 ghost use Rattle.std.specs.Prelude.{◌≡◌, ◌≤◌, ◌+◌, IfOk, ◌≢◌, [], IsOkAnd};
 ghost use Rattle.office_tables_shelf.specs.Counts.{writes_in};
 ghost use Rattle.office_tables_shelf.specs.Keeps.{KeepsShelf};
-ghost use Rattle.office_desk_decisions.specs.Open.{StaysOpen};
+ghost use Rattle.office_desk_decisions.specs.Open.{DatabaseStaysOpen};
 ghost use Rattle.office_tables_shelf.specs.declared.rows.Table.{Table};
 ghost use Rattle.office_desk_decisions.specs.RecordBounds.{most_record_writes};
 ghost use Rattle.office_desk.specs.Blaming.{BlamesRightly};
@@ -60,7 +60,7 @@ fn take_record<S: Shelf>(
     ensures leaves { IfOk result (λ taken. LeavesAnyTiming pending → LeavesAnyTiming taken.1) }
     ensures writes { IfOk result (λ taken. (table : Table) → writes_in table taken.1 ≤ writes_in table pending + most_record_writes command.now table) }
     ensures kept { KeepsShelf S.Shelf shelf.old shelf.new }
-    ensures open { StaysOpen S.is_clean S.is_honest (pending ≡ [])
+    ensures open { DatabaseStaysOpen S.is_clean S.is_honest (pending ≡ [])
         result shelf.old shelf.new }
 {
     if !is_found(shelf, alloc, found, cabinet_of(command))? {
@@ -87,7 +87,7 @@ pub(crate) fn decide_import<S: Shelf>(
     ensures blames { IfOk result (λ decided. BlamesRightly (S.is_honest shelf.new)
         (S.content shelf.old) (Command.Import records.now) decided.reply) }
     ensures kept { KeepsShelf S.Shelf shelf.old shelf.new }
-    ensures open { StaysOpen S.is_clean S.is_honest (records.now ≢ [])
+    ensures open { DatabaseStaysOpen S.is_clean S.is_honest (records.now ≢ [])
         result shelf.old shelf.new }
     ensures nothing { records.now ≡ [] → IsOkAnd result AddsNothing }
 {

@@ -1,7 +1,7 @@
 //! The office over a shelf.
 ghost use Rattle.std.specs.Prelude.{◌≡◌, ◌≢◌, ◌<◌, ◌≤◌, ◌+◌, ◌⊎◌, [], ◌∷◌, ◌++◌, map, take};
 ghost use Rattle.std.specs.Prelude.{Err, IfErr, IfOk, OnOk, OnErr, vec_len, vec_capacity};
-ghost use Rattle.cabinet_core.specs.Overdue.{listed};
+ghost use Rattle.cabinet_core.specs.Overdue.{listed_of};
 ghost use Rattle.office_tables_shelf.specs.Content.{Content};
 ghost use Rattle.office_tables_shelf.specs.Change.{changed_by};
 ghost use Rattle.office_tables_shelf.specs.Counts.{counts_after};
@@ -12,7 +12,7 @@ ghost use Rattle.office_desk.specs.Deciding.{DecidesIdly, IsAnswered};
 ghost use Rattle.office_machine.specs.Office.{Office as OfficeState};
 ghost use Rattle.office_desk.specs.Running.{AreRun, IsRun, MakesTables, RunsAny};
 ghost use Rattle.office_desk.specs.StandFor.{StandForSound};
-ghost use Rattle.office_desk_timing.specs.Listing.{ListsRows};
+ghost use Rattle.office_desk_timing.specs.Listing.{ListsEachIntersection};
 ghost use Rattle.office_machine.specs.Listed.{intersections_of};
 ghost use Rattle.office_machine.specs.Step.{overdue_on};
 
@@ -157,7 +157,7 @@ impl<S: Shelf> Office<S> {
         day: Day,
         most: usize,
     ) -> Result<Vec<OverdueRow>, Refusal>
-        ensures rows { IfOk result (λ found. S.is_honest self.new → (office : OfficeState) → StandForSound (S.content self.old) office → map listed found.items ≡ take most (overdue_on office day)) }
+        ensures rows { IfOk result (λ found. S.is_honest self.new → (office : OfficeState) → StandForSound (S.content self.old) office → map listed_of found.items ≡ take most (overdue_on office day)) }
         ensures whole { IfOk result (λ found. S.is_honest self.new → vec_len found < most →
             ¬ MeetsDamage (S.content self.old) (Command.Overdue day)) }
         ensures refused { IfErr result (λ why. (why ≡ Refusal.Unavailable) ⊎ (why ≡ Refusal.Damaged)) }
@@ -181,7 +181,7 @@ impl<S: Shelf> Office<S> {
             StandForSound (S.content self.old) office → found.items ≡ intersections_of office) }
         // One for each row of the table, whatever that holds besides.
         ensures lists { IfOk result (λ found. S.is_honest self.new →
-            ListsRows (S.content self.old) found.items) }
+            ListsEachIntersection (S.content self.old) found.items) }
         ensures whole { IfOk result (λ _. S.is_honest self.new →
             ¬ HasAnyDamagedIntersection (S.content self.old)) }
         ensures refused { IfErr result (λ why.

@@ -1,7 +1,7 @@
 //! The commands of the register.
 ghost use Rattle.std.specs.Prelude.{◌≡◌, false, IfOk, IsSome, OnErr, Ok, Err};
 ghost use Rattle.office_tables_shelf.specs.Keeps.{AnswersShelf, KeepsShelf};
-ghost use Rattle.office_desk_decisions.specs.Open.{StaysOpen};
+ghost use Rattle.office_desk_decisions.specs.Open.{DatabaseStaysOpen};
 ghost use Rattle.office_desk_cabinet.specs.Registers.{line_told, rows_told};
 ghost use Rattle.office_desk.specs.Deciding.{Decides};
 ghost use Rattle.office_desk.specs.Recording.{IsKnownIn, HasDamagedAbout, TellsAbout};
@@ -46,7 +46,7 @@ pub(crate) fn is_known<S: Shelf>(
     ensures whole { IfOk result (λ _. S.is_honest shelf.new → ¬ HasDamagedAbout (S.content shelf.old) about) }
     ensures damaged { result ≡ Err ShelfFault.Damaged → S.is_honest shelf.new → HasDamagedAbout (S.content shelf.old) about }
     ensures kept { KeepsShelf S.Shelf shelf.old shelf.new }
-    ensures open { StaysOpen S.is_clean S.is_honest (IsSome about)
+    ensures open { DatabaseStaysOpen S.is_clean S.is_honest (IsSome about)
         result shelf.old shelf.new }
 {
     let Some(id) = about else {

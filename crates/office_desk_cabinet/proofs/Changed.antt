@@ -10,7 +10,7 @@ use Rattle.cabinet_core.specs.declared.decide.CabinetChange.TheVariants as chang
 use Rattle.cabinet_core.proofs.KeyOrders.{record_total, line_total, delivery_total, codes_tie}
 use Rattle.cabinet_core.proofs.StockList.{stock_has}
 use Rattle.office_tables_shelf.specs.CabinetRows.{inspection_key, inspection_columns, order_key, order_columns, used_key, used_columns, delivery_key, delivery_columns, part_key, part_columns}
-use Rattle.office_tables_shelf.specs.{Cells.Rows, Cells.tree_rows, Change.changed, Change.changed_by, Content.Content}
+use Rattle.office_tables_shelf.specs.{Cells.TableRows, Cells.tree_rows, Change.changed, Change.changed_by, Content.Content}
 use Rattle.office_tables_shelf.specs.declared.rows.RowChange.TheVariants.{PutOrder}
 use Rattle.office_tables_shelf.proofs.{CabinetLemmas.part_order, KeyCells.record_order, KeyCells.line_order, KeyCells.delivery_order}
 use Rattle.office_tables_shelf.proofs.StoredMaps.{insert_stored}
@@ -34,7 +34,7 @@ order_changed tables id order (Some closing) = refl
 
 one_change : (tables : Content) (r : Register) (id : ℕ) (c : CabinetChange) → HoldRecords tables r → HoldRecords (changed tables (row_change_of id c)) (with_change id r c)
 one_change tables r id (change.PutInspection x) hold = (
-  ap (λ (rows : Rows). insert rows (inspection_key id x.number) (inspection_columns x)) hold.0 ∙ sym (insert_stored record_total inspection_cells inspection_columns record_order r.inspections (id, x.number) x),
+  ap (λ (rows : TableRows). insert rows (inspection_key id x.number) (inspection_columns x)) hold.0 ∙ sym (insert_stored record_total inspection_cells inspection_columns record_order r.inspections (id, x.number) x),
   hold.1,
   hold.2,
   hold.3,
@@ -42,21 +42,21 @@ one_change tables r id (change.PutInspection x) hold = (
 one_change tables r id (change.PutOrder x) hold =
     subst (λ t. HoldRecords t (with_change id r (change.PutOrder x))) (sym (order_changed tables id x x.closing)) (
       hold.0,
-      ap (λ (rows : Rows). insert rows (order_key id x.number) (order_columns x)) hold.1 ∙ sym (insert_stored record_total order_cells order_columns record_order r.orders (id, x.number) x),
+      ap (λ (rows : TableRows). insert rows (order_key id x.number) (order_columns x)) hold.1 ∙ sym (insert_stored record_total order_cells order_columns record_order r.orders (id, x.number) x),
       hold.2,
       hold.3,
     )
 one_change tables r id (change.PutLine x) hold = (
   hold.0,
   hold.1,
-  ap (λ (rows : Rows). insert rows (used_key id x.order x.line) (used_columns x)) hold.2 ∙ sym (insert_stored line_total line_cells used_columns line_order r.lines (id, (x.order, x.line)) x),
+  ap (λ (rows : TableRows). insert rows (used_key id x.order x.line) (used_columns x)) hold.2 ∙ sym (insert_stored line_total line_cells used_columns line_order r.lines (id, (x.order, x.line)) x),
   hold.3,
 )
 one_change tables r id (change.PutDelivery x) hold = (
   hold.0,
   hold.1,
   hold.2,
-  ap (λ (rows : Rows). insert rows (delivery_key x.part x.number) (delivery_columns x)) hold.3 ∙ sym (insert_stored delivery_total delivery_cells delivery_columns delivery_order r.deliveries (x.part, x.number) x),
+  ap (λ (rows : TableRows). insert rows (delivery_key x.part x.number) (delivery_columns x)) hold.3 ∙ sym (insert_stored delivery_total delivery_cells delivery_columns delivery_order r.deliveries (x.part, x.number) x),
 )
 one_change tables r id (change.PutPart code hand) hold = hold
 
@@ -81,7 +81,7 @@ all_told stock (c ∷ cs) = all_told (one_told stock c) cs
 told_row : (tables : Content) (stock : Stock) (id : ℕ) (c : CabinetChange) → tables.part ≡ tree_rows part_key part_columns (entries stock)
     → (changed tables (row_change_of id c)).part ≡ tree_rows part_key part_columns (entries (one_told stock c))
 told_row tables stock id (change.PutPart code hand) hold =
-    ap (λ (rows : Rows). insert rows (part_key code) (part_columns hand)) hold ∙ sym (insert_stored nat_list_cmp_total part_key part_columns part_order stock code hand)
+    ap (λ (rows : TableRows). insert rows (part_key code) (part_columns hand)) hold ∙ sym (insert_stored nat_list_cmp_total part_key part_columns part_order stock code hand)
 told_row tables stock id (change.PutOrder x) hold =
     ap (λ (t : Content). t.part) (order_changed tables id x x.closing) ∙ hold
 told_row tables stock id _ hold = hold

@@ -1,5 +1,5 @@
 -- What is promised of a decision, from what was read under its command's keys.
-use Rattle.std.proofs.Common.{◌≡◌, ◌≤◌, ℕ, ◌+◌, Bool, true, false, List, Option, Some, None, Result, Ok, Err, is_some, inl, inr, refl, sym, subst, subst₂, arith}
+use Rattle.std.proofs.Common.{◌≡◌, ◌≤◌, ℕ, ◌+◌, Bool, true, false, List, Option, Some, None, Result, Ok, Err, is_some, inl, inr, refl, sym, ap, subst, ◌∙◌, arith}
 use Rattle.std.specs.Prelude.{IfOk, OnErr, if◌then◌else◌, nat_lt}
 use Rattle.cabinet_core.specs.Cabinet.{Line, added, same, refused, Records, on_hand, is_opened_so, is_same_inspection, is_same_line, is_same_closing, is_same_delivery, close_order_line}
 use Rattle.cabinet_core.specs.{Changes.Makes, Step.Standing, Step.line_on}
@@ -8,15 +8,15 @@ use Rattle.cabinet_core.specs.declared.{record.Closing.Closing, refusal.CabinetR
 use Rattle.cabinet_core.specs.declared.command.RecordCommand.TheVariants as asks
 use Rattle.cabinet_core.specs.declared.refusal.CabinetRefusal.TheVariants as refusal
 use Rattle.cabinet_core.proofs.Made.{changes_on, place_or}
-use Rattle.office_tables_shelf.specs.{Change.AddNew, Change.changed_by, Content.Content, Counts.writes_in}
+use Rattle.office_tables_shelf.specs.{Change.changed_by, Content.Content, Counts.writes_in}
 use Rattle.office_tables_shelf.specs.declared.{rows.RowChange.RowChange, rows.Table.Table, shelf.ShelfFault.ShelfFault}
 use Rattle.office_tables_shelf.specs.declared.shelf.ShelfFault.TheVariants.{NoMemory}
 use Rattle.office_tables_shelf.specs.declared.rows.Table.TheVariants as table
-use Rattle.office_desk_cabinet.specs.Registers.{IsNamed, IsOneOf, most_record_writes, refusals_of}
-use Rattle.office_desk_cabinet.specs.{Decides.DecidesRecord, Lines.TellsLine, Lines.rows_for, RegisterDamage.KeepsDamage, RegisterDamage.MeetsRecordDamage}
-use Rattle.office_desk_cabinet.specs.{Telling.Tells, declared.registered.Registered.Registered}
+use Rattle.office_desk_cabinet.specs.Registers.{IsNamed, IsOneOf, most_record_writes, refusals_of, rows_told}
+use Rattle.office_desk_cabinet.specs.{Decides.DecidesRecord, Lines.ReadsKeys, Lines.rows_added, Lines.rows_for, RegisterDamage.KeepsDamage, RegisterDamage.MeetsRecordDamage}
+use Rattle.office_desk_cabinet.specs.{Telling.Tells, Telling.row_changes_of, declared.registered.Registered.Registered}
 use Rattle.office_desk_cabinet.proofs.Told.{registers_from, rows_few, tells_leaves, told_by}
-use Rattle.office_desk_cabinet.proofs.{Found.ReadsKeys, Found.keys_stand, KeptDamage.command_kept, KeptDamage.rows_kept, KeptDamage.rows_on, News.adds_new}
+use Rattle.office_desk_cabinet.proofs.{Found.keys_stand, KeptDamage.command_kept, KeptDamage.rows_kept, News.tells_new}
 
 -- ---- the refusals of a command's line
 
@@ -71,32 +71,28 @@ line_named (asks.Receive asked) (None, hand) =
 -- ---- its rows
 
 -- they are no more than it may write
-few_written : (any : ℕ) (command : RecordCommand) (there : Standing command) (other : Table)
-    → writes_in other (rows_on any command there) ≤ most_record_writes command other
-few_written any (asks.Inspect id asked) there table.Inspection = omega arith
-few_written any (asks.Inspect id asked) there other = omega arith
-few_written any (asks.OpenOrder id asked) there table.WorkOrder = omega arith
-few_written any (asks.OpenOrder id asked) there other = omega arith
-few_written any (asks.UsePart id asked) (there, order, hand) table.UsedPart = omega arith
-few_written any (asks.UsePart id asked) (there, order, hand) other = omega arith
-few_written any (asks.CloseOrder id number asked) None other = omega arith
-few_written any (asks.CloseOrder id number asked) (Some order) table.WorkOrder = omega arith
-few_written any (asks.CloseOrder id number asked) (Some order) other = omega arith
-few_written any (asks.Receive asked) (there, hand) table.Delivery = omega arith
-few_written any (asks.Receive asked) (there, hand) other = omega arith
+few_written : (command : RecordCommand) (there : Standing command) (other : Table)
+    → writes_in other (rows_added command there) ≤ most_record_writes command other
+few_written (asks.Inspect id asked) there table.Inspection = omega arith
+few_written (asks.Inspect id asked) there other = omega arith
+few_written (asks.OpenOrder id asked) there table.WorkOrder = omega arith
+few_written (asks.OpenOrder id asked) there other = omega arith
+few_written (asks.UsePart id asked) (there, order, hand) table.UsedPart = omega arith
+few_written (asks.UsePart id asked) (there, order, hand) other = omega arith
+few_written (asks.CloseOrder id number asked) None other = omega arith
+few_written (asks.CloseOrder id number asked) (Some order) table.WorkOrder = omega arith
+few_written (asks.CloseOrder id number asked) (Some order) other = omega arith
+few_written (asks.Receive asked) (there, hand) table.Delivery = omega arith
+few_written (asks.Receive asked) (there, hand) other = omega arith
 
--- its line and its rows, on what was read
-line_tells : (any : ℕ) (tables : Content) (command : RecordCommand) (there : Standing command)
-    → ReadsKeys tables command there
-    → TellsLine tables command (line_on command there)
-    (rows_for (line_on command there) (rows_on any command there))
-line_tells any tables (asks.Inspect id asked) there reads = (there, reads, refl, refl)
-line_tells any tables (asks.OpenOrder id asked) there reads = (there, reads, refl, refl)
-line_tells any tables (asks.UsePart id asked) (there, order, hand) reads =
-    (there, order, hand, reads.0, reads.1, reads.2, refl, refl)
-line_tells any tables (asks.CloseOrder id number asked) there reads = (there, reads, refl, refl)
-line_tells any tables (asks.Receive asked) (there, hand) reads =
-    (there, hand, reads.0, reads.1, refl, refl)
+-- they are the rows of its changes
+rows_are : (any : ℕ) (command : RecordCommand) (there : Standing command)
+    → row_changes_of (place_or any command) (changes_on command there) ≡ rows_added command there
+rows_are any (asks.Inspect id asked) there = refl
+rows_are any (asks.OpenOrder id asked) there = refl
+rows_are any (asks.UsePart id asked) (there, order, hand) = refl
+rows_are any (asks.CloseOrder id number asked) there = refl
+rows_are any (asks.Receive asked) (there, hand) = refl
 
 -- ---- every decision
 
@@ -119,27 +115,29 @@ decided any honest stored pending command there decision (Ok told) read says mak
     let tables = changed_by stored pending in
     let id = place_or any command in
     let line = line_on command there in
-    let rows = rows_on any command there in
+    let rows = rows_added command there in
     let is = told_by id line (changes_on command there) decision told says tells in
+    let written = is.same_rows ∙ ap (rows_for line) (rows_are any command there) in
     record {
       step = λ h r stands.
           let same = keys_stand tables r stands command there (read h).reads in
           registers_from tables r command id decision told stands (makes r stands.sound same) tells;
       whole = λ h. (read h).whole;
-      spares = λ h.
-          let kept = command_kept any tables command there (read h).reads (read h).whole in
-          subst (λ put. KeepsDamage tables (changed_by tables put)) (sym is.same_rows)
-          (rows_kept tables line rows kept);
-      news = λ h. subst (AddNew tables) (sym is.same_rows)
-          (adds_new any tables command there (read h).reads);
+      spares = λ h. subst (λ put. KeepsDamage tables (changed_by tables put)) (sym written)
+          (rows_kept tables line rows (command_kept tables command there (read h).reads (read h).whole));
+      news = λ h. tells_new tables command line (rows_told told) (there, (read h).reads, refl, written);
       leaves = λ (before : Content). tells_leaves before id decision told tells;
       writes = λ other.
           let most = most_record_writes command other in
-          subst (λ put. writes_in other put ≤ most) (sym is.same_rows)
-          (rows_few other line rows most (few_written any command there other));
+          subst (λ put. writes_in other put ≤ most) (sym written)
+          (rows_few other line rows most (few_written command there other));
       named = subst (IsNamed command) (sym is.same_line) (line_named command there);
-      line = λ h. subst₂ (TellsLine tables command) (sym is.same_line) (sym is.same_rows)
-          (line_tells any tables command there (read h).reads);
+      line = λ h. (
+        there,
+        (read h).reads,
+        is.same_line,
+        written ∙ ap (λ (l : Line). rows_for l rows) (sym is.same_line),
+      );
     }
 decided any honest stored pending command there decision (Err NoMemory) read says makes tells is =
     record { step = λ h. tt; whole = tt; spares = tt; news = tt; leaves = tt; writes = tt; named = tt; line = tt }

@@ -9,7 +9,7 @@ use Rattle.cabinet_core.specs.declared.{record.Inspection.Inspection, record.Ord
 use Rattle.office_tables_shelf.proofs.{KeyCells.record_order, KeyCells.line_order, ListLemmas.less, ListLemmas.parts, ListedRows.entry}
 use Rattle.office_tables_shelf.specs.CabinetRows.{inspection_columns, inspection_key, order_columns, order_key, used_columns, used_key}
 use Rattle.office_tables_shelf.specs.{CabinetReads.ListsInspections, CabinetReads.ListsOrders, CabinetReads.ListsUsed, Content.Content}
-use Rattle.office_tables_shelf.specs.{Cells.Cell, Cells.Rows, Cells.cells_cmp, Shelf.is_of, Shelf.rows_of}
+use Rattle.office_tables_shelf.specs.{Cells.Cell, Cells.TableRows, Cells.cells_cmp, Shelf.is_of, Shelf.rows_of}
 
 module _ {X : Type 0} (key columns : X → List Cell) (Within : X → Type 0) (place : X → ℕ)
     (rises : (x y : X) → Within x → Within y → cells_cmp (key x) (key y) ≡ Less
@@ -33,7 +33,7 @@ module _ {X : Type 0} (key columns : X → List Cell) (Within : X → Type 0) (p
   rising (x ∷ xs) each sorted (suc i) (suc j) d le low =
       rising xs each.1 (parts _ _ sorted).1 i j d (omega arith) (omega arith)
 
-  listed_in_order : (rows : Rows) (id : ℕ) (xs : List X)
+  listed_in_order : (rows : TableRows) (id : ℕ) (xs : List X)
       → map (entry key columns Within) xs ≡ rows_of id rows → AllByRecursion Within xs
       → IsNonDecreasingBy place xs
   listed_in_order rows id xs lists each =

@@ -1,16 +1,16 @@
 -- Rows of the register that are put under keys where no damaged row stands leave those that are damaged.
 use Rattle.std.proofs.Common.{◌≡◌, inl, inr, ℕ, Bool, true, false, cond, List, [], None, Some, refl, sym, subst, ◌∙◌, ◌==◌, ◌&&◌, bytes_eq}
 use Rattle.std.proofs.lemmas.Bool.{and_parts, eqb-true, false≢true}
-use Rattle.cabinet_core.proofs.{StockLemmas.same_bytes, Made.changes_on, Made.place_or}
+use Rattle.cabinet_core.proofs.StockLemmas.{same_bytes}
 use Rattle.cabinet_core.specs.Cabinet.{Line as TableLine, added, record_of, with_closing}
 use Rattle.cabinet_core.specs.{Step.Standing, declared.command.RecordCommand.RecordCommand}
 use Rattle.cabinet_core.specs.declared.command.RecordCommand.TheVariants.{Inspect, OpenOrder, UsePart, CloseOrder, Receive}
-use Rattle.office_tables_shelf.specs.{CabinetReads.HasDamagedOrderAt, Change.changed, Change.changed_by, Content.Content}
+use Rattle.office_tables_shelf.specs.{CabinetRows.order_key, Change.changed, Change.changed_by, Content.Content}
+use Rattle.office_tables_shelf.specs.Places.{DamagedAt, Place, Inspection, Order, Line, Part, Delivery}
 use Rattle.office_tables_shelf.specs.declared.rows.RowChange.TheVariants.{AddDelivery, AddInspection, AddLine, AddOrder, PutOrder, PutPart}
 use Rattle.office_tables_shelf.specs.declared.rows.RowChange.{RowChange}
-use Rattle.office_desk_cabinet.specs.{RegisterDamage.KeepsDamage, RegisterDamage.MeetsRecordDamage, Lines.rows_for, Telling.row_changes_of}
-use Rattle.office_desk_cabinet.proofs.Places.{DamagedAt, Place, Inspection, Order, Line, Part, Delivery, cells_at, kept_at, kept_everywhere, met_at}
-use Rattle.office_desk_cabinet.proofs.{Found.ReadsKeys, PendingLemmas.cells_changed, PendingLemmas.cells_put, PendingLemmas.is_put}
+use Rattle.office_desk_cabinet.specs.{RegisterDamage.KeepsDamage, RegisterDamage.MeetsRecordDamage, Lines.ReadsKeys, Lines.rows_added, Lines.rows_for}
+use Rattle.office_desk_cabinet.proofs.{Places.cells_at, Places.met_at, PendingLemmas.cells_changed, PendingLemmas.cells_put, PendingLemmas.is_put}
 
 -- ---- one row
 
@@ -50,60 +50,51 @@ put_there _ _ is = absurd (false≢true is)
 -- a row that is put where no damaged one stands leaves those that are damaged
 row_kept : (tables : Content) (change : RowChange) → ¬ DamagedAt tables (place_of change)
     → KeepsDamage tables (changed tables change)
-row_kept tables change whole = kept_everywhere tables (changed tables change) (λ place.
-    kept_at tables (changed tables change) place (λ d. cells_changed tables place change
-    ∙ go place d (is_put place change) refl))
+row_kept tables change whole place d = record {
+  columns = d.columns;
+  stored = cells_changed tables place change ∙ go (is_put place change) refl ∙ d.stored;
+  no_row = d.no_row;
+}
   where
-    go : (place : Place) → DamagedAt tables place → (b : Bool) → is_put place change ≡ b
+    go : (b : Bool) → is_put place change ≡ b
         → cond b (Some (cells_put change)) (cells_at tables place) ≡ cells_at tables place
-    go place d true is = absurd (whole (subst (DamagedAt tables) (put_there place change is) d))
-    go place d false is = refl
+    go true is = absurd (whole (subst (DamagedAt tables) (put_there place change is) d))
+    go false is = refl
 
 -- ---- rows in turn
 
 pub nothing_kept : (tables : Content) → KeepsDamage tables tables
-nothing_kept tables = kept_everywhere tables tables (λ place d. d)
-
--- so it is at each place
-kept_there : (tables after : Content) → KeepsDamage tables after → (place : Place) → DamagedAt tables place → DamagedAt after place
-kept_there tables after kept (Inspection id n) = kept.inspections id n
-kept_there tables after kept (Order id n) = kept.orders id n
-kept_there tables after kept (Line id order line) = kept.lines id order line
-kept_there tables after kept (Part code) = kept.hands code
-kept_there tables after kept (Delivery code n) = kept.deliveries code n
+nothing_kept tables place d = d
 
 pub kept_after : (tables mid after : Content) → KeepsDamage tables mid → KeepsDamage mid after → KeepsDamage tables after
-kept_after tables mid after first then =
-    kept_everywhere tables after (λ place d. kept_there mid after then place (kept_there tables mid first place d))
+kept_after tables mid after first then place d = then place (first place d)
 
 -- a record meets what it met before
 pub meets_still : (tables after : Content) (command : RecordCommand) → KeepsDamage tables after → MeetsRecordDamage tables command → MeetsRecordDamage after command
-meets_still tables after command kept met = let it = met_at tables command met in it.meets after (kept_there tables after kept it.place it.damaged)
+meets_still tables after command kept met = let it = met_at tables command met in it.meets after (kept it.place it.damaged)
 
 -- ---- the rows of a decision
 
--- the rows of a command's changes, on what is given to it
-abbrev pub rows_on : ℕ → (command : RecordCommand) → Standing command → List RowChange
-rows_on any command there = row_changes_of (place_or any command) (changes_on command there)
-
--- they leave what is damaged, where nothing is that was read
-pub command_kept : (any : ℕ) (tables : Content) (command : RecordCommand)
-    (there : Standing command) → ReadsKeys tables command there → ¬ MeetsRecordDamage tables command
-    → KeepsDamage tables (changed_by tables (rows_on any command there))
-command_kept any tables (Inspect id asked) there reads whole =
+-- the rows of a command leave what is damaged, where nothing is that was read
+pub command_kept : (tables : Content) (command : RecordCommand) (there : Standing command)
+    → ReadsKeys tables command there → ¬ MeetsRecordDamage tables command
+    → KeepsDamage tables (changed_by tables (rows_added command there))
+command_kept tables (Inspect id asked) there reads whole =
     row_kept tables (AddInspection id asked) whole
-command_kept any tables (OpenOrder id asked) there reads whole =
+command_kept tables (OpenOrder id asked) there reads whole =
     row_kept tables (AddOrder id (record_of asked)) whole
-command_kept any tables (UsePart id asked) (there, order, hand) reads whole =
+command_kept tables (UsePart id asked) (there, order, hand) reads whole =
     let mid = changed tables (AddLine id asked) in
     kept_after tables mid _ (row_kept tables (AddLine id asked) (λ d. whole (inl d)))
     (row_kept mid (PutPart asked.part _)
     (λ d. whole (inr (inr (record { columns = d.columns; stored = d.stored; no_row = d.no_row })))))
-command_kept any tables (CloseOrder id number asked) None reads whole = nothing_kept tables
-command_kept any tables (CloseOrder id number asked) (Some found) reads whole =
+command_kept tables (CloseOrder id number asked) None reads whole = nothing_kept tables
+command_kept tables (CloseOrder id number asked) (Some found) reads whole =
+    let keyed : order_key id found.number ≡ order_key id number = reads.keyed in
+    let named : number ≡ found.number = cc in
     row_kept tables (PutOrder id (with_closing found asked))
-    (subst (λ n. ¬ HasDamagedOrderAt tables id n) (sym reads.number) whole)
-command_kept any tables (Receive asked) (there, hand) reads whole =
+    (subst (λ n. ¬ DamagedAt tables (Order id n)) named whole)
+command_kept tables (Receive asked) (there, hand) reads whole =
     let mid = changed tables (PutPart asked.part _) in
     kept_after tables mid _ (row_kept tables (PutPart asked.part _) (λ d. whole (inr d)))
     (row_kept mid (AddDelivery asked)

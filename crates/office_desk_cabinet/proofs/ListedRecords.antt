@@ -8,7 +8,7 @@ use Rattle.cabinet_core.specs.declared.{record.Inspection.Inspection, record.Ord
 use Rattle.cabinet_core.proofs.{EntryLemmas.entries_stand, EntryLemmas.kept, KeyOrders.record_total, KeyOrders.line_total}
 use Rattle.office_tables_shelf.specs.CabinetReads.{ListsInspections, ListsOrders, ListsUsed, ListsParts}
 use Rattle.office_tables_shelf.specs.CabinetRows.{inspection_key, inspection_columns, order_key, order_columns, used_key, used_columns, part_key, part_columns}
-use Rattle.office_tables_shelf.specs.Cells.{Cell, Rows, number, cells_cmp, tree_rows}
+use Rattle.office_tables_shelf.specs.Cells.{Cell, TableRows, number, cells_cmp, tree_rows}
 use Rattle.office_tables_shelf.specs.{Content.Content, Shelf.is_of, Shelf.rows_of}
 use Rattle.office_tables_shelf.proofs.{CabinetLemmas.of_number, CabinetLemmas.part_order, KeyCells.record_order, KeyCells.line_order}
 use Rattle.office_tables_shelf.proofs.StoredMaps.{stored_entries}
@@ -35,14 +35,14 @@ module _ {K X : Type 0} {R : ℕ × K → ℕ × K → Ordering} (total : IsTota
   -- the list of the rows of an intersection is that of its records, if a key and columns tell a record
   listed_records : (At : ℕ × K → X → Type 0) (id : ℕ) (own : X → List Cell)
       → ((x : X) (e : (ℕ × K) × X) → At e.0 e.1 → own x ≡ key e.0 → columns x ≡ columns e.1 → x ≡ e.1)
-      → (rows : Rows) (records : FinMap R X) → rows ≡ tree_rows key columns (entries records) → ((k : ℕ × K) → IfSome (get records k) (At k))
+      → (rows : TableRows) (records : FinMap R X) → rows ≡ tree_rows key columns (entries records) → ((k : ℕ × K) → IfSome (get records k) (At k))
       → (xs : List X) → map (λ x. (own x, columns x)) xs ≡ rows_of id rows → xs ≡ records_at {R = R} id records
   listed_records At id own tells rows records same stand xs lists =
       told_by_rows {Row = List Cell × List Cell} (λ x. (own x, columns x)) shown (λ e. e.1) (λ e. At e.0 e.1)
       (λ x e at is. tells x e at (ap (λ (p : List Cell × List Cell). p.0) is) (ap (λ (p : List Cell × List Cell). p.1) is))
       xs (where_key R (λ k. k.0 == id) (entries records))
       (kept (λ e. At e.0 e.1) (λ e. e.0.0 == id) (entries records) (entries_stand total At records stand))
-      (lists ∙ ap (λ (r : Rows). where_key cells_cmp (is_of id) (entries r)) same ∙ ap (where_key cells_cmp (is_of id)) (stored_entries total key columns order records) ∙ where_shown id (entries records))
+      (lists ∙ ap (λ (r : TableRows). where_key cells_cmp (is_of id) (entries r)) same ∙ ap (where_key cells_cmp (is_of id)) (stored_entries total key columns order records) ∙ where_shown id (entries records))
 
 -- the inspections that were read are those of the register
 pub inspections_listed : (tables : Content) (r : Register) (id : ℕ) (found : List Inspection) → RegisterStandsSound tables r → ListsInspections tables id found → found ≡ records_at id r.inspections
@@ -69,7 +69,7 @@ lines_listed tables r id found stands lists =
 pub parts_are_stock : (tables : Content) (r : Register) (list : List (List ℕ × ℕ)) → RegisterStands tables r → ListsParts tables list → list ≡ stock_of r
 parts_are_stock tables r list stand lists =
     rows_tell row row (λ p. p) tells list (stock_of r)
-    (lists ∙ ap (λ (rows : Rows). entries rows) stand.part ∙ stored_entries nat_list_cmp_total part_key part_columns part_order (stock_by_code r))
+    (lists ∙ ap (λ (rows : TableRows). entries rows) stand.part ∙ stored_entries nat_list_cmp_total part_key part_columns part_order (stock_by_code r))
     ∙ map-id (stock_of r)
   where
     row : List ℕ × ℕ → List Cell × List Cell

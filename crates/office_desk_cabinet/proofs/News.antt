@@ -1,5 +1,5 @@
 -- What a command of the register adds is new, on what was read under its keys.
-use Rattle.std.proofs.Common.{◌≡◌, ℕ, Bool, true, false, List, [], ◌∷◌, ◌++◌, Some, None, sym, subst}
+use Rattle.std.proofs.Common.{Bool, true, false, List, [], ◌∷◌, ◌++◌, Some, None, sym, ap, subst, ◌∙◌}
 use Rattle.std.specs.Prelude.{if◌then◌else◌}
 use Rattle.cabinet_core.specs.Cabinet.{Line, added, same, refused, is_opened_so, is_same_inspection, is_same_line, is_same_delivery}
 use Rattle.cabinet_core.specs.Step.{Standing, line_on}
@@ -7,8 +7,7 @@ use Rattle.cabinet_core.specs.declared.{command.RecordCommand.RecordCommand, ref
 use Rattle.cabinet_core.specs.declared.command.RecordCommand.TheVariants as asks
 use Rattle.cabinet_core.specs.declared.refusal.CabinetRefusal.TheVariants as refusal
 use Rattle.office_tables_shelf.specs.{Change.AddNew, Change.changed, Change.changed_by, Content.Content, declared.rows.RowChange.RowChange}
-use Rattle.office_desk_cabinet.specs.Lines.{TellsLine, rows_for}
-use Rattle.office_desk_cabinet.proofs.{Found.ReadsKeys, KeptDamage.rows_on}
+use Rattle.office_desk_cabinet.specs.Lines.{ReadsKeys, TellsLine, rows_added, rows_for}
 
 -- what a line writes is new, where the rows are
 line_news : (tables : Content) (line : Line) (rows : List RowChange) → AddNew tables rows
@@ -23,49 +22,34 @@ none_added tables true why rows = tt
 none_added tables false why rows = tt
 
 -- where it adds a row, none stands under its key
-pub adds_new : (any : ℕ) (tables : Content) (command : RecordCommand) (there : Standing command)
+adds_new : (tables : Content) (command : RecordCommand) (there : Standing command)
     → ReadsKeys tables command there
-    → AddNew tables (rows_for (line_on command there) (rows_on any command there))
-adds_new any tables (asks.Inspect id asked) None reads = (reads.stored, tt)
-adds_new any tables (asks.Inspect id asked) (Some there) reads =
+    → AddNew tables (rows_for (line_on command there) (rows_added command there))
+adds_new tables (asks.Inspect id asked) None reads = (reads.stored, tt)
+adds_new tables (asks.Inspect id asked) (Some there) reads =
     none_added tables (is_same_inspection there asked) refusal.InspectionDiffers _
-adds_new any tables (asks.OpenOrder id asked) None reads = (reads.stored, tt)
-adds_new any tables (asks.OpenOrder id asked) (Some there) reads =
+adds_new tables (asks.OpenOrder id asked) None reads = (reads.stored, tt)
+adds_new tables (asks.OpenOrder id asked) (Some there) reads =
     none_added tables (is_opened_so there asked) refusal.OrderDiffers _
-adds_new any tables (asks.UsePart id asked) (Some there, order, hand) reads =
+adds_new tables (asks.UsePart id asked) (Some there, order, hand) reads =
     none_added tables (is_same_line there asked) refusal.LineDiffers _
-adds_new any tables (asks.UsePart id asked) (None, order, hand) reads =
+adds_new tables (asks.UsePart id asked) (None, order, hand) reads =
     line_news tables (line_on (asks.UsePart id asked) (None, order, hand)) _
     (reads.0.stored, (tt, tt))
-adds_new any tables (asks.CloseOrder id number asked) None reads = tt
-adds_new any tables (asks.CloseOrder id number asked) (Some order) reads =
+adds_new tables (asks.CloseOrder id number asked) None reads = tt
+adds_new tables (asks.CloseOrder id number asked) (Some order) reads =
     line_news tables (line_on (asks.CloseOrder id number asked) (Some order)) _ (tt, tt)
-adds_new any tables (asks.Receive asked) (Some there, hand) reads =
+adds_new tables (asks.Receive asked) (Some there, hand) reads =
     none_added tables (is_same_delivery there asked) refusal.DeliveryDiffers _
-adds_new any tables (asks.Receive asked) (None, hand) reads =
+adds_new tables (asks.Receive asked) (None, hand) reads =
     line_news tables (line_on (asks.Receive asked) (None, hand)) _ (tt, (reads.0.stored, tt))
 
 -- so it is of rows that are told so
-told_new : (tables : Content) (command : RecordCommand) (there : Standing command) (line : Line)
-    (rows : List RowChange) → ReadsKeys tables command there → line ≡ line_on command there
-    → rows ≡ rows_for line (rows_on 0 command there) → AddNew tables rows
-told_new tables command there line rows reads is rows_are =
-    subst (AddNew tables) (sym rows_are)
-    (subst (λ l. AddNew tables (rows_for l (rows_on 0 command there))) (sym is)
-    (adds_new 0 tables command there reads))
-
 pub tells_new : (tables : Content) (command : RecordCommand) (line : Line) (rows : List RowChange)
     → TellsLine tables command line rows → AddNew tables rows
-tells_new tables (asks.Inspect id asked) line rows it =
-    told_new tables (asks.Inspect id asked) it.0 line rows it.1 it.2 it.3
-tells_new tables (asks.OpenOrder id asked) line rows it =
-    told_new tables (asks.OpenOrder id asked) it.0 line rows it.1 it.2 it.3
-tells_new tables (asks.UsePart id asked) line rows it =
-    told_new tables (asks.UsePart id asked) (it.0, it.1, it.2) line rows (it.3, it.4, it.5) it.6 it.7
-tells_new tables (asks.CloseOrder id number asked) line rows it =
-    told_new tables (asks.CloseOrder id number asked) it.0 line rows it.1 it.2 it.3
-tells_new tables (asks.Receive asked) line rows it =
-    told_new tables (asks.Receive asked) (it.0, it.1) line rows (it.2, it.3) it.4 it.5
+tells_new tables command line rows (there, reads, is, rows_are) =
+    subst (AddNew tables) (sym (rows_are ∙ ap (λ l. rows_for l (rows_added command there)) is))
+    (adds_new tables command there reads)
 
 -- and of rows after rows
 pub news_after : (tables : Content) (first later : List RowChange) → AddNew tables first

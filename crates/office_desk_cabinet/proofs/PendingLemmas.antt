@@ -1,13 +1,14 @@
 -- What stands under a key of the register after rows are written: what they put there over tables without a row, or what stood there before.
-use Rattle.std.proofs.Common.{◌≡◌, Bool, true, false, ◌&&◌, List, [], ◌∷◌, ◌++◌, ◌≢◌, cond, Option, Some, None, refl, sym, ap, subst, ◌∙◌, ◌==◌, bytes_eq}
+use Rattle.std.proofs.Common.{◌≡◌, Bool, true, false, ◌&&◌, List, [], ◌∷◌, ◌++◌, ◌≢◌, cond, Option, Some, None, IfSome, refl, sym, ap, subst, ◌∙◌, ◌==◌, bytes_eq}
 use Rattle.std.specs.{FinMap.get, FinMap.insert, FinMap.get-empty, FinMap.get-insert, Option.option_or, Ordering.eq_by_cmp}
 use Rattle.office_tables_shelf.proofs.CellLemmas.{cells_total}
 use Rattle.office_tables_shelf.specs.CabinetRows.{inspection_key, inspection_columns, order_key, order_columns, used_key, used_columns, part_key, part_columns, delivery_key, delivery_columns}
-use Rattle.office_tables_shelf.specs.{Cells.Cell, Cells.Rows, Cells.cells_cmp, Change.changed, Change.changed_by, Content.Content, Content.no_content}
+use Rattle.office_tables_shelf.specs.{Cells.Cell, Cells.TableRows, Cells.cells_cmp, Change.changed, Change.changed_by, Content.Content, Content.no_content}
 use Rattle.office_tables_shelf.specs.declared.rows.RowChange.TheVariants.{AddInspection, AddOrder, PutOrder, AddLine, PutPart, AddDelivery}
 use Rattle.office_tables_shelf.specs.declared.rows.RowChange.{RowChange}
-use Rattle.office_desk_cabinet.specs.Puts.{Puts}
-use Rattle.office_desk_cabinet.proofs.Places.{Place, Inspection, Order, Line, Part, Delivery, RecordAt, ReadsAt, cells_at, columns_at, reads_so, stored_at}
+use Rattle.office_tables_shelf.specs.Places.{Place, Inspection, Order, Line, Part, Delivery, RecordAt, WithinAt, ReadsAt, columns_at}
+use Rattle.office_desk_cabinet.specs.Puts.{Puts, StandsAt}
+use Rattle.office_desk_cabinet.proofs.Places.{cells_at, whole_at}
 use Rattle.office_desk_cabinet.proofs.KeyTies.{numbered_ties, used_ties, delivery_ties, part_ties}
 
 -- ---- places
@@ -35,7 +36,7 @@ cells_put _ = []
 -- ---- one change
 
 -- what stands under a key once a row is put, from whether the keys tie
-put_under : (rows : Rows) (k cells q : List Cell) (b : Bool) → eq_by_cmp cells_cmp q k ≡ b → get (insert rows k cells) q ≡ cond b (Some cells) (get rows q)
+put_under : (rows : TableRows) (k cells q : List Cell) (b : Bool) → eq_by_cmp cells_cmp q k ≡ b → get (insert rows k cells) q ≡ cond b (Some cells) (get rows q)
 put_under rows k cells q b ties = get-insert cells_total rows k cells q ∙ ap (λ t. cond t (Some cells) (get rows q)) ties
 
 pub cells_changed : (tables : Content) (place : Place) (change : RowChange) → cells_at (changed tables change) place ≡ cond (is_put place change) (Some (cells_put change)) (cells_at tables place)
@@ -97,28 +98,39 @@ changed_append tables (change ∷ changes) later = changed_append (changed table
 -- ---- what is read at a place
 
 pub put_at : (changes : List RowChange) (place : Place) (put : Option (RecordAt place))
-    → ReadsAt (changed_by no_content changes) place put
-    → Puts (λ tables there. ReadsAt tables place there) changes put
+    → ReadsAt (changed_by no_content changes) place put → Puts place changes put
 put_at changes place None reads = λ tables before there.
-    reads_so tables (changed_by tables changes) place before
-    (laid_over changes place None (stored_at _ place None reads) tables
-    ∙ stored_at tables place before there) there
+    record { stored = laid_over changes place None reads.stored tables ∙ there.stored; keyed = there.keyed }
 put_at changes place (Some put) reads = λ tables.
-    reads_so (changed_by no_content changes) (changed_by tables changes) place (Some put)
-    (laid_over changes place _ (stored_at _ place (Some put) reads) tables) reads
+    record { stored = laid_over changes place (Some (columns_at place put)) reads.stored tables; keyed = reads.keyed }
 
 -- the same of changes that are seen as others, in the tables that they make of none
 pub put_seen : (place : Place) (put : Option (RecordAt place)) {tables : Content}
     {inside changes : List RowChange} → inside ≡ changes → tables ≡ changed_by no_content inside
-    → ReadsAt tables place put → Puts (λ tables there. ReadsAt tables place there) changes put
+    → ReadsAt tables place put → Puts place changes put
 put_seen place put {changes = changes} viewed made reads = put_at changes place put
     (subst (λ (t : Content). ReadsAt t place put) (made ∙ ap (changed_by no_content) viewed) reads)
 
--- no rows put nothing
-pub nothing_put : (place : Place) (pending : List RowChange) (put : RecordAt place)
-    → Puts (λ tables there. ReadsAt tables place there) pending (Some put) → pending ≢ []
-nothing_put place pending put puts none =
-    let reads = subst (λ (rows : List RowChange). ReadsAt (changed_by no_content rows) place
-    (Some put)) none (puts no_content) in
-    let never : None ≡ Some (columns_at place put) =
-    sym (nothing_at place) ∙ stored_at no_content place (Some put) reads in cc
+-- ---- what stands at a place once rows are written
+
+module _ (place : Place) (changes : List RowChange) (put : Option (RecordAt place)) (puts : Puts place changes put) where
+  -- what they put, over whatever tables; and there are some
+  pub put_stands : (x : RecordAt place) → put ≡ Some x → IfSome put (WithinAt place)
+      → (tables : Content) → StandsAt (changed_by tables changes) place (Some x)
+  put_stands x is within tables =
+      let reads = subst (Puts place changes) is puts tables in
+      record { reads = reads; whole = whole_at _ place (Some x) reads (subst (λ o. IfSome o (WithinAt place)) is within) }
+
+  pub some_put : (x : RecordAt place) → put ≡ Some x → changes ≢ []
+  some_put x is none =
+      let reads = subst (λ (rows : List RowChange). ReadsAt (changed_by no_content rows) place (Some x)) none
+      (subst (Puts place changes) is puts no_content) in
+      let never : None ≡ Some (columns_at place x) = sym (nothing_at place) ∙ reads.stored in cc
+
+  -- or what stood there
+  pub still_stands : put ≡ None → (tables : Content) (before : Option (RecordAt place))
+      → ReadsAt tables place before → IfSome before (WithinAt place)
+      → StandsAt (changed_by tables changes) place before
+  still_stands is tables before there within =
+      let reads = subst (Puts place changes) is puts tables before there in
+      record { reads = reads; whole = whole_at _ place before reads within }

@@ -1,80 +1,61 @@
 -- In tables that stand for a sound register every row is a record.
-use Rattle.std.proofs.Common.{◌≡◌, ℕ, Bool, true, false, cond, List, [], ◌∷◌, Option, None, Some, pos, sym, ap, subst, ◌∙◌, arith}
-use Rattle.std.proofs.lemmas.Cmp.{nat_list_cmp_total}
+use Rattle.std.proofs.Common.{◌≡◌, ℕ, true, [], ◌∷◌, Option, Some, pos, sym, ap, subst, ◌∙◌}
+use Rattle.std.proofs.lemmas.{Cmp.nat_list_cmp_total, Option.IfSome_then}
 use Rattle.std.specs.{FinMap.get, Option.IfSome}
-use Rattle.cabinet_core.specs.Sound.{IsSoundRegister, IsInspectionAt, IsOrderAt, IsLineAt, IsDeliveryAt}
-use Rattle.cabinet_core.specs.Stock.{was_delivered, pieces, hand_of, stock_by_code}
-use Rattle.cabinet_core.specs.Within.{IsInspectionWithin, IsOrderWithin, IsUsedLineWithin, IsDeliveryWithin}
+use Rattle.cabinet_core.specs.Sound.{IsInspectionAt, IsOrderAt, IsLineAt}
+use Rattle.cabinet_core.specs.Stock.{hand_of, stock_by_code}
 use Rattle.cabinet_core.specs.{Register.Register, declared.record.Order.Order as OrderRecord}
 use Rattle.cabinet_core.specs.declared.{command.RecordCommand.RecordCommand, record.Inspection.Inspection as InspectionRecord, record.UsedLine.UsedLine}
-use Rattle.cabinet_core.proofs.{KeyOrders.record_total, KeyOrders.line_total, StockList.code_on_hand, StockList.stock_has, Puts.if_more}
+use Rattle.cabinet_core.proofs.{KeyOrders.record_total, KeyOrders.line_total, StockList.code_on_hand, StockList.stock_has}
 use Rattle.office_tables_shelf.proofs.{CabinetLemmas.part_order, KeyCells.record_order, KeyCells.line_order, StoredMaps.stored_found}
 use Rattle.office_tables_shelf.specs.CabinetReads.{HasDamagedInspection, HasDamagedOrder, HasDamagedUsed, HasDamagedPart, IsHand}
 use Rattle.office_tables_shelf.specs.CabinetRows.{inspection_key, inspection_columns, order_key, order_columns, used_key, used_columns, part_key, part_columns}
-use Rattle.office_tables_shelf.specs.{Cells.Rows, Cells.number, Content.Content, Shelf.is_of}
+use Rattle.office_tables_shelf.specs.{Cells.TableRows, Cells.number, Content.Content, Shelf.is_of}
 use Rattle.office_desk_decisions.proofs.RowsTell.{of_tells}
 use Rattle.office_desk_cabinet.specs.RegisterStands.{inspection_cells, order_cells, line_cells, RegisterStandsSound}
 use Rattle.office_desk_cabinet.specs.RegisterDamage.{MeetsRecordDamage}
-use Rattle.office_desk_cabinet.proofs.Places.{DamagedAt, Place, Inspection, Order, Line, Part, Delivery, WithinAt, met_at, whole_at}
-use Rattle.office_desk_cabinet.proofs.Found.{register_reads, standing_at}
+use Rattle.office_tables_shelf.specs.Places.{DamagedAt, Place}
+use Rattle.office_desk_cabinet.proofs.Places.{met_at, whole_at}
+use Rattle.office_desk_cabinet.proofs.Found.{hand_within, register_reads, sound_at, standing_at}
 
 -- ---- rows of an intersection
 
 pub no_damaged_inspection : (tables : Content) (r : Register) (id : ℕ) → RegisterStandsSound tables r → HasDamagedInspection tables id → ⊥
 no_damaged_inspection tables r id stands damaged =
-    let found = stored_found record_total inspection_cells inspection_columns record_order r.inspections damaged.key damaged.columns (sym (ap (λ (rows : Rows). get rows damaged.key) stands.stand.inspection) ∙ damaged.stored) in
+    let found = stored_found record_total inspection_cells inspection_columns record_order r.inspections damaged.key damaged.columns (sym (ap (λ (rows : TableRows). get rows damaged.key) stands.stand.inspection) ∙ damaged.stored) in
     let at = subst (λ (o : Option InspectionRecord). IfSome o (IsInspectionAt found.0)) found.4 (stands.sound.inspections found.0) in
     let of = of_tells id found.0.0 (number (pos found.0.1) ∷ []) (subst (λ cells. is_of id cells ≡ true) found.2 damaged.of) in
     damaged.no_row found.1 at.within (found.2 ∙ (λ i. inspection_key (sym of i) (sym at.number i))) found.3
 
 pub no_damaged_order : (tables : Content) (r : Register) (id : ℕ) → RegisterStandsSound tables r → HasDamagedOrder tables id → ⊥
 no_damaged_order tables r id stands damaged =
-    let found = stored_found record_total order_cells order_columns record_order r.orders damaged.key damaged.columns (sym (ap (λ (rows : Rows). get rows damaged.key) stands.stand.work_order) ∙ damaged.stored) in
+    let found = stored_found record_total order_cells order_columns record_order r.orders damaged.key damaged.columns (sym (ap (λ (rows : TableRows). get rows damaged.key) stands.stand.work_order) ∙ damaged.stored) in
     let at = subst (λ (o : Option OrderRecord). IfSome o (IsOrderAt found.0)) found.4 (stands.sound.orders found.0) in
     let of = of_tells id found.0.0 (number (pos found.0.1) ∷ []) (subst (λ cells. is_of id cells ≡ true) found.2 damaged.of) in
     damaged.no_row found.1 at.within (found.2 ∙ (λ i. order_key (sym of i) (sym at.number i))) found.3
 
 pub no_damaged_used : (tables : Content) (r : Register) (id : ℕ) → RegisterStandsSound tables r → HasDamagedUsed tables id → ⊥
 no_damaged_used tables r id stands damaged =
-    let found = stored_found line_total line_cells used_columns line_order r.lines damaged.key damaged.columns (sym (ap (λ (rows : Rows). get rows damaged.key) stands.stand.used_part) ∙ damaged.stored) in
+    let found = stored_found line_total line_cells used_columns line_order r.lines damaged.key damaged.columns (sym (ap (λ (rows : TableRows). get rows damaged.key) stands.stand.used_part) ∙ damaged.stored) in
     let at = subst (λ (o : Option UsedLine). IfSome o (IsLineAt r found.0)) found.4 (stands.sound.lines found.0) in
     let of = of_tells id found.0.0 (number (pos found.0.1.0) ∷ number (pos found.0.1.1) ∷ []) (subst (λ cells. is_of id cells ≡ true) found.2 damaged.of) in
     damaged.no_row found.1 at.within (found.2 ∙ (λ i. used_key (sym of i) (sym at.of i) (sym at.number i))) found.3
 
 -- ---- what is on hand
 
--- what is on hand of a part in a sound register is within its limits
-pub hand_within : (r : Register) (code : List ℕ) → IsSoundRegister r → IfSome (hand_of r code) IsHand
-hand_within r code sound = go (was_delivered r code)
-  where
-    within : IsHand (pieces r code)
-    within = let stocked = sound.stock code in let bounded = stocked.bounded in (omega arith, omega arith)
-
-    go : (b : Bool) → IfSome (cond b (Some (pieces r code)) None) IsHand
-    go true = within
-    go false = tt
-
 pub no_damaged_part : (tables : Content) (r : Register) → RegisterStandsSound tables r → HasDamagedPart tables → ⊥
 no_damaged_part tables r stands damaged =
-    let found = stored_found nat_list_cmp_total part_key part_columns part_order (stock_by_code r) damaged.key damaged.columns (sym (ap (λ (rows : Rows). get rows damaged.key) stands.stand.part) ∙ damaged.stored) in
+    let found = stored_found nat_list_cmp_total part_key part_columns part_order (stock_by_code r) damaged.key damaged.columns (sym (ap (λ (rows : TableRows). get rows damaged.key) stands.stand.part) ∙ damaged.stored) in
     let on : hand_of r found.0 ≡ Some found.1 = sym (stock_has r found.0) ∙ found.4 in
-    damaged.no_row found.0 (code_on_hand r found.0 found.1 stands.sound on) found.1 (subst (λ (o : Option ℕ). IfSome o IsHand) on (hand_within r found.0 stands.sound)) found.2 found.3
+    damaged.no_row (found.0, found.1) (code_on_hand r found.0 found.1 stands.sound on, subst (λ (o : Option ℕ). IfSome o IsHand) on (hand_within r found.0 stands.sound)) found.2 found.3
 
 -- ---- rows under their own keys
-
--- what a sound register has at a place is within its limits
-within_at : (r : Register) → IsSoundRegister r → (place : Place)
-    → IfSome (standing_at r place) (WithinAt place)
-within_at r sound (Inspection id n) = if_more (IsInspectionAt (id, n)) IsInspectionWithin (λ x at. at.within) (get r.inspections (id, n)) (sound.inspections (id, n))
-within_at r sound (Order id n) = if_more (IsOrderAt (id, n)) IsOrderWithin (λ x at. at.within) (get r.orders (id, n)) (sound.orders (id, n))
-within_at r sound (Line id order line) = if_more (IsLineAt r (id, (order, line))) IsUsedLineWithin (λ x at. at.within) (get r.lines (id, (order, line))) (sound.lines (id, (order, line)))
-within_at r sound (Part code) = hand_within r code sound
-within_at r sound (Delivery code n) = if_more (IsDeliveryAt (code, n)) IsDeliveryWithin (λ x at. at.within) (get r.deliveries (code, n)) (sound.deliveries (code, n))
 
 no_damaged_at : (tables : Content) (r : Register) → RegisterStandsSound tables r → (place : Place)
     → DamagedAt tables place → ⊥
 no_damaged_at tables r stands place = whole_at tables place (standing_at r place)
-    (register_reads tables r stands place) (within_at r stands.sound place)
+    (register_reads tables r stands place)
+    (IfSome_then (standing_at r place) (sound_at r stands.sound place) (λ x at. at.1))
 
 -- no row that a command reads keeps it from being answered
 pub undamaged_record : (tables : Content) (r : Register) (command : RecordCommand) → RegisterStandsSound tables r → MeetsRecordDamage tables command → ⊥

@@ -2,8 +2,8 @@
 ghost use Rattle.std.specs.Prelude.{◌≡◌, ◌++◌, [], IfOk, IfSome};
 ghost use Rattle.cabinet_core.specs.Within.{IsInspectionWithin, IsOrderWithin};
 ghost use Rattle.cabinet_core.specs.Within.{IsUsedLineWithin, IsDeliveryWithin};
-ghost use Rattle.office_tables_shelf.specs.CabinetReads.{ReadsInspection, ReadsOrder, ReadsUsed};
-ghost use Rattle.office_tables_shelf.specs.CabinetReads.{ReadsDelivery, IsHand, ReadsHand};
+ghost use Rattle.office_tables_shelf.specs.CabinetReads.{IsHand};
+ghost use Rattle.office_tables_shelf.specs.Places as place;
 ghost use Rattle.office_desk_cabinet.specs.Puts.{Puts};
 
 use cabinet_core::{Delivery, Hand, Inspection, Order, PartCode, UsedLine};
@@ -75,8 +75,7 @@ impl Pending {
         id: InterId,
         number: RecordNo,
     ) -> Result<Option<Inspection>, NoMemory>
-        ensures put { IfOk result (λ put.
-            Puts (λ tables there. ReadsInspection tables id number there) self.now put) }
+        ensures put { IfOk result (λ put. Puts (place.Inspection id number) self.now put) }
         ensures within { IfOk result (λ put. IfSome put IsInspectionWithin) }
     {
         let put = self.puts.inspection_at(id, number)?;
@@ -85,8 +84,7 @@ impl Pending {
 
     /// The order that is put under a number of an intersection, if one is.
     pub(crate) fn order(&self, id: InterId, number: RecordNo) -> Result<Option<Order>, NoMemory>
-        ensures put { IfOk result (λ put.
-            Puts (λ tables there. ReadsOrder tables id number there) self.now put) }
+        ensures put { IfOk result (λ put. Puts (place.Order id number) self.now put) }
         ensures within { IfOk result (λ put. IfSome put IsOrderWithin) }
     {
         let put = self.puts.order_at(id, number)?;
@@ -100,8 +98,7 @@ impl Pending {
         order: RecordNo,
         line: LineNo,
     ) -> Result<Option<UsedLine>, NoMemory>
-        ensures put { IfOk result (λ put.
-            Puts (λ tables there. ReadsUsed tables id order line there) self.now put) }
+        ensures put { IfOk result (λ put. Puts (place.Line id order line) self.now put) }
         ensures within { IfOk result (λ put. IfSome put IsUsedLineWithin) }
     {
         let put = self.puts.line_at(id, order, line)?;
@@ -114,8 +111,7 @@ impl Pending {
         part: &PartCode,
         number: RecordNo,
     ) -> Result<Option<Delivery>, NoMemory>
-        ensures put { IfOk result (λ put.
-            Puts (λ tables there. ReadsDelivery tables part.now number there) self.now put) }
+        ensures put { IfOk result (λ put. Puts (place.Delivery part.now number) self.now put) }
         ensures within { IfOk result (λ put. IfSome put IsDeliveryWithin) }
     {
         let put = self.puts.delivery_at(part, number)?;
@@ -124,7 +120,7 @@ impl Pending {
 
     /// How many of a part are put on hand, if the rows say so.
     pub(crate) fn hand(&self, part: &PartCode) -> Option<Hand>
-        ensures put { Puts (λ tables there. ReadsHand tables part.now there) self.now result }
+        ensures put { Puts (place.Part part.now) self.now result }
         ensures within { IfSome result IsHand }
     {
         self.puts.hand_of(part)

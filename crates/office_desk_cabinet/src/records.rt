@@ -2,7 +2,7 @@
 ghost use Rattle.std.specs.Prelude.{◌≡◌, []};
 ghost use Rattle.cabinet_core.specs.declared.command.RecordCommand.{RecordCommand};
 ghost use Rattle.office_tables_shelf.specs.Keeps.{KeepsShelf};
-ghost use Rattle.office_desk_cabinet.specs.Open.{StaysOpen};
+ghost use Rattle.office_desk_cabinet.specs.Open.{DatabaseStaysOpen};
 ghost use Rattle.office_desk_cabinet.specs.Decides.{DecidesRecord};
 
 use crate::pending::Pending;
@@ -25,7 +25,7 @@ pub(crate) fn decide_inspect<S: Shelf>(
     ensures decides { DecidesRecord (S.is_honest shelf.new) (S.content shelf.old) pending.now
         (RecordCommand.Inspect id inspection.now) result }
     ensures kept { KeepsShelf S.Shelf shelf.old shelf.new }
-    ensures open { StaysOpen S.is_clean S.is_honest (pending.now ≡ [])
+    ensures open { DatabaseStaysOpen S.is_clean S.is_honest (pending.now ≡ [])
         result shelf.old shelf.new }
 {
     let there = inspection_at(shelf, alloc, pending, id, inspection.number)?;
@@ -44,7 +44,7 @@ pub(crate) fn decide_open_order<S: Shelf>(
     ensures decides { DecidesRecord (S.is_honest shelf.new) (S.content shelf.old) pending.now
         (RecordCommand.OpenOrder id opening.now) result }
     ensures kept { KeepsShelf S.Shelf shelf.old shelf.new }
-    ensures open { StaysOpen S.is_clean S.is_honest (pending.now ≡ [])
+    ensures open { DatabaseStaysOpen S.is_clean S.is_honest (pending.now ≡ [])
         result shelf.old shelf.new }
 {
     let there = order_at(shelf, alloc, pending, id, opening.number)?;
@@ -64,7 +64,7 @@ pub(crate) fn decide_close_order<S: Shelf>(
     ensures decides { DecidesRecord (S.is_honest shelf.new) (S.content shelf.old) pending.now
         (RecordCommand.CloseOrder id order closing.now) result }
     ensures kept { KeepsShelf S.Shelf shelf.old shelf.new }
-    ensures open { StaysOpen S.is_clean S.is_honest (pending.now ≡ [])
+    ensures open { DatabaseStaysOpen S.is_clean S.is_honest (pending.now ≡ [])
         result shelf.old shelf.new }
 {
     let there = order_at(shelf, alloc, pending, id, order)?;

@@ -1,13 +1,11 @@
 //! The records that stand under a command's keys once the pending rows are written.
 ghost use Rattle.std.specs.Prelude.{◌≡◌, IfOk, []};
-ghost use Rattle.office_tables_shelf.specs.CabinetReads.{ReadsInspection, HasDamagedInspectionAt};
-ghost use Rattle.office_tables_shelf.specs.CabinetReads.{ReadsOrder, HasDamagedOrderAt};
-ghost use Rattle.office_tables_shelf.specs.CabinetReads.{ReadsUsed, HasDamagedUsedAt};
-ghost use Rattle.office_tables_shelf.specs.CabinetReads.{ReadsHand, HasDamagedHand};
-ghost use Rattle.office_tables_shelf.specs.CabinetReads.{ReadsDelivery, HasDamagedDelivery};
 ghost use Rattle.office_tables_shelf.specs.Change.{changed_by};
 ghost use Rattle.office_tables_shelf.specs.Keeps.{KeepsShelf};
-ghost use Rattle.office_desk_cabinet.specs.Open.{StaysOpen};
+ghost use Rattle.office_tables_shelf.specs.Places as place;
+ghost use Rattle.office_tables_shelf.specs.Places.{DamagedAt};
+ghost use Rattle.office_desk_cabinet.specs.Open.{DatabaseStaysOpen};
+ghost use Rattle.office_desk_cabinet.specs.Puts.{StandsAt};
 
 use crate::pending::Pending;
 use cabinet_core::{Delivery, Hand, Inspection, Order, PartCode, UsedLine};
@@ -23,12 +21,12 @@ pub(crate) fn inspection_at<S: Shelf>(
     id: InterId,
     number: RecordNo,
 ) -> Result<Option<Inspection>, ShelfFault>
-    ensures row { IfOk result (λ there. S.is_honest shelf.new → ReadsInspection (changed_by (S.content shelf.old) pending.now) id number there) }
-    ensures whole { IfOk result (λ _. S.is_honest shelf.new →
-        ¬ HasDamagedInspectionAt (changed_by (S.content shelf.old) pending.now) id number) }
-    ensures damaged { result ≡ Err ShelfFault.Damaged → S.is_honest shelf.new → HasDamagedInspectionAt (S.content shelf.old) id number }
+    ensures stands { IfOk result (λ there. S.is_honest shelf.new →
+        StandsAt (changed_by (S.content shelf.old) pending.now) (place.Inspection id number) there) }
+    ensures damaged { result ≡ Err ShelfFault.Damaged → S.is_honest shelf.new →
+        DamagedAt (S.content shelf.old) (place.Inspection id number) }
     ensures kept { KeepsShelf S.Shelf shelf.old shelf.new }
-    ensures open { StaysOpen S.is_clean S.is_honest (pending.now ≡ [])
+    ensures open { DatabaseStaysOpen S.is_clean S.is_honest (pending.now ≡ [])
         result shelf.old shelf.new }
 {
     if let Some(put) = pending.inspection(id, number)? {
@@ -46,12 +44,12 @@ pub(crate) fn order_at<S: Shelf>(
     id: InterId,
     number: RecordNo,
 ) -> Result<Option<Order>, ShelfFault>
-    ensures row { IfOk result (λ there. S.is_honest shelf.new → ReadsOrder (changed_by (S.content shelf.old) pending.now) id number there) }
-    ensures whole { IfOk result (λ _. S.is_honest shelf.new →
-        ¬ HasDamagedOrderAt (changed_by (S.content shelf.old) pending.now) id number) }
-    ensures damaged { result ≡ Err ShelfFault.Damaged → S.is_honest shelf.new → HasDamagedOrderAt (S.content shelf.old) id number }
+    ensures stands { IfOk result (λ there. S.is_honest shelf.new →
+        StandsAt (changed_by (S.content shelf.old) pending.now) (place.Order id number) there) }
+    ensures damaged { result ≡ Err ShelfFault.Damaged → S.is_honest shelf.new →
+        DamagedAt (S.content shelf.old) (place.Order id number) }
     ensures kept { KeepsShelf S.Shelf shelf.old shelf.new }
-    ensures open { StaysOpen S.is_clean S.is_honest (pending.now ≡ [])
+    ensures open { DatabaseStaysOpen S.is_clean S.is_honest (pending.now ≡ [])
         result shelf.old shelf.new }
 {
     if let Some(put) = pending.order(id, number)? {
@@ -70,12 +68,12 @@ pub(crate) fn line_at<S: Shelf>(
     order: RecordNo,
     line: LineNo,
 ) -> Result<Option<UsedLine>, ShelfFault>
-    ensures row { IfOk result (λ there. S.is_honest shelf.new → ReadsUsed (changed_by (S.content shelf.old) pending.now) id order line there) }
-    ensures whole { IfOk result (λ _. S.is_honest shelf.new →
-        ¬ HasDamagedUsedAt (changed_by (S.content shelf.old) pending.now) id order line) }
-    ensures damaged { result ≡ Err ShelfFault.Damaged → S.is_honest shelf.new → HasDamagedUsedAt (S.content shelf.old) id order line }
+    ensures stands { IfOk result (λ there. S.is_honest shelf.new →
+        StandsAt (changed_by (S.content shelf.old) pending.now) (place.Line id order line) there) }
+    ensures damaged { result ≡ Err ShelfFault.Damaged → S.is_honest shelf.new →
+        DamagedAt (S.content shelf.old) (place.Line id order line) }
     ensures kept { KeepsShelf S.Shelf shelf.old shelf.new }
-    ensures open { StaysOpen S.is_clean S.is_honest (pending.now ≡ [])
+    ensures open { DatabaseStaysOpen S.is_clean S.is_honest (pending.now ≡ [])
         result shelf.old shelf.new }
 {
     if let Some(put) = pending.line(id, order, line)? {
@@ -93,12 +91,12 @@ pub(crate) fn hand_at<S: Shelf>(
     pending: &Pending,
     part: &PartCode,
 ) -> Result<Option<Hand>, ShelfFault>
-    ensures row { IfOk result (λ there. S.is_honest shelf.new → ReadsHand (changed_by (S.content shelf.old) pending.now) part.now there) }
-    ensures whole { IfOk result (λ _. S.is_honest shelf.new →
-        ¬ HasDamagedHand (changed_by (S.content shelf.old) pending.now) part.now) }
-    ensures damaged { result ≡ Err ShelfFault.Damaged → S.is_honest shelf.new → HasDamagedHand (S.content shelf.old) part.now }
+    ensures stands { IfOk result (λ there. S.is_honest shelf.new →
+        StandsAt (changed_by (S.content shelf.old) pending.now) (place.Part part.now) there) }
+    ensures damaged { result ≡ Err ShelfFault.Damaged → S.is_honest shelf.new →
+        DamagedAt (S.content shelf.old) (place.Part part.now) }
     ensures kept { KeepsShelf S.Shelf shelf.old shelf.new }
-    ensures open { StaysOpen S.is_clean S.is_honest (pending.now ≡ [])
+    ensures open { DatabaseStaysOpen S.is_clean S.is_honest (pending.now ≡ [])
         result shelf.old shelf.new }
 {
     if let Some(put) = pending.hand(part) {
@@ -116,12 +114,12 @@ pub(crate) fn delivery_at<S: Shelf>(
     part: &PartCode,
     number: RecordNo,
 ) -> Result<Option<Delivery>, ShelfFault>
-    ensures row { IfOk result (λ there. S.is_honest shelf.new → ReadsDelivery (changed_by (S.content shelf.old) pending.now) part.now number there) }
-    ensures whole { IfOk result (λ _. S.is_honest shelf.new →
-        ¬ HasDamagedDelivery (changed_by (S.content shelf.old) pending.now) part.now number) }
-    ensures damaged { result ≡ Err ShelfFault.Damaged → S.is_honest shelf.new → HasDamagedDelivery (S.content shelf.old) part.now number }
+    ensures stands { IfOk result (λ there. S.is_honest shelf.new →
+        StandsAt (changed_by (S.content shelf.old) pending.now) (place.Delivery part.now number) there) }
+    ensures damaged { result ≡ Err ShelfFault.Damaged → S.is_honest shelf.new →
+        DamagedAt (S.content shelf.old) (place.Delivery part.now number) }
     ensures kept { KeepsShelf S.Shelf shelf.old shelf.new }
-    ensures open { StaysOpen S.is_clean S.is_honest (pending.now ≡ [])
+    ensures open { DatabaseStaysOpen S.is_clean S.is_honest (pending.now ≡ [])
         result shelf.old shelf.new }
 {
     if let Some(put) = pending.delivery(part, number)? {

@@ -5,7 +5,7 @@ ghost use Rattle.cabinet_core.specs.Stock.{stock_of};
 ghost use Rattle.cabinet_core.specs.declared.command.RecordCommand.{RecordCommand};
 ghost use Rattle.office_tables_shelf.specs.CabinetReads.{HasDamagedPart};
 ghost use Rattle.office_tables_shelf.specs.Keeps.{AnswersShelf, KeepsShelf};
-ghost use Rattle.office_desk_cabinet.specs.Open.{StaysOpen};
+ghost use Rattle.office_desk_cabinet.specs.Open.{DatabaseStaysOpen};
 ghost use Rattle.office_desk_cabinet.specs.RegisterStands.{RegisterStandsSound};
 ghost use Rattle.office_desk_cabinet.specs.Decides.{DecidesRecord};
 ghost use Rattle.office_desk_cabinet.specs.Stocking.{TellsStock, stock_row_of, stock_rows_of};
@@ -36,7 +36,7 @@ pub(crate) fn decide_use_part<S: Shelf>(
     ensures decides { DecidesRecord (S.is_honest shelf.new) (S.content shelf.old) pending.now
         (RecordCommand.UsePart id line.now) result }
     ensures kept { KeepsShelf S.Shelf shelf.old shelf.new }
-    ensures open { StaysOpen S.is_clean S.is_honest (pending.now ≡ [])
+    ensures open { DatabaseStaysOpen S.is_clean S.is_honest (pending.now ≡ [])
         result shelf.old shelf.new }
 {
     let hand = hand_at(shelf, alloc, pending, &line.part)?;
@@ -100,7 +100,7 @@ pub(crate) fn decide_receive<S: Shelf>(
     ensures decides { DecidesRecord (S.is_honest shelf.new) (S.content shelf.old) pending.now
         (RecordCommand.Receive delivery.now) result }
     ensures kept { KeepsShelf S.Shelf shelf.old shelf.new }
-    ensures open { StaysOpen S.is_clean S.is_honest (pending.now ≡ [])
+    ensures open { DatabaseStaysOpen S.is_clean S.is_honest (pending.now ≡ [])
         result shelf.old shelf.new }
 {
     let hand = hand_at(shelf, alloc, pending, &delivery.part)?;

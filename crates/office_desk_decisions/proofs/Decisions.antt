@@ -4,7 +4,7 @@ use Rattle.std.specs.Prelude.{IsErrAnd}
 use Rattle.office_tables_shelf.specs.{Change.AddNew, Change.changed_by, Content.Content, Counts.writes_in}
 use Rattle.office_tables_shelf.specs.declared.{rows.RowChange.RowChange, rows.Table.Table, shelf.ShelfFault.ShelfFault}
 use Rattle.office_tables_shelf.specs.declared.shelf.ShelfFault.TheVariants.{Damaged}
-use Rattle.office_desk_decisions.specs.{RecordBounds.IsOneOf, Answers.Answers, Answers.AnswersAny, Changes.IsQuery, Changes.IsRefused}
+use Rattle.office_desk_decisions.specs.{RecordBounds.IsOneOf, Answers.Answers, Answers.AnswersAny, Changes.IsQueryCommand, Changes.IsRefused}
 use Rattle.office_desk_decisions.specs.{Changes.most_writes, Damage.IsImport, Damage.MeetsDamage, Deciding.Decides, Deciding.IsDecision}
 use Rattle.office_desk_decisions.specs.{Named.RefusesBy, Named.number_of, Named.numbers_of, declared.decided.Decided.Decided}
 use Rattle.office_tables_standing.specs.StandFor.{StandForSound}
@@ -61,7 +61,7 @@ unknown_decides is_honest tables command decided is known none whole answers =
 
 -- a command that is accepted: its reply is no refusal, and these are its rows
 pub accepted_decides : (is_honest : Type 0) (tables : Content) (command : Command) (said : Reply) (rows : List RowChange) (decided : Decided)
-    → decided.reply ≡ said → decided.changes.items ≡ rows → ¬ IsRefused said → ¬ IsQuery command
+    → decided.reply ≡ said → decided.changes.items ≡ rows → ¬ IsRefused said → ¬ IsQueryCommand command
     → (is_honest → AnswersAny tables command said (changed_by tables rows))
     → (is_honest → (table : Table) → writes_in table rows ≤ most_writes tables command table) → (is_honest → AddNew tables rows)
     → (is_honest → ¬ MeetsDamage tables command) → IsDecision is_honest tables command decided

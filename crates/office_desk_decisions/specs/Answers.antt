@@ -22,5 +22,5 @@ abbrev pub EndsIn : Type 0 → Content → (Content → Type 0) → Type 0
 EndsIn is_open stored Holds = (tables : Content) × Holds tables × (is_open → stored ≡ tables)
 
 -- tables that stand for the office after the command's own step, whichever sound office the old ones stand for
-abbrev pub IsAfterStep : Content → Command → Content → Type 0
-IsAfterStep old command new = (office : Office) → StandForSound old office → StandForSound new (answered office command).1
+abbrev pub StandsAfterStep : Content → Command → Content → Type 0
+StandsAfterStep old command new = (office : Office) → StandForSound old office → StandForSound new (answered office command).1

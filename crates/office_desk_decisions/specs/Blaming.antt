@@ -21,18 +21,18 @@ use Rattle.office_machine.specs.declared.reply.Reply.TheVariants.{Refused}
 -- ---- records in turn, on tables with rows that are pending, whatever else is stored
 
 -- the record's intersection is there, and its line of the table is this, on the rows under its keys
-abbrev pub FollowsLine : (stored : Content) (pending : List RowChange) → RecordCommand → Line → List RowChange → Type 0
-FollowsLine stored pending c line rows = TellsAbout stored (cabinet_of c) true × TellsLine (changed_by stored pending) c line rows
+abbrev pub FollowsRegisterLine : (stored : Content) (pending : List RowChange) → RecordCommand → Line → List RowChange → Type 0
+FollowsRegisterLine stored pending c line rows = TellsAbout stored (cabinet_of c) true × TellsLine (changed_by stored pending) c line rows
 
 -- it is added, or it is there
 abbrev pub IsTakenAfter : (stored : Content) (pending : List RowChange) → RecordCommand → List RowChange → Type 0
-IsTakenAfter stored pending c rows = FollowsLine stored pending c added rows ⊎ FollowsLine stored pending c same rows
+IsTakenAfter stored pending c rows = FollowsRegisterLine stored pending c added rows ⊎ FollowsRegisterLine stored pending c same rows
 
 -- it is refused: its intersection is not there, or the table refuses it
 abbrev pub IsRefusedAfter : (stored : Content) (pending : List RowChange) → RecordCommand → ℕ → Type 0
 IsRefusedAfter stored pending c cause =
     (TellsAbout stored (cabinet_of c) false × (cause ≡ 10))
-    ⊎ ((why : CabinetRefusal) × FollowsLine stored pending c (refused why) [] × (cause ≡ number_of (refusal_of_record why)))
+    ⊎ ((why : CabinetRefusal) × FollowsRegisterLine stored pending c (refused why) [] × (cause ≡ number_of (refusal_of_record why)))
 
 -- each is taken, after the rows of those before it
 abbrev pub AreTaken : (stored : Content) (pending : List RowChange) → List RecordCommand → (after : List RowChange) → Type 0

@@ -18,15 +18,15 @@ IsRefused (Refused refusal) = Unit {0}
 IsRefused _ = ⊥
 
 -- a query asks, and no more
-abbrev pub IsQuery : Command → Type 0
-IsQuery (command.State id) = Unit {0}
-IsQuery (command.Timing id) = Unit {0}
-IsQuery (command.Draft id) = Unit {0}
-IsQuery (command.Cabinet id) = Unit {0}
-IsQuery (command.OpenOrders id) = Unit {0}
-IsQuery command.Stock = Unit {0}
-IsQuery (command.Overdue day) = Unit {0}
-IsQuery _ = ⊥
+abbrev pub IsQueryCommand : Command → Type 0
+IsQueryCommand (command.State id) = Unit {0}
+IsQueryCommand (command.Timing id) = Unit {0}
+IsQueryCommand (command.Draft id) = Unit {0}
+IsQueryCommand (command.Cabinet id) = Unit {0}
+IsQueryCommand (command.OpenOrders id) = Unit {0}
+IsQueryCommand command.Stock = Unit {0}
+IsQueryCommand (command.Overdue day) = Unit {0}
+IsQueryCommand _ = ⊥
 
 -- the most timing rows that a command writes: a commit one for each draft row, any other none
 abbrev pub most_timing_writes : Content → Command → ℕ

@@ -2,6 +2,8 @@
 use Rattle.std.specs.Prelude.{◌≡◌, ◌⊎◌, ℕ, List, [], ◌∷◌, Option, Some, None}
 use Rattle.std.specs.Option.{option_map}
 use Rattle.draft_state.specs.declared.state.Holder.{Holder}
+use Rattle.draft_core.specs.Steps.{reach_of}
+use Rattle.draft_core.specs.declared.step.Step.TheVariants as step
 use Rattle.draft_core.specs.declared.timing.Reach.{Reach}
 use Rattle.draft_core.specs.declared.timing.Reach.TheVariants as reach
 use Rattle.draft_state.specs.declared.state.Stage.TheVariants.{Done}
@@ -16,9 +18,6 @@ use Rattle.cabinet_core.specs.declared.command.RecordCommand.{RecordCommand}
 use Rattle.office_desk_decisions.specs.RegisterDamage.{HasDamagedCabinet, MeetsRecordDamage}
 use Rattle.office_desk_decisions.specs.Changes.{IsRefused}
 use Rattle.office_machine.specs.Step.{cabinet_of}
-use Rattle.office_desk_decisions.specs.Asking.{edit_of, reach_of}
-use Rattle.office_desk_decisions.specs.declared.ask.Ask.{Ask}
-use Rattle.office_desk_decisions.specs.declared.ask.Ask.TheVariants as ask
 use Rattle.office_machine.specs.declared.command.Command.{Command}
 use Rattle.office_machine.specs.declared.command.Command.TheVariants as command
 use Rattle.office_machine.specs.declared.refusal.Refusal.TheVariants as refusal
@@ -52,10 +51,6 @@ HasDamageIn reach tables id = MeetsAfter tables id (HasDamagedPlan reach tables 
 abbrev pub HasDamage : Content → ℕ → Type 0
 HasDamage = HasDamageIn reach.Plan
 
--- the same of the rows that a step of the transaction reads
-abbrev pub MeetsStepDamage : Content → ℕ → Ask → Type 0
-MeetsStepDamage tables id ask = HasDamageIn (reach_of ask) tables id
-
 -- the row has a draft in state Done
 abbrev pub IsDone : IntersectionRow → Type 0
 IsDone row = option_map (λ (holder : Holder). holder.stage) row.holder ≡ Some Done
@@ -80,13 +75,13 @@ MeetsImportDamage tables (c ∷ cs) = MeetsCabinetDamage tables c (cabinet_of c)
 -- a row that the command reads is no record
 abbrev pub MeetsDamage : Content → Command → Type 0
 MeetsDamage tables (command.AddIntersection id interval name) = HasDamagedIntersection tables id
-MeetsDamage tables (command.Begin id clerk) = MeetsStepDamage tables id ask.Begin
-MeetsDamage tables (command.Edit id clerk changes) = MeetsStepDamage tables id (edit_of changes)
-MeetsDamage tables (command.Verify id clerk) = MeetsStepDamage tables id ask.Verify
-MeetsDamage tables (command.Check id clerk) = MeetsStepDamage tables id ask.Check
-MeetsDamage tables (command.Commit id clerk) = MeetsStepDamage tables id ask.Commit
-MeetsDamage tables (command.Reopen id clerk) = MeetsStepDamage tables id ask.Reopen
-MeetsDamage tables (command.Abandon id clerk) = MeetsStepDamage tables id ask.Abandon
+MeetsDamage tables (command.Begin id clerk) = HasDamageIn (reach_of step.Begin) tables id
+MeetsDamage tables (command.Edit id clerk changes) = HasDamageIn (reach_of (step.Edit changes)) tables id
+MeetsDamage tables (command.Verify id clerk) = HasDamageIn (reach_of step.Verify) tables id
+MeetsDamage tables (command.Check id clerk) = HasDamageIn (reach_of step.Check) tables id
+MeetsDamage tables (command.Commit id clerk) = HasDamageIn (reach_of step.Commit) tables id
+MeetsDamage tables (command.Reopen id clerk) = HasDamageIn (reach_of step.Reopen) tables id
+MeetsDamage tables (command.Abandon id clerk) = HasDamageIn (reach_of step.Abandon) tables id
 MeetsDamage tables (command.State id) = HasDamagedIntersection tables id ⊎ HasJudgedDamage tables id
 MeetsDamage tables (command.Timing id) = MeetsAfter tables id (HasDamagedTiming tables id)
 MeetsDamage tables (command.Draft id) = HasDamage tables id

@@ -13,7 +13,7 @@ use Rattle.office_machine.specs.declared.refusal.Refusal.TheVariants.{Damaged, U
 use Rattle.office_machine.specs.declared.reply.Reply.{Reply}
 use Rattle.office_machine.specs.declared.reply.Reply.TheVariants.{Imported, Refused}
 use Rattle.office_desk_decisions.specs.Answers.{AnswersAny}
-use Rattle.office_desk_decisions.specs.Changes.{IsRefused, IsQuery, most_writes}
+use Rattle.office_desk_decisions.specs.Changes.{IsRefused, IsQueryCommand, most_writes}
 use Rattle.office_desk_decisions.specs.Damage.{IsImport, IsTurnedAway, MeetsDamage}
 use Rattle.office_desk_decisions.specs.Named.{IsNamedFor, RefusesBy, numbers_of}
 use Rattle.office_desk_decisions.specs.Blaming.{BlamesRightly}
@@ -26,7 +26,7 @@ pub record IsDecision (is_honest : Type 0) (tables : Content) (command : Command
   pub writes : is_honest → (table : Table) → writes_in table decided.changes.items ≤ most_writes tables command table
   pub news : is_honest → AddNew tables decided.changes.items
   pub refused : IsRefused decided.reply → decided.changes.items ≡ []
-  pub query : IsQuery command → decided.changes.items ≡ []
+  pub query : IsQueryCommand command → decided.changes.items ≡ []
   pub named : RefusesBy (numbers_of command) decided.reply
   pub undamaged : decided.reply ≢ Refused Damaged
   pub whole : is_honest → MeetsDamage tables command → IsImport command × IsRefused decided.reply
@@ -37,7 +37,7 @@ pub record IsAnswered (is_honest : Type 0) (tables : Content) (command : Command
   pub writes : is_honest → (table : Table) → writes_in table decided.changes.items ≤ most_writes tables command table
   pub news : is_honest → AddNew tables decided.changes.items
   pub refused : IsRefused decided.reply → decided.changes.items ≡ []
-  pub query : IsQuery command → decided.changes.items ≡ []
+  pub query : IsQueryCommand command → decided.changes.items ≡ []
   pub named : IsNamedFor command decided.reply
   pub blames : BlamesRightly is_honest tables command decided.reply
   pub damaged : decided.reply ≡ Refused Damaged → is_honest → MeetsDamage tables command

@@ -1,15 +1,12 @@
 -- A command's line of the register's table on the rows that stand under its own keys, whatever else is stored.
-use Rattle.std.specs.Prelude.{◌≡◌, ℕ, List, [], ◌∷◌, Option}
-use Rattle.cabinet_core.specs.Cabinet.{Line, added, same, refused, inspect_line, open_line, use_line, close_line, receive_line}
-use Rattle.cabinet_core.specs.Cabinet.{record_of, use_changes, close_changes, receive_changes}
+use Rattle.std.specs.Prelude.{◌≡◌, List, [], ◌∷◌}
+use Rattle.cabinet_core.specs.Cabinet.{Line, added, same, refused, record_of, use_changes, close_changes, receive_changes}
+use Rattle.cabinet_core.specs.Step.{Standing, line_on}
 use Rattle.cabinet_core.specs.declared.command.RecordCommand.{RecordCommand}
 use Rattle.cabinet_core.specs.declared.command.RecordCommand.TheVariants.{Inspect, OpenOrder, UsePart, CloseOrder, Receive}
-use Rattle.cabinet_core.specs.declared.record.Delivery.{Delivery}
-use Rattle.cabinet_core.specs.declared.record.Inspection.{Inspection}
-use Rattle.cabinet_core.specs.declared.record.Order.{Order}
-use Rattle.cabinet_core.specs.declared.record.UsedLine.{UsedLine}
-use Rattle.office_tables_shelf.specs.CabinetReads.{ReadsInspection, ReadsOrder, ReadsUsed, ReadsDelivery, ReadsHand}
 use Rattle.office_tables_shelf.specs.Content.{Content}
+use Rattle.office_tables_shelf.specs.Places as place
+use Rattle.office_tables_shelf.specs.Places.{ReadsAt}
 use Rattle.office_tables_shelf.specs.declared.rows.RowChange.{RowChange}
 use Rattle.office_tables_shelf.specs.declared.rows.RowChange.TheVariants.{AddInspection, AddOrder}
 use Rattle.office_desk_decisions.specs.RegisterRows.{row_changes_of, stock_rows_of}
@@ -20,21 +17,27 @@ rows_for added rows = rows
 rows_for same rows = []
 rows_for (refused why) rows = []
 
--- what stands under the command's keys, its line of the table on that, and the rows that it writes
+-- what the tables have under the command's keys
+abbrev pub ReadsKeys : Content → (command : RecordCommand) → Standing command → Type 0
+ReadsKeys tables (Inspect id asked) there = ReadsAt tables (place.Inspection id asked.number) there
+ReadsKeys tables (OpenOrder id asked) there = ReadsAt tables (place.Order id asked.number) there
+ReadsKeys tables (UsePart id asked) (there, order, hand) =
+    ReadsAt tables (place.Line id asked.order asked.line) there
+    × ReadsAt tables (place.Order id asked.order) order × ReadsAt tables (place.Part asked.part) hand
+ReadsKeys tables (CloseOrder id number asked) there = ReadsAt tables (place.Order id number) there
+ReadsKeys tables (Receive asked) (there, hand) =
+    ReadsAt tables (place.Delivery asked.part asked.number) there × ReadsAt tables (place.Part asked.part) hand
+
+-- its rows where it adds
+abbrev pub rows_added : (command : RecordCommand) → Standing command → List RowChange
+rows_added (Inspect id asked) there = AddInspection id asked ∷ []
+rows_added (OpenOrder id asked) there = AddOrder id (record_of asked) ∷ []
+rows_added (UsePart id asked) (there, order, hand) = row_changes_of id (use_changes hand asked)
+rows_added (CloseOrder id number asked) there = row_changes_of id (close_changes there asked)
+rows_added (Receive asked) (there, hand) = stock_rows_of (receive_changes hand asked)
+
+-- what stands under its keys, its line of the table on that, and the rows that it writes
 abbrev pub TellsLine : Content → RecordCommand → Line → List RowChange → Type 0
-TellsLine tables (Inspect id asked) line rows =
-    (there : Option Inspection) × ReadsInspection tables id asked.number there
-    × (line ≡ inspect_line there asked) × (rows ≡ rows_for line (AddInspection id asked ∷ []))
-TellsLine tables (OpenOrder id asked) line rows =
-    (there : Option Order) × ReadsOrder tables id asked.number there
-    × (line ≡ open_line there asked) × (rows ≡ rows_for line (AddOrder id (record_of asked) ∷ []))
-TellsLine tables (UsePart id asked) line rows =
-    (there : Option UsedLine) × (order : Option Order) × (hand : Option ℕ)
-    × ReadsUsed tables id asked.order asked.line there × ReadsOrder tables id asked.order order × ReadsHand tables asked.part hand
-    × (line ≡ use_line there order hand asked) × (rows ≡ rows_for line (row_changes_of id (use_changes hand asked)))
-TellsLine tables (CloseOrder id number asked) line rows =
-    (order : Option Order) × ReadsOrder tables id number order
-    × (line ≡ close_line order asked) × (rows ≡ rows_for line (row_changes_of id (close_changes order asked)))
-TellsLine tables (Receive asked) line rows =
-    (there : Option Delivery) × (hand : Option ℕ) × ReadsDelivery tables asked.part asked.number there × ReadsHand tables asked.part hand
-    × (line ≡ receive_line there hand asked) × (rows ≡ rows_for line (stock_rows_of (receive_changes hand asked)))
+TellsLine tables command line rows =
+    (there : Standing command) × ReadsKeys tables command there
+    × (line ≡ line_on command there) × (rows ≡ rows_for line (rows_added command there))

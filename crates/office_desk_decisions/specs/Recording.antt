@@ -25,14 +25,14 @@ TellsAbout tables None known = known ≡ true
 TellsAbout tables (Some id) known = known ≡ is_some (get tables.intersection (intersection_key id))
 
 -- the intersection that is asked for stands there, and its row is a record; or none is asked for
-pub record IsFound (tables : Content) (about : Option ℕ) : Type 0 where
+pub record IsIntersectionFound (tables : Content) (about : Option ℕ) : Type 0 where
   pub known : IsKnownIn tables about true
   pub told : TellsAbout tables about true
   pub whole : ¬ HasDamagedAbout tables about
 
 -- so does each of these
 abbrev pub AreFound : Content → BTreeSet ℕ → Type 0
-AreFound tables found = All (λ id. IsFound tables (Some id)) found.keys
+AreFound tables found = All (λ id. IsIntersectionFound tables (Some id)) found.keys
 
 -- one is asked for, and it is one of these
 abbrev pub IsAmong : BTreeSet ℕ → Option ℕ → Type 0

@@ -7,15 +7,18 @@ use Rattle.office_tables_shelf.specs.Content.{Content}
 use Rattle.office_tables_shelf.specs.declared.rows.RowChange.{RowChange}
 use Rattle.office_tables_shelf.specs.CabinetReads.{HasDamagedInspection, HasDamagedOrder}
 use Rattle.office_tables_shelf.specs.CabinetReads.{HasDamagedUsed}
-use Rattle.office_tables_shelf.specs.CabinetReads.{HasDamagedInspectionAt, HasDamagedOrderAt, HasDamagedUsedAt, HasDamagedDelivery, HasDamagedHand}
+use Rattle.office_tables_shelf.specs.Places as place
+use Rattle.office_tables_shelf.specs.Places.{Place, DamagedAt}
 
 -- a row that the command reads, under its own key, is no record
 abbrev pub MeetsRecordDamage : Content → RecordCommand → Type 0
-MeetsRecordDamage tables (Inspect id inspection) = HasDamagedInspectionAt tables id inspection.number
-MeetsRecordDamage tables (OpenOrder id opening) = HasDamagedOrderAt tables id opening.number
-MeetsRecordDamage tables (UsePart id line) = HasDamagedUsedAt tables id line.order line.line ⊎ (HasDamagedOrderAt tables id line.order ⊎ HasDamagedHand tables line.part)
-MeetsRecordDamage tables (CloseOrder id order closing) = HasDamagedOrderAt tables id order
-MeetsRecordDamage tables (Receive delivery) = HasDamagedDelivery tables delivery.part delivery.number ⊎ HasDamagedHand tables delivery.part
+MeetsRecordDamage tables (Inspect id inspection) = DamagedAt tables (place.Inspection id inspection.number)
+MeetsRecordDamage tables (OpenOrder id opening) = DamagedAt tables (place.Order id opening.number)
+MeetsRecordDamage tables (UsePart id line) =
+    DamagedAt tables (place.Line id line.order line.line)
+    ⊎ (DamagedAt tables (place.Order id line.order) ⊎ DamagedAt tables (place.Part line.part))
+MeetsRecordDamage tables (CloseOrder id order closing) = DamagedAt tables (place.Order id order)
+MeetsRecordDamage tables (Receive delivery) = DamagedAt tables (place.Delivery delivery.part delivery.number) ⊎ DamagedAt tables (place.Part delivery.part)
 
 -- a row of the intersection among its inspections, orders or used parts is no record
 abbrev pub HasDamagedCabinet : Content → ℕ → Type 0
@@ -26,13 +29,9 @@ HasDamagedCabinet tables id =
 abbrev pub IsWhole : (stored : Content) (pending : List RowChange) → RecordCommand → Type 0
 IsWhole stored pending command = ¬ MeetsRecordDamage (changed_by stored pending) command
 
--- a row that is no record, under a key of the register, is there still
-pub record KeepsDamage (tables after : Content) : Type 0 where
-  pub inspections : (id n : ℕ) → HasDamagedInspectionAt tables id n → HasDamagedInspectionAt after id n
-  pub orders : (id n : ℕ) → HasDamagedOrderAt tables id n → HasDamagedOrderAt after id n
-  pub lines : (id order line : ℕ) → HasDamagedUsedAt tables id order line → HasDamagedUsedAt after id order line
-  pub deliveries : (code : List ℕ) (n : ℕ) → HasDamagedDelivery tables code n → HasDamagedDelivery after code n
-  pub hands : (code : List ℕ) → HasDamagedHand tables code → HasDamagedHand after code
+-- a row that is no record, at a place of the register, is there still
+abbrev pub KeepsDamage : (tables after : Content) → Type 0
+KeepsDamage tables after = (place : Place) → DamagedAt tables place → DamagedAt after place
 
 -- rows that are put after those that are pending overwrite none
 abbrev pub SparesDamage : Content → (pending rows : List RowChange) → Type 0

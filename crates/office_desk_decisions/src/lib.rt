@@ -3,5 +3,4 @@
 //! `specs/Deciding.antt` says it.
 #![tactic(auto)]
 
-pub mod ask;
 pub mod decided;

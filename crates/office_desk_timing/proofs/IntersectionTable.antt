@@ -2,7 +2,7 @@
 use Rattle.std.proofs.Common.{◌≡◌, ℕ, List, map, Option, ap, sym, subst, ◌∙◌, IfSome}
 use Rattle.std.proofs.lemmas.Cmp.{nat_cmp_total}
 use Rattle.std.specs.{Int.IsInRange, FinMap.entries, FinMap.get}
-use Rattle.office_tables_shelf.specs.{Cells.Cell, Cells.Rows, Content.Content, Damage.HasAnyDamagedIntersection, Shelf.ListsIntersections}
+use Rattle.office_tables_shelf.specs.{Cells.Cell, Cells.TableRows, Content.Content, Damage.HasAnyDamagedIntersection, Shelf.ListsIntersections}
 use Rattle.office_tables_shelf.specs.{Rows.intersection_key, Rows.intersection_columns, declared.rows.IntersectionRow.IntersectionRow}
 use Rattle.office_tables_shelf.proofs.{KeyCells.intersection_order, StoredMaps.stored_entries, StoredMaps.stored_found}
 use Rattle.office_desk_decisions.proofs.RowsTell.{rows_tell}
@@ -19,7 +19,7 @@ cells e = (intersection_key e.0, columns_of e.1)
 
 pub stored : (tables : Content) (office : Office) → StandFor tables office → entries tables.intersection ≡ map cells (entries office.intersections)
 stored tables office stand =
-    ap (λ (rows : Rows). entries rows) stand.intersection
+    ap (λ (rows : TableRows). entries rows) stand.intersection
     ∙ stored_entries nat_cmp_total intersection_key columns_of intersection_order office.intersections
 
 -- the row of an intersection, beside its number
@@ -43,7 +43,7 @@ rows_read tables office stand rows lists =
 
 pub no_damaged_intersection : (tables : Content) → HasAnyDamagedIntersection tables → (office : Office) → StandForSound tables office → ⊥
 no_damaged_intersection tables damaged office stands =
-    let found = stored_found nat_cmp_total intersection_key columns_of intersection_order office.intersections damaged.key damaged.columns (sym (ap (λ (rows : Rows). get rows damaged.key) stands.stand.intersection) ∙ damaged.stored) in
+    let found = stored_found nat_cmp_total intersection_key columns_of intersection_order office.intersections damaged.key damaged.columns (sym (ap (λ (rows : TableRows). get rows damaged.key) stands.stand.intersection) ∙ damaged.stored) in
     let number = subst (λ (o : Option Intersection). IfSome o (λ _. IsInRange 1 9999 found.0)) found.4 (stands.sound.numbers found.0) in
     let sound = subst (λ (o : Option Intersection). IfSome o IsSoundIntersection) found.4 (stands.sound.intersections found.0) in
-    damaged.no_row found.0 number (row_of found.1) (sound_row found.1 sound) found.2 found.3
+    damaged.no_row (found.0, row_of found.1) (number, sound_row found.1 sound) found.2 found.3

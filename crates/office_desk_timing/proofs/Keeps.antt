@@ -9,7 +9,7 @@ use Rattle.signal_values.specs.Words.{AreWords}
 use Rattle.signal_records.specs.declared.{key.Key.Key, record.Row.Row, record.Change.Change}
 use Rattle.signal_records.specs.declared.record.Change.TheVariants.{Put, Remove}
 use Rattle.signal_rules.specs.Violations.{violations_of}
-use Rattle.draft_core.specs.Transaction.{TimingSide, Draft, holder_of, owned, with_draft, begun_from, edited, committed, abandoned_from}
+use Rattle.draft_core.specs.Transaction.{TimingSide, Draft, holder_of, owned, with_draft, begun_from, abandoned_from, table_line}
 use Rattle.draft_core.specs.Within.{AreChangesWithin}
 use Rattle.draft_core.specs.declared.refusal.DraftRefusal.TheVariants.{NotNormal, NotTransaction, NotVerify, NotDone}
 use Rattle.draft_core.specs.declared.refusal.DraftRefusal.{DraftRefusal}
@@ -17,9 +17,8 @@ use Rattle.draft_state.specs.declared.{revision.TheConstants.LAST_REVISION, stat
 use Rattle.draft_state.specs.declared.state.Stage.TheVariants.{Transaction, Verify, Done}
 use Rattle.draft_core.proofs.Sound.{owned_inverts, committed_inverts}
 use Rattle.office_machine.specs.Office.{Intersection, IsSoundIntersection, IsSoundDraft, AreRecords}
-use Rattle.office_desk_timing.specs.Transacting.{line_of, IsAskWithin}
-use Rattle.office_desk_decisions.specs.declared.ask.Ask.TheVariants.{Begin, Edit, Verify as AskVerify, Check, Commit, Reopen, Abandon}
-use Rattle.office_desk_decisions.specs.declared.ask.Ask.{Ask}
+use Rattle.draft_core.specs.{Steps.asked_changes, declared.step.Step.Step}
+use Rattle.draft_core.specs.declared.step.Step.TheVariants as step
 
 -- ---- records after changes
 
@@ -88,7 +87,7 @@ owned_sound side next stage wrong clerk next_draft keeps sound is =
 in_stage : (stage : Stage) (d : Draft) → IsSoundDraft d → IsSoundDraft (record d { stage = stage })
 in_stage stage d sound = record { owner = sound.owner; rows = sound.rows }
 
-edited_sound : (side : TimingSide) (clerk : List ℕ) (changes : List Change) (next : TimingSide) → IsSoundSide side → AreChangesWithin changes → edited side clerk changes ≡ Ok next → IsSoundSide next
+edited_sound : (side : TimingSide) (clerk : List ℕ) (changes : List Change) (next : TimingSide) → IsSoundSide side → AreChangesWithin changes → table_line (step.Edit changes) clerk side ≡ Ok next → IsSoundSide next
 edited_sound side clerk changes next sound within =
     owned_sound side next Transaction NotTransaction clerk
     (λ draft. record draft { stage = Transaction; set = after_changes draft.set changes })
@@ -97,7 +96,7 @@ edited_sound side clerk changes next sound within =
 not_last : (n : ℕ) → (n == 999999) ≡ false → n ≤ 999999 → n + 1 ≤ 999999
 not_last n e h = grind (arith, nat_tests)
 
-committed_sound : (side : TimingSide) (clerk : List ℕ) (next : TimingSide) → IsSoundSide side → committed side clerk ≡ Ok next → IsSoundSide next
+committed_sound : (side : TimingSide) (clerk : List ℕ) (next : TimingSide) → IsSoundSide side → table_line step.Commit clerk side ≡ Ok next → IsSoundSide next
 committed_sound side clerk next sound is =
     let made = committed_inverts side clerk next is in
     let held = held_sound side made.0 sound made.1 in
@@ -111,14 +110,12 @@ abandoned_sound side (Some draft) next sound is =
     subst IsSoundSide same (record { revision = sound.revision; rows = sound.rows; no_violations = sound.no_violations; draft = tt })
 
 -- each line of the table keeps a timing side sound
-pub line_keeps : (ask : Ask) (clerk : List ℕ) (side next : TimingSide) → AreWords 40 clerk → IsAskWithin ask → IsSoundSide side → line_of ask clerk side ≡ Ok next → IsSoundSide next
-line_keeps Begin clerk side next words within sound is = begun_sound side clerk side.draft next sound words is
-line_keeps (Edit changes) clerk side next words within sound is = edited_sound side clerk changes.now next sound within is
-line_keeps AskVerify clerk side next words within sound is = owned_sound side next Transaction NotTransaction clerk
-    (λ draft. record draft { stage = Verify }) (in_stage Verify) sound is
-line_keeps Check clerk side next words within sound is = owned_sound side next Verify NotVerify clerk
-    (λ draft. record draft { stage = Done }) (in_stage Done) sound is
-line_keeps Commit clerk side next words within sound is = committed_sound side clerk next sound is
-line_keeps Reopen clerk side next words within sound is = owned_sound side next Done NotDone clerk
-    (λ draft. record draft { stage = Transaction }) (in_stage Transaction) sound is
-line_keeps Abandon clerk side next words within sound is = abandoned_sound side side.draft next sound is
+pub line_keeps : (step : Step) (clerk : List ℕ) (side next : TimingSide) → AreWords 40 clerk
+    → AreChangesWithin (asked_changes step) → IsSoundSide side → table_line step clerk side ≡ Ok next
+    → IsSoundSide next
+line_keeps step.Begin clerk side next words within sound is = begun_sound side clerk side.draft next sound words is
+line_keeps (step.Edit changes) clerk side next words within sound is = edited_sound side clerk changes next sound within is
+line_keeps step.Commit clerk side next words within sound is = committed_sound side clerk next sound is
+line_keeps step.Abandon clerk side next words within sound is = abandoned_sound side side.draft next sound is
+line_keeps _ clerk side next words within sound is =
+    owned_sound side next _ _ clerk _ (in_stage _) sound is

@@ -1,11 +1,11 @@
 -- Changes of the intersections and of their timing leave the register as it was.
 use Rattle.std.proofs.Common.{◌≡◌, ◌∙◌, ap}
 use Rattle.cabinet_core.specs.Register.{Register}
-use Rattle.office_tables_shelf.specs.{Cells.Rows, Content.Content, RegisterStands.RegisterStands}
+use Rattle.office_tables_shelf.specs.{Cells.TableRows, Content.Content, RegisterStands.RegisterStands}
 
 -- the tables of the register
 abbrev pub FiveTables : Type 0
-FiveTables = Rows × Rows × Rows × Rows × Rows
+FiveTables = TableRows × TableRows × TableRows × TableRows × TableRows
 
 abbrev pub register_tables : Content → FiveTables
 register_tables tables = (tables.inspection, tables.work_order, tables.part, tables.delivery, tables.used_part)

@@ -6,7 +6,7 @@ use Rattle.cabinet_core.proofs.EntryLemmas.{entries_stand}
 use Rattle.office_tables_shelf.specs.{Content.Content, declared.rows.IntersectionRow.IntersectionRow}
 use Rattle.office_machine.specs.{Listed.intersection_listed, Listed.intersections_of, Office.Office, Office.Intersection, Office.side_of}
 use Rattle.office_machine.specs.declared.intersections.ListedIntersection.{ListedIntersection}
-use Rattle.office_desk_timing.specs.Listing.{ListsRows, listed_in, row_listed}
+use Rattle.office_desk_timing.specs.Listing.{ListsEachIntersection, listed_in, row_listed}
 use Rattle.office_tables_standing.specs.StandFor.{StandForSound, row_of}
 use Rattle.office_desk_timing.proofs.{IntersectionTable.Entry, IntersectionTable.of_entry, IntersectionTable.rows_read, TimingCount.committed_counted}
 
@@ -45,7 +45,7 @@ module _ (tables : Content) (office : Office) (stands : StandForSound tables off
   each_listed [] there = refl
   each_listed (e ∷ es) there = λ k. one_listed e there.0 k ∷ each_listed es there.1 k
 
-  pub all_listed : (found : List ListedIntersection) → ListsRows tables found → found ≡ intersections_of office
+  pub all_listed : (found : List ListedIntersection) → ListsEachIntersection tables found → found ≡ intersections_of office
   all_listed found lists =
       lists.found_is
       ∙ ap (λ rows. map (listed_in tables) rows) (rows_read tables office stands.stand lists.rows lists.lists)

@@ -12,7 +12,7 @@ use Rattle.draft_core.specs.Moves.{Makes, committed_after, committed_by, drafted
 use Rattle.draft_core.specs.{Transaction.TimingSide, Within.AreChangesWithin}
 use Rattle.draft_core.specs.declared.timing.TimingChange.TheVariants.{CommittedNew, Committed, DraftedNew, Drafted, DraftGone, DraftDropped}
 use Rattle.draft_core.specs.declared.{timing.Move.Move, timing.Reach.Reach, timing.TimingChange.TimingChange}
-use Rattle.office_tables_shelf.specs.Cells.{Cell, Rows, cells_cmp, number}
+use Rattle.office_tables_shelf.specs.Cells.{Cell, TableRows, cells_cmp, number}
 use Rattle.office_tables_shelf.specs.Rows.{intersection_key, intersection_columns, timing_key, timing_columns, left_columns}
 use Rattle.office_tables_shelf.specs.{Change.changed, Change.changed_by, Content.Content, Content.is_of, Content.rows_but}
 use Rattle.office_tables_shelf.specs.declared.{rows.IntersectionRow.IntersectionRow, rows.RowChange.TheVariants.PutIntersection}
@@ -27,21 +27,21 @@ use Rattle.office_desk_timing.proofs.{KeptRegister.KeepsRegister, ReadBack.later
 -- ---- rows of one intersection are changed
 
 -- the rows under the keys of other intersections stay, and each row stands under a timing key still
-record Spares (id : ℕ) (old new : Rows) : Type 0 where
+record Spares (id : ℕ) (old new : TableRows) : Type 0 where
   others : (q : ℕ) → (q ≡ id → ⊥) → (key : Key) → get new (timing_key q key) ≡ get old (timing_key q key)
   keys : HasTimingKeys old → HasTimingKeys new
 
-none_changed : (id : ℕ) (rows : Rows) → Spares id rows rows
+none_changed : (id : ℕ) (rows : TableRows) → Spares id rows rows
 none_changed id rows = record { others = λ q ne key. refl; keys = λ has. has }
 
-then_spares : (id : ℕ) (old mid new : Rows) → Spares id old mid → Spares id mid new → Spares id old new
+then_spares : (id : ℕ) (old mid new : TableRows) → Spares id old mid → Spares id mid new → Spares id old new
 then_spares id old mid new first rest = record {
   others = λ q ne key. rest.others q ne key ∙ first.others q ne key;
   keys = λ has. rest.keys (first.keys has);
 }
 
 -- so it is where something is put, or nothing, under cells that are no other intersection's
-spared : (id : ℕ) (old new : Rows) (hits : List Cell → Bool) (put : Option (List Cell))
+spared : (id : ℕ) (old new : TableRows) (hits : List Cell → Bool) (put : Option (List Cell))
     → ((cells : List Cell) → get new cells ≡ cond (hits cells) put (get old cells))
     → ((q : ℕ) → (q ≡ id → ⊥) → (key : Key) → hits (timing_key q key) ≡ false)
     → ((cells columns : List Cell) → hits cells ≡ true → put ≡ Some columns → IsTimingKey cells) → Spares id old new
@@ -56,7 +56,7 @@ spared id old new hits put at misses keyed = record {
 
 -- ---- what a table has under the keys of an intersection after one change
 
-module _ (rows : Rows) (id : ℕ) (k : Key) where
+module _ (rows : TableRows) (id : ℕ) (k : Key) where
   get-put : (columns : List Cell) (key : Key) → get (insert rows (timing_key id k) columns) (timing_key id key) ≡ cond (eq_by_cmp key_cmp key k) (Some columns) (get rows (timing_key id key))
   get-put columns key = get-insert cells_total rows (timing_key id k) columns (timing_key id key) ∙ ap (λ b. cond b (Some columns) (get rows (timing_key id key))) (timing_ties id key k)
 
@@ -84,7 +84,7 @@ turned : {A : Type 0} (b : Bool) (x y : A) → cond (not b) x y ≡ cond b y x
 turned true x y = refl
 turned false x y = refl
 
-module _ (rows : Rows) (id : ℕ) where
+module _ (rows : TableRows) (id : ℕ) where
   -- what stood under the cells of another intersection stands there still, and nothing else
   get-dropped : (cells : List Cell) → get (rows_but id rows) cells ≡ cond (is_of id cells) None (get rows cells)
   get-dropped cells = get-retain_keys rows (λ k. not (is_of id k)) cells
@@ -108,10 +108,10 @@ record Stays (id : ℕ) (old new : Content) : Type 0 where
   draft : Spares id old.draft new.draft
   register : KeepsRegister old new
 
-with_timing : (id : ℕ) (tables : Content) (rows : Rows) → Spares id tables.timing rows → Stays id tables (record tables { timing = rows })
+with_timing : (id : ℕ) (tables : Content) (rows : TableRows) → Spares id tables.timing rows → Stays id tables (record tables { timing = rows })
 with_timing id tables rows spares = record { intersection = refl; timing = spares; draft = none_changed id tables.draft; register = refl }
 
-with_drafts : (id : ℕ) (tables : Content) (rows : Rows) → Spares id tables.draft rows → Stays id tables (record tables { draft = rows })
+with_drafts : (id : ℕ) (tables : Content) (rows : TableRows) → Spares id tables.draft rows → Stays id tables (record tables { draft = rows })
 with_drafts id tables rows spares = record { intersection = refl; timing = none_changed id tables.timing; draft = spares; register = refl }
 
 one_stays : (id : ℕ) (change : TimingChange) (tables : Content) → Stays id tables (changed tables (row_change_of id change))

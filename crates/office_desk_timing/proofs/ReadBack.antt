@@ -15,7 +15,7 @@ use Rattle.office_tables_shelf.proofs.KeyLemmas.{row_in, timing_keys_rise, get_s
 use Rattle.office_tables_shelf.proofs.{CellLemmas.tied, RowLemmas.timing_columns_tell, RowLemmas.left_columns_tell}
 use Rattle.office_tables_standing.proofs.DraftLemmas.{get_listed_draft}
 use Rattle.office_desk_timing.specs.declared.reading.Found.{Found}
-use Rattle.office_desk_timing.specs.Reading.{AreWithin, IsMadeOf, Finds, ListsPlan, drafts_at, set_of_rows}
+use Rattle.office_desk_timing.specs.Reading.{AreRowsWithin, IsMadeOf, Finds, ListsPlan, drafts_at, set_of_rows}
 use Rattle.office_machine.specs.Office.{Office, Intersection, side_at, side_of}
 use Rattle.office_tables_standing.specs.StandFor.{StandForSound, IsSaid, row_of, said_columns}
 use Rattle.office_desk_timing.proofs.Stands.{row_read, records_at}
@@ -29,7 +29,7 @@ row_within : (b : Bool) (row : Row) (o : Option Row) → IsWithin row → IfSome
 row_within true row o here later = here
 row_within false row o here later = later
 
-rows_within : (rows : List Row) (key : Key) → AreWithin rows → IfSome (row_in rows key) IsWithin
+rows_within : (rows : List Row) (key : Key) → AreRowsWithin rows → IfSome (row_in rows key) IsWithin
 rows_within [] key within = tt
 rows_within (row ∷ rows) key within = row_within (eq_by_cmp key_cmp key (key_of row)) row (row_in rows key) within.0 (rows_within rows key within.1)
 
@@ -41,7 +41,7 @@ rows_tell (Some x) (Some y) e in_a in_b =
 rows_tell _ _ e in_a in_b = cc
 
 -- the list has at a key what the committed set has
-listed_at : (tables : Content) (office : Office) (id : ℕ) (rows : List Row) → StandForSound tables office → ListsTiming tables id rows → AreWithin rows
+listed_at : (tables : Content) (office : Office) (id : ℕ) (rows : List Row) → StandForSound tables office → ListsTiming tables id rows → AreRowsWithin rows
     → (key : Key) → row_in rows key ≡ get (side_at office id).committed key
 listed_at tables office id rows stands lists within key =
     rows_tell (row_in rows key) (get (side_at office id).committed key)
@@ -49,7 +49,7 @@ listed_at tables office id rows stands lists within key =
     (rows_within rows key within) (if_more _ IsWithin (λ row is. is.0) _ (records_at office id stands.sound key))
 
 -- the set of the rows that were read is the committed set
-pub committed_read : (tables : Content) (office : Office) (id : ℕ) (rows : List Row) → StandForSound tables office → ListsTiming tables id rows → AreWithin rows
+pub committed_read : (tables : Content) (office : Office) (id : ℕ) (rows : List Row) → StandForSound tables office → ListsTiming tables id rows → AreRowsWithin rows
     → set_of_rows rows ≡ (side_at office id).committed
 committed_read tables office id rows stands lists within = same_map key_total key_exact _ _ (λ key.
     get_set_of_rows rows (timing_keys_rise tables id rows lists) key ∙ listed_at tables office id rows stands lists within key)
@@ -116,7 +116,7 @@ drafts_read tables office id changes stands drafts within key =
 
 plan_read : (reach : Reach) (tables : Content) (office : Office) (id : ℕ) (rows : List Row)
     (timing : Timing) (stands : StandForSound tables office)
-    → ListsPlan reach tables id rows timing.delta → AreWithin rows → AreChangesWithin timing.delta
+    → ListsPlan reach tables id rows timing.delta → AreRowsWithin rows → AreChangesWithin timing.delta
     → timing.committed ≡ set_of_rows rows
     → IsRead reach timing (drafts_at stands.stand id) (side_at office id)
 plan_read reach.Row tables office id rows timing stands lists rows_in changes_in made = tt
@@ -148,7 +148,7 @@ pub finds_some : (reach : Reach) (tables : Content) (office : Office) (id : ℕ)
     (row : IntersectionRow) (rows : List Row) (changes : List Change) (found : Found)
     (stands : StandForSound tables office)
     → ReadsIntersection tables id (Some row) → ListsPlan reach tables id rows changes
-    → AreWithin rows → IsMadeOf row rows changes found
+    → AreRowsWithin rows → IsMadeOf row rows changes found
     → Finds reach (drafts_at stands.stand id) (get office.intersections id) (Some found)
 finds_some reach tables office id row rows changes found stands reads lists rows_in made =
     elim (get office.intersections id) as (λ o. get office.intersections id ≡ o

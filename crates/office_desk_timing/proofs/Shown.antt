@@ -10,7 +10,7 @@ use Rattle.draft_state.specs.declared.{state.Holder.Holder, state.Verdict.Verdic
 use Rattle.draft_core.specs.declared.timing.Reach.TheVariants as reach
 use Rattle.office_tables_shelf.specs.{Content.Content, Shelf.ReadsIntersection, Shelf.ListsTiming, Shelf.CountsTiming}
 use Rattle.office_tables_shelf.specs.declared.rows.IntersectionRow.{IntersectionRow}
-use Rattle.office_desk_timing.specs.Reading.{AreWithin, FoundStands, Finds, FindsAny, drafts_at, set_of_rows}
+use Rattle.office_desk_timing.specs.Reading.{AreRowsWithin, FoundStands, Finds, FindsAny, drafts_at, set_of_rows}
 use Rattle.office_desk_timing.specs.{Decisions.row_shown, Decisions.IsVerdictOf, Decisions.ShowsDraft, declared.reading.Found.Found}
 use Rattle.office_tables_standing.specs.StandFor.{StandForSound, row_of}
 use Rattle.office_machine.specs.{Office.Office, Office.Intersection, Office.IsSoundIntersection, Office.side_of, Step.answered, Step.shown}
@@ -114,7 +114,7 @@ no_verdict tables id row verdict finds office i stands there is =
 -- ---- Timing
 
 pub timing_shows : (tables : Content) (office : Office) (id : ℕ) (row : IntersectionRow) (rows : List Row) (set : Rows)
-    → StandForSound tables office → ReadsIntersection tables id (Some row) → ListsTiming tables id rows → AreWithin rows → set ≡ set_of_rows rows
+    → StandForSound tables office → ReadsIntersection tables id (Some row) → ListsTiming tables id rows → AreRowsWithin rows → set ≡ set_of_rows rows
     → answered office (command.Timing id) ≡ (reply.Timing (record { name = row.name; revision = row.revision; rows = set }), office)
 timing_shows tables office id row rows set stands reads lists within made =
     let at = there tables office id row stands reads in

@@ -12,7 +12,7 @@ use Rattle.draft_core.specs.{Transaction.TimingSide, Transaction.holder_of, decl
 use Rattle.office_tables_shelf.proofs.{CellLemmas.cell_exact, CellLemmas.tied, KeyCells.intersection_order}
 use Rattle.office_tables_shelf.proofs.StoredMaps.{get_stored, insert_stored}
 use Rattle.office_tables_shelf.specs.Rows.{intersection_key, intersection_columns, timing_key, timing_columns, left_columns, IsIntersectionRow}
-use Rattle.office_tables_shelf.specs.{Cells.Cell, Cells.Rows, Cells.number, Content.Content, Shelf.ReadsIntersection, Shelf.is_of}
+use Rattle.office_tables_shelf.specs.{Cells.Cell, Cells.TableRows, Cells.number, Content.Content, Shelf.ReadsIntersection, Shelf.is_of}
 use Rattle.office_tables_shelf.specs.Damage.{HasDamagedIntersection, HasDamagedTiming, HasDamagedDraft}
 use Rattle.office_tables_shelf.specs.declared.rows.IntersectionRow.{IntersectionRow}
 use Rattle.draft_core.specs.declared.timing.Reach.TheVariants as reach
@@ -26,7 +26,7 @@ use Rattle.office_desk_timing.proofs.{EmptySet.no_records, KeptRegister.KeepsReg
 
 pub stored_at : (tables : Content) (office : Office) (id : ℕ) → StandFor tables office → get tables.intersection (intersection_key id) ≡ option_map columns_of (get office.intersections id)
 stored_at tables office id stand =
-    ap (λ (rows : Rows). get rows (intersection_key id)) stand.intersection
+    ap (λ (rows : TableRows). get rows (intersection_key id)) stand.intersection
     ∙ get_stored nat_cmp_total intersection_key columns_of intersection_order office.intersections id
 
 through_row : (i : Option Intersection) → option_map columns_of i ≡ option_map intersection_columns (option_map row_of i)
@@ -71,12 +71,12 @@ no_damaged_row tables id damaged office stands =
         damaged.no_row (row_of i) (sound_row i sound) same
 
 -- a row that stands under cells which begin with the number of an intersection stands under one of its keys
-record IsOwn (rows : Rows) (id : ℕ) (cells columns : List Cell) : Type 0 where
+record IsOwn (rows : TableRows) (id : ℕ) (cells columns : List Cell) : Type 0 where
   key : Key
   is : cells ≡ timing_key id key
   there : Some columns ≡ get rows (timing_key id key)
 
-own : (rows : Rows) (id : ℕ) (cells columns : List Cell) → HasTimingKeys rows → is_of id cells ≡ true → get rows cells ≡ Some columns → IsOwn rows id cells columns
+own : (rows : TableRows) (id : ℕ) (cells columns : List Cell) → HasTimingKeys rows → is_of id cells ≡ true → get rows cells ≡ Some columns → IsOwn rows id cells columns
 own rows id cells columns keys of stored =
     let at = keys cells columns stored in
     let begins : is_of id (timing_key at.0 at.1) ≡ true = ap (is_of id) (sym at.2) ∙ of in
@@ -195,7 +195,7 @@ draft_at old new office id i stand new_rows q key = elim (side_after office id i
 pub stand_after : (old new : Content) (office : Office) (id : ℕ) (i : Intersection) → StandFor old office → DiffersAt old new id i → StandFor new (with_intersection office id i)
 stand_after old new office id i stand new_rows = record {
   intersection = new_rows.intersection
-      ∙ ap (λ (rows : Rows). insert rows (intersection_key id) (columns_of i)) stand.intersection
+      ∙ ap (λ (rows : TableRows). insert rows (intersection_key id) (columns_of i)) stand.intersection
       ∙ sym (insert_stored nat_cmp_total intersection_key columns_of intersection_order office.intersections id i);
   timing = timing_at old new office id i stand new_rows;
   timing_keys = new_rows.timing_keys;

@@ -6,7 +6,7 @@ use Rattle.std.specs.FinMap.{get, len, entries, entries_sorted, get-entries, len
 use Rattle.std.specs.FinMap.Entries.{is_sorted-where_key, find-where_key, same_entries}
 use Rattle.std.specs.declared.cmp.Ordering.TheVariants.{Equal}
 use Rattle.signal_records.specs.{Key.kind_of, Key.first_of, Key.second_of, TimingSet.Rows, KeyOrder.key_total, declared.key.Key.Key}
-use Rattle.office_tables_shelf.specs.Cells.{Cell, Rows as CellRows, number, cells_cmp, tree_rows}
+use Rattle.office_tables_shelf.specs.Cells.{Cell, TableRows, number, cells_cmp, tree_rows}
 use Rattle.office_tables_shelf.specs.{Content.Content, Rows.timing_key, Rows.timing_columns, Shelf.is_of, Shelf.rows_of}
 use Rattle.office_tables_shelf.proofs.{KeyLemmas.of_itself, StoredMaps.get_stored, StoredMaps.stored_entries, StoredMaps.stored_found}
 use Rattle.office_tables_shelf.proofs.{CellLemmas.cells_total, CellLemmas.cells_exact, TreeLemmas.timing_order}
@@ -19,7 +19,7 @@ module _ (tables : Content) (office : Office) (id : ℕ) (stands : StandForSound
   committed = (side_at office id).committed
 
   -- the rows of the set, in cells
-  abbrev stored : CellRows
+  abbrev stored : TableRows
   stored = tree_rows (timing_key id) timing_columns (entries committed)
 
   -- what the rows of the intersection have under cells

@@ -5,8 +5,10 @@ use Rattle.std.specs.Prelude.{IfSome, IfOk, OnErr, if◌then◌else◌, not}
 use Rattle.std.specs.{FinMap.get, Int.IsInRange, Result.result_err, Str.bytes_eq}
 use Rattle.signal_records.specs.{declared.record.Change.Change, declared.record.Change.TheVariants.Put}
 use Rattle.signal_values.specs.Words.{AreWords}
-use Rattle.draft_core.specs.Moves.{Follows, FollowsSoundLine, IsUnsettled, Makes, RefusesFirst, drafted_in, timing_writes, draft_writes}
-use Rattle.draft_core.specs.{News.AddsOnlyNew, Transaction.TimingSide, Transaction.is_stage, Transaction.refused_by}
+use Rattle.signal_rules.specs.Violations.{violations_of}
+use Rattle.draft_core.specs.Moves.{Follows, Makes, drafted_in, timing_writes, draft_writes}
+use Rattle.draft_core.specs.Steps.{first_refusal, reach_of, IsLater, IsUnsettled, StepWrites, RefusesFirst, ReliesOn, Takes, asked_changes, most_committed, most_drafted}
+use Rattle.draft_core.specs.{Transaction.TimingSide, Transaction.is_stage, Transaction.refused_by, Transaction.table_line}
 use Rattle.draft_core.specs.{Within.AreChangesWithin, declared.refusal.DraftRefusal.DraftRefusal, declared.timing.Move.Move}
 use Rattle.draft_core.specs.{declared.timing.TimingChange.TimingChange, declared.timing.TimingChange.TheVariants.Committed}
 use Rattle.draft_state.specs.declared.{state.Holder.Holder, state.Stage.Stage}
@@ -15,19 +17,20 @@ use Rattle.office_tables_shelf.specs.{Change.changed_by, Content.Content, Shelf.
 use Rattle.office_tables_shelf.specs.declared.{rows.RowChange.RowChange, rows.RowChange.TheVariants.PutIntersection, rows.Table.Table}
 use Rattle.office_tables_shelf.specs.declared.{shelf.ShelfFault.ShelfFault, shelf.ShelfFault.TheVariants.NoMemory}
 use Rattle.office_tables_shelf.specs.declared.rows.Table.TheVariants as table
-use Rattle.office_desk_decisions.specs.{RecordBounds.IsOneOf, Asking.command_of, Asking.reach_of, Answers.Answers, Changes.IsQuery}
+use Rattle.office_desk_decisions.specs.{RecordBounds.IsOneOf, Asking.asking_command, Answers.Answers, Changes.IsQueryCommand}
 use Rattle.office_desk_decisions.specs.{Changes.most_intersection_writes, Changes.most_writes, Named.number_of, Named.numbers_of}
 use Rattle.office_desk_decisions.specs.{Damage.HasDamageIn, Damage.MeetsDamage, Deciding.Decides, Deciding.IsDecision}
-use Rattle.office_desk_decisions.specs.declared.ask.Ask.TheVariants.{Begin, Edit, Check, Commit, Abandon}
-use Rattle.office_desk_decisions.specs.declared.{decided.Decided.Decided, ask.Ask.Ask}
+use Rattle.draft_core.specs.declared.step.Step.TheVariants.{Begin, Edit, Check, Commit, Abandon}
+use Rattle.draft_core.specs.declared.step.Step.{Step}
+use Rattle.office_desk_decisions.specs.declared.decided.Decided.{Decided}
 use Rattle.office_desk_timing.specs.Reading.{FoundStands, FindsAny, ListsFound, drafts_at}
-use Rattle.office_desk_timing.specs.Transacting.{first_refusal, line_of, IsAskWithin, IsBounded, IsLater, most_committed, most_drafted}
 use Rattle.office_desk_timing.specs.{Moving.WritesDecision, Moving.moved_row, Moving.row_changes_of, declared.reading.Found.Found}
 use Rattle.office_tables_standing.specs.StandFor.{StandForSound}
 use Rattle.office_machine.specs.Step.{answered, transacted, moved, moved_to, refusal_of_draft, with_intersection}
 use Rattle.office_machine.specs.Office.{Office, Intersection, IsSoundIntersection}
 use Rattle.office_machine.specs.declared.reply.Reply.TheVariants.{Moved, Refused}
 use Rattle.office_machine.specs.declared.refusal.Refusal.TheVariants as refusal
+use Rattle.draft_core.proofs.OnlyChanges.{among_within}
 use Rattle.office_desk_decisions.proofs.Decisions.{accepted_decides, refuses_so, told_decides, unknown_decides}
 use Rattle.office_desk_timing.proofs.{AddedRows.move_news, Keeps.line_keeps, Keeps.side_sound, Keeps.sound_intersection, Stands.sound_with}
 use Rattle.office_desk_timing.proofs.{Moved.move_stands, Moved.with_timing_side, Shown.found_none, Shown.found_there, Shown.sound_there}
@@ -38,44 +41,44 @@ use Rattle.office_desk_timing.proofs.{Moved.move_stands, Moved.with_timing_side,
 abbrev rows_of_move : ℕ → List ℕ → Found → Move → List RowChange
 rows_of_move id clerk found move = PutIntersection id (moved_row found clerk move) ∷ row_changes_of id move.changes
 
-by_line : (ask : Ask) (office : Office) (id : ℕ) (clerk : List ℕ) → answered office (command_of id clerk ask) ≡ transacted office id (line_of ask clerk) (get office.intersections id)
+by_line : (step : Step) (office : Office) (id : ℕ) (clerk : List ℕ) → answered office (asking_command id clerk step) ≡ transacted office id (table_line step clerk) (get office.intersections id)
 by_line Begin office id clerk = refl
 by_line _ office id clerk = refl
 
-answered_at : (ask : Ask) (office : Office) (id : ℕ) (clerk : List ℕ) (i : Intersection) (l : Result TimingSide DraftRefusal) → get office.intersections id ≡ Some i → line_of ask clerk i.timing ≡ l
-    → answered office (command_of id clerk ask) ≡ moved office id i l
-answered_at ask office id clerk i l there line = by_line ask office id clerk ∙ ap (transacted office id (line_of ask clerk)) there ∙ ap (moved office id i) line
+answered_at : (step : Step) (office : Office) (id : ℕ) (clerk : List ℕ) (i : Intersection) (l : Result TimingSide DraftRefusal) → get office.intersections id ≡ Some i → table_line step clerk i.timing ≡ l
+    → answered office (asking_command id clerk step) ≡ moved office id i l
+answered_at step office id clerk i l there line = by_line step office id clerk ∙ ap (transacted office id (table_line step clerk)) there ∙ ap (moved office id i) line
 
 -- one on an intersection that was found
-module _ (tables : Content) (office : Office) (id : ℕ) (clerk : List ℕ) (ask : Ask) (i : Intersection)
+module _ (tables : Content) (office : Office) (id : ℕ) (clerk : List ℕ) (step : Step) (i : Intersection)
     (found : Found) (stands : StandForSound tables office) (there : get office.intersections id ≡ Some i)
-    (sound : IsSoundIntersection i) (here : FoundStands (reach_of ask) (drafts_at stands.stand id) i found)
-    (words : AreWords 40 clerk) (within : IsAskWithin ask) where
-  accepted : (move : Move) (next : TimingSide) → AreChangesWithin (drafted_in move.changes) → line_of ask clerk i.timing ≡ Ok next
+    (sound : IsSoundIntersection i) (here : FoundStands (reach_of step) (drafts_at stands.stand id) i found)
+    (words : AreWords 40 clerk) (within : AreChangesWithin (asked_changes step)) where
+  accepted : (move : Move) (next : TimingSide) → AreChangesWithin (drafted_in move.changes) → table_line step clerk i.timing ≡ Ok next
       → Makes (drafts_at stands.stand id) i.timing clerk move next
-      → Answers office (command_of id clerk ask) (Moved move.revision move.state move.verdict) (changed_by tables (rows_of_move id clerk found move))
+      → Answers office (asking_command id clerk step) (Moved move.revision move.state move.verdict) (changed_by tables (rows_of_move id clerk found move))
   accepted move next drafts line makes =
       let told : Moved move.revision move.state move.verdict ≡ moved_to next = λ k. Moved (makes.same_revision k) (makes.same_state k) (makes.same_verdict k) in
       let after = with_intersection office id (with_timing_side i next) in
       record {
         next = after;
-        step = inr (answered_at ask office id clerk i (Ok next) there line ∙ (λ k. (sym told k, after)));
+        step = inr (answered_at step office id clerk i (Ok next) there line ∙ (λ k. (sym told k, after)));
         stand = record {
           stand = move_stands tables office id i found clerk move next stands.stand there here drafts makes;
-          sound = sound_with office id (with_timing_side i next) (subst (λ o. IfSome o (λ _. IsInRange 1 9999 id)) there (stands.sound.numbers id)) stands.sound (sound_intersection i next sound (line_keeps ask clerk i.timing next words within (side_sound i sound) line));
+          sound = sound_with office id (with_timing_side i next) (subst (λ o. IfSome o (λ _. IsInRange 1 9999 id)) there (stands.sound.numbers id)) stands.sound (sound_intersection i next sound (line_keeps step clerk i.timing next words within (side_sound i sound) line));
         };
       }
 
-  moves : (move : Move) (l : Result TimingSide DraftRefusal) → AreChangesWithin (drafted_in move.changes) → line_of ask clerk i.timing ≡ l
+  moves : (move : Move) (l : Result TimingSide DraftRefusal) → AreChangesWithin (drafted_in move.changes) → table_line step clerk i.timing ≡ l
       → Follows (drafts_at stands.stand id) i.timing clerk (Ok move) l
-      → Answers office (command_of id clerk ask) (Moved move.revision move.state move.verdict) (changed_by tables (rows_of_move id clerk found move))
+      → Answers office (asking_command id clerk step) (Moved move.revision move.state move.verdict) (changed_by tables (rows_of_move id clerk found move))
   moves move (Ok next) drafts line makes = accepted move next drafts line makes
   moves move (Err why) drafts line never = absurd never
 
-  refuses : (why : DraftRefusal) → why ≢ draft.NoMemory → Follows (drafts_at stands.stand id) i.timing clerk (Err why) (line_of ask clerk i.timing)
-      → answered office (command_of id clerk ask) ≡ (Refused (refusal_of_draft why), office)
+  refuses : (why : DraftRefusal) → why ≢ draft.NoMemory → Follows (drafts_at stands.stand id) i.timing clerk (Err why) (table_line step clerk i.timing)
+      → answered office (asking_command id clerk step) ≡ (Refused (refusal_of_draft why), office)
   refuses why ne (inl memory) = absurd (ne memory)
-  refuses why ne (inr same) = answered_at ask office id clerk i (Err why) there same
+  refuses why ne (inr same) = answered_at step office id clerk i (Err why) there same
 
 -- ---- replies
 
@@ -113,20 +116,20 @@ listed_many : (tables : Content) (id : ℕ) (changes : List Change) → ListsDra
 listed_many tables id changes lists = sym (ap length lists) ∙ length-map changes _
 
 module _ (tables : Content) (id : ℕ) (clerk : List ℕ) (found : Found) where
-  timing_bound : (ask : Ask) → ListsFound (reach_of ask) tables id found
-      → most_writes tables (command_of id clerk ask) table.Timing
-      ≡ most_committed ask (length found.timing.delta)
+  timing_bound : (step : Step) → ListsFound (reach_of step) tables id found
+      → most_writes tables (asking_command id clerk step) table.Timing
+      ≡ most_committed step (length found.timing.delta)
   timing_bound Commit lists = listed_many tables id found.timing.delta lists.1.1
   timing_bound _ lists = refl
 
-  draft_bound : (ask : Ask) → ListsFound (reach_of ask) tables id found
-      → most_writes tables (command_of id clerk ask) table.Draft
-      ≡ most_drafted ask (length found.timing.delta)
+  draft_bound : (step : Step) → ListsFound (reach_of step) tables id found
+      → most_writes tables (asking_command id clerk step) table.Draft
+      ≡ most_drafted step (length found.timing.delta)
   draft_bound Commit lists = listed_many tables id found.timing.delta lists.1.1
   draft_bound Abandon lists = listed_many tables id found.timing.delta lists.1
   draft_bound _ lists = refl
 
-intersection_bound : (id : ℕ) (clerk : List ℕ) (ask : Ask) → most_intersection_writes (command_of id clerk ask) ≡ 1
+intersection_bound : (id : ℕ) (clerk : List ℕ) (step : Step) → most_intersection_writes (asking_command id clerk step) ≡ 1
 intersection_bound id clerk Begin = refl
 intersection_bound id clerk _ = refl
 
@@ -137,22 +140,22 @@ one_more : (written : ℕ) → written ≡ 0 → 1 + written ≤ 1
 one_more written none = omega arith
 
 -- the rows of a move are within the command's bounds
-move_writes : (tables : Content) (id : ℕ) (clerk : List ℕ) (ask : Ask) (row : _) (found : Found)
-    (changes : List TimingChange) (other : Table) → ListsFound (reach_of ask) tables id found
-    → IsBounded ask (length found.timing.delta) changes
-    → writes_in other (PutIntersection id row ∷ row_changes_of id changes)
-    ≤ most_writes tables (command_of id clerk ask) other
-move_writes tables id clerk ask row found changes table.Intersection lists bounds =
-    rw (intersection_bound id clerk ask) (one_more _
-    (none_written table.Intersection refl refl id changes))
-move_writes tables id clerk ask row found changes table.Timing lists bounds =
-    rw (timing_bound tables id clerk found ask lists)
-    (no_more _ _ _ (timing_written id changes) bounds.timing)
-move_writes tables id clerk ask row found changes table.Draft lists bounds =
-    rw (draft_bound tables id clerk found ask lists)
-    (no_more _ _ _ (draft_written id changes) bounds.draft)
-move_writes tables id clerk ask row found changes other lists bounds =
-    no_more _ 0 _ (none_written other refl refl id changes) (omega arith)
+move_writes : (tables : Content) (id : ℕ) (clerk : List ℕ) (step : Step) (row : _) (found : Found)
+    (move : Move) (other : Table) → ListsFound (reach_of step) tables id found
+    → StepWrites step found.timing move
+    → writes_in other (PutIntersection id row ∷ row_changes_of id move.changes)
+    ≤ most_writes tables (asking_command id clerk step) other
+move_writes tables id clerk step row found move table.Intersection lists writes =
+    rw (intersection_bound id clerk step) (one_more _
+    (none_written table.Intersection refl refl id move.changes))
+move_writes tables id clerk step row found move table.Timing lists writes =
+    rw (timing_bound tables id clerk found step lists)
+    (no_more _ _ _ (timing_written id move.changes) writes.committed)
+move_writes tables id clerk step row found move table.Draft lists writes =
+    rw (draft_bound tables id clerk found step lists)
+    (no_more _ _ _ (draft_written id move.changes) writes.drafted)
+move_writes tables id clerk step row found move other lists writes =
+    no_more _ 0 _ (none_written other refl refl id move.changes) (omega arith)
 
 -- ---- refusals
 
@@ -169,15 +172,15 @@ state_or_owner (Some holder) stage wrong clerk first P e state owner = go (is_st
     go false is_owner e = subst P (let f : Some wrong ≡ Some first = e in let g : wrong ≡ first = cc in g) state
 
 -- the refusal is named for the command
-abbrev Names : ℕ → List ℕ → Ask → DraftRefusal → Type 0
-Names id clerk ask why = IsOneOf (numbers_of (command_of id clerk ask)) (number_of (refusal_of_draft why))
+abbrev Names : ℕ → List ℕ → Step → DraftRefusal → Type 0
+Names id clerk step why = IsOneOf (numbers_of (asking_command id clerk step)) (number_of (refusal_of_draft why))
 
-first_named : (ask : Ask) (id : ℕ) (clerk : List ℕ) (holder : Option Holder) (first : DraftRefusal) → first_refusal ask holder clerk ≡ Some first → Names id clerk ask first
+first_named : (step : Step) (id : ℕ) (clerk : List ℕ) (holder : Option Holder) (first : DraftRefusal) → first_refusal step holder clerk ≡ Some first → Names id clerk step first
 first_named Begin id clerk None first e = absurd (let f : None ≡ Some first = e in cc)
 first_named Begin id clerk (Some holder) first e = subst (Names id clerk Begin) (let f : Some draft.NotNormal ≡ Some first = e in let g : draft.NotNormal ≡ first = cc in g) (inr (inl refl))
 first_named Abandon id clerk None first e = subst (Names id clerk Abandon) (let f : Some draft.NotTransaction ≡ Some first = e in let g : draft.NotTransaction ≡ first = cc in g) (inr (inl refl))
 first_named Abandon id clerk (Some holder) first e = absurd (let f : None ≡ Some first = e in cc)
-first_named ask id clerk holder first e = state_or_owner holder _ _ clerk first (Names id clerk ask) e (inr (inl refl)) (inr (inr (inl refl)))
+first_named step id clerk holder first e = state_or_owner holder _ _ clerk first (Names id clerk step) e (inr (inl refl)) (inr (inr (inl refl)))
 
 unsettled_named : (id : ℕ) (clerk : List ℕ) (why : DraftRefusal) → why ≢ draft.NoMemory → IsUnsettled why → Names id clerk Commit why
 unsettled_named id clerk (draft.VerifyFailed count) ne is = inr (inr (inr (inl refl)))
@@ -185,87 +188,89 @@ unsettled_named id clerk draft.RevisionFull ne is = inr (inr (inr (inr (inl refl
 unsettled_named id clerk draft.NoMemory ne is = absurd (ne refl)
 unsettled_named id clerk _ ne is = absurd is
 
-later_named : (ask : Ask) (id : ℕ) (clerk : List ℕ) (why : DraftRefusal) → why ≢ draft.NoMemory → IsLater ask why → Names id clerk ask why
+later_named : (step : Step) (id : ℕ) (clerk : List ℕ) (why : DraftRefusal) → why ≢ draft.NoMemory → IsLater step why → Names id clerk step why
 later_named (Edit changes) id clerk why ne is = absurd (ne is)
 later_named Check id clerk why ne is = absurd (ne is)
 later_named Abandon id clerk why ne is = absurd (ne is)
 later_named Commit id clerk why ne is = unsettled_named id clerk why ne is
 later_named _ id clerk why ne is = absurd is
 
-refusal_named : (ask : Ask) (id : ℕ) (clerk : List ℕ) (holder : Option Holder) (why : DraftRefusal)
-    → RefusesFirst (first_refusal ask holder clerk) (IsLater ask) (Err why) → why ≢ draft.NoMemory → Names id clerk ask why
-refusal_named ask id clerk holder why refuses ne = go (first_refusal ask holder clerk) refl refuses
+refusal_named : (step : Step) (id : ℕ) (clerk : List ℕ) (holder : Option Holder) (why : DraftRefusal)
+    → RefusesFirst (first_refusal step holder clerk) (IsLater step) (Err why) → why ≢ draft.NoMemory → Names id clerk step why
+refusal_named step id clerk holder why refuses ne = go (first_refusal step holder clerk) refl refuses
   where
-    go : (o : Option DraftRefusal) → first_refusal ask holder clerk ≡ o → RefusesFirst o (IsLater ask) (Err why) → Names id clerk ask why
-    go None is later = later_named ask id clerk why ne later
-    go (Some first) is e = subst (Names id clerk ask) (let same : Err why ≡ Err first = e in let here : first ≡ why = cc in here) (first_named ask id clerk holder first is)
+    go : (o : Option DraftRefusal) → first_refusal step holder clerk ≡ o → RefusesFirst o (IsLater step) (Err why) → Names id clerk step why
+    go None is later = later_named step id clerk why ne later
+    go (Some first) is e = subst (Names id clerk step) (let same : Err why ≡ Err first = e in let here : first ≡ why = cc in here) (first_named step id clerk holder first is)
 
 -- ---- the decision
 
-never_query : (id : ℕ) (clerk : List ℕ) (ask : Ask) → IsQuery (command_of id clerk ask) → ⊥
+relied_on : (step : Step) (side : TimingSide) → violations_of side.committed ≡ [] → ReliesOn step side
+relied_on Check side none = none
+relied_on Commit side none = none
+relied_on _ side none = tt
+
+never_query : (id : ℕ) (clerk : List ℕ) (step : Step) → IsQueryCommand (asking_command id clerk step) → ⊥
 never_query id clerk Begin query = query
 never_query id clerk _ query = query
 
-names_row : (tables : Content) (id : ℕ) (clerk : List ℕ) (ask : Ask)
-    → MeetsDamage tables (command_of id clerk ask) → HasDamageIn (reach_of ask) tables id
+names_row : (tables : Content) (id : ℕ) (clerk : List ℕ) (step : Step)
+    → MeetsDamage tables (asking_command id clerk step) → HasDamageIn (reach_of step) tables id
 names_row tables id clerk Begin damaged = damaged
 names_row tables id clerk _ damaged = damaged
 
-unknown_named : (id : ℕ) (clerk : List ℕ) (ask : Ask) → IsOneOf (numbers_of (command_of id clerk ask)) 10
+unknown_named : (id : ℕ) (clerk : List ℕ) (step : Step) → IsOneOf (numbers_of (asking_command id clerk step)) 10
 unknown_named id clerk Begin = inl refl
 unknown_named id clerk _ = inl refl
 
 -- on what was found
-pub transact_decides : (is_honest : Type 0) (tables : Content) (id : ℕ) (clerk : List ℕ) (ask : Ask) (found : Found) (decision : Result Move DraftRefusal) (result : Result Decided ShelfFault)
-    → AreWords 40 clerk → IsAskWithin ask → IfOk decision
-    (λ move. AreChangesWithin (drafted_in move.changes))
-    → (is_honest → FindsAny (reach_of ask) tables id (Some found))
-    → (is_honest → ListsFound (reach_of ask) tables id found)
-    → FollowsSoundLine (reach_of ask) found.timing clerk decision (λ side. line_of ask clerk side)
-    → IfOk decision (λ move. IsBounded ask (length found.timing.delta) move.changes)
-    → IfOk decision (λ move. AddsOnlyNew (reach_of ask) found.timing move.changes)
-    → RefusesFirst (first_refusal ask found.timing.holder clerk) (IsLater ask) decision
-    → (is_honest → ¬ HasDamageIn (reach_of ask) tables id)
+pub transact_decides : (is_honest : Type 0) (tables : Content) (id : ℕ) (clerk : List ℕ) (step : Step) (found : Found) (decision : Result Move DraftRefusal) (result : Result Decided ShelfFault)
+    → AreWords 40 clerk → AreChangesWithin (asked_changes step)
+    → (is_honest → FindsAny (reach_of step) tables id (Some found))
+    → (is_honest → ListsFound (reach_of step) tables id found)
+    → Takes step found.timing clerk decision
+    → (is_honest → ¬ HasDamageIn (reach_of step) tables id)
     → IfOk result (λ decided. WritesDecision id clerk found decision decided.reply decided.changes.items) → OnErr result (result ≡ Err NoMemory)
-    → Decides is_honest tables (command_of id clerk ask) result
-transact_decides is_honest tables id clerk ask found (Ok move)
-    (Ok decided) words within drafts finds lists follows bounds news refuses_first whole writes fault =
-    accepted_decides is_honest tables (command_of id clerk ask) (Moved move.revision move.state move.verdict) (rows_of_move id clerk found move) decided
-    writes.told writes.rows (λ refused. refused) (never_query id clerk ask)
+    → Decides is_honest tables (asking_command id clerk step) result
+transact_decides is_honest tables id clerk step found (Ok move)
+    (Ok decided) words within finds lists takes whole writes fault =
+    accepted_decides is_honest tables (asking_command id clerk step) (Moved move.revision move.state move.verdict) (rows_of_move id clerk found move) decided
+    writes.told writes.rows (λ refused. refused) (never_query id clerk step)
     (λ honest office stands.
-    let at = found_there (reach_of ask) tables office id found stands (finds honest) in
+    let at = found_there (reach_of step) tables office id found stands (finds honest) in
     let sound = sound_there tables office id at.0 stands at.1 in
-    moves tables office id clerk ask at.0 found stands at.1 sound at.2 words within move (line_of ask clerk at.0.timing) drafts refl
-    (follows (drafts_at stands.stand id) at.0.timing at.2.timing_stands sound.no_violations))
-    (λ honest other. move_writes tables id clerk ask (moved_row found clerk move) found move.changes other (lists honest) bounds)
-    (λ honest. move_news (reach_of ask) tables id found (moved_row found clerk move) move.changes (lists honest) news)
-    (λ honest damaged. whole honest (names_row tables id clerk ask damaged))
-transact_decides is_honest tables id clerk ask found (Err why)
-    (Ok decided) words within drafts finds lists follows bounds news refuses_first whole writes fault =
-    told_decides is_honest tables (command_of id clerk ask) (Refused (refusal_of_draft why)) decided writes.1 (not_damaged why)
-    (refuses_so (numbers_of (command_of id clerk ask)) (refusal_of_draft why) (refusal_named ask id clerk found.timing.holder why refuses_first writes.0))
-    writes.2 (λ honest damaged. whole honest (names_row tables id clerk ask damaged))
+    moves tables office id clerk step at.0 found stands at.1 sound at.2 words within move (table_line step clerk at.0.timing)
+    (among_within (drafted_in move.changes) (asked_changes step) takes.writes.drafts within) refl
+    (takes.line (drafts_at stands.stand id) at.0.timing at.2.timing_stands (relied_on step at.0.timing sound.no_violations)))
+    (λ honest other. move_writes tables id clerk step (moved_row found clerk move) found move other (lists honest) takes.writes)
+    (λ honest. move_news (reach_of step) tables id found (moved_row found clerk move) move.changes (lists honest) takes.writes.news)
+    (λ honest damaged. whole honest (names_row tables id clerk step damaged))
+transact_decides is_honest tables id clerk step found (Err why)
+    (Ok decided) words within finds lists takes whole writes fault =
+    told_decides is_honest tables (asking_command id clerk step) (Refused (refusal_of_draft why)) decided writes.1 (not_damaged why)
+    (refuses_so (numbers_of (asking_command id clerk step)) (refusal_of_draft why) (refusal_named step id clerk found.timing.holder why takes.refuses writes.0))
+    writes.2 (λ honest damaged. whole honest (names_row tables id clerk step damaged))
     (λ honest office stands.
-    let at = found_there (reach_of ask) tables office id found stands (finds honest) in
+    let at = found_there (reach_of step) tables office id found stands (finds honest) in
     let sound = sound_there tables office id at.0 stands at.1 in
-    refuses tables office id clerk ask at.0 found stands at.1 sound at.2 words within why writes.0
-    (follows (drafts_at stands.stand id) at.0.timing at.2.timing_stands sound.no_violations))
-transact_decides is_honest tables id clerk ask found decision
-    (Err other) words within drafts finds lists follows bounds news refuses_first whole writes fault =
+    refuses tables office id clerk step at.0 found stands at.1 sound at.2 words within why writes.0
+    (takes.line (drafts_at stands.stand id) at.0.timing at.2.timing_stands (relied_on step at.0.timing sound.no_violations)))
+transact_decides is_honest tables id clerk step found decision
+    (Err other) words within finds lists takes whole writes fault =
     λ damaged. absurd (let f : Err other ≡ Err NoMemory = fault in cc)
 
 -- on an intersection that is not there
-pub absent_decides : (is_honest : Type 0) (tables : Content) (id : ℕ) (clerk : List ℕ) (ask : Ask)
-    (decided : Decided) → (is_honest → FindsAny (reach_of ask) tables id None)
-    → (is_honest → ¬ HasDamageIn (reach_of ask) tables id)
-    → decided.reply ≡ Refused refusal.UnknownIntersection → decided.changes.items ≡ [] → IsDecision is_honest tables (command_of id clerk ask) decided
-absent_decides is_honest tables id clerk ask decided finds whole told none =
-    unknown_decides is_honest tables (command_of id clerk ask) decided told (unknown_named id clerk ask) none (λ honest damaged. whole honest (names_row tables id clerk ask damaged)) (λ honest office stands.
-    by_line ask office id clerk ∙ ap (transacted office id (line_of ask clerk))
-    (found_none (reach_of ask) tables office id stands (finds honest)))
+pub absent_decides : (is_honest : Type 0) (tables : Content) (id : ℕ) (clerk : List ℕ) (step : Step)
+    (decided : Decided) → (is_honest → FindsAny (reach_of step) tables id None)
+    → (is_honest → ¬ HasDamageIn (reach_of step) tables id)
+    → decided.reply ≡ Refused refusal.UnknownIntersection → decided.changes.items ≡ [] → IsDecision is_honest tables (asking_command id clerk step) decided
+absent_decides is_honest tables id clerk step decided finds whole told none =
+    unknown_decides is_honest tables (asking_command id clerk step) decided told (unknown_named id clerk step) none (λ honest damaged. whole honest (names_row tables id clerk step damaged)) (λ honest office stands.
+    by_line step office id clerk ∙ ap (transacted office id (table_line step clerk))
+    (found_none (reach_of step) tables office id stands (finds honest)))
 
 -- where a row that is read is no record
-pub meets : (tables : Content) (id : ℕ) (clerk : List ℕ) (ask : Ask)
-    → HasDamageIn (reach_of ask) tables id → MeetsDamage tables (command_of id clerk ask)
+pub meets : (tables : Content) (id : ℕ) (clerk : List ℕ) (step : Step)
+    → HasDamageIn (reach_of step) tables id → MeetsDamage tables (asking_command id clerk step)
 meets tables id clerk Begin damage = damage
 meets tables id clerk _ damage = damage

@@ -7,10 +7,11 @@ use Rattle.draft_core.specs.declared.timing.Reach.TheVariants as reach
 use Rattle.office_tables_shelf.specs.Rows.{IsIntersectionRow, draft_columns, draft_key, timing_columns, timing_key}
 use Rattle.office_tables_shelf.specs.Shelf.{IsThere, ListsDraft, ListsTiming, ReadsIntersection}
 use Rattle.office_tables_shelf.specs.{Cells.Cell, Content.Content, Damage.HasDamagedDraft, Damage.HasDamagedIntersection, Damage.HasDamagedTiming}
-use Rattle.office_tables_shelf.proofs.ListedRows.{listed_row}
+use Rattle.office_tables_shelf.proofs.ListedRows.{listed_whole}
 use Rattle.office_tables_shelf.specs.declared.rows.IntersectionRow.{IntersectionRow}
+use Rattle.office_tables_shelf.specs.declared.rows.Table.TheVariants as table
 use Rattle.office_desk_decisions.specs.Damage.{HasDamage, HasDamagedPlan, HasJudgedDamage, IsDone, MeetsAfter}
-use Rattle.office_desk_timing.specs.Reading.{AreWithin, ListsPlan}
+use Rattle.office_desk_timing.specs.Reading.{AreRowsWithin, ListsPlan}
 use Rattle.office_desk_timing.proofs.Rows.{row_from_cells}
 
 -- ---- the row of an intersection
@@ -45,19 +46,15 @@ row_after tables id Later row rest (inr later) = rest later.1
 
 -- ---- rows that are listed
 
-pub timing_whole : (tables : Content) (id : ℕ) (rows : List Row) → ListsTiming tables id rows → AreWithin rows → ¬ HasDamagedTiming tables id
-timing_whole tables id rows lists within damaged =
-    let is = listed_row (λ row. timing_key id (key_of row)) timing_columns (IsRowWithin current_limits) tables.timing id rows damaged.key damaged.columns lists within damaged.of damaged.stored in
-    damaged.no_row is.0 is.1 is.2 is.3
+pub timing_whole : (tables : Content) (id : ℕ) (rows : List Row) → ListsTiming tables id rows → AreRowsWithin rows → ¬ HasDamagedTiming tables id
+timing_whole = listed_whole table.Timing (IsRowWithin current_limits) (λ id row. timing_key id (key_of row)) timing_columns
 
 pub draft_whole : (tables : Content) (id : ℕ) (changes : List Change) → ListsDraft tables id changes → AreChangesWithin changes → ¬ HasDamagedDraft tables id
-draft_whole tables id changes lists within damaged =
-    let is = listed_row (draft_key id) draft_columns (IsChangeWithin current_limits) tables.draft id changes damaged.key damaged.columns lists within damaged.of damaged.stored in
-    damaged.no_row is.0 is.1 is.2 is.3
+draft_whole = listed_whole table.Draft (IsChangeWithin current_limits) draft_key draft_columns
 
 -- what was read of the plan
 pub plan_whole : (reach : Reach) (tables : Content) (id : ℕ) (rows : List Row)
-    (changes : List Change) → ListsPlan reach tables id rows changes → AreWithin rows
+    (changes : List Change) → ListsPlan reach tables id rows changes → AreRowsWithin rows
     → AreChangesWithin changes
     → ¬ HasDamagedPlan reach tables id
 plan_whole reach.Row tables id rows changes lists rows_in changes_in damaged = damaged

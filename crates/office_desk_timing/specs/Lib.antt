@@ -1,6 +1,5 @@
 pub mod Adding
 pub mod Reading
 pub mod Moving
-pub mod Transacting
 pub mod Decisions
 pub mod Listing

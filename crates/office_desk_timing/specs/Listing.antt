@@ -21,7 +21,7 @@ abbrev pub listed_in : Content → ℕ × IntersectionRow → ListedIntersection
 listed_in tables e = row_listed e.0 e.1 (length (rows_of e.0 tables.timing))
 
 -- the list has one for each row of the intersections, in their order
-pub record ListsRows (tables : Content) (found : List ListedIntersection) : Type 0 where
+pub record ListsEachIntersection (tables : Content) (found : List ListedIntersection) : Type 0 where
   pub rows : List (ℕ × IntersectionRow)
   pub lists : ListsIntersections tables rows
   pub found_is : found ≡ map (listed_in tables) rows

@@ -18,8 +18,8 @@ use Rattle.office_machine.specs.Office.{Intersection, Office}
 use Rattle.office_tables_standing.specs.StandFor.{StandFor, StandForSound}
 
 -- each row is within its limits
-abbrev pub AreWithin : List Row → Type 0
-AreWithin = AllByRecursion (IsRowWithin current_limits)
+abbrev pub AreRowsWithin : List Row → Type 0
+AreRowsWithin = AllByRecursion (IsRowWithin current_limits)
 
 -- what is made of the rows that were read
 pub record IsMadeOf (row : IntersectionRow) (rows : List Row) (changes : List Change) (found : Found) : Type 0 where

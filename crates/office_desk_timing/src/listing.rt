@@ -2,7 +2,7 @@
 ghost use Rattle.std.specs.Prelude.{◌≡◌, [], ◌∷◌, ◌++◌, Err, IfOk, OnOk};
 ghost use Rattle.office_tables_shelf.specs.Damage.{HasAnyDamagedIntersection};
 ghost use Rattle.office_tables_shelf.specs.Keeps.{AnswersShelf, KeepsShelf};
-ghost use Rattle.office_desk_timing.specs.Listing.{ListsRows, row_listed};
+ghost use Rattle.office_desk_timing.specs.Listing.{ListsEachIntersection, row_listed};
 
 use office_machine::intersections::ListedIntersection;
 use office_tables_shelf::rows::IntersectionRow;
@@ -43,7 +43,7 @@ pub fn list_intersections<S: Shelf>(
     alloc: Global,
 ) -> Result<Vec<ListedIntersection>, ShelfFault>
     ensures lists { IfOk result (λ found. S.is_honest shelf.new →
-        ListsRows (S.content shelf.old) found.items) }
+        ListsEachIntersection (S.content shelf.old) found.items) }
     ensures whole { IfOk result (λ _. S.is_honest shelf.new →
         ¬ HasAnyDamagedIntersection (S.content shelf.old)) }
     ensures damaged { result ≡ Err ShelfFault.Damaged → S.is_honest shelf.new →

@@ -3,9 +3,9 @@ ghost use Rattle.std.specs.Prelude.{◌≡◌, IfOk, IfSome, ◌≢◌};
 ghost use Rattle.office_tables_shelf.specs.Damage.{HasDamagedIntersection};
 ghost use Rattle.office_tables_shelf.specs.Keeps.{AnswersShelf, KeepsShelf};
 ghost use Rattle.office_tables_shelf.specs.Shelf.{ReadsIntersection};
-ghost use Rattle.office_desk_decisions.specs.Open.{StaysOpen};
+ghost use Rattle.office_desk_decisions.specs.Open.{DatabaseStaysOpen};
 ghost use Rattle.office_desk_decisions.specs.Damage.{HasDamageIn, HasDamagedPlan};
-ghost use Rattle.office_desk_timing.specs.Reading.{AreWithin, FindsAny, IsMadeOf, ListsFound};
+ghost use Rattle.office_desk_timing.specs.Reading.{AreRowsWithin, FindsAny, IsMadeOf, ListsFound};
 ghost use Rattle.office_desk_timing.specs.Reading.{ListsPlan};
 
 use draft_core::changes::Changes;
@@ -79,11 +79,11 @@ fn plan_rows<S: Shelf>(
 ) -> Result<(Vec<Row>, Vec<Change>), ShelfFault>
     ensures lists { IfOk result (λ read. S.is_honest shelf.new →
         ListsPlan reach (S.content shelf.old) id read.0.items read.1.items) }
-    ensures within { IfOk result (λ read. S.is_honest shelf.new → AreWithin read.0.items) }
+    ensures within { IfOk result (λ read. S.is_honest shelf.new → AreRowsWithin read.0.items) }
     ensures damaged { result ≡ Err ShelfFault.Damaged → S.is_honest shelf.new →
         HasDamagedPlan reach (S.content shelf.old) id }
     ensures kept { KeepsShelf S.Shelf shelf.old shelf.new }
-    ensures open { StaysOpen S.is_clean S.is_honest (reach ≢ Reach.Row)
+    ensures open { DatabaseStaysOpen S.is_clean S.is_honest (reach ≢ Reach.Row)
         result shelf.old shelf.new }
 {
     match reach {

@@ -2,7 +2,7 @@
 ghost use Rattle.std.specs.Prelude.{◌≡◌, ◌≢◌, ◌∷◌, [], Some, IfOk};
 ghost use Rattle.draft_core.specs.Transaction.{state_of_holder};
 ghost use Rattle.office_tables_shelf.specs.Keeps.{AnswersShelf, KeepsShelf};
-ghost use Rattle.office_desk_decisions.specs.Open.{StaysOpen};
+ghost use Rattle.office_desk_decisions.specs.Open.{DatabaseStaysOpen};
 ghost use Rattle.office_desk_decisions.specs.Deciding.{Decides};
 ghost use Rattle.office_desk_decisions.specs.Damage.{HasDamage, IsDone};
 ghost use Rattle.office_desk_timing.specs.Decisions.{row_shown, IsVerdictOf, ShowsDraft};
@@ -67,7 +67,7 @@ fn verdict_at<S: Shelf>(
         IsDone row.now → ¬ HasDamage (S.content shelf.old) id) }
     ensures damaged { result ≡ Err ShelfFault.Damaged → S.is_honest shelf.new → IsDone row.now × HasDamage (S.content shelf.old) id }
     ensures kept { KeepsShelf S.Shelf shelf.old shelf.new }
-    ensures open { StaysOpen S.is_clean S.is_honest (IsDone row.now)
+    ensures open { DatabaseStaysOpen S.is_clean S.is_honest (IsDone row.now)
         result shelf.old shelf.new }
 {
     let Some(holder) = &row.holder else {

@@ -4,7 +4,7 @@ use Rattle.std.proofs.lemmas.List.{take_more, map-append, take-append-drop, leng
 use Rattle.std.proofs.Common.{append_assoc}
 use Rattle.signal_records.specs.{Reading.Gives, declared.fault.RowFault.RowFault}
 use Rattle.office_files.specs.{declared.fault.CsvFault.CsvFault, CsvFault.bad_row, CsvFault.told_at, CsvRow.rows_from}
-use Rattle.office_files.specs.CsvRow.{rows_of, add_row}
+use Rattle.office_files.specs.CsvRow.{csv_rows, add_row}
 use Rattle.office_files.specs.declared.fault.CsvFault.TheVariants as file
 use Rattle.signal_records.specs.declared.fault.RowFault.TheVariants as row
 
@@ -53,7 +53,7 @@ rows_from-fault reading at (first ∷ front) row rest rows fault all one =
     ∙ ap (λ n. Err (file.Row (bad_row n fault))) place
 
 -- the same of the records of a list, by their places
-pub rows_of-next : {T R : Type 0} (reading : List (List ℕ) → Result T RowFault) (fields : R → List (List ℕ)) (records : List R) (i : ℕ) (record_at : R) (rows : List T) (x : T) → i < length records → record_at ≡ get_or records i record_at → rows_of reading (map fields (take i records)) ≡ Ok rows → reading (fields record_at) ≡ Ok x → rows_of reading (map fields (take (i + 1) records)) ≡ Ok (rows ++ x ∷ [])
+pub rows_of-next : {T R : Type 0} (reading : List (List ℕ) → Result T RowFault) (fields : R → List (List ℕ)) (records : List R) (i : ℕ) (record_at : R) (rows : List T) (x : T) → i < length records → record_at ≡ get_or records i record_at → csv_rows reading (map fields (take i records)) ≡ Ok rows → reading (fields record_at) ≡ Ok x → csv_rows reading (map fields (take (i + 1) records)) ≡ Ok (rows ++ x ∷ [])
 rows_of-next reading fields records i record_at rows x low at so_far one =
     let next : take (i + 1) records ≡ take i records ++ record_at ∷ [] = take_more records i record_at low ∙ ap (λ s. take i records ++ s ∷ []) (sym at) in
     rw (next, map-append) (rows_from-more reading 1 (map fields (take i records)) (fields record_at) rows x so_far one)
@@ -61,9 +61,9 @@ rows_of-next reading fields records i record_at rows x low at so_far one =
 pub rows_of-fault : {T R : Type 0} (reading : List (List ℕ) → Result T RowFault)
     (fields : R → List (List ℕ)) (records : List R) (i : ℕ) (record_at : R) (rows : List T)
     (fault : RowFault) → i < length records → record_at ≡ get_or records i record_at
-    → rows_of reading (map fields (take i records)) ≡ Ok rows
+    → csv_rows reading (map fields (take i records)) ≡ Ok rows
     → reading (fields record_at) ≡ Err fault
-    → rows_of reading (map fields records) ≡ Err (file.Row (bad_row (i + 1) fault))
+    → csv_rows reading (map fields records) ≡ Err (file.Row (bad_row (i + 1) fault))
 rows_of-fault reading fields records i record_at rows fault low at so_far one =
     let next : take (i + 1) records ≡ take i records ++ record_at ∷ [] = take_more records i record_at low ∙ ap (λ s. take i records ++ s ∷ []) (sym at) in
     let all : records ≡ take i records ++ record_at ∷ drop (i + 1) records = sym (take-append-drop (i + 1) records) ∙ ap (λ t. t ++ drop (i + 1) records) next ∙ append_assoc (take i records) (record_at ∷ []) (drop (i + 1) records) in
@@ -91,12 +91,12 @@ told_at-fault at (Err fault) wanted told gives h other =
     (fault, gives (λ e. cc), is)
 
 -- a record more was kept
-pub told-next : {T R : Type 0} (reading : List (List ℕ) → Result T RowFault) (fields : R → List (List ℕ)) (records : List R) (i : ℕ) (record_at : R) (rows : List T) (x : T) (read : Result T RowFault) → i < length records → record_at ≡ get_or records i record_at → rows_of reading (map fields (take i records)) ≡ Ok rows → Gives read (reading (fields record_at)) → Ok x ≡ told_at (i + 1) read → rows_of reading (map fields (take (i + 1) records)) ≡ Ok (rows ++ x ∷ [])
+pub told-next : {T R : Type 0} (reading : List (List ℕ) → Result T RowFault) (fields : R → List (List ℕ)) (records : List R) (i : ℕ) (record_at : R) (rows : List T) (x : T) (read : Result T RowFault) → i < length records → record_at ≡ get_or records i record_at → csv_rows reading (map fields (take i records)) ≡ Ok rows → Gives read (reading (fields record_at)) → Ok x ≡ told_at (i + 1) read → csv_rows reading (map fields (take (i + 1) records)) ≡ Ok (rows ++ x ∷ [])
 told-next reading fields records i record_at rows x read low at so_far gives told =
     rows_of-next reading fields records i record_at rows x low at so_far (rw (told_at-ok (i + 1) read x told) at gives)
 
 -- a record was told as bad
-pub told-stop : {T R : Type 0} (reading : List (List ℕ) → Result T RowFault) (fields : R → List (List ℕ)) (records : List R) (i : ℕ) (record_at : R) (rows : List T) (told : CsvFault) (read : Result T RowFault) → i < length records → record_at ≡ get_or records i record_at → rows_of reading (map fields (take i records)) ≡ Ok rows → Gives read (reading (fields record_at)) → Err told ≡ told_at (i + 1) read → told ≢ file.NoMemory → rows_of reading (map fields records) ≡ Err told
+pub told-stop : {T R : Type 0} (reading : List (List ℕ) → Result T RowFault) (fields : R → List (List ℕ)) (records : List R) (i : ℕ) (record_at : R) (rows : List T) (told : CsvFault) (read : Result T RowFault) → i < length records → record_at ≡ get_or records i record_at → csv_rows reading (map fields (take i records)) ≡ Ok rows → Gives read (reading (fields record_at)) → Err told ≡ told_at (i + 1) read → told ≢ file.NoMemory → csv_rows reading (map fields records) ≡ Err told
 told-stop reading fields records i record_at rows told read low at so_far gives is other =
     let bad = told_at-fault (i + 1) read (reading (fields record_at)) told gives is other in
     rows_of-fault reading fields records i record_at rows bad.0 low at so_far bad.1 ∙ sym (ap Err bad.2)

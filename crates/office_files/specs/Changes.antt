@@ -6,11 +6,11 @@ use Rattle.signal_records.specs.Spelling.{change_spelling}
 use Rattle.signal_records.specs.Within.{current_limits, IsChangeWithin}
 use Rattle.office_files.specs.declared.fault.CsvFault.{CsvFault}
 use Rattle.office_files.specs.Csv.{csv_records}
-use Rattle.office_files.specs.CsvRow.{rows_of}
+use Rattle.office_files.specs.CsvRow.{csv_rows}
 
 -- each record is a row, or the removal of a key
 abbrev pub changes_of : List ℕ → Result (List Change) CsvFault
-changes_of text = rows_of (change_at current_limits) (csv_records text)
+changes_of text = csv_rows (change_at current_limits) (csv_records text)
 
 -- the one spelling of each change
 abbrev pub spellings : List Change → List (List (List ℕ))

@@ -17,5 +17,5 @@ rows_from reading at [] = Ok []
 rows_from reading at (fields ∷ records) = add_row at (reading fields) (rows_from reading (at + 1) records)
 
 -- what the records of a file spell, or the first that spells nothing; they are counted from 1
-abbrev pub rows_of : {T : Type 0} → (List (List ℕ) → Result T RowFault) → List (List (List ℕ)) → Result (List T) CsvFault
-rows_of reading records = rows_from reading 1 records
+abbrev pub csv_rows : {T : Type 0} → (List (List ℕ) → Result T RowFault) → List (List (List ℕ)) → Result (List T) CsvFault
+csv_rows reading records = rows_from reading 1 records

@@ -12,14 +12,14 @@ use Rattle.cabinet_core.specs.declared.command.RecordCommand.{RecordCommand}
 use Rattle.cabinet_core.specs.declared.command.RecordCommand.TheVariants as command
 use Rattle.office_files.specs.declared.fault.CsvFault.{CsvFault}
 use Rattle.office_files.specs.Csv.{csv_records, csv_text}
-use Rattle.office_files.specs.CsvRow.{rows_of}
+use Rattle.office_files.specs.CsvRow.{csv_rows}
 use Rattle.office_files.specs.RecordReading.{record_at}
 use Rattle.office_files.specs.RecordSpelling.{record_spelling}
 use Rattle.cabinet_core.specs.Within.{IsRecordWithin}
 
 -- each record is a command of the register
 abbrev pub commands_of : List ℕ → Result (List RecordCommand) CsvFault
-commands_of text = rows_of record_at (csv_records text)
+commands_of text = csv_rows record_at (csv_records text)
 
 -- commands whose numbers, days and texts are within their limits
 abbrev pub AreRecordsWithin : List RecordCommand → Type 0

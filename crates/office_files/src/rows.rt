@@ -5,7 +5,7 @@ ghost use Rattle.signal_records.specs.declared.fault.RowFault.{RowFault as Fault
 ghost use Rattle.signal_records.specs.Reading.{Gives, texts};
 ghost use Rattle.office_files.specs.Csv.{csv_records};
 ghost use Rattle.office_files.specs.CsvFault.{NamesFault};
-ghost use Rattle.office_files.specs.CsvRow.{rows_of};
+ghost use Rattle.office_files.specs.CsvRow.{csv_rows};
 
 use crate::fault::{CsvFault, told_of_record};
 use crate::fields::fields_in;
@@ -24,8 +24,8 @@ pub(crate) trait CsvRow: Sized + Drop {
 
 /// What the records of a file spell, or the first that spells nothing.
 pub(crate) fn read_rows<T: CsvRow>(alloc: Global, text: &[u8]) -> Result<Vec<T>, CsvFault>
-    ensures rows { IfOk result (λ rows. rows_of T.reading (csv_records text.now) ≡ Ok rows.items) }
-    ensures fault { IfErr result (λ fault. fault ≢ CsvFault.NoMemory → rows_of T.reading (csv_records text.now) ≡ Err fault) }
+    ensures rows { IfOk result (λ rows. csv_rows T.reading (csv_records text.now) ≡ Ok rows.items) }
+    ensures fault { IfErr result (λ fault. fault ≢ CsvFault.NoMemory → csv_rows T.reading (csv_records text.now) ≡ Err fault) }
     ensures named { IfErr result NamesFault }
 {
     let records = read_records(alloc, text)?;

@@ -1,15 +1,15 @@
 -- How connections that were served follow one another.
-use Rattle.std.proofs.Common.{◌≡◌, ◌≢◌, ◌∙◌, ℕ, zero, suc, ◌+◌, ◌*◌, ◌≤◌, true, false, true≢false, List, [], ◌∷◌, ◌++◌, length, Option, Some, None, refl, sym, ap, subst, arith, append_assoc}
+use Rattle.std.proofs.Common.{◌≡◌, ◌≢◌, ◌∙◌, ℕ, zero, suc, ◌+◌, ◌*◌, ◌≤◌, true, false, true≢false, List, [], ◌∷◌, ◌++◌, length, map, Option, Some, None, refl, sym, ap, subst, arith, append_assoc}
 use Rattle.std.proofs.lemmas.List.{append-nil, length-append, map-append}
 use Rattle.std.specs.Prelude.{Result, Ok, Err, OnOk, OnErr, IfErr, is_err}
 use Rattle.office_machine.specs.Office.{Office}
 use Rattle.office_tables_shelf.specs.Content.{Content}
 use Rattle.office_http.specs.Laws.{Serves}
-use Rattle.office_http.specs.Listening.{Adds, AsksConnection, Connected, Listening, Listens, ServesConnection, ServesEach, Turns, connected, connection_limit, ends_after, more_accepted, one_accepted, starts_of}
+use Rattle.office_http.specs.Listening.{GrewBy, AsksConnection, Connected, Listening, Listens, ServesConnection, ServesEach, Turns, connected, connection_limit, more_accepted, one_accepted}
 use Rattle.office_http.specs.Protocol.{office_protocol}
 use Rattle.office_http.specs.declared.listening.ListenCounts.{ListenCounts}
 use Rattle.office_http_framing.specs.{Asks.Asks, Asks.OnlyAsks, Ends.Told, Ends.no_calls, Limits.longest_request, Serve.Did, Serve.Ends}
-use Rattle.office_http_framing.specs.{Serve.TellsFault, Serve.Untouched, Serve.ends_of, Stops.Keeps, Stops.Storage}
+use Rattle.office_http_framing.specs.{Serve.TellsFault, Serve.Untouched, Serve.ends_of, Stops.KeepsState, Stops.Storage, Stops.moment_of}
 use Rattle.office_http_framing.specs.{declared.engine.Served.Served, declared.engine.ServeFault.ServeFault}
 use Rattle.office_http_framing.specs.declared.engine.ServeFault.TheVariants.{NoMemory}
 
@@ -48,7 +48,7 @@ asks_connection told old new sink sink' fresh asks reads = record {
 
 -- a call of `serve` that had its buffer serves a connection
 pub one_connection : {Shelf : Type 0} (storage : Storage Shelf Office Content) (first : Shelf) (held : Content) (before : Office) (last : Shelf) (kept : Content) (after : Office) (start end : Ends) (outcome : Result Served ServeFault)
-    → Did office_protocol (Serves storage (storage.may_leave first) held (storage.written first) before last kept after) connection_limit start end outcome
+    → Did office_protocol (Serves storage (storage.may_leave first) (moment_of storage first held before) last kept after) connection_limit start end outcome
     → TellsFault start end outcome → AsksConnection start end
     → start.source.counts ≡ no_calls → start.sink.counts ≡ no_calls → outcome ≢ Err NoMemory → ServesConnection storage first held before last kept after (connected start end)
 one_connection storage first held before last kept after start end outcome did fault asks source_is_fresh sink_is_fresh has_memory = record {
@@ -70,54 +70,58 @@ nothing_touched start end first last outcome is told =
 
 -- ---- the lists of connections
 
-adds-on : (a b c : Option (List Ends)) (xs ys : List Ends) → Adds a b xs → Adds b c ys → Adds a c (xs ++ ys)
+adds-on : (a b c : Option (List Ends)) (xs ys : List Ends) → GrewBy a b xs → GrewBy b c ys → GrewBy a c (xs ++ ys)
 adds-on None b c xs ys first next = tt
 adds-on (Some us) None c xs ys first next = absurd first
 adds-on (Some us) (Some vs) None xs ys first next = absurd next
 adds-on (Some us) (Some vs) (Some ws) xs ys first next = next ∙ ap (λ zs. zs ++ ys) first ∙ append_assoc us xs ys
 
-adds-none : (a b c : Option (List Ends)) (xs : List Ends) → Adds a b xs → Adds b c [] → Adds a c xs
-adds-none a b c xs first next = subst (Adds a c) (append-nil xs) (adds-on a b c xs [] first next)
+adds-none : (a b c : Option (List Ends)) (xs : List Ends) → GrewBy a b xs → GrewBy b c [] → GrewBy a c xs
+adds-none a b c xs first next = subst (GrewBy a c) (append-nil xs) (adds-on a b c xs [] first next)
 
-still : (a : Option (List Ends)) → Adds a a []
+still : (a : Option (List Ends)) → GrewBy a a []
 still None = tt
 still (Some xs) = sym (append-nil xs)
 
 -- nothing was given yet
-pub turns-start : (told : Listening) → Turns told told [] []
-turns-start told = record { gave = still told.given; got_back = still told.returned }
+pub turns-start : (told : Listening) → Turns told told [] told.counts
+turns-start told = record { counted = refl; gave = still told.given; got_back = still told.returned }
 
 -- a call that gave nothing and took nothing back
-pub turns-same : (old told new : Listening) (given returned : List Ends) → Turns old told given returned
-    → Adds told.given new.given [] → Adds told.returned new.returned [] → Turns old new given returned
-turns-same old told new given returned turns gave got_back = record {
-  gave = adds-none old.given told.given new.given given turns.gave gave;
-  got_back = adds-none old.returned told.returned new.returned returned turns.got_back got_back;
+pub turns-same : (old told new : Listening) (served : List Connected) (before counts : ListenCounts) → Turns old told served before → new.counts ≡ counts
+    → GrewBy told.given new.given [] → GrewBy told.returned new.returned [] → Turns old new served counts
+turns-same old told new served before counts turns counted gave got_back = record {
+  counted = counted;
+  gave = adds-none old.given told.given new.given (map (λ (c : Connected). c.start) served) turns.gave gave;
+  got_back = adds-none old.returned told.returned new.returned (map (λ (c : Connected). c.end) served) turns.got_back got_back;
 }
 
 -- a connection was given, and then taken back
-pub turns-next : (old told mid new : Listening) (given returned : List Ends) (start end : Ends) → Turns old told given returned
-    → Adds told.given mid.given (start ∷ []) → Adds told.returned mid.returned []
-    → Adds mid.given new.given [] → Adds mid.returned new.returned (end ∷ [])
-    → Turns old new (given ++ start ∷ []) (returned ++ end ∷ [])
-turns-next old told mid new given returned start end turns gave back_none gave_none got_back = record {
-  gave = adds-none old.given mid.given new.given (given ++ start ∷ []) (adds-on old.given told.given mid.given given (start ∷ []) turns.gave gave) gave_none;
-  got_back = adds-on old.returned mid.returned new.returned returned (end ∷ []) (adds-none old.returned told.returned mid.returned returned turns.got_back back_none) got_back;
+pub turns-next : (old told mid new : Listening) (served : List Connected) (before counts : ListenCounts) (start end : Ends) → Turns old told served before → new.counts ≡ counts
+    → GrewBy told.given mid.given (start ∷ []) → GrewBy told.returned mid.returned []
+    → GrewBy mid.given new.given [] → GrewBy mid.returned new.returned (end ∷ [])
+    → Turns old new (served ++ connected start end ∷ []) counts
+turns-next old told mid new served before counts start end turns counted gave back_none gave_none got_back = record {
+  counted = counted;
+  gave = subst (GrewBy old.given new.given) (sym (map-append (λ (c : Connected). c.start) served (connected start end ∷ [])))
+      (adds-none old.given mid.given new.given _ (adds-on old.given told.given mid.given (map (λ (c : Connected). c.start) served) (start ∷ []) turns.gave gave) gave_none);
+  got_back = subst (GrewBy old.returned new.returned) (sym (map-append (λ (c : Connected). c.end) served (connected start end ∷ [])))
+      (adds-on old.returned mid.returned new.returned _ (end ∷ []) (adds-none old.returned told.returned mid.returned (map (λ (c : Connected). c.end) served) turns.got_back back_none) got_back);
 }
 
 -- a connection was given, and taken back as it was
-pub turns-untouched : (old told mid new : Listening) (given returned : List Ends) (start end : Ends) → Turns old told given returned
-    → Adds told.given mid.given (start ∷ []) → Adds told.returned mid.returned []
-    → Adds mid.given new.given [] → Adds mid.returned new.returned (end ∷ []) → end ≡ start
-    → Turns old new (given ++ start ∷ []) (returned ++ start ∷ [])
-turns-untouched old told mid new given returned start end turns gave back_none gave_none got_back same =
-    subst (λ e. Turns old new (given ++ start ∷ []) (returned ++ e ∷ [])) same
-    (turns-next old told mid new given returned start end turns gave back_none gave_none got_back)
+pub turns-untouched : (old told mid new : Listening) (served : List Connected) (before counts : ListenCounts) (start end : Ends) → Turns old told served before → new.counts ≡ counts
+    → GrewBy told.given mid.given (start ∷ []) → GrewBy told.returned mid.returned []
+    → GrewBy mid.given new.given [] → GrewBy mid.returned new.returned (end ∷ []) → end ≡ start
+    → Turns old new (served ++ connected start start ∷ []) counts
+turns-untouched old told mid new served before counts start end turns counted gave back_none gave_none got_back same =
+    subst (λ e. Turns old new (served ++ connected start e ∷ []) counts) same
+    (turns-next old told mid new served before counts start end turns counted gave back_none gave_none got_back)
 
 -- ---- the connections one after another
 
 -- nothing was served yet
-pub listens-start : {Shelf : Type 0} (storage : Storage Shelf Office Content) (first : Shelf) (held : Content) (before : Office) → Keeps storage first held before → Listens storage first held before first []
+pub listens-start : {Shelf : Type 0} (storage : Storage Shelf Office Content) (first : Shelf) (held : Content) (before : Office) → KeepsState storage first held before → Listens storage first held before first []
 listens-start storage first held before keeps = record { after = before; kept = held; keeps = keeps; each = (refl, refl, refl) }
 
 module _ {Shelf : Type 0} (storage : Storage Shelf Office Content) (mid : Shelf) (tables : Content) (middle : Office) (last : Shelf) (kept : Content) (after : Office) (connection : Connected)
@@ -143,17 +147,10 @@ listens-next storage first held before mid last kept after served connection so_
   each = each-next storage mid so_far.kept so_far.after last kept after connection one first held before served so_far.each;
 }
 
--- what was given and taken back goes on with it
-pub turns_on : (old new : Listening) (served : List Connected) (start end : Ends) → Turns old new (starts_of served ++ start ∷ []) (ends_after served ++ end ∷ [])
-    → Turns old new (starts_of (served ++ connected start end ∷ [])) (ends_after (served ++ connected start end ∷ []))
-turns_on old new served start end turns =
-    subst (λ given. Turns old new given (ends_after (served ++ connected start end ∷ []))) (sym (map-append (λ (c : Connected). c.start) served (connected start end ∷ [])))
-    (subst (Turns old new (starts_of served ++ start ∷ [])) (sym (map-append (λ (c : Connected). c.end) served (connected start end ∷ []))) turns)
-
 pub one_longer : (served : List Connected) (connection : Connected) (n : ℕ) → length served ≡ n → length (served ++ connection ∷ []) ≡ n + 1
 one_longer served connection n is = omega (arith, is, length-append served (connection ∷ []))
 
-pub accepted-next : (n : ℕ) (c : ListenCounts) → one_accepted (more_accepted n c) ≡ more_accepted (n + 1) c
-accepted-next n c =
-    let next : suc n ≡ n + 1 = omega arith in
+pub accepted-next : (served : List Connected) (connection : Connected) (c : ListenCounts) → one_accepted (more_accepted (length served) c) ≡ more_accepted (length (served ++ connection ∷ [])) c
+accepted-next served connection c =
+    let next : suc (length served) ≡ length (served ++ connection ∷ []) = omega (arith, length-append served (connection ∷ [])) in
     ap (λ k. more_accepted k c) next

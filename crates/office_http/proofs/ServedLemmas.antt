@@ -12,12 +12,12 @@ pub from_opened : {Shelf : Type 0} (storage : Storage Shelf Office Content)
     → ((left : Content) → may left → more left)
     → (before : Office) (last : Shelf) (kept : Content) (after : Office)
     (requests : List PlainRequest) (answers : List (List ℕ))
-    → Serves storage may held counts before last kept after requests answers
-    → Serves storage more held first before last kept after requests answers
+    → Serves storage may (record { state = before; kept = held; written = counts }) last kept after requests answers
+    → Serves storage more (record { state = before; kept = held; written = first }) last kept after requests answers
 from_opened storage may more held counts first none wider before last kept after requests answers it =
-    subst (λ (count : storage.Counts). Serves storage more held count
-    before last kept after requests answers) none (record {
-      ran = ran-wider office_protocol storage may more held counts before last kept
+    subst (λ (count : storage.Counts). Serves storage more (record { state = before; kept = held; written = count })
+    last kept after requests answers) none (record {
+      ran = ran-wider office_protocol storage may more (record { state = before; kept = held; written = counts }) last kept
           after requests answers wider it.ran;
       laws = it.laws;
     })

@@ -1,4 +1,5 @@
--- What the requests of a whole stream make of the office: the run of the commands that they ask, and its laws.
+-- What the requests of a whole stream make of the office: the run of the commands that they ask,
+-- and its laws.
 use Rattle.std.specs.Prelude.{◌≡◌, ◌⊎◌, ℕ, List, [], ◌∷◌, ◌++◌, Result, Ok, Err}
 use Rattle.office_machine.specs.Office.{Office, side_at}
 use Rattle.office_machine.specs.RegisterRuns.{RegisterRuns}
@@ -11,7 +12,7 @@ use Rattle.office_machine.specs.declared.reply.Reply.{Reply}
 use Rattle.office_machine.specs.declared.reply.Reply.TheVariants.{Refused}
 use Rattle.office_http_faults.specs.declared.fault.AskFault.{AskFault}
 use Rattle.office_http_framing.specs.Front.{PlainRequest}
-use Rattle.office_http_framing.specs.Stops.{Ran, Storage}
+use Rattle.office_http_framing.specs.Stops.{Moment, Ran, Storage}
 use Rattle.office_tables_shelf.specs.Content.{Content}
 use Rattle.office_http.specs.Protocol.{office_protocol, read_of}
 use Rattle.office_http_responses.specs.Answers.{answer_bytes, unavailable_bytes}
@@ -40,42 +41,52 @@ asked_in (request ∷ requests) = asked_of request ++ asked_in requests
 -- the reply is written in the form asked; or it is Unavailable, and the answer says so
 abbrev pub TellsReply : Asked → Reply → List ℕ → Type 0
 TellsReply asked reply answer =
-    (answer ≡ answer_bytes reply asked.form) ⊎ ((reply ≡ Refused Unavailable) × (answer ≡ unavailable_bytes))
+    (answer ≡ answer_bytes reply asked.form)
+    ⊎ ((reply ≡ Refused Unavailable) × (answer ≡ unavailable_bytes))
 
--- The answer to a command tells the first of the replies; one to no command tells its fault, or that memory was refused. The rest
--- of the replies is for the rest of the answers.
-abbrev pub TellsRead : Result Asked AskFault → List Reply → List ℕ → (rest : List Reply → Type 0) → Type 0
-TellsRead (Ok asked) (reply ∷ replies) answer rest = TellsReply asked reply answer × rest replies
-TellsRead (Ok asked) [] answer rest = ⊥
-TellsRead (Err fault) replies answer rest = ((answer ≡ ask_fault_text fault) ⊎ (answer ≡ unavailable_bytes)) × rest replies
+-- The answer to a command tells the first of the replies, and leaves the others; one to no command
+-- tells its fault, or that memory was refused, and leaves all.
+abbrev pub TellsRead : Result Asked AskFault → List ℕ → (replies left : List Reply) → Type 0
+TellsRead (Ok asked) answer replies left =
+    (reply : Reply) × TellsReply asked reply answer × (replies ≡ reply ∷ left)
+TellsRead (Err fault) answer replies left =
+    ((answer ≡ ask_fault_text fault) ⊎ (answer ≡ unavailable_bytes)) × (replies ≡ left)
 
 -- each request has an answer, and the answers to commands tell the replies, in their order
 abbrev pub TellsReplies : List PlainRequest → List Reply → List (List ℕ) → Type 0
 TellsReplies [] [] [] = Unit {0}
 TellsReplies (request ∷ requests) replies (answer ∷ answers) =
-    TellsRead (read_of request) replies answer (λ rest. TellsReplies requests rest answers)
+    (left : List Reply) × TellsRead (read_of request) answer replies left
+    × TellsReplies requests left answers
 TellsReplies _ _ _ = ⊥
 
 -- ---- the laws
 
--- The office machine ran over the commands that the requests ask, and the answers tell its replies. Each office on the way is sound, so
--- that no committed set breaks a rule. Each committed set of the last keeps the laws of the street, and is the draft as it stood just before
--- its last accepted commit, or what it was at the start. Orders and stock are what the accepted commands of the register made of them; and
--- an import that was accepted and is sent again adds nothing.
-pub record KeepsLaws (before : Office) (requests : List PlainRequest) (answers : List (List ℕ)) (after : Office) : Type 0 where
+-- The office machine ran over the commands that the requests ask, and the answers tell its replies.
+-- Each office on the way is sound, so that no committed set breaks a rule. Each committed set of
+-- the last keeps the laws of the street, and is the draft as it stood just before its last accepted
+-- commit, or what it was at the start. Orders and stock are what the accepted commands of the
+-- register made of them; and an import that was accepted and is sent again adds nothing.
+pub record KeepsLaws
+    (before : Office) (requests : List PlainRequest) (answers : List (List ℕ))
+    (after : Office) : Type 0 where
   pub replies : List Reply
   pub run : Run before (asked_in requests) replies after
   pub tells : TellsReplies requests replies answers
   pub sound : AreSound before (asked_in requests) replies after run
   pub street : (id : ℕ) → StreetLaws (side_at after id).committed
-  pub running : (id : ℕ) → (side_at after id).committed ≡ running id (side_at before id).committed before (asked_in requests) replies after run
+  pub running : (id : ℕ)
+      → (side_at after id).committed ≡ running id (side_at before id).committed before
+      (asked_in requests) replies after run
   pub register : RegisterRuns before (asked_in requests) replies after run
   pub repeats : Repeats before (asked_in requests) replies after run
 
--- What the office did over requests and their answers: it ran over them; each wrote the rows that it may; the tables that are kept stand for the
--- office after them; a crash leaves no more than the run lets it; and the run keeps the laws.
+-- What the office did over requests and their answers: it ran over them; each wrote the rows that
+-- it may; the tables that are kept stand for the office after them; a crash leaves no more than the
+-- run lets it; and the run keeps the laws.
 pub record Serves
-    {Shelf : Type 0} (storage : Storage Shelf Office Content) (may : Content → Type 0) (held : Content) (old : storage.Counts)
-    (before : Office) (last : Shelf) (kept : Content) (after : Office) (requests : List PlainRequest) (answers : List (List ℕ)) : Type 0 where
-  pub ran : Ran office_protocol storage may held old before last kept after requests answers
-  pub laws : KeepsLaws before requests answers after
+    {Shelf : Type 0} (storage : Storage Shelf Office Content) (may : Content → Type 0)
+    (first : Moment storage) (last : Shelf) (kept : Content) (after : Office)
+    (requests : List PlainRequest) (answers : List (List ℕ)) : Type 0 where
+  pub ran : Ran office_protocol storage may first last kept after requests answers
+  pub laws : KeepsLaws first.state requests answers after

@@ -10,7 +10,7 @@ use Rattle.office_http_framing.specs.Asks.{OnlyAsks}
 use Rattle.office_http_framing.specs.Ends.{no_calls, raised}
 use Rattle.office_http_framing.specs.Limits.{longest_request}
 use Rattle.office_http_framing.specs.Serve.{Did, Ends, TellsFault}
-use Rattle.office_http_framing.specs.Stops.{Keeps, Storage}
+use Rattle.office_http_framing.specs.Stops.{KeepsState, Storage, moment_of}
 use Rattle.office_http_framing.specs.declared.engine.Served.{Served}
 use Rattle.office_http_framing.specs.declared.engine.ServeFault.{ServeFault}
 use Rattle.office_http_framing.specs.declared.engine.ServeFault.TheVariants.{NoMemory}
@@ -42,22 +42,23 @@ abbrev pub more_accepted : ℕ → ListenCounts → ListenCounts
 more_accepted zero c = c
 more_accepted (suc n) c = one_accepted (more_accepted n c)
 
--- What a listener tells: how its calls went and, where they are known, the ends of the connections that it gave and of those
--- that it got back, as they were then, the latest one last.
+-- What a listener tells: how its calls went and, where they are known, the ends of the connections
+-- that it gave and of those that it got back, as they were then, the latest one last.
 pub record Listening : Type 0 where
   pub counts : ListenCounts
   pub given : Option (List Ends)
   pub returned : Option (List Ends)
 
--- What a listener of the system tells: its counts alone. The system does not tell what a connection gives and takes.
+-- What a listener of the system tells: its counts alone. The system does not tell what a connection
+-- gives and takes.
 abbrev pub counts_alone : ListenCounts → Listening
 counts_alone counts = record { counts = counts; given = None; returned = None }
 
 -- a known list grew by these
-abbrev pub Adds : Option (List Ends) → Option (List Ends) → List Ends → Type 0
-Adds None new more = Unit {0}
-Adds (Some xs) None more = ⊥
-Adds (Some xs) (Some ys) more = ys ≡ xs ++ more
+abbrev pub GrewBy : Option (List Ends) → Option (List Ends) → List Ends → Type 0
+GrewBy None new more = Unit {0}
+GrewBy (Some xs) None more = ⊥
+GrewBy (Some xs) (Some ys) more = ys ≡ xs ++ more
 
 -- a connection as it was when it was given, and when it was given back
 pub record Connected : Type 0 where
@@ -67,58 +68,66 @@ pub record Connected : Type 0 where
 abbrev pub connected : Ends → Ends → Connected
 connected start end = record { start = start; end = end }
 
--- the lists of connections grew by these
-pub record Turns (old new : Listening) (given returned : List Ends) : Type 0 where
-  pub gave : Adds old.given new.given given
-  pub got_back : Adds old.returned new.returned returned
+-- the listener gave these connections and got them back, and counted so many calls
+pub record Turns
+    (old new : Listening) (connections : List Connected) (counts : ListenCounts) : Type 0 where
+  pub counted : new.counts ≡ counts
+  pub gave : GrewBy old.given new.given (map (λ (it : Connected). it.start) connections)
+  pub got_back : GrewBy old.returned new.returned (map (λ (it : Connected). it.end) connections)
 
--- the ends of the connections as they were given, and as they were given back
-abbrev pub starts_of : List Connected → List Ends
-starts_of connections = map (λ connection. connection.start) connections
-
-abbrev pub ends_after : List Connected → List Ends
-ends_after connections = map (λ connection. connection.end) connections
-
--- Why the serving ended after these connections were given, served, and given back: all of them were; or the next could
--- not be accepted; or it was accepted and given back as it was, and memory for it was refused.
+-- Why the serving ended after these connections were given, served, and given back: all of them
+-- were; or the next could not be accepted; or it was accepted and given back as it was, and memory
+-- for it was refused.
 abbrev pub EndsListening : ℕ → Listening → Listening → List Connected → Result ⊤ ServeStop → Type 0
 EndsListening count old new served (Ok done) =
-    (length served ≡ count) × (new.counts ≡ more_accepted (length served) old.counts) × Turns old new (starts_of served) (ends_after served)
+    (length served ≡ count) × Turns old new served (more_accepted (length served) old.counts)
 EndsListening count old new served (Err stop.Accept) =
-    (length served < count) × (new.counts ≡ one_failed (more_accepted (length served) old.counts)) × Turns old new (starts_of served) (ends_after served)
+    (length served < count)
+    × Turns old new served (one_failed (more_accepted (length served) old.counts))
 EndsListening count old new served (Err stop.NoMemory) =
-    (length served < count) × (new.counts ≡ more_accepted (suc (length served)) old.counts)
-    × (untouched : Ends) × Turns old new (starts_of served ++ untouched ∷ []) (ends_after served ++ untouched ∷ [])
+    (length served < count) × (same : Ends)
+    × Turns old new (served ++ connected same same ∷ [])
+    (more_accepted (suc (length served)) old.counts)
 
 -- the source was called only while a request of the connection was awaited, and so often at most
 pub record AsksConnection (start end : Ends) : Type 0 where
   pub asks : OnlyAsks (λ told. told) connection_limit start.source end.source
   pub reads : end.source.counts.calls ≤ longest_request * (connection_limit + 1) + 1
 
--- One connection was served from its first call on: between these two moments of its ends the office did what `serve` says. A
--- fault of the ends is told by them, and is no want of memory.
+-- One connection was served from its first call on: between these two moments of its ends the
+-- office did what `serve` says. A fault of the ends is told by them, and is no want of memory.
 pub record ServesConnection
-    {Shelf : Type 0} (storage : Storage Shelf Office Content) (first : Shelf) (held : Content) (before : Office) (last : Shelf) (kept : Content) (after : Office)
+    {Shelf : Type 0} (storage : Storage Shelf Office Content) (first : Shelf) (held : Content)
+    (before : Office) (last : Shelf) (kept : Content) (after : Office)
     (connection : Connected) : Type 0 where
   pub outcome : Result Served ServeFault
   pub source_is_fresh : connection.start.source.counts ≡ no_calls
   pub sink_is_fresh : connection.start.sink.counts ≡ no_calls
-  pub did : Did office_protocol (Serves storage (storage.may_leave first) held (storage.written first) before last kept after) connection_limit connection.start connection.end outcome
+  pub did : Did office_protocol
+      (Serves storage (storage.may_leave first) (moment_of storage first held before)
+      last kept after)
+      connection_limit connection.start connection.end outcome
   pub fault : TellsFault connection.start connection.end outcome
   pub asks : AsksConnection connection.start connection.end
   pub has_memory : outcome ≢ Err NoMemory
 
--- The connections were served one after the other, each from the office and the tables that the one before it left.
-abbrev pub ServesEach : {Shelf : Type 0} → Storage Shelf Office Content → Shelf → Content → Office → List Connected → Shelf → Content → Office → Type 0
-ServesEach storage first held before [] last kept after = (last ≡ first) × (kept ≡ held) × (after ≡ before)
+-- The connections were served one after the other, each from the office and the tables that the one
+-- before it left.
+abbrev pub ServesEach : {Shelf : Type 0} → Storage Shelf Office Content → Shelf → Content → Office
+    → List Connected → Shelf → Content → Office → Type 0
+ServesEach storage first held before [] last kept after =
+    (last ≡ first) × (kept ≡ held) × (after ≡ before)
 ServesEach {Shelf} storage first held before (connection ∷ connections) last kept after =
-    (mid : Shelf) × (tables : Content) × (middle : Office) × ServesConnection storage first held before mid tables middle connection
+    (mid : Shelf) × (tables : Content) × (middle : Office)
+    × ServesConnection storage first held before mid tables middle connection
     × ServesEach storage mid tables middle connections last kept after
 
--- What was done for the connections that were served: what is kept at the end stands for the office after the last one.
+-- What was done for the connections that were served: what is kept at the end stands for the office
+-- after the last one.
 pub record Listens
-    {Shelf : Type 0} (storage : Storage Shelf Office Content) (first : Shelf) (held : Content) (before : Office) (last : Shelf) (served : List Connected) : Type 0 where
+    {Shelf : Type 0} (storage : Storage Shelf Office Content) (first : Shelf) (held : Content)
+    (before : Office) (last : Shelf) (served : List Connected) : Type 0 where
   pub after : Office
   pub kept : Content
-  pub keeps : Keeps storage last kept after
+  pub keeps : KeepsState storage last kept after
   pub each : ServesEach storage first held before served last kept after

@@ -1,6 +1,6 @@
 -- How the office answers requests.
 use Rattle.std.specs.Prelude.{◌≡◌, ◌⊎◌, ℕ, List, Result, Ok, Err}
-use Rattle.office_desk.specs.Changes.{IsQuery, IsRefused, RiseAtMost}
+use Rattle.office_desk.specs.Changes.{IsQueryCommand, IsRefused, RiseAtMost}
 use Rattle.office_machine.specs.Office.{Office}
 use Rattle.office_desk.specs.StandFor.{StandForSound}
 use Rattle.office_machine.specs.Step.{answered}
@@ -38,7 +38,7 @@ AnswersRequest before request answer after = AnswersRead (read_of request) befor
 
 -- from this office the command asks, or is refused
 abbrev pub ChangesNothing : Office → Command → Type 0
-ChangesNothing before command = IsQuery command ⊎ IsRefused (answered before command).0
+ChangesNothing before command = IsQueryCommand command ⊎ IsRefused (answered before command).0
 
 -- The step of a command wrote at most the rows of its kind, table by table; where it changes
 -- nothing it wrote none, and the tables are the same.

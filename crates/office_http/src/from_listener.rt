@@ -68,7 +68,7 @@ fn opened(
 impl Listen for FromListener {
     ghost use Rattle.std.specs.Prelude.{◌≡◌, None, [], ◌∷◌};
     ghost use Rattle.office_http_framing.specs.Serve.{ends_of};
-    ghost use Rattle.office_http.specs.Listening.{Adds, counts_alone};
+    ghost use Rattle.office_http.specs.Listening.{GrewBy, counts_alone};
 
     type Reader = FromRead<TcpStream>;
 
@@ -92,8 +92,8 @@ impl Listen for FromListener {
         connection: Connection<FromRead<TcpStream>, ToWrite<WaitsOnce<TcpStream>>>,
     )
         ensures counts { self.new ≡ self.old }
-        ensures given { Adds None None [] }
-        ensures returned { Adds None None (ends_of
+        ensures given { GrewBy None None [] }
+        ensures returned { GrewBy None None (ends_of
             (record { bytes = None; counts = connection.reader.counts })
             (record { bytes = None; counts = connection.writer.counts }) ∷ []) }
     {

@@ -5,7 +5,7 @@ ghost use Rattle.office_machine.specs.Office.{Office as OfficeState};
 ghost use Rattle.office_tables_shelf.specs.Content.{Content};
 ghost use Rattle.office_http_framing.specs.Ends.{no_calls};
 ghost use Rattle.office_http_framing.specs.Serve.{ends_of};
-ghost use Rattle.office_http_framing.specs.Stops.{Keeps};
+ghost use Rattle.office_http_framing.specs.Stops.{KeepsState};
 ghost use Rattle.office_http.specs.Protocol.{office_storage};
 ghost use Rattle.office_http.specs.Listening.{
   Connected,
@@ -59,7 +59,7 @@ pub trait Listen {
     ghost use Rattle.std.specs.Prelude.{[], ◌∷◌, MatchResult};
     ghost use Rattle.office_http_framing.specs.Ends.{no_calls};
     ghost use Rattle.office_http_framing.specs.Serve.{ends_of};
-    ghost use Rattle.office_http.specs.Listening.{Adds, Listening, listened};
+    ghost use Rattle.office_http.specs.Listening.{GrewBy, Listening, listened};
 
     type Reader: Source;
 
@@ -72,18 +72,18 @@ pub trait Listen {
     fn accept(&mut self) -> io::Result<Connection<Self::Reader, Self::Writer>>
         ensures counts { (told self.new).counts ≡ listened result (told self.old).counts }
         ensures given { MatchResult result
-            (λ c. Adds (told self.old).given (told self.new).given
+            (λ c. GrewBy (told self.old).given (told self.new).given
             (ends_of (Self.Reader.told c.reader) (Self.Writer.told c.writer) ∷ []))
-            (λ _. Adds (told self.old).given (told self.new).given []) }
+            (λ _. GrewBy (told self.old).given (told self.new).given []) }
         ensures fresh { IfOk result (λ c. ((Self.Reader.told c.reader).counts ≡ no_calls)
             × ((Self.Writer.told c.writer).counts ≡ no_calls)) }
-        ensures returned { Adds (told self.old).returned (told self.new).returned [] };
+        ensures returned { GrewBy (told self.old).returned (told self.new).returned [] };
 
     /// Takes a connection back, and closes it.
     fn take_back(&mut self, connection: Connection<Self::Reader, Self::Writer>)
         ensures counts { (told self.new).counts ≡ (told self.old).counts }
-        ensures given { Adds (told self.old).given (told self.new).given [] }
-        ensures returned { Adds (told self.old).returned (told self.new).returned
+        ensures given { GrewBy (told self.old).given (told self.new).given [] }
+        ensures returned { GrewBy (told self.old).returned (told self.new).returned
             (ends_of (Self.Reader.told connection.reader)
             (Self.Writer.told connection.writer) ∷ []) };
 }
@@ -116,7 +116,7 @@ fn serve_connection<S: Shelf, R: Source, W: Sink>(
     ensures honest { S.is_honest office.new → S.is_honest office.old }
     ensures did { let storage = office_storage S.is_honest S.content S.written S.may_leave in
         S.is_clean office.new →
-        (before : OfficeState) (tables : Content) → Keeps storage office.old tables before →
+        (before : OfficeState) (tables : Content) → KeepsState storage office.old tables before →
         OnOk result ((after : OfficeState) × (kept : Content)
         × ServesConnection storage office.old tables before office.new kept after (connected
         (ends_of (R.told connection.old.reader) (W.told connection.old.writer))
@@ -151,7 +151,7 @@ pub fn serve_each<S: Shelf, L: Listen>(
     // to its being given back, and no other one.
     ensures did { let storage = office_storage S.is_honest S.content S.written S.may_leave in
         S.is_clean office.new →
-        (before : OfficeState) (tables : Content) → Keeps storage office.old tables before →
+        (before : OfficeState) (tables : Content) → KeepsState storage office.old tables before →
         (served : List Connected) × Listens storage office.old tables before office.new served
         × EndsListening count (L.told listener.old) (L.told listener.new) served result }
     // The listener tells how many connections it gave and got back, and a failure where it is the

@@ -6,7 +6,7 @@ ghost use Rattle.office_machine.specs.Office.{Office as OfficeState};
 ghost use Rattle.office_tables_shelf.specs.Content.{Content};
 ghost use Rattle.office_http_framing.specs.Front.{PlainRequest};
 ghost use Rattle.office_http_framing.specs.Protocol.{bytes_of};
-ghost use Rattle.office_http_framing.specs.Stops.{DealsBy, Keeps};
+ghost use Rattle.office_http_framing.specs.Stops.{DealsBy, KeepsState, moment_of};
 ghost use Rattle.office_http_responses.specs.Answers.{answer_bytes};
 ghost use Rattle.office_http.specs.Protocol.{office_protocol, office_storage, read_of};
 
@@ -68,8 +68,9 @@ fn answer_asked<S: Shelf>(
     // A request that is read as this is dealt with, whichever office the kept tables stand for.
     ensures deals { let storage = office_storage S.is_honest S.content S.written S.may_leave in
         S.is_clean office.new → (before : OfficeState) (tables : Content) (request : PlainRequest) →
-        read_of request ≡ Ok asked.now → Keeps storage office.old tables before →
-        DealsBy office_protocol storage office.old office.new tables before request result }
+        read_of request ≡ Ok asked.now → KeepsState storage office.old tables before →
+        DealsBy office_protocol storage office.old office.new
+        (moment_of storage office.old tables before) request result }
 {
     let decided = office.decide(alloc, &asked.command);
     let Ok(answer) = answer_to(alloc, &decided.reply, asked.form) else {

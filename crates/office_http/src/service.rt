@@ -7,7 +7,7 @@ ghost use Rattle.office_tables_shelf.specs.Content.{Content};
 ghost use Rattle.office_http_framing.specs.Asks.{OnlyAsks};
 ghost use Rattle.office_http_framing.specs.Limits.{longest_request};
 ghost use Rattle.office_http_framing.specs.Serve.{Did, TellsFault, Untouched, ends_of};
-ghost use Rattle.office_http_framing.specs.Stops.{Keeps};
+ghost use Rattle.office_http_framing.specs.Stops.{KeepsState, moment_of};
 ghost use Rattle.office_http.specs.Laws.{Serves};
 ghost use Rattle.office_http.specs.Protocol.{office_protocol, office_storage};
 
@@ -43,9 +43,9 @@ pub fn serve<S: Shelf, R: Source, W: Sink>(
     // laws.
     ensures did { let storage = office_storage S.is_honest S.content S.written S.may_leave in
         S.is_clean office.new →
-        (before : OfficeState) (tables : Content) → Keeps storage office.old tables before →
+        (before : OfficeState) (tables : Content) → KeepsState storage office.old tables before →
         (after : OfficeState) × (kept : Content) × Did office_protocol
-        (Serves storage (S.may_leave office.old) tables (S.written office.old) before
+        (Serves storage (S.may_leave office.old) (moment_of storage office.old tables before)
         office.new kept after)
         max_requests (ends_of (R.told reader.old) (W.told writer.old))
         (ends_of (R.told reader.new) (W.told writer.new)) result }

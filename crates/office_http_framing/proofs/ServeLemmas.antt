@@ -6,7 +6,7 @@ use Rattle.std.proofs.KnownBytes.{Consumes-nil, Consumes-trans, Appends-nil, App
 use Rattle.std.proofs.lemmas.List.{append-nil, length-append}
 use Rattle.office_http_framing.specs.{declared.engine.Served.Served, declared.engine.ServeFault.ServeFault, Ends.AppendsPart}
 use Rattle.office_http_framing.specs.{Front.PlainRequest, Front.BeginsWithRequest, Protocol.Protocol, Stream.left_after, Stream.BeginsWith}
-use Rattle.office_http_framing.specs.Serve.{BreaksOff, Did, Ends, EndsBy, Runs, Writes}
+use Rattle.office_http_framing.specs.Serve.{BreaksOff, Did, Ends, EndsBy, Runs, SinkTook, told_requests}
 use Rattle.office_http_framing.specs.declared.engine.ServeFault.TheVariants as stop
 use Rattle.office_http_framing.proofs.StreamLemmas.{BeginsWith-append, BeginsWith-next}
 
@@ -115,21 +115,20 @@ module _ {State : Type 0} (protocol : Protocol State) (runs : Runs) (limit count
     (so_far : Progress runs limit count left held start.source.bytes middle.source.bytes start.sink.bytes middle.sink.bytes) where
   -- no request follows
   pub Did-ended : (result : Result Served ServeFault) (closing : List (List ℕ)) → Consumes middle.source.bytes end.source.bytes []
-      → EndsBy protocol result count held left closing start end
-      → ((answers : List (List ℕ)) → Appends start.sink.bytes middle.sink.bytes (concat answers) → Writes result start.sink.bytes end.sink.bytes (answers ++ closing))
+      → told_requests result ≡ count → EndsBy protocol result (record { rest = held; left = left; closing = closing }) start end
+      → ((answers : List (List ℕ)) → Appends start.sink.bytes middle.sink.bytes (concat answers) → SinkTook result start.sink.bytes end.sink.bytes (answers ++ closing))
       → Did protocol runs limit start end result
-  Did-ended result closing none ends writes = record {
+  Did-ended result closing none counted ends writes = record {
     given = so_far.given;
     requests = so_far.requests;
-    rest = held;
-    left = left;
     answers = so_far.answers;
-    closing = closing;
+    tail = record { rest = held; left = left; closing = closing };
     reads = subst (Consumes start.source.bytes end.source.bytes) (append-nil so_far.given)
         (Consumes-trans start.source.bytes middle.source.bytes end.source.bytes so_far.given [] so_far.reads none);
     begins = so_far.begins;
     ran = so_far.ran;
-    ends = subst (λ n. EndsBy protocol result n held left closing start end) so_far.count_is ends;
+    counted = counted ∙ so_far.count_is;
+    ends = ends;
     writes = writes so_far.answers so_far.writes;
   }
 
@@ -139,18 +138,14 @@ module _ {State : Type 0} (protocol : Protocol State) (runs : Runs) (limit count
   Did-broken runs' request len answer some whole goes_on none broken = record {
     given = so_far.given;
     requests = so_far.requests ++ request ∷ [];
-    rest = drop len held;
-    left = left_after left request;
     answers = so_far.answers ++ answer ∷ [];
-    closing = [];
+    tail = record { rest = drop len held; left = left_after left request; closing = [] };
     reads = subst (Consumes start.source.bytes end.source.bytes) (append-nil so_far.given)
         (Consumes-trans start.source.bytes middle.source.bytes end.source.bytes so_far.given [] so_far.reads none);
     begins = BeginsWith-next limit so_far.given so_far.requests held left request len so_far.begins some whole;
     ran = goes_on so_far.requests so_far.answers so_far.ran;
-    ends = (
-      next_count runs limit count left held start.source.bytes middle.source.bytes start.sink.bytes middle.sink.bytes so_far request,
-      inl refl,
-    );
+    counted = next_count runs limit count left held start.source.bytes middle.source.bytes start.sink.bytes middle.sink.bytes so_far request;
+    ends = inl refl;
     writes = subst (BreaksOff start.sink.bytes end.sink.bytes) (sym (append-nil (so_far.answers ++ answer ∷ [])))
         (one_more_begun start.sink.bytes middle.sink.bytes end.sink.bytes so_far.answers answer so_far.writes broken);
   }
@@ -160,14 +155,13 @@ pub Did-nothing : {State : Type 0} (protocol : Protocol State) (runs : Runs) (li
 Did-nothing protocol runs limit ends ran = record {
   given = [];
   requests = [];
-  rest = [];
-  left = limit;
   answers = [];
-  closing = [];
+  tail = record { rest = []; left = limit; closing = [] };
   reads = Consumes-nil ends.source.bytes;
   begins = (refl, refl);
   ran = ran;
-  ends = (refl, refl, refl);
+  counted = refl;
+  ends = (refl, refl);
   writes = Appends-nil ends.sink.bytes;
 }
 
@@ -195,13 +189,12 @@ pub Did-weaker : {State : Type 0} (protocol : Protocol State) (runs runs' : Runs
 Did-weaker protocol runs runs' limit start end result weaker did = record {
   given = did.given;
   requests = did.requests;
-  rest = did.rest;
-  left = did.left;
   answers = did.answers;
-  closing = did.closing;
+  tail = did.tail;
   reads = did.reads;
   begins = did.begins;
   ran = weaker did.requests did.answers did.ran;
+  counted = did.counted;
   ends = did.ends;
   writes = did.writes;
 }

@@ -22,8 +22,8 @@ is_empty (Ok n) = n == 0
 is_empty (Err e) = false
 
 -- the counts after a call with this outcome
-abbrev pub counted : {E : Type 0} → Result ℕ E → Counts → Counts
-counted outcome c = record {
+abbrev pub tallied : {E : Type 0} → Result ℕ E → Counts → Counts
+tallied outcome c = record {
   calls = raised c.calls;
   failures = if is_failure outcome then raised c.failures else c.failures;
   empties = if is_empty outcome then raised c.empties else c.empties;

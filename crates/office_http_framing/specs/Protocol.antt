@@ -1,5 +1,5 @@
--- What a machine may answer, and its run over a list of requests.
-use Rattle.std.specs.Prelude.{◌≡◌, ℕ, ◌⊎◌, List, [], ◌∷◌}
+-- What a machine may answer.
+use Rattle.std.specs.Prelude.{◌≡◌, ℕ, ◌⊎◌, List}
 use Rattle.office_http_framing.specs.declared.front.Fault.{Fault}
 use Rattle.office_http_framing.specs.declared.machine.Answer.{Answer}
 use Rattle.office_http_framing.specs.declared.machine.Answer.TheVariants.{Written, Fixed}
@@ -24,16 +24,6 @@ abbrev pub MayAnswer : {State : Type 0} →
 MayAnswer protocol before request answer after =
     protocol.step before request answer after
     ⊎ ((answer ≡ protocol.unavailable_text) × (after ≡ before))
-
--- each request in turn takes its step or is answered unavailable
-abbrev pub Run : {State : Type 0} →
-    Protocol State → State → List PlainRequest → List (List ℕ) → State → Type 0
-Run protocol before [] [] after = before ≡ after
-Run {State} protocol before (request ∷ requests) (answer ∷ answers) after =
-    (mid : State) × MayAnswer protocol before request answer mid
-    × Run protocol mid requests answers after
-Run protocol before [] (answer ∷ answers) after = ⊥
-Run protocol before (request ∷ requests) [] after = ⊥
 
 -- the answer to a fault, or the one that says that memory was refused
 abbrev pub AnswersFault : {State : Type 0} → Protocol State → Fault → List ℕ → Type 0

@@ -27,18 +27,40 @@ Runs = List PlainRequest → List (List ℕ) → Type 0
 abbrev pub Closes : {State : Type 0} → Protocol State → Ending → List (List ℕ) → Type 0
 Closes protocol closed closing = closing ≡ []
 Closes protocol unfinished closing = closing ≡ []
-Closes protocol (faulty which) closing = (answer : List ℕ) × AnswersFault protocol which answer × (closing ≡ answer ∷ [])
+Closes protocol (faulty which) closing =
+    (answer : List ℕ) × AnswersFault protocol which answer × (closing ≡ answer ∷ [])
 
--- How the stream ended after so many requests, with these bytes left, so many requests still allowed, and what follows the answers: all was answered;
--- or the source failed; or the sink failed at the answer to the last request, or at that to a fault; or nothing was begun.
-abbrev pub EndsBy : {State : Type 0} → Protocol State → Result Served ServeFault → (requests : ℕ) → List ℕ → ℕ → List (List ℕ) → Ends → Ends → Type 0
-EndsBy protocol (Ok served) requests rest left closing start end =
-    (served.requests ≡ requests) × (ending : Ending) × EndsAt rest left ending × Closes protocol ending closing
+-- what is left after the requests of a stream: its bytes, how many requests were still allowed, and
+-- what follows the answers
+pub record Tail : Type 0 where
+  pub rest : List ℕ
+  pub left : ℕ
+  pub closing : List (List ℕ)
+
+-- the requests ended so
+pub record IsTailOf
+    {State : Type 0} (protocol : Protocol State) (ending : Ending) (tail : Tail) : Type 0 where
+  pub ends : EndsAt tail.rest tail.left ending
+  pub closes : Closes protocol ending tail.closing
+
+-- how many requests the outcome tells
+abbrev pub told_requests : Result Served ServeFault → ℕ
+told_requests (Ok served) = served.requests
+told_requests (Err (stop.Read requests)) = requests
+told_requests (Err (stop.Write requests)) = requests
+told_requests (Err stop.NoMemory) = 0
+
+-- How the stream ended: all was answered; or the source failed; or the sink failed at the answer to
+-- the last request, or at that to a fault; or nothing was begun.
+abbrev pub EndsBy : {State : Type 0} →
+    Protocol State → Result Served ServeFault → Tail → Ends → Ends → Type 0
+EndsBy protocol (Ok served) tail start end =
+    (ending : Ending) × IsTailOf protocol ending tail
     × (ending ≡ unfinished → Rose start.source.counts.empties end.source.counts.empties)
-EndsBy protocol (Err (stop.Read n)) requests rest left closing start end = (n ≡ requests) × EndsAt rest left unfinished × (closing ≡ [])
-EndsBy protocol (Err (stop.Write n)) requests rest left closing start end =
-    (n ≡ requests) × ((closing ≡ []) ⊎ ((which : Fault) × EndsAt rest left (faulty which) × Closes protocol (faulty which) closing))
-EndsBy protocol (Err stop.NoMemory) requests rest left closing start end = (requests ≡ 0) × (closing ≡ []) × (end ≡ start)
+EndsBy protocol (Err (stop.Read requests)) tail start end = IsTailOf protocol unfinished tail
+EndsBy protocol (Err (stop.Write requests)) tail start end =
+    (tail.closing ≡ []) ⊎ ((which : Fault) × IsTailOf protocol (faulty which) tail)
+EndsBy protocol (Err stop.NoMemory) tail start end = (tail.closing ≡ []) × (end ≡ start)
 
 -- the texts were taken in order, and the last one up to some place
 pub record BreaksOff (old new : Option (List ℕ)) (texts : List (List ℕ)) : Type 0 where
@@ -49,26 +71,28 @@ pub record BreaksOff (old new : Option (List ℕ)) (texts : List (List ℕ)) : T
   pub taken : Appends old new (concat whole ++ part)
 
 -- the sink took the texts in order: all, or where it failed, the last one up to some place
-abbrev pub Writes : Result Served ServeFault → Option (List ℕ) → Option (List ℕ) → List (List ℕ) → Type 0
-Writes (Ok served) old new texts = Appends old new (concat texts)
-Writes (Err (stop.Read n)) old new texts = Appends old new (concat texts)
-Writes (Err (stop.Write n)) old new texts = BreaksOff old new texts
-Writes (Err stop.NoMemory) old new texts = Appends old new (concat texts)
+abbrev pub SinkTook : Result Served ServeFault → Option (List ℕ) → Option (List ℕ) → List (List ℕ)
+    → Type 0
+SinkTook (Ok served) old new texts = Appends old new (concat texts)
+SinkTook (Err (stop.Read n)) old new texts = Appends old new (concat texts)
+SinkTook (Err (stop.Write n)) old new texts = BreaksOff old new texts
+SinkTook (Err stop.NoMemory) old new texts = Appends old new (concat texts)
 
--- THE SERVING. The source gave bytes, which begin with the requests; the machine ran over these; and the sink took the answers to them, in order, and then
--- what follows, as the outcome tells.
-pub record Did {State : Type 0} (protocol : Protocol State) (runs : Runs) (limit : ℕ) (start end : Ends) (result : Result Served ServeFault) : Type 0 where
+-- THE SERVING. The source gave bytes, which begin with the requests; the machine ran over these;
+-- and the sink took the answers to them, in order, and then what follows, as the outcome tells.
+pub record Did
+    {State : Type 0} (protocol : Protocol State) (runs : Runs) (limit : ℕ) (start end : Ends)
+    (result : Result Served ServeFault) : Type 0 where
   pub given : List ℕ
   pub requests : List PlainRequest
-  pub rest : List ℕ
-  pub left : ℕ
   pub answers : List (List ℕ)
-  pub closing : List (List ℕ)
+  pub tail : Tail
   pub reads : Consumes start.source.bytes end.source.bytes given
-  pub begins : BeginsWith limit given requests rest left
+  pub begins : BeginsWith limit given requests tail.rest tail.left
   pub ran : runs requests answers
-  pub ends : EndsBy protocol result (length requests) rest left closing start end
-  pub writes : Writes result start.sink.bytes end.sink.bytes (answers ++ closing)
+  pub counted : told_requests result ≡ length requests
+  pub ends : EndsBy protocol result tail start end
+  pub writes : SinkTook result start.sink.bytes end.sink.bytes (answers ++ tail.closing)
 
 -- nothing was read, written or changed
 pub record Untouched {Machine : Type 0} (start end : Ends) (old new : Machine) : Type 0 where
@@ -78,6 +102,8 @@ pub record Untouched {Machine : Type 0} (start end : Ends) (old new : Machine) :
 -- a fault of an end is answered only where that end tells one
 abbrev pub TellsFault : Ends → Ends → Result Served ServeFault → Type 0
 TellsFault start end (Ok served) = ⊤
-TellsFault start end (Err (stop.Read requests)) = Rose start.source.counts.failures end.source.counts.failures
-TellsFault start end (Err (stop.Write requests)) = FailsOrGivesNone start.sink.counts end.sink.counts
+TellsFault start end (Err (stop.Read requests)) =
+    Rose start.source.counts.failures end.source.counts.failures
+TellsFault start end (Err (stop.Write requests)) =
+    FailsOrGivesNone start.sink.counts end.sink.counts
 TellsFault start end (Err stop.NoMemory) = ⊤

@@ -1,14 +1,15 @@
 -- What a stop may leave of the state of a machine, while it deals with requests one after another.
-use mathlib.Core.Logic.{inl, inr}
-use Rattle.std.specs.Prelude.{◌≡◌, ℕ, ◌⊎◌, refl, List, [], ◌∷◌, Result, Ok, Err}
+use Rattle.std.specs.Prelude.{◌≡◌, ℕ, ◌⊎◌, List, [], ◌∷◌, Result, Ok, Err}
 use Rattle.office_http_framing.specs.declared.machine.Answer.{Answer}
 use Rattle.office_http_framing.specs.declared.machine.Unavailable.{Unavailable}
 use Rattle.office_http_framing.specs.Front.{PlainRequest}
-use Rattle.office_http_framing.specs.Protocol.{Protocol, MayAnswer, Run, bytes_of}
+use Rattle.office_http_framing.specs.Protocol.{Protocol, bytes_of}
 
--- How a machine stores its state: whether it is honest (what was written has come back, and no failure has shut it), what it holds, what a crash
--- at this moment may leave of that (while what was written has come back, whether or not a failure shut it), and the states for which either stands;
--- how often it has written; and what the step of a request, from a state, may make of what is stored and of that count.
+-- How a machine stores its state: whether it is honest (what was written has come back, and no
+-- failure has shut it), what it holds, what a crash at this moment may leave of that (while what
+-- was written has come back, whether or not a failure shut it), and the states for which either
+-- stands; how often it has written; and what the step of a request, from a state, may make of what
+-- is stored and of that count.
 pub record Storage (Machine State Stored : Type 0) : Type 1 where
   pub is_honest : Machine → Type 0
   pub holds : Machine → Stored
@@ -19,65 +20,93 @@ pub record Storage (Machine State Stored : Type 0) : Type 1 where
   pub may_write : State → PlainRequest → (held kept : Stored) → (old new : Counts) → Type 0
 
 -- What is kept stands for the state, and the machine holds it while it is honest.
-pub record Keeps {Machine State Stored : Type 0} (storage : Storage Machine State Stored) (machine : Machine) (kept : Stored) (state : State) : Type 0 where
+pub record KeepsState
+    {Machine State Stored : Type 0} (storage : Storage Machine State Stored)
+    (machine : Machine) (kept : Stored) (state : State) : Type 0 where
   pub stands : storage.stands kept state
   pub held : storage.is_honest machine → storage.holds machine ≡ kept
 
--- what is stored stands for the state after the request's step, whichever answer that has
-abbrev pub IsAfterStep : {Machine State Stored : Type 0} → Protocol State → Storage Machine State Stored → State → PlainRequest → Stored → Type 0
-IsAfterStep {Machine} {State} protocol storage before request stored =
-    (answer : List ℕ) × (after : State) × protocol.step before request answer after × storage.stands stored after
+-- a moment between two requests: the state, what is kept of it, and how often was written
+pub record Moment
+    {Machine State Stored : Type 0} (storage : Storage Machine State Stored) : Type 0 where
+  pub state : State
+  pub kept : Stored
+  pub written : storage.Counts
 
--- What is kept after a request, and the count of writes. Where it took its step: what stands for the state after it, as the step may write; where it
--- was answered unavailable: both as they were before.
-abbrev pub IsKept : {Machine State Stored : Type 0} (protocol : Protocol State) (storage : Storage Machine State Stored) (held kept : Stored) (old new : storage.Counts)
-    (before : State) (request : PlainRequest) (answer : List ℕ) (after : State) → MayAnswer protocol before request answer after → Type 0
-IsKept protocol storage held kept old new before request answer after (inl step) = storage.stands kept after × storage.may_write before request held kept old new
-IsKept protocol storage held kept old new before request answer after (inr refused) = (kept ≡ held) × (new ≡ old)
+-- the moment of a machine of which this is kept, for this state
+abbrev pub moment_of : {Machine State Stored : Type 0} →
+    (storage : Storage Machine State Stored) → Machine → Stored → State → Moment storage
+moment_of storage machine kept state =
+    record { state = state; kept = kept; written = storage.written machine }
 
--- What a crash may leave after a request, where it could leave so much before. Where the request took its step: what is kept, and nothing else once
--- that has changed. Where it was answered unavailable: what it could before, or the request's step.
-abbrev pub LeavesOne : {Machine State Stored : Type 0} (protocol : Protocol State) (storage : Storage Machine State Stored) (may : Stored → Type 0) (held kept : Stored)
-    (before : State) (request : PlainRequest) (answer : List ℕ) (after : State) → MayAnswer protocol before request answer after → Stored → Type 0
-LeavesOne protocol storage may held kept before request answer after (inl step) left = (left ≡ kept) ⊎ ((kept ≡ held) × may left)
-LeavesOne protocol storage may held kept before request answer after (inr refused) left = may left ⊎ IsAfterStep protocol storage before request left
+-- how a request is dealt with: it takes its step, or is answered unavailable
+pub data How : Type 0 where
+  stepped unavailable : How
 
--- one request, as a machine dealt with it
-pub record Deals
-    {Machine State Stored : Type 0} (protocol : Protocol State) (storage : Storage Machine State Stored) (old new : Machine) (held kept : Stored)
-    (before : State) (request : PlainRequest) (answer : List ℕ) (after : State) (how : MayAnswer protocol before request answer after) : Type 0 where
-  pub keeps : Keeps storage new kept after
-  pub is_kept : IsKept protocol storage held kept (storage.written old) (storage.written new) before request answer after how
-  pub leaves : (left : Stored) → storage.may_leave new left → LeavesOne protocol storage (storage.may_leave old) held kept before request answer after how left
+module _
+    {Machine State Stored : Type 0} (protocol : Protocol State)
+    (storage : Storage Machine State Stored) where
+  -- One request, from one moment to the next. It took its step, with no writes but what that may,
+  -- and what is kept stands for the state after it; or it was answered unavailable, and all stayed.
+  abbrev pub Passes : How → PlainRequest → List ℕ → (old new : Moment storage) → Type 0
+  Passes stepped request answer old new =
+      protocol.step old.state request answer new.state × storage.stands new.kept new.state
+      × storage.may_write old.state request old.kept new.kept old.written new.written
+  Passes unavailable request answer old new = (answer ≡ protocol.unavailable_text) × (new ≡ old)
 
--- The machine answered the request by its step; or said that it is unavailable, and the state and what is kept of it stay.
-abbrev pub DealsBy : {Machine State Stored : Type 0} → Protocol State → Storage Machine State Stored → (old new : Machine) → Stored → State → PlainRequest → Result Answer Unavailable → Type 0
-DealsBy {Machine} {State} {Stored} protocol storage old new held before request (Ok answer) =
-    (after : State) × (kept : Stored) × (step : protocol.step before request (bytes_of answer) after)
-    × Deals protocol storage old new held kept before request (bytes_of answer) after (inl step)
-DealsBy protocol storage old new held before request (Err refused) =
-    Deals protocol storage old new held held before request protocol.unavailable_text before (inr (refl, refl))
+  -- what is stored stands for the state after the request's step, whichever answer that has
+  abbrev pub StandsAfterStep : State → PlainRequest → Stored → Type 0
+  StandsAfterStep before request stored =
+      (answer : List ℕ) × (after : State) × protocol.step before request answer after
+      × storage.stands stored after
 
--- THE STOP. After each request of the run, from the first on, something is kept, with no writes but what the request may; and a crash leaves no more
--- than the request lets it: so much before the first one, and this at the end. So it leaves the state after the last request that took its step and
--- changed what is kept, or after a later one.
-abbrev pub Leaves : {Machine State Stored : Type 0} (protocol : Protocol State) (storage : Storage Machine State Stored)
-    (may : Stored → Type 0) (held : Stored) (old : storage.Counts)
-    (before : State) (requests : List PlainRequest) (answers : List (List ℕ)) (after : State) → Run protocol before requests answers after
-    → (at_end : Stored → Type 0) (kept : Stored) (new : storage.Counts) → Type 0
-Leaves {Machine} {State} {Stored} protocol storage may held old before [] [] after run at_end kept new =
-    ((left : Stored) → at_end left → may left) × (kept ≡ held) × (new ≡ old)
-Leaves {Machine} {State} {Stored} protocol storage may held old before (request ∷ requests) (answer ∷ answers) after run at_end kept new =
-    (now : Stored) × (count : storage.Counts) × IsKept protocol storage held now old count before request answer run.0 run.1
-    × Leaves protocol storage (LeavesOne protocol storage may held now before request answer run.0 run.1) now count run.0 requests answers after run.2 at_end kept new
-Leaves protocol storage may held old before [] (answer ∷ answers) after run at_end kept new = ⊥
-Leaves protocol storage may held old before (request ∷ requests) [] after run at_end kept new = ⊥
+  -- What a crash may leave after a request, where it could leave so much before. Where the request
+  -- took its step: what is kept, and nothing else once that has changed. Where it was answered
+  -- unavailable: what it could before, or the request's step.
+  abbrev pub LeavesOne :
+      How → PlainRequest → (may : Stored → Type 0) → (old new : Moment storage) → Stored → Type 0
+  LeavesOne stepped request may old new left =
+      (left ≡ new.kept) ⊎ ((new.kept ≡ old.kept) × may left)
+  LeavesOne unavailable request may old new left = may left ⊎ StandsAfterStep old.state request left
 
--- The machine ran over the requests and gave these answers: what it keeps at the end stands for the state of the run; each request wrote what it may;
--- and so much a crash may leave.
-pub record Ran
-    {Machine State Stored : Type 0} (protocol : Protocol State) (storage : Storage Machine State Stored) (may : Stored → Type 0) (held : Stored) (old : storage.Counts)
-    (before : State) (last : Machine) (kept : Stored) (after : State) (requests : List PlainRequest) (answers : List (List ℕ)) : Type 0 where
-  pub run : Run protocol before requests answers after
-  pub keeps : Keeps storage last kept after
-  pub leaves : Leaves protocol storage may held old before requests answers after run (storage.may_leave last) kept (storage.written last)
+  -- one request, as a machine dealt with it
+  pub record Deals
+      (how : How) (request : PlainRequest) (answer : List ℕ)
+      (before after : Machine) (old new : Moment storage) : Type 0 where
+    pub keeps : KeepsState storage after new.kept new.state
+    pub passes : Passes how request answer old new
+    pub leaves : (left : Stored) → storage.may_leave after left
+        → LeavesOne how request (storage.may_leave before) old new left
+
+  -- The machine answered the request by its step; or said that it is unavailable, and the state and
+  -- what is kept of it stay.
+  abbrev pub DealsBy : (before after : Machine) → Moment storage → PlainRequest
+      → Result Answer Unavailable → Type 0
+  DealsBy before after old request (Ok answer) =
+      (kept : Stored) × (state : State)
+      × Deals stepped request (bytes_of answer) before after old
+      (moment_of storage after kept state)
+  DealsBy before after old request (Err refused) =
+      Deals unavailable request protocol.unavailable_text before after old
+      (moment_of storage after old.kept old.state)
+
+  -- THE STOP. The requests were dealt with in turn, from one moment to the last; and a crash leaves
+  -- no more than each lets it: so much before the first one, and this at the end. So it leaves the
+  -- state after the last request that took its step and changed what is kept, or after a later one.
+  abbrev pub Leaves : (may : Stored → Type 0) → Moment storage → List PlainRequest
+      → List (List ℕ) → (at_end : Stored → Type 0) → Moment storage → Type 0
+  Leaves may first [] [] at_end last = ((left : Stored) → at_end left → may left) × (last ≡ first)
+  Leaves may first (request ∷ requests) (answer ∷ answers) at_end last =
+      (how : How) × (next : Moment storage) × Passes how request answer first next
+      × Leaves (LeavesOne how request may first next) next requests answers at_end last
+  Leaves may first _ _ at_end last = ⊥
+
+  -- The machine ran over the requests and gave these answers, from this moment on, when a crash
+  -- could leave so much: what it keeps at the end stands for the state, and so much a crash may
+  -- leave.
+  pub record Ran
+      (may : Stored → Type 0) (first : Moment storage) (machine : Machine) (kept : Stored)
+      (state : State) (requests : List PlainRequest) (answers : List (List ℕ)) : Type 0 where
+    pub keeps : KeepsState storage machine kept state
+    pub leaves : Leaves may first requests answers (storage.may_leave machine)
+        (moment_of storage machine kept state)

@@ -1,8 +1,9 @@
 //! The bytes that were read and are not yet dealt with.
 
-ghost use Rattle.std.specs.Prelude.{◌≡◌, ◌<◌, ◌≤◌, ◌-◌, ◌++◌, ℕ, List, [], length, drop, take, slice_range, vec_len, IfOk, MatchResult};
+ghost use Rattle.std.specs.Prelude.{◌≡◌, ◌<◌, ◌≤◌, ◌-◌, ◌++◌, ℕ, List, [], length, drop, take};
+ghost use Rattle.std.specs.Prelude.{slice_range, vec_len, IfOk, MatchResult};
 ghost use Rattle.std.specs.Io.KnownBytes.{Consumes, Keeps};
-ghost use Rattle.office_http_framing.specs.Ends.{counted};
+ghost use Rattle.office_http_framing.specs.Ends.{tallied};
 
 use crate::ends::Source;
 use std::alloc::{AllocError, Global};
@@ -79,7 +80,7 @@ impl Buffer {
             (λ _. (self.new ≡ self.old)
             × Keeps (R.told source.old).bytes (R.told source.new).bytes) }
         ensures bound { length self.new ≤ BUFFER_LEN }
-        ensures counts { (R.told source.new).counts ≡ counted result (R.told source.old).counts }
+        ensures counts { (R.told source.new).counts ≡ tallied result (R.told source.old).counts }
     {
         move_to_front(&mut self.bytes, self.start, self.end);
         self.end -= self.start;

@@ -3,7 +3,8 @@
 ghost use Rattle.std.specs.Prelude.{◌≡◌, ◌<◌, length, OnErr};
 ghost use Rattle.std.specs.Io.{ReadsAtMost, WritesAtMost};
 ghost use Rattle.std.specs.Io.KnownBytes.{ReadConsumes, WriteAppends};
-ghost use Rattle.office_http_framing.specs.Ends.{Grows, FailsOrGivesNone, WritesOrBreaksOff, no_calls};
+ghost use Rattle.office_http_framing.specs.Ends.{Grows, FailsOrGivesNone, WritesOrBreaksOff};
+ghost use Rattle.office_http_framing.specs.Ends.{no_calls};
 
 use std::io;
 use std::io::{Read, Write};
@@ -18,11 +19,11 @@ pub struct Counts {
 }
 
 impl Counts {
-    ghost use Rattle.office_http_framing.specs.Ends.{counted};
+    ghost use Rattle.office_http_framing.specs.Ends.{tallied};
 
     /// Counts one more call.
     pub fn count(&mut self, outcome: &io::Result<usize>)
-        ensures { self.new ≡ counted outcome.now self.old }
+        ensures { self.new ≡ tallied outcome.now self.old }
     {
         self.calls = self.calls.saturating_add(1);
         match outcome {
@@ -35,7 +36,7 @@ impl Counts {
 
 /// Where the bytes of a stream come from, seen as those bytes and as the counts of its calls.
 pub trait Source {
-    ghost use Rattle.office_http_framing.specs.Ends.{Told, counted};
+    ghost use Rattle.office_http_framing.specs.Ends.{Told, tallied};
 
     // The bytes that reads will give from here on, where they are known, and the counts.
     ghost told: { Self → Told };
@@ -46,12 +47,12 @@ pub trait Source {
         requires { 0 < length buf.old }
         ensures bound { ReadsAtMost result buf.new }
         ensures bytes { ReadConsumes (told self.old).bytes (told self.new).bytes result buf.new }
-        ensures counts { (told self.new).counts ≡ counted result (told self.old).counts };
+        ensures counts { (told self.new).counts ≡ tallied result (told self.old).counts };
 }
 
 /// Where the answers go, seen as the bytes that it took and as the counts of its calls.
 pub trait Sink {
-    ghost use Rattle.office_http_framing.specs.Ends.{Told, counted};
+    ghost use Rattle.office_http_framing.specs.Ends.{Told, tallied};
 
     // The bytes that the sink holds, where they are known, and the counts.
     ghost told: { Self → Told };
@@ -62,7 +63,7 @@ pub trait Sink {
         requires { 0 < length buf.now }
         ensures bound { WritesAtMost result buf.now }
         ensures bytes { WriteAppends (told self.old).bytes (told self.new).bytes result buf.now }
-        ensures counts { (told self.new).counts ≡ counted result (told self.old).counts };
+        ensures counts { (told self.new).counts ≡ tallied result (told self.old).counts };
 }
 
 /// A source of any reader.

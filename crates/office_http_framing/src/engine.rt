@@ -6,9 +6,9 @@ ghost use Rattle.office_http_framing.specs.Asks.{OnlyAsks};
 ghost use Rattle.office_http_framing.specs.Ends.{Grows, FailsOrGivesNone, WritesOrBreaksOff};
 ghost use Rattle.office_http_framing.specs.Front.{plain};
 ghost use Rattle.office_http_framing.specs.Limits.{longest_request};
-ghost use Rattle.office_http_framing.specs.Protocol.{AnswersFault, MayAnswer};
+ghost use Rattle.office_http_framing.specs.Protocol.{AnswersFault};
 ghost use Rattle.office_http_framing.specs.Serve.{Did, TellsFault, Untouched, ends_of};
-ghost use Rattle.office_http_framing.specs.Stops.{Deals, Keeps, Ran};
+ghost use Rattle.office_http_framing.specs.Stops.{Deals, How, KeepsState, Ran, moment_of};
 
 use crate::buffer::Buffer;
 use crate::ends::{Sink, Source, WriteFailed, write_all};
@@ -45,11 +45,10 @@ fn serve_request<Tools, M: Machine<Tools>, W: Sink>(
     ensures clean { M.is_clean machine.new → M.is_clean machine.old }
     ensures honest { M.storage.is_honest machine.new → M.storage.is_honest machine.old }
     ensures step { M.is_clean machine.new →
-        (before : M.State) (held : M.Stored) → Keeps M.storage machine.old held before →
-        (answer : List ℕ) × (after : M.State) × (kept : M.Stored)
-        × (how : MayAnswer M.protocol before (plain request.now) answer after)
-        × Deals M.protocol M.storage machine.old machine.new held kept
-        before (plain request.now) answer after how
+        (before : M.State) (held : M.Stored) → KeepsState M.storage machine.old held before →
+        (answer : List ℕ) × (how : How) × (kept : M.Stored) × (after : M.State)
+        × Deals M.protocol M.storage how (plain request.now) answer machine.old machine.new
+        (moment_of M.storage machine.old held before) (moment_of M.storage machine.new kept after)
         × WritesOrBreaksOff result (W.told writer.old) (W.told writer.new) answer }
     ensures counts { Grows (W.told writer.old).counts (W.told writer.new).counts }
     ensures fault { OnErr result
@@ -104,10 +103,10 @@ pub fn serve<Tools, M: Machine<Tools>, R: Source, W: Sink>(
     // the machine; each request made the writes that it may; what is kept stands for the state
     // after it; and a crash leaves no more than the run lets it.
     ensures did { M.is_clean machine.new →
-        (before : M.State) (held : M.Stored) → Keeps M.storage machine.old held before →
+        (before : M.State) (held : M.Stored) → KeepsState M.storage machine.old held before →
         (after : M.State) × (kept : M.Stored) × Did M.protocol
-        (Ran M.protocol M.storage (M.storage.may_leave machine.old) held
-        (M.storage.written machine.old) before machine.new kept after)
+        (Ran M.protocol M.storage (M.storage.may_leave machine.old)
+        (moment_of M.storage machine.old held before) machine.new kept after)
         max_requests (ends_of (R.told reader.old) (W.told writer.old))
         (ends_of (R.told reader.new) (W.told writer.new)) result }
     // Read and Write are answered only where that end told a failure, or a write of no byte.

@@ -38,7 +38,7 @@ pub struct Unavailable;
 pub trait Machine<Tools> {
     ghost use Rattle.office_http_framing.specs.Front.{plain};
     ghost use Rattle.office_http_framing.specs.Protocol.{Protocol};
-    ghost use Rattle.office_http_framing.specs.Stops.{DealsBy, Keeps, Storage};
+    ghost use Rattle.office_http_framing.specs.Stops.{DealsBy, KeepsState, Storage, moment_of};
 
     // What a machine means.
     ghost State: { Type 0 };
@@ -73,8 +73,9 @@ pub trait Machine<Tools> {
         // after it, with no writes but what the step may, and a crash leaves that alone once it has
         // changed. Refused, what is kept and the count of writes stay.
         ensures deals { is_clean self.new →
-            (before : State) (held : Stored) → Keeps storage self.old held before →
-            DealsBy protocol storage self.old self.new held before (plain request.now) result };
+            (before : State) (held : Stored) → KeepsState storage self.old held before →
+            DealsBy protocol storage self.old self.new
+            (moment_of storage self.old held before) (plain request.now) result };
 
     /// The whole answer to a fault of the framing, or memory was refused.
     fn fault_answer(alloc: Global, fault: Fault) -> Result<Vec<u8>, AllocError>

@@ -12,7 +12,7 @@ use Rattle.office_http_faults.specs.{AskFault.ask_fault, declared.fault.AskFault
 use Rattle.office_http_faults.specs.{declared.fault.AskFault.TheVariants.NoMemory, Fields.field_name}
 use Rattle.office_http_faults.specs.declared.field.Field.TheVariants.{Rows as FieldRows}
 use Rattle.office_files.specs.CsvFault.{bad_row as bad_record, told_at}
-use Rattle.office_files.specs.{CsvRow.rows_of, declared.fault.CsvFault.CsvFault}
+use Rattle.office_files.specs.{CsvRow.csv_rows, declared.fault.CsvFault.CsvFault}
 use Rattle.office_files.specs.declared.fault.CsvFault.TheVariants as file
 use Rattle.office_http_requests.specs.Asks.{◌>>=◌, or_bad_row, or_field, MayWant, WantsMemoryOnlyIf}
 use Rattle.office_http_requests.specs.Rows.{list_of, list_in, each, texts_in, rows_in, changes_spelled, changes_in}
@@ -113,7 +113,7 @@ changes_want body found = by_rows (rows_in body) found
     by_rows : (rows : Option (List (List (List ℕ)))) → is_some rows ≡ true
         → MayWant (or_field FieldRows rows >>= (λ rows. changes_spelled rows))
     by_rows None found = cc
-    by_rows (Some rows) found = spelled_want (rows_of (change_at current_limits) rows)
+    by_rows (Some rows) found = spelled_want (csv_rows (change_at current_limits) rows)
 
 -- out of memory is told of a row only where its reader told it
 pub told_memory : (at : ℕ) (read wanted : Result Change RowFault) (told : CsvFault) → WantsOnlyFor PutsList read wanted → Err told ≡ told_at at read → ask_fault told ≡ NoMemory → IsOkAnd wanted PutsList

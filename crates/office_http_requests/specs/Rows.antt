@@ -8,7 +8,7 @@ use Rattle.serde_json.specs.Find.{get, as_array, as_str}
 use Rattle.signal_records.specs.Reading.{change_at, texts, PutsList}
 use Rattle.signal_records.specs.Within.{current_limits}
 use Rattle.signal_records.specs.declared.record.Change.{Change}
-use Rattle.office_files.specs.CsvRow.{rows_of}
+use Rattle.office_files.specs.CsvRow.{csv_rows}
 use Rattle.office_http_faults.specs.declared.fault.AskFault.{AskFault}
 use Rattle.office_http_faults.specs.declared.field.Field.TheVariants.{Rows}
 use Rattle.office_http_requests.specs.Asks.{◌>>=◌, or_bad_row, or_field}
@@ -42,7 +42,7 @@ PutsListAt fields = IsOkAnd (change_at current_limits fields) PutsList
 
 -- the changes that rows spell, or the first bad row, as the records of a CSV file are read
 abbrev pub changes_spelled : List (List (List ℕ)) → Result (List Change) AskFault
-changes_spelled rows = or_bad_row (rows_of (change_at current_limits) rows)
+changes_spelled rows = or_bad_row (csv_rows (change_at current_limits) rows)
 
 -- the changes of a body
 unfoldable pub changes_in : Data → Result (List Change) AskFault

@@ -4,14 +4,14 @@ use Rattle.json.specs.{Token.Token, Token.begin_array, Token.end_array, Token.be
 use Rattle.json.specs.{Tree.members_tokens, Written.Written, Written.Writes, Print.print}
 use Rattle.serde_json.specs.{Data.Data, View.items_of, Written.items_outline, Written.members_outline, Written.compact_text}
 use Rattle.serde_json.proofs.Texts.{print-outline}
-use Rattle.office_http_responses.specs.{Json.keys, Json.list, Json.members, Writing.Added, Writing.member_tokens, Writing.tokens_of}
+use Rattle.office_http_responses.specs.{Json.keys, Json.array_of, Json.members, Writing.Added, Writing.member_tokens, Writing.tokens_of}
 
 -- the tokens of an array's items, and the closing bracket
 pub items_tokens_are : (ds : List Data) → items_tokens (items_outline (items_of ds)) ≡ flat_map tokens_of ds ++ end_array ∷ []
 items_tokens_are [] = refl
 items_tokens_are (d ∷ ds) = ap (λ ts. tokens_of d ++ ts) (items_tokens_are ds) ∙ sym (append_assoc (tokens_of d) (flat_map tokens_of ds) (end_array ∷ []))
 
-pub list_tokens : {A : Type 0} (tree : A → Data) (xs : List A) → tokens_of (list tree xs) ≡ begin_array ∷ (flat_map tokens_of (map tree xs) ++ end_array ∷ [])
+pub list_tokens : {A : Type 0} (tree : A → Data) (xs : List A) → tokens_of (array_of tree xs) ≡ begin_array ∷ (flat_map tokens_of (map tree xs) ++ end_array ∷ [])
 list_tokens tree xs = ap (λ ts. begin_array ∷ ts) (items_tokens_are (map tree xs))
 
 pub members_tokens_are : (es : List (List ℕ × Data)) → members_tokens (members_outline (members es)) ≡ flat_map member_tokens es ++ end_object ∷ []

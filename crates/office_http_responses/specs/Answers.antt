@@ -19,7 +19,7 @@ answer_with status content =
     ++ codes "\r\n\r\n" ++ content
 
 -- these bytes were put after those that stood there
-pub record Puts (old new bytes : List ℕ) : Type 0 where
+pub record PutsBytes (old new bytes : List ℕ) : Type 0 where
   pub items : new ≡ old ++ bytes
 
 -- an answer with this status, whose content is a tree in compact text

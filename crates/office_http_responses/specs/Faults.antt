@@ -1,7 +1,7 @@
 -- The answers of requests that ask nothing.
 use Rattle.std.specs.Prelude.{◌≡◌, ℕ, ◌≤◌, List, [], ◌∷◌, codes, ◌==◌, if◌then◌else◌, unwrap_or}
 use Rattle.serde_json.specs.Data.{Data}
-use Rattle.office_machine.specs.Refusal.{Line}
+use Rattle.office_machine.specs.Refusal.{RefusalLine}
 use Rattle.office_http_framing.specs.declared.front.Fault.{Fault}
 use Rattle.office_http_framing.specs.declared.front.Fault.TheVariants as framing
 use Rattle.office_http_faults.specs.declared.fault.AskFault.{AskFault}
@@ -16,11 +16,11 @@ use Rattle.office_http_responses.specs.Json.{count, text, keys}
 use Rattle.signal_records.specs.RowFault.{fault_name, fault_field}
 
 -- a line of the table
-abbrev pub line : ℕ → List ℕ → ℕ → Line
+abbrev pub line : ℕ → List ℕ → ℕ → RefusalLine
 line number name status = record { number = number; name = name; status = status }
 
 -- the table of faults: number, name, and status code of an HTTP answer
-abbrev pub line_of : FaultKind → Line
+abbrev pub line_of : FaultKind → RefusalLine
 line_of kind.Head = line 1 (codes "Head") 400
 line_of kind.HeadTooLarge = line 2 (codes "HeadTooLarge") 400
 line_of kind.Length = line 3 (codes "Length") 400

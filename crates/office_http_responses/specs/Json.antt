@@ -17,8 +17,8 @@ or_null tree None = null
 or_null tree (Some x) = tree x
 
 -- an array of the trees of a list
-abbrev pub list : {A : Type 0} → (A → Data) → List A → Data
-list tree xs = array (items_of (map tree xs))
+abbrev pub array_of : {A : Type 0} → (A → Data) → List A → Data
+array_of tree xs = array (items_of (map tree xs))
 
 -- the members of an object
 abbrev pub members : List (List ℕ × Data) → Members

@@ -9,7 +9,7 @@ use Rattle.cabinet_core.specs.declared.record.Inspection.{Inspection}
 use Rattle.cabinet_core.specs.declared.record.Order.{Order}
 use Rattle.cabinet_core.specs.declared.record.UsedLine.{UsedLine}
 use Rattle.office_files.specs.Records.{is_line_of}
-use Rattle.office_http_responses.specs.Json.{count, text, or_null, list, keys}
+use Rattle.office_http_responses.specs.Json.{count, text, or_null, array_of, keys}
 
 -- a day, as it is spelt
 abbrev pub day_tree : ℕ → Data
@@ -33,7 +33,7 @@ used_tree used =
 
 -- the parts that were used for an order
 abbrev pub uses_tree : ℕ → List UsedLine → Data
-uses_tree order lines = list used_tree (filter (is_line_of order) lines)
+uses_tree order lines = array_of used_tree (filter (is_line_of order) lines)
 
 -- an order, without its parts
 abbrev pub order_members : Order → List (List ℕ × Data)
@@ -53,11 +53,11 @@ order_tree lines order = keys (order_members order ++ (codes "used", uses_tree o
 -- what Cabinet shows of an intersection
 abbrev pub cabinet_tree : List Inspection → List Order → List UsedLine → Data
 cabinet_tree inspections orders lines =
-    keys ((codes "inspections", list inspection_tree inspections) ∷ (codes "orders", list (order_tree lines) orders) ∷ [])
+    keys ((codes "inspections", array_of inspection_tree inspections) ∷ (codes "orders", array_of (order_tree lines) orders) ∷ [])
 
 -- what OpenOrders shows of an intersection
 abbrev pub open_tree : List ℕ → Data
-open_tree numbers = keys ((codes "open", list count numbers) ∷ [])
+open_tree numbers = keys ((codes "open", array_of count numbers) ∷ [])
 
 -- how many of a part are on hand
 abbrev pub hand_tree : List ℕ × ℕ → Data
@@ -65,7 +65,7 @@ hand_tree entry = keys ((codes "count", count entry.1) ∷ (codes "part", text e
 
 -- what Stock shows
 abbrev pub stock_tree : List (List ℕ × ℕ) → Data
-stock_tree parts = keys ((codes "hand", list hand_tree parts) ∷ [])
+stock_tree parts = keys ((codes "hand", array_of hand_tree parts) ∷ [])
 
 -- an intersection that is overdue
 abbrev pub listed_tree : Listed → Data
@@ -74,4 +74,4 @@ listed_tree listed =
 
 -- what Overdue shows
 abbrev pub overdue_tree : List Listed → Data
-overdue_tree rows = keys ((codes "overdue", list listed_tree rows) ∷ [])
+overdue_tree rows = keys ((codes "overdue", array_of listed_tree rows) ∷ [])

@@ -3,11 +3,10 @@ use Rattle.std.specs.Prelude.{ℕ, List, [], ◌∷◌, codes}
 use Rattle.std.specs.FinMap.{values}
 use Rattle.serde_json.specs.Data.{Data}
 use Rattle.draft_core.specs.declared.refusal.DraftRefusal.TheVariants.{VerifyFailed}
-use Rattle.draft_state.specs.declared.state.DbState.{DbState}
-use Rattle.draft_state.specs.declared.state.DbState.TheVariants.{Normal, Transaction, Verify, Done}
 use Rattle.draft_state.specs.declared.state.Verdict.{Verdict}
 use Rattle.draft_state.specs.declared.state.Verdict.TheVariants.{NotDone, DoneWithError, DoneWithNoError}
-use Rattle.office_machine.specs.Refusal.{Line, line_of}
+use Rattle.office_machine.specs.Refusal.{RefusalLine, line_of}
+use Rattle.office_machine.specs.States.{state_name}
 use Rattle.office_machine.specs.declared.refusal.Refusal.{Refusal}
 use Rattle.office_machine.specs.declared.refusal.Refusal.TheVariants as refusal
 use Rattle.office_machine.specs.declared.reply.IntersectionState.{IntersectionState}
@@ -15,7 +14,7 @@ use Rattle.office_machine.specs.declared.reply.OpenDraft.{OpenDraft}
 use Rattle.office_machine.specs.declared.reply.Reply.{Reply}
 use Rattle.office_machine.specs.declared.reply.Reply.TheVariants.{Added, Same, Moved, Imported, State, Timing, Draft, Cabinet, OpenOrders, Stock, Overdue, Refused}
 use Rattle.office_machine.specs.declared.reply.RunningTiming.{RunningTiming}
-use Rattle.office_http_responses.specs.Json.{count, text, or_null, list, keys}
+use Rattle.office_http_responses.specs.Json.{count, text, or_null, array_of, keys}
 use Rattle.office_http_faults.specs.declared.form.Form.{Form}
 use Rattle.office_http_faults.specs.declared.form.Form.TheVariants.{Json, Csv}
 use Rattle.office_files.specs.Records.{records_csv_text}
@@ -28,13 +27,6 @@ use Rattle.signal_records.specs.declared.record.Row.{Row}
 use Rattle.signal_rules.specs.Texts.{rule_text, subject_text}
 use Rattle.signal_rules.specs.declared.violation.Violation.{Violation}
 
--- the name of a state of the transaction
-abbrev pub state_name : DbState → List ℕ
-state_name Normal = codes "normal"
-state_name Transaction = codes "transaction"
-state_name Verify = codes "verify"
-state_name Done = codes "done"
-
 -- the name of the verify status
 abbrev pub verdict_name : Verdict → List ℕ
 verdict_name NotDone = codes "notDone"
@@ -42,7 +34,7 @@ verdict_name DoneWithError = codes "doneWithError"
 verdict_name DoneWithNoError = codes "doneWithNoError"
 
 -- a refusal or a fault with no more keys
-abbrev pub error_tree : Line → Data
+abbrev pub error_tree : RefusalLine → Data
 error_tree line = keys ((codes "error", text line.name) ∷ (codes "number", count line.number) ∷ [])
 
 -- the tree of a refusal
@@ -81,11 +73,11 @@ state_tree shown =
 
 -- a row, as the array of its fields
 abbrev pub row_tree : Row → Data
-row_tree row = list text (spelling current_limits row)
+row_tree row = array_of text (spelling current_limits row)
 
 -- the rows of a timing set, in the order of their keys
 abbrev pub rows_tree : Rows → Data
-rows_tree set = list row_tree (values set)
+rows_tree set = array_of row_tree (values set)
 
 -- a rule that a subject breaks
 abbrev pub violation_tree : Violation → Data
@@ -102,7 +94,7 @@ draft_tree shown =
     keys (
     (codes "owner", text shown.owner)
     ∷ (codes "rows", rows_tree shown.rows)
-    ∷ (codes "violations", list violation_tree shown.violations)
+    ∷ (codes "violations", array_of violation_tree shown.violations)
     ∷ []
     )
 

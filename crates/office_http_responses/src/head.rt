@@ -1,7 +1,7 @@
 //! The head of an answer.
 ghost use Rattle.std.specs.Prelude.{◌≡◌, ◌++◌, IfOk, OnOk, codes, decimal, unwrap_or};
 ghost use Rattle.http.specs.StatusCode.{reason_phrase, status_text};
-ghost use Rattle.office_http_responses.specs.Answers.{Puts, answer_with};
+ghost use Rattle.office_http_responses.specs.Answers.{PutsBytes, answer_with};
 
 use http::StatusCode;
 use std::alloc::{AllocError, Global};
@@ -31,13 +31,13 @@ pub(crate) fn with_head(
 }
 
 fn put(answer: &mut Vec<u8>, bytes: &[u8]) -> Result<(), AllocError>
-    ensures { OnOk result (Puts answer.old.items answer.new.items bytes.now) }
+    ensures { OnOk result (PutsBytes answer.old.items answer.new.items bytes.now) }
 {
     answer.extend_from_slice(bytes)
 }
 
 fn put_number(answer: &mut Vec<u8>, n: usize) -> Result<(), AllocError>
-    ensures { OnOk result (Puts answer.old.items answer.new.items (decimal n)) }
+    ensures { OnOk result (PutsBytes answer.old.items answer.new.items (decimal n)) }
 {
     let mut digits = itoa::Buffer::new();
     put(answer, digits.format(n).as_bytes())
@@ -45,7 +45,7 @@ fn put_number(answer: &mut Vec<u8>, n: usize) -> Result<(), AllocError>
 
 // The status line, without its end.
 fn put_status(answer: &mut Vec<u8>, status: StatusCode) -> Result<(), AllocError>
-    ensures { OnOk result (Puts answer.old.items answer.new.items (codes "HTTP/1.1 " ++ status_text status)) }
+    ensures { OnOk result (PutsBytes answer.old.items answer.new.items (codes "HTTP/1.1 " ++ status_text status)) }
 {
     put(answer, b"HTTP/1.1 ")?;
     put_number(answer, usize::from(status.as_u16()))?;

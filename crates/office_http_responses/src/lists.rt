@@ -1,6 +1,6 @@
 //! The items of lists, in JSON: rows, broken rules, numbers, parts and overdue inspections.
 ghost use Rattle.std.specs.Prelude.{◌≡◌, map, string_bytes};
-ghost use Rattle.office_http_responses.specs.Json.{list, text};
+ghost use Rattle.office_http_responses.specs.Json.{array_of, text};
 ghost use Rattle.office_http_responses.specs.Trees.{rows_tree};
 ghost use Rattle.office_http_responses.specs.Writing.{AddsTree};
 
@@ -25,7 +25,7 @@ impl WriteJson for String {
 
 // The array of texts.
 fn texts(alloc: Global, to: &mut Writer, texts: &[String]) -> Result<(), AllocError>
-    ensures { AddsTree result to.old to.new (list text (map string_bytes texts.now)) }
+    ensures { AddsTree result to.old to.new (array_of text (map string_bytes texts.now)) }
 {
     array(alloc, to, texts)
 }
@@ -101,10 +101,10 @@ impl WriteJson for (PartCode, Hand) {
 
 // An intersection that is overdue, and the day on which its inspection fell due.
 impl WriteJson for OverdueRow {
-    ghost use Rattle.cabinet_core.specs.Overdue.{listed};
+    ghost use Rattle.cabinet_core.specs.Overdue.{listed_of};
     ghost use Rattle.office_http_responses.specs.RegisterTrees.{listed_tree};
 
-    ghost tree = { λ row. listed_tree (listed row) };
+    ghost tree = { λ row. listed_tree (listed_of row) };
 
     fn write_json(&self, alloc: Global, to: &mut Writer) -> Result<(), AllocError> {
         object(

@@ -1,6 +1,6 @@
 //! Replies, in JSON.
 ghost use Rattle.std.specs.Prelude.{◌≡◌};
-ghost use Rattle.office_http_responses.specs.Trees.{tree_of, csv_tree_of, tree_in, refusal_tree, state_tree, timing_tree, draft_tree, state_name, verdict_name};
+ghost use Rattle.office_http_responses.specs.Trees.{tree_of, csv_tree_of, tree_in, refusal_tree, state_tree, timing_tree, draft_tree, verdict_name};
 ghost use Rattle.office_http_responses.specs.Json.{or_null, text};
 ghost use Rattle.office_http_responses.specs.RegisterTrees.{overdue_tree};
 ghost use Rattle.office_http_responses.specs.Writing.{AddsTree, scalar_tree};
@@ -11,24 +11,14 @@ use crate::lists::write_rows;
 use crate::writing::Scalar::{Null, Number, Text};
 use crate::writing::{Scalar, array, object, object_of_array};
 use draft_core::refusal::DraftRefusal;
-use draft_core::state::{DbState, Verdict};
+use draft_core::state::Verdict;
 use json::Writer;
 use office_http_faults::Form;
 use office_machine::refusal::Refusal;
-use office_machine::reply::{IntersectionState, OpenDraft, OverdueList, Reply, RunningTiming};
+use office_machine::reply::{
+    IntersectionState, OpenDraft, OverdueList, Reply, RunningTiming, state_name,
+};
 use std::alloc::{AllocError, Global};
-
-// The name of a state of the transaction (NTCIP 1201, `dbCreateTransaction`).
-fn state_word(state: DbState) -> &'static str
-    ensures { result.now ≡ state_name state }
-{
-    match state {
-        DbState::Normal => "normal",
-        DbState::Transaction => "transaction",
-        DbState::Verify => "verify",
-        DbState::Done => "done",
-    }
-}
 
 // The name of the verify status (NTCIP 1201, `dbVerifyStatus`).
 fn verdict_word(verdict: Verdict) -> &'static str
@@ -93,7 +83,7 @@ fn write_state(alloc: Global, to: &mut Writer, shown: &IntersectionState) -> Res
             ("owner", owner_of(shown)),
             ("revision", Number(u64::from(shown.revision.get()))),
             ("rows", Number(shown.rows as u64)),
-            ("state", Text(state_word(shown.state))),
+            ("state", Text(state_name(shown.state))),
             ("verify", Text(verdict_word(shown.verify))),
         ],
     )
@@ -147,7 +137,7 @@ fn write_reply(alloc: Global, to: &mut Writer, reply: &Reply) -> Result<(), Allo
             to,
             &[
                 ("revision", Number(u64::from(revision.get()))),
-                ("state", Text(state_word(*state))),
+                ("state", Text(state_name(*state))),
                 ("verify", Text(verdict_word(*verdict))),
             ],
         ),

@@ -1,9 +1,10 @@
 //! JSON written a token at a time, in the order of the keys.
 ghost use Rattle.std.specs.Prelude.{◌≡◌, [], ◌∷◌, map, flat_map, option_map};
 ghost use Rattle.json.specs.Token.{key as key_token};
-ghost use Rattle.office_http_responses.specs.Json.{keys, list, or_null, text as text_tree};
+ghost use Rattle.office_http_responses.specs.Json.{keys, array_of, or_null, text as text_tree};
 ghost use Rattle.office_http_responses.specs.RegisterTrees.{day_tree};
-ghost use Rattle.office_http_responses.specs.Writing.{Adds, AddsTree, entry_of, member_tokens, scalar_tree, tokens_of};
+ghost use Rattle.office_http_responses.specs.Writing.{Adds, AddsTree, entry_of, member_tokens};
+ghost use Rattle.office_http_responses.specs.Writing.{scalar_tree, tokens_of};
 
 use crate::day::date_in_json;
 use cabinet_core::{Date, Day};
@@ -129,7 +130,7 @@ pub(crate) fn array<T: WriteJson>(
     to: &mut Writer,
     items: &[T],
 ) -> Result<(), AllocError>
-    ensures { AddsTree result to.old to.new (list T.tree items.now) }
+    ensures { AddsTree result to.old to.new (array_of T.tree items.now) }
 {
     to.begin_array()?;
     write_items(alloc, to, items)?;
@@ -144,7 +145,7 @@ pub(crate) fn object_of_array<T: WriteJson>(
     key: &str,
     items: &[T],
 ) -> Result<(), AllocError>
-    ensures { AddsTree result to.old to.new (keys ((key.now, list T.tree items.now) ∷ [])) }
+    ensures { AddsTree result to.old to.new (keys ((key.now, array_of T.tree items.now) ∷ [])) }
 {
     to.begin_object()?;
     to.key(key)?;

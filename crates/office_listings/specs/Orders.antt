@@ -25,14 +25,14 @@ abbrev pub named_orders : List ℕ → CabinetShown → List NamedOrder
 named_orders name cabinet = map (order_named name cabinet.id) (filter is_open cabinet.view.orders)
 
 -- `    12       1  2026-05-01  Ana         `
-abbrev pub order_columns : OpenOrder → List ℕ
-order_columns o =
+abbrev pub open_order_columns : OpenOrder → List ℕ
+open_order_columns o =
     number_in 6 o.id ++ number_in 8 o.order.number ++ codes "  " ++ day_text o.order.opened ++ codes "  "
     ++ left_aligned 12 o.order.clerk
 
 -- `    12       1  2026-05-01  Ana           Lamp`
 abbrev pub open_order_line : OpenOrder → List ℕ
-open_order_line o = order_columns o ++ codes "  " ++ o.order.text ++ codes "\n"
+open_order_line o = open_order_columns o ++ codes "  " ++ o.order.text ++ codes "\n"
 
 -- the heading, a line for each, and their count
 abbrev pub orders_listing : List OpenOrder → List ℕ
@@ -43,7 +43,7 @@ orders_listing orders =
 -- the same with names, left in 24 places
 abbrev pub named_order_line : NamedOrder → List ℕ
 named_order_line o =
-    order_columns o.listed ++ codes "  " ++ left_aligned 24 o.name ++ codes "  " ++ o.listed.order.text ++ codes "\n"
+    open_order_columns o.listed ++ codes "  " ++ left_aligned 24 o.name ++ codes "  " ++ o.listed.order.text ++ codes "\n"
 
 abbrev pub named_orders_listing : List NamedOrder → List ℕ
 named_orders_listing orders =

@@ -4,7 +4,7 @@ ghost use Rattle.std.specs.Prelude.{◌≡◌, ◌++◌, All, OnOk, IfOk, IsUtf8
 ghost use Rattle.csv.specs.Records.{fields_of};
 ghost use Rattle.cabinet_core.specs.Orders.{is_open};
 ghost use Rattle.office_listings.specs.Orders.{order_on, open_orders, open_order_line};
-ghost use Rattle.office_listings.specs.Orders.{order_columns, orders_listing};
+ghost use Rattle.office_listings.specs.Orders.{open_order_columns, orders_listing};
 ghost use Rattle.office_listings.specs.Orders.{order_named, named_orders, named_order_line};
 ghost use Rattle.office_listings.specs.Orders.{named_orders_listing, named_order_fields};
 ghost use Rattle.office_listings.specs.Orders.{orders_csv_text};
@@ -100,7 +100,7 @@ pub fn add_named_orders(
 /// Appends what stands first in the line of an order: up to the clerk who opened it.
 fn push_columns(text: &mut String, listed: &OpenOrder) -> Result<(), AllocError>
     ensures { OnOk result (string_bytes text.new ≡
-        string_bytes text.old ++ order_columns listed.now) }
+        string_bytes text.old ++ open_order_columns listed.now) }
 {
     let order = &listed.order;
     push_number(text, u64::from(listed.id.get()))?;

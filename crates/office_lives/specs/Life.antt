@@ -13,7 +13,7 @@ use Rattle.office_tables_standing.specs.StandFor.{StandForSoundIn}
 use Rattle.office_http_framing.specs.Serve.{Ends}
 use Rattle.office_http_framing.specs.declared.engine.Served.{Served}
 use Rattle.office_http_framing.specs.declared.engine.ServeFault.{ServeFault}
-use Rattle.signal_office_in_file.specs.Ended.{Answers}
+use Rattle.signal_office_in_file.specs.Ended.{ServesStoredOffice}
 use Rattle.signal_office_file.specs.Files.{AreThoseOf}
 use Rattle.signal_office_file.specs.Serving.{IsCutShortIn, IsServedToAStop}
 use Rattle.signal_office_file.specs.declared.left.FileLeft.{FileLeft}
@@ -45,7 +45,7 @@ pub record HoldFormerly (image : Image) (tables : Content) : Type 0 where
 module _ {D : Type 0} (g : Disk D) where
   -- what a run made of the tables that it found, for the next run to find
   abbrev pub Made : Lived → Content → Content → Type 0
-  Made (in_order limit start end outcome) old new = Answers limit start end old outcome new
+  Made (in_order limit start end outcome) old new = ServesStoredOffice limit start end old outcome new
   Made (to_a_stop limit start end outcome) old new = IsServedToAStop (file_state {D = D} {g = g}) limit start end old outcome new
   Made (unclosed limit start end) old new = ∥ (new ≡ old) ⊎ IsCutShortIn g limit start end old new ∥₁
   Made (command does) old new = does old new

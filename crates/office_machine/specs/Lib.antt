@@ -1,5 +1,6 @@
 pub mod Office
 pub mod Refusal
+pub mod States
 pub mod Step
 pub mod Listed
 pub mod Timing

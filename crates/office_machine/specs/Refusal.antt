@@ -8,7 +8,7 @@ use Rattle.office_machine.specs.declared.refusal.Refusal.{Refusal}
 use Rattle.office_machine.specs.declared.refusal.Refusal.TheVariants.{UnknownIntersection, IntersectionDiffers, Draft, Cabinet, ImportRow, Unavailable, Damaged}
 
 -- number, name, and status code of an HTTP answer
-pub record Line : Type 0 where
+pub record RefusalLine : Type 0 where
   pub number : ℕ
   pub name : List ℕ
   pub status : ℕ
@@ -33,5 +33,5 @@ status_of Unavailable = 503
 status_of Damaged = 500
 status_of why = 409
 
-abbrev pub line_of : Refusal → Line
+abbrev pub line_of : Refusal → RefusalLine
 line_of why = record { number = (named why).0; name = (named why).1; status = status_of why }

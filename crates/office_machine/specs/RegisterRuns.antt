@@ -63,8 +63,8 @@ is_open_in office id n = is_open_at office.register id n
 -- ---- what the replies show of it
 
 -- the number is one of the list
-abbrev pub is_among : List ℕ → ℕ → Bool
-is_among numbers n = list_any (λ m. m == n) numbers
+abbrev pub is_among_numbers : List ℕ → ℕ → Bool
+is_among_numbers numbers n = list_any (λ m. m == n) numbers
 
 -- the pieces of a part that a list of stock shows; none of a part that it does not name
 abbrev pub pieces_in : List (List ℕ × ℕ) → List ℕ → ℕ
@@ -74,7 +74,7 @@ pieces_in stock code = on_hand (find (slice_cmp nat_cmp) code stock)
 -- it shows and those that were used are those that were on hand and those that were received
 abbrev pub ShowsAccepted : Office → List RecordCommand → Command → Reply → Type 0
 ShowsAccepted first so_far (command.OpenOrders id) (OpenOrders numbers) =
-    (n : ℕ) → is_among numbers n ≡ open_by id n (is_open_in first id n) so_far
+    (n : ℕ) → is_among_numbers numbers n ≡ open_by id n (is_open_in first id n) so_far
 ShowsAccepted first so_far command.Stock (Stock stock) =
     (code : List ℕ) → pieces_in stock code + spent_by code so_far ≡ pieces first.register code + received_by code so_far
 ShowsAccepted first so_far _ _ = Unit {0}

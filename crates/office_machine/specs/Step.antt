@@ -4,7 +4,8 @@ use Rattle.std.specs.Option.{option_map}
 use Rattle.std.specs.Str.{bytes_eq}
 use Rattle.std.specs.FinMap.{get, insert, len, entries}
 use Rattle.signal_rules.specs.Violations.{violations_of}
-use Rattle.draft_core.specs.Transaction.{TimingSide, Draft, state_of, verdict_of, begun, edited, verified, checked, committed, reopened, abandoned}
+use Rattle.draft_core.specs.Transaction.{TimingSide, Draft, state_of, verdict_of, table_line}
+use Rattle.draft_core.specs.declared.step.Step.TheVariants as step
 use Rattle.draft_core.specs.declared.refusal.DraftRefusal.{DraftRefusal}
 use Rattle.draft_core.specs.declared.refusal.DraftRefusal.TheVariants as draft
 use Rattle.cabinet_core.specs.Cabinet.{Line, added as added_line, same as same_line, refused as refused_line}
@@ -60,7 +61,7 @@ abbrev pub moved : Office → ℕ → Intersection → Result TimingSide DraftRe
 moved office id i (Ok next) = (moved_to next, with_intersection office id (record i { timing = next }))
 moved office id i (Err why) = (Refused (refusal_of_draft why), office)
 
--- a command of the transaction, by its line of the table
+-- a step of the transaction, by its line of the table
 abbrev pub transacted : Office → ℕ → (TimingSide → Result TimingSide DraftRefusal) → Option Intersection → Reply × Office
 transacted office id line None = (Refused refusal.UnknownIntersection, office)
 transacted office id line (Some i) = moved office id i (line i.timing)
@@ -187,13 +188,13 @@ overdue_on office day = overdue_list day (map (seen_of office.register) (entries
 -- the reply and the next office
 abbrev pub answered : Office → Command → Reply × Office
 answered office (command.AddIntersection id interval name) = added office id interval name (get office.intersections id)
-answered office (command.Begin id clerk) = transacted office id (λ side. begun side clerk) (get office.intersections id)
-answered office (command.Edit id clerk changes) = transacted office id (λ side. edited side clerk changes) (get office.intersections id)
-answered office (command.Verify id clerk) = transacted office id (λ side. verified side clerk) (get office.intersections id)
-answered office (command.Check id clerk) = transacted office id (λ side. checked side clerk) (get office.intersections id)
-answered office (command.Commit id clerk) = transacted office id (λ side. committed side clerk) (get office.intersections id)
-answered office (command.Reopen id clerk) = transacted office id (λ side. reopened side clerk) (get office.intersections id)
-answered office (command.Abandon id clerk) = transacted office id abandoned (get office.intersections id)
+answered office (command.Begin id clerk) = transacted office id (table_line step.Begin clerk) (get office.intersections id)
+answered office (command.Edit id clerk changes) = transacted office id (table_line (step.Edit changes) clerk) (get office.intersections id)
+answered office (command.Verify id clerk) = transacted office id (table_line step.Verify clerk) (get office.intersections id)
+answered office (command.Check id clerk) = transacted office id (table_line step.Check clerk) (get office.intersections id)
+answered office (command.Commit id clerk) = transacted office id (table_line step.Commit clerk) (get office.intersections id)
+answered office (command.Reopen id clerk) = transacted office id (table_line step.Reopen clerk) (get office.intersections id)
+answered office (command.Abandon id clerk) = transacted office id (table_line step.Abandon clerk) (get office.intersections id)
 answered office (command.State id) = (shown (get office.intersections id) (λ i. Shown (state_shown id i)), office)
 answered office (command.Timing id) =
     (shown (get office.intersections id) (λ i. Running (timing_shown i)), office)

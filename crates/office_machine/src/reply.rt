@@ -1,5 +1,8 @@
 //! What the office answers.
 
+ghost use Rattle.std.specs.Prelude.{◌≡◌};
+ghost use Rattle.office_machine.specs.States.{state_name};
+
 use crate::refusal::Refusal;
 use cabinet_core::{CabinetView, Hand, OverdueRow, PartCode};
 use draft_core::revision::Revision;
@@ -34,6 +37,18 @@ pub struct RunningTiming {
     /// How often it was committed.
     pub revision: Revision,
     pub rows: TimingSet,
+}
+
+/// The name of a state of the transaction (NTCIP 1201, `dbCreateTransaction`).
+pub fn state_name(state: DbState) -> &'static str
+    ensures { result.now ≡ state_name state }
+{
+    match state {
+        DbState::Normal => "normal",
+        DbState::Transaction => "transaction",
+        DbState::Verify => "verify",
+        DbState::Done => "done",
+    }
 }
 
 /// Violations of the timing rules, in their order.
@@ -72,34 +87,34 @@ pub struct OverdueList {
 
 impl Model for OverdueList {
     ghost use Rattle.std.specs.Prelude.{List, map};
-    ghost use Rattle.cabinet_core.specs.Overdue.{Listed, listed};
+    ghost use Rattle.cabinet_core.specs.Overdue.{Listed, listed_of};
 
     ghost Value = { List Listed };
 
-    ghost view = { λ s. map listed s.rows.items };
+    ghost view = { λ s. map listed_of s.rows.items };
 }
 
 impl OverdueList {
     ghost use Rattle.std.specs.Prelude.{◌≡◌, map};
-    ghost use Rattle.cabinet_core.specs.Overdue.{listed};
+    ghost use Rattle.cabinet_core.specs.Overdue.{listed_of};
 
     /// The rows of a list.
     pub fn new(rows: Vec<OverdueRow>) -> OverdueList
-        ensures { result ≡ map listed rows.items }
+        ensures { result ≡ map listed_of rows.items }
     {
         OverdueList { rows }
     }
 
     /// The rows.
     pub fn as_slice(&self) -> &[OverdueRow]
-        ensures { map listed result.now ≡ self.now }
+        ensures { map listed_of result.now ≡ self.now }
     {
         self.rows.as_slice()
     }
 
     /// The list of them, without memory.
     pub fn into_vec(self) -> Vec<OverdueRow>
-        ensures { map listed result.items ≡ self }
+        ensures { map listed_of result.items ≡ self }
     {
         let OverdueList { rows } = self;
         rows

@@ -6,7 +6,7 @@ use Rattle.cabinet_core.specs.Within.{IsRecordWithin}
 use Rattle.cabinet_core.specs.declared.command.RecordCommand.{RecordCommand}
 use Rattle.cabinet_core.specs.declared.command.RecordCommand.TheVariants as command
 use Rattle.office_files.proofs.{ChangesLemmas.change_laws, FileLaws.AreRowLaws, RecordLaws.record_laws, CsvRowLemmas.added}
-use Rattle.office_files.specs.{Changes.changes_of, Csv.csv_records, CsvRow.rows_from, CsvRow.rows_of, Records.commands_of, RecordReading.record_at, RecordSpelling.record_spelling}
+use Rattle.office_files.specs.{Changes.changes_of, Csv.csv_records, CsvRow.rows_from, CsvRow.csv_rows, Records.commands_of, RecordReading.record_at, RecordSpelling.record_spelling}
 use Rattle.office_spreadsheets.specs.Padded.{is_blank, unpadded}
 use Rattle.signal_records.specs.{Reading.change_at, Spelling.change_spelling, Spelling.spelling, Within.current_limits, Within.IsAnyPedWithin, Within.IsChangeWithin, Within.IsRowWithin}
 use Rattle.signal_records.specs.declared.fault.RowFault.{RowFault}
@@ -63,8 +63,8 @@ module _ {T : Type 0} (reading : List (List ℕ) → Result T RowFault) (spellin
       rw (row_read fields a.first a.row_is, rows_read (at + 1) records a.others a.rest_is) refl
 
   good_rows : (text padded : List ℕ) (rows : List T) → csv_records padded ≡ map unpadded (csv_records text)
-      → rows_of reading (csv_records text) ≡ Ok rows → rows_of reading (csv_records padded) ≡ Ok rows
-  good_rows text padded rows is read = ap (rows_of reading) (is ∙ rows_read 1 (csv_records text) rows read) ∙ read
+      → csv_rows reading (csv_records text) ≡ Ok rows → csv_rows reading (csv_records padded) ≡ Ok rows
+  good_rows text padded rows is read = ap (csv_rows reading) (is ∙ rows_read 1 (csv_records text) rows read) ∙ read
 
 pub good_changes : (text padded : List ℕ) (changes : List Change) → csv_records padded ≡ map unpadded (csv_records text)
     → changes_of text ≡ Ok changes → changes_of padded ≡ Ok changes

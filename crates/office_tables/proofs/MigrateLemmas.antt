@@ -6,7 +6,7 @@ use Rattle.sqlite.specs.{Tree.Trees, Effect.Database, Effect.IsDatabase, State.S
 use Rattle.signal_records.specs.{Within.version_1_limits, declared.record.Change.Change, declared.record.Change.TheVariants.Put}
 use Rattle.signal_records.specs.declared.record.Change.TheVariants.{Remove}
 use Rattle.draft_state.specs.ChangedRows.{left_by}
-use Rattle.office_tables_shelf.specs.{Cells.Rows, Cells.null, Rows.left_columns_in, Change.changed_by, Change.changed, Content.Content}
+use Rattle.office_tables_shelf.specs.{Cells.TableRows, Cells.null, Rows.left_columns_in, Change.changed_by, Change.changed, Content.Content}
 use Rattle.office_tables_shelf.specs.declared.rows.RowChange.{RowChange}
 use Rattle.office_tables_statements.specs.{Calls.IsHonest, Calls.IsReady, Calls.Keeps, Stored.content_of, Stored.content_now}
 use Rattle.sqlite_rules.proofs.ListLemmas.{fails_has}
@@ -15,10 +15,10 @@ use Rattle.office_tables_statements.proofs.{ListedLemmas.is_in, CallLemmas.survi
 use Rattle.office_tables_migration.specs.Former.{AreKept, HasNoFormer, HasNoFormerRow, is_row, timing_puts, draft_puts}
 use Rattle.office_tables_migration.specs.{Migration.IsMigrated, Migration.StandAnew, Migration.kept_key, declared.puts.Migrated.Migrated}
 use Rattle.sqlite.proofs.StateLemmas.{survives_then}
-use Rattle.office_machine.specs.Office.{Office, version_1}
-use Rattle.office_tables_standing.specs.StandFor.{StandForSoundIn}
+use Rattle.office_machine.specs.Office.{Office}
 use Rattle.office_tables_migration.proofs.Migration.{migrated, stand_anew}
-use Rattle.office_tables.specs.Migrate.{HoldsToday, IsBrought, IsSpelledToday}
+use Rattle.office_tables.specs.Migrate.{IsBrought, IsSpelledToday, StandFormerly}
+use Rattle.office_tables_open.specs.Lacking.{Completes}
 use Rattle.office_tables_open.specs.Version.{AreToday, version_in, current_version, first_version}
 
 -- changes after changes
@@ -27,9 +27,9 @@ changed_after tables [] second = refl
 changed_after tables (c ∷ first) second = changed_after (changed tables c) first second
 
 -- tables that were brought from version 1 stand for the office that they stood for
-pub brought_stands : (old new : Trees) (count : Migrated) → IsBrought old new count → (office : Office) → version_in old ≡ Some first_version → StandForSoundIn version_1 (content_of old) office → StandAnew (content_of new) office
-brought_stands old new count (inl is) office was before = absurd (let e : Some first_version ≡ Some current_version = sym was ∙ is.was.stored in cc)
-brought_stands old new count (inr it) office was before = stand_anew (content_of old) (content_of new) count office it.migrated before
+pub brought_stands : (old new : Trees) (count : Migrated) → IsBrought old new count → (office : Office) → StandFormerly old office → StandAnew (content_of new) office
+brought_stands old new count (inl is) office was = absurd (let e : Some first_version ≡ Some current_version = sym was.version ∙ is.was.stored in cc)
+brought_stands old new count (inr it) office was = stand_anew (content_of old) (content_of new) count office it.migrated was.stand
 
 -- the office's tables, in which today's version was stored
 pub ready_today : (s : State) → IsReady s → version_in s.now.trees ≡ Some current_version → AreToday s.now.trees
@@ -37,10 +37,10 @@ ready_today s ready stored = record { sound = subst (λ schema. IsDatabase (reco
 
 -- ---- what the rows of version 1 tell
 
-pub no_row : (rows : Rows) → HasNoFormer rows → HasNoFormerRow rows
+pub no_row : (rows : TableRows) → HasNoFormer rows → HasNoFormerRow rows
 no_row rows d = record { key = d.key; columns = d.columns; stored = d.stored; no_former = λ id number r within. d.no_former id number (Put r) within }
 
-pub no_row_kept : (rows : Rows) (ks : List (ℕ × Change)) → AreKept rows ks → list_all (λ (k : ℕ × Change). is_row k.1) ks ≡ false → HasNoFormerRow rows
+pub no_row_kept : (rows : TableRows) (ks : List (ℕ × Change)) → AreKept rows ks → list_all (λ (k : ℕ × Change). is_row k.1) ks ≡ false → HasNoFormerRow rows
 no_row_kept rows ks kept h = go (fails_has (λ (k : ℕ × Change). is_row k.1) ks h)
   where
     go : (k : ℕ × Change) × Has ks k × (is_row k.1 ≡ false) → HasNoFormerRow rows
@@ -68,12 +68,12 @@ module _ (old mid late : State) (first_keeps : Keeps old mid) (second_keeps : Ke
   same_late : IsHonest late → content_now late ≡ content_now old
   same_late honest = ap (λ (d : Database). content_of d.trees) (second_keeps.same honest) ∙ same_mid honest
 
-  pub spelled : (trees : Trees) (count : Migrated) → count.timing ≡ length committed → count.draft ≡ length drafted → IsHonest late → HoldsToday (changed_by (content_now late) changes) trees → IsMigrated (content_now old) (content_of trees) count
+  pub spelled : (trees : Trees) (count : Migrated) → count.timing ≡ length committed → count.draft ≡ length drafted → IsHonest late → Completes (changed_by (content_now late) changes) trees → IsMigrated (content_now old) (content_of trees) count
   spelled trees count many few honest holds =
       let here = same_late honest in
       let drafts_here = subst (λ (t : Content). AreKept t.draft drafts) (same_mid honest) (drafts_kept honest) in
       let whole : content_of trees ≡ changed_by (changed_by (content_now old) (timing_puts timing)) (draft_puts drafts) =
-      holds.0 ∙ (λ i. changed_by (here i) (all i)) ∙ changed_after (content_now old) committed drafted ∙ (λ i. changed_by (changed_by (content_now old) (first i)) (second i)) in
+      holds.content ∙ (λ i. changed_by (here i) (all i)) ∙ changed_after (content_now old) committed drafted ∙ (λ i. changed_by (changed_by (content_now old) (first i)) (second i)) in
       subst (λ (t : Content). IsMigrated (content_now old) t count) (sym whole)
       (migrated (content_now old) count timing drafts (timing_kept (was_mid honest)) drafts_here are_rows (many ∙ ap length first) (few ∙ ap length second))
 
@@ -81,15 +81,15 @@ module _ (old mid late : State) (first_keeps : Keeps old mid) (second_keeps : Ke
   pub spelled_survives : (new : State) (count : Migrated) → count.timing ≡ length committed
       → count.draft ≡ length drafted → Survives old mid (λ _. ⊥) → Survives mid late (λ _. ⊥)
       → Survives late new (λ trees.
-      IsHonest late × HoldsToday (changed_by (content_now late) changes) trees)
+      IsHonest late × Completes (changed_by (content_now late) changes) trees)
       → Survives old new (λ trees. IsHonest old × IsSpelledToday (content_now old) trees)
   spelled_survives new count many few timing_left drafts_left written =
       survives_then old late new (λ _. ⊥)
-      (λ trees. IsHonest late × HoldsToday (changed_by (content_now late) changes) trees)
+      (λ trees. IsHonest late × Completes (changed_by (content_now late) changes) trees)
       (λ trees. IsHonest old × IsSpelledToday (content_now old) trees)
       (λ _ db none. absurd none)
       (λ clean db became. (
         was_honest became.0,
-        (count, spelled db count many few became.0 became.1, became.1.1),
+        (count, spelled db count many few became.0 became.1, became.1.today),
       ))
       (survives_on old mid late timing_left drafts_left) written

@@ -1,4 +1,5 @@
--- What bringing version 1 of the tables to today's version makes of a database, and what it leaves where it refuses.
+-- What bringing version 1 of the tables to today's version makes of a database, and what it leaves
+-- where it refuses.
 use Rattle.std.specs.Prelude.{◌≡◌, ◌≢◌, ◌⊎◌, ℤ, pos, true, List, [], ◌∷◌, codes, Some, Result, Err, IfOk, OnOk}
 use Rattle.std.specs.List.{AllByRecursion}
 use Rattle.sqlite.specs.declared.types.Value.TheVariants.{Int}
@@ -18,18 +19,16 @@ use Rattle.office_tables_statements.specs.Stored.{content_now, content_of}
 use Rattle.office_tables_migration.specs.Former.{HasNoFormer, HasNoFormerRow}
 use Rattle.office_tables_migration.specs.Migration.{IsMigrated, StandAnew}
 use Rattle.office_tables_migration.specs.declared.puts.Migrated.{Migrated}
+use Rattle.office_tables_open.specs.Lacking.{Completes}
 use Rattle.office_tables_open.specs.declared.open.OpenFault.{OpenFault}
 use Rattle.office_tables_open.specs.declared.open.OpenFault.TheVariants as fault
 use Rattle.office_tables_open.specs.declared.version.TheConstants.{FIND}
 use Rattle.office_tables_open.specs.Version.{AreToday, version_in, current_version, first_version}
 
--- the trees are those of the office's tables, which hold this, and today's version is stored
-abbrev pub HoldsToday : Content → Trees → Type 0
-HoldsToday tables trees = (content_of trees ≡ tables) × AreToday trees
-
 -- the tables are those of version 1, spelled anew and stored as today's version
 abbrev pub IsSpelledToday : Content → Trees → Type 0
-IsSpelledToday old trees = (count : Migrated) × IsMigrated old (content_of trees) count × AreToday trees
+IsSpelledToday old trees =
+    (count : Migrated) × IsMigrated old (content_of trees) count × AreToday trees
 
 -- version 1 was stored, and this is what becomes of it
 abbrev pub MayBecome : Trees → Trees → Type 0
@@ -69,18 +68,23 @@ AreNeither [] = Unit {0}
 AreNeither (row ∷ more) = (n : ℤ) × (column row 0 ≡ Int n) × (n ≢ pos 2) × (n ≢ pos 1)
 
 module _ {S : Type 0} (g : Ghosts S) where
-  -- SQL shows neither of the two where it is asked for the version, whatever the layout of the tables
+  -- SQL shows neither of the two where it is asked for the version, whatever the layout of the
+  -- tables
   pub record ShowsNeither (conn : Held S) : Type 0 where
     pub after : Held S
     pub rows : List Row
-    pub shown : Shown FIND.now (Int (pos 1) ∷ []) (state g (record conn { in_transaction = true })) (state g after) rows
+    pub shown : Shown FIND.now (Int (pos 1) ∷ []) (state g (record conn { in_transaction = true }))
+        (state g after) rows
     pub neither : AreNeither rows
 
   -- no table keeps a version, or neither of the two is stored
   abbrev pub HasUnknownVersion : Held S → Type 0
-  HasUnknownVersion conn = KeepNoVersion (state g conn).now.schema.tables ⊎ (HasNeitherVersion (state g conn).committed.trees ⊎ ShowsNeither conn)
+  HasUnknownVersion conn =
+      KeepNoVersion (state g conn).now.schema.tables
+      ⊎ (HasNeitherVersion (state g conn).committed.trees ⊎ ShowsNeither conn)
 
--- cells stand in `timing` that version 1 kept no row in, or in `draft` that it kept no row and no removal in
+-- cells stand in `timing` that version 1 kept no row in, or in `draft` that it kept no row and no
+-- removal in
 abbrev pub HasFormerDamage : Content → Type 0
 HasFormerDamage tables = HasNoFormerRow tables.timing ⊎ HasNoFormer tables.draft
 
@@ -90,34 +94,49 @@ pub record HasDamagedFormer (trees : Trees) : Type 0 where
 
 -- what the changes make of the tables, stored as today's version
 abbrev pub IsChangedToday : State → List RowChange → Trees → Type 0
-IsChangedToday old changes trees = HoldsToday (changed_by (content_now old) changes) trees
+IsChangedToday old changes trees = Completes (changed_by (content_now old) changes) trees
 
 -- a step of a transaction writes that
 abbrev pub WritesToday : {A E : Type 0} → Result A E → List RowChange → State → State → Type 0
-WritesToday result changes old new = HasCleanDisk new → OnOk result (IsReady old → IsChangedToday old changes new.now.trees)
+WritesToday result changes old new =
+    HasCleanDisk new → OnOk result (IsReady old → IsChangedToday old changes new.now.trees)
 
 -- a whole call writes it
 abbrev pub WritesAllToday : {A E : Type 0} → Result A E → List RowChange → State → State → Type 0
-WritesAllToday result changes old new = IsHonest new → OnOk result (IsChangedToday old changes new.now.trees)
+WritesAllToday result changes old new =
+    IsHonest new → OnOk result (IsChangedToday old changes new.now.trees)
 
 -- each row is spelled as today, and they are counted
 abbrev pub Migrates : {E : Type 0} → Result Migrated E → State → State → Type 0
-Migrates result old new = IsHonest new → IfOk result (IsMigrated (content_now old) (content_now new))
+Migrates result old new =
+    IsHonest new → IfOk result (IsMigrated (content_now old) (content_now new))
 
 -- today's version stays, or version 1 is brought to it
 abbrev pub Brings : {E : Type 0} → Result Migrated E → State → State → Type 0
 Brings result old new = IsHonest new → IfOk result (IsBrought old.committed.trees new.now.trees)
 
--- tables of version 1 that stood for a sound office stand for it today
+-- version 1 is stored, and as it reads the tables they stand for the office, which is sound by its
+-- rules
+pub record StandFormerly (trees : Trees) (office : Office) : Type 0 where
+  pub version : version_in trees ≡ Some first_version
+  pub stand : StandForSoundIn version_1 (content_of trees) office
+
+-- tables that stood formerly for an office stand for it today
 abbrev pub StandsAnew : {A E : Type 0} → Result A E → State → State → Type 0
-StandsAnew result old new = IsHonest new → OnOk result ((office : Office) → version_in old.committed.trees ≡ Some first_version → StandForSoundIn version_1 (content_of old.committed.trees) office → StandAnew (content_now new) office)
+StandsAnew result old new =
+    IsHonest new → OnOk result (
+    (office : Office) → StandFormerly old.committed.trees office
+    → StandAnew (content_now new) office)
 
 -- when Version is told, and when Damaged
 abbrev pub TellsVersion : {A S : Type 0} → Ghosts S → Result A OpenFault → Held S → Held S → Type 0
-TellsVersion g result old new = result ≡ Err fault.Version → HasCleanDisk (state g new) → HasUnknownVersion g old
+TellsVersion g result old new =
+    result ≡ Err fault.Version → HasCleanDisk (state g new) → HasUnknownVersion g old
 
 abbrev pub TellsFormerDamage : {A : Type 0} → Result A OpenFault → State → State → Type 0
-TellsFormerDamage result old new = result ≡ Err fault.Damaged → HasCleanDisk new → HasFormerDamage (content_now old)
+TellsFormerDamage result old new =
+    result ≡ Err fault.Damaged → HasCleanDisk new → HasFormerDamage (content_now old)
 
 abbrev pub TellsDamage : {A : Type 0} → Result A OpenFault → State → State → Type 0
-TellsDamage result old new = result ≡ Err fault.Damaged → HasCleanDisk new → HasDamagedFormer old.committed.trees
+TellsDamage result old new =
+    result ≡ Err fault.Damaged → HasCleanDisk new → HasDamagedFormer old.committed.trees

@@ -1,21 +1,24 @@
 -- Trees of the cabinet's records: how their places compare, and that each stays under its own key.
 use Rattle.std.proofs.Common.{◌≡◌, ℕ, List, Option, Some, None, option_map, Ordering, refl, ap, ◌∙◌}
+use Rattle.std.proofs.lemmas.Option.{IfSome_then}
 use Rattle.std.specs.{FinMap.get, List.AllByRecursion}
 use Rattle.std.specs.{Ordering.is_eq, Ordering.ordering_then, Prelude.IfSome, declared.cmp.Ordering.TheVariants.Equal}
 use Rattle.cabinet_core.specs.{Overdue.greater, Within.IsInspectionWithin, Within.IsOrderWithin, Within.IsUsedLineWithin, Within.IsDeliveryWithin}
 use Rattle.cabinet_core.specs.{declared.record.Inspection.Inspection, declared.record.Order.Order, declared.record.UsedLine.UsedLine}
 use Rattle.cabinet_core.specs.declared.record.Delivery.{Delivery}
-use Rattle.office_tables_shelf.specs.{Cells.Cell, Cells.cells_cmp, Cells.tree_rows}
-use Rattle.office_tables_shelf.specs.CabinetRows.{inspection_columns, order_columns, used_columns, part_key, delivery_columns}
-use Rattle.office_tables_shelf.specs.CabinetReads.{ReadsInspection, ReadsOrder, ReadsUsed, ReadsDelivery}
-use Rattle.office_tables_shelf.specs.{Content.no_content}
-use Rattle.office_tables_maps.specs.MapCabinet.{inspection_place_key, order_place_key, line_place_key, delivery_place_key, inspection_rows, order_rows, used_rows, delivery_rows, IsInspectionAt, IsOrderAt, IsUsedAt, IsDeliveryAt, AreInspectionsPlaced, AreOrdersPlaced, AreUsedPlaced, AreDeliveriesPlaced}
+use Rattle.office_tables_shelf.specs.{Cells.Cell, Cells.TableRows, Cells.cells_cmp, Cells.tree_rows}
+use Rattle.office_tables_shelf.specs.CabinetRows.{inspection_key, inspection_columns, order_key, order_columns, used_key, used_columns, part_key, delivery_key, delivery_columns}
+use Rattle.office_tables_shelf.specs.{Content.Content, Content.rows_at, Places.ReadsAt, Reads.ReadsRow}
+use Rattle.office_tables_shelf.specs.Places as at
+use Rattle.office_tables_shelf.specs.declared.rows.Table.{Table}
+use Rattle.office_tables_shelf.specs.declared.rows.Table.TheVariants as table
+use Rattle.office_tables_maps.specs.MapCabinet.{inspection_place_key, order_place_key, line_place_key, delivery_place_key, with_inspections, with_orders, with_used, with_deliveries, IsInspectionAt, IsOrderAt, IsUsedAt, IsDeliveryAt, AreInspectionsPlaced, AreOrdersPlaced, AreUsedPlaced, AreDeliveriesPlaced}
 use Rattle.office_tables_maps.specs.declared.place.RecordPlace.{RecordPlace}
 use Rattle.office_tables_maps.specs.declared.place.LinePlace.{LinePlace}
 use Rattle.office_tables_maps.specs.declared.place.DeliveryPlace.{DeliveryPlace}
 use Rattle.office_tables_shelf.proofs.{CellLemmas.cells_exact, CabinetLemmas.part_cmp, CabinetLemmas.part_order, CabinetLemmas.text_order}
 use Rattle.office_tables_shelf.proofs.TreeLemmas.{ranged_cmp, entry_at, get_tree}
-use Rattle.office_tables_maps.proofs.TreeRows.{ranged_order, last_order, standing_at, both_of}
+use Rattle.office_tables_maps.proofs.TreeRows.{ranged_order, last_order, standing_at}
 
 -- ---- how places compare, as their cells do
 
@@ -70,49 +73,43 @@ delivery_exact a b tie =
 -- ---- what stands at a place
 
 module _ {K X : Type 0} (R : K → K → Ordering) (exact : (a b : K) → R a b ≡ Equal → a ≡ b) (Stands : K → X → Type 0) (key : K → List Cell) (columns : X → List Cell) (order : (a b : K) → cells_cmp (key a) (key b) ≡ R a b) where
-  -- what a tree of such records has at a place are the cells of the place's own record
-  pub stands_under : (es : List (K × X)) (place : K) (found : Option X) → AllByRecursion (λ e. Stands e.0 e.1) es → entry_at R key columns es place ≡ found
-      → (get (tree_rows key columns es) (key place) ≡ option_map columns found) × IfSome found (Stands place)
-  stands_under es place found placed here = (
-    get_tree R key columns (λ a b. ap is_eq (order a b)) es place ∙ ap (option_map columns) here,
-    standing_at R exact Stands es place found placed here,
-  )
+  -- what a tree of such records has at a place is the place's own record, within its limits
+  reads_tree : (t : Table) (tables : Content) (own : X → List Cell) (Within : X → Type 0) (es : List (K × X)) (place : K) (found : Option X)
+      → rows_at tables t ≡ tree_rows key columns es → ((x : X) → Stands place x → (own x ≡ key place) × Within x)
+      → AllByRecursion (λ e. Stands e.0 e.1) es → entry_at R key columns es place ≡ found
+      → ReadsRow t own columns tables (key place) found × IfSome found Within
+  reads_tree t tables own Within es place found rows tells placed here =
+      let stands = standing_at R exact Stands es place found placed here in
+      let stored = get_tree R key columns (λ a b. ap is_eq (order a b)) es place ∙ ap (option_map columns) here in
+      (record { stored = ap (λ (all : TableRows). get all (key place)) rows ∙ stored; keyed = IfSome_then found stands (λ x at. (tells x at).0) }, IfSome_then found stands (λ x at. (tells x at).1))
 
 -- what a tree of inspections has under an intersection and a number, within its limits
 pub reads_inspection : (es : List (RecordPlace × Inspection)) (place : RecordPlace) (found : Option Inspection) → AreInspectionsPlaced es → entry_at record_cmp inspection_place_key inspection_columns es place ≡ found
-    → ReadsInspection (record no_content { inspection = inspection_rows es }) place.inter place.number found × IfSome found IsInspectionWithin
-reads_inspection es place found placed here =
-    let stands = stands_under record_cmp record_exact IsInspectionAt inspection_place_key inspection_columns inspection_order es place found placed here in
-    let named = both_of (λ i. i.number ≡ place.number) IsInspectionWithin found stands.1 in
-    (record { stored = stands.0; number = named.0 }, named.1)
+    → ReadsAt (with_inspections es) (at.Inspection place.inter place.number) found × IfSome found IsInspectionWithin
+reads_inspection es place found =
+    reads_tree record_cmp record_exact IsInspectionAt inspection_place_key inspection_columns inspection_order table.Inspection (with_inspections es) _ IsInspectionWithin es place found refl
+    (λ x is. (ap (inspection_key place.inter) is.0, is.1))
 
 -- an order
 pub reads_order : (es : List (RecordPlace × Order)) (place : RecordPlace) (found : Option Order) → AreOrdersPlaced es → entry_at record_cmp order_place_key order_columns es place ≡ found
-    → ReadsOrder (record no_content { work_order = order_rows es }) place.inter place.number found × IfSome found IsOrderWithin
-reads_order es place found placed here =
-    let stands = stands_under record_cmp record_exact IsOrderAt order_place_key order_columns order_order es place found placed here in
-    let named = both_of (λ o. o.number ≡ place.number) IsOrderWithin found stands.1 in
-    (record { stored = stands.0; number = named.0 }, named.1)
+    → ReadsAt (with_orders es) (at.Order place.inter place.number) found × IfSome found IsOrderWithin
+reads_order es place found =
+    reads_tree record_cmp record_exact IsOrderAt order_place_key order_columns order_order table.WorkOrder (with_orders es) _ IsOrderWithin es place found refl
+    (λ x is. (ap (order_key place.inter) is.0, is.1))
 
 -- a used part, under an intersection, an order and a line
 pub reads_used : (es : List (LinePlace × UsedLine)) (place : LinePlace) (found : Option UsedLine) → AreUsedPlaced es → entry_at line_cmp line_place_key used_columns es place ≡ found
-    → ReadsUsed (record no_content { used_part = used_rows es }) place.inter place.order place.line found × IfSome found IsUsedLineWithin
-reads_used es place found placed here =
-    let stands = stands_under line_cmp line_exact IsUsedAt line_place_key used_columns line_order es place found placed here in
-    let named = both_of (λ u. u.order ≡ place.order)
-    (λ u. (u.line ≡ place.line) × IsUsedLineWithin u) found stands.1 in
-    let numbered = both_of (λ u. u.line ≡ place.line) IsUsedLineWithin found named.1 in
-    (record { stored = stands.0; of = named.0; number = numbered.0 }, numbered.1)
+    → ReadsAt (with_used es) (at.Line place.inter place.order place.line) found × IfSome found IsUsedLineWithin
+reads_used es place found =
+    reads_tree line_cmp line_exact IsUsedAt line_place_key used_columns line_order table.UsedPart (with_used es) _ IsUsedLineWithin es place found refl
+    (λ x is. ((λ i. used_key place.inter (is.0 i) (is.1.0 i)), is.1.1))
 
 -- a delivery, under a part and a number
 pub reads_delivery : (es : List (DeliveryPlace × Delivery)) (place : DeliveryPlace) (found : Option Delivery) → AreDeliveriesPlaced es → entry_at delivery_cmp delivery_place_key delivery_columns es place ≡ found
-    → ReadsDelivery (record no_content { delivery = delivery_rows es }) place.part place.number found × IfSome found IsDeliveryWithin
-reads_delivery es place found placed here =
-    let stands = stands_under delivery_cmp delivery_exact IsDeliveryAt delivery_place_key delivery_columns delivery_order es place found placed here in
-    let named = both_of (λ d. d.part ≡ place.part)
-    (λ d. (d.number ≡ place.number) × IsDeliveryWithin d) found stands.1 in
-    let numbered = both_of (λ d. d.number ≡ place.number) IsDeliveryWithin found named.1 in
-    (record { stored = stands.0; part = named.0; number = numbered.0 }, numbered.1)
+    → ReadsAt (with_deliveries es) (at.Delivery place.part place.number) found × IfSome found IsDeliveryWithin
+reads_delivery es place found =
+    reads_tree delivery_cmp delivery_exact IsDeliveryAt delivery_place_key delivery_columns delivery_order table.Delivery (with_deliveries es) _ IsDeliveryWithin es place found refl
+    (λ x is. ((λ i. delivery_key (is.0 i) (is.1.0 i)), is.1.1))
 
 -- ---- the records of an intersection
 

@@ -79,11 +79,6 @@ module _ {K X : Type 0} (R : K → K → Ordering) (exact : (a b : K) → R a b 
   standing_at es k None h here = tt
   standing_at es k (Some x) h here = standing_found es k x h here
 
--- both of two facts on what is there
-pub both_of : {X : Type 0} (P Q : X → Type 0) (found : Option X) → IfSome found (λ x. P x × Q x) → IfSome found P × IfSome found Q
-both_of P Q None h = (tt, tt)
-both_of P Q (Some x) h = h
-
 -- ---- the rows that pass a test
 
 module _ {X : Type 0} (key columns : X → List Cell) where

@@ -6,7 +6,7 @@ use Rattle.cabinet_core.specs.declared.record.Inspection.{Inspection}
 use Rattle.cabinet_core.specs.declared.record.Order.{Order}
 use Rattle.cabinet_core.specs.declared.record.UsedLine.{UsedLine}
 use Rattle.cabinet_core.specs.declared.record.Delivery.{Delivery}
-use Rattle.office_tables_shelf.specs.Cells.{Cell, Rows, tree_rows}
+use Rattle.office_tables_shelf.specs.Cells.{Cell, TableRows, tree_rows}
 use Rattle.office_tables_shelf.specs.Content.{Content, no_content}
 use Rattle.office_tables_shelf.specs.CabinetReads.{IsPartWithin}
 use Rattle.office_tables_shelf.specs.CabinetRows.{inspection_key, inspection_columns, order_key, order_columns, used_key, used_columns, part_key, part_columns, delivery_key, delivery_columns}
@@ -30,19 +30,19 @@ delivery_place_key place = delivery_key place.part place.number
 
 -- ---- the tables
 
-abbrev pub inspection_rows : List (RecordPlace × Inspection) → Rows
+abbrev pub inspection_rows : List (RecordPlace × Inspection) → TableRows
 inspection_rows = tree_rows inspection_place_key inspection_columns
 
-abbrev pub order_rows : List (RecordPlace × Order) → Rows
+abbrev pub order_rows : List (RecordPlace × Order) → TableRows
 order_rows = tree_rows order_place_key order_columns
 
-abbrev pub used_rows : List (LinePlace × UsedLine) → Rows
+abbrev pub used_rows : List (LinePlace × UsedLine) → TableRows
 used_rows = tree_rows line_place_key used_columns
 
-abbrev pub part_rows : List (List ℕ × ℕ) → Rows
+abbrev pub part_rows : List (List ℕ × ℕ) → TableRows
 part_rows = tree_rows part_key part_columns
 
-abbrev pub delivery_rows : List (DeliveryPlace × Delivery) → Rows
+abbrev pub delivery_rows : List (DeliveryPlace × Delivery) → TableRows
 delivery_rows = tree_rows delivery_place_key delivery_columns
 
 -- tables that have these rows, and no others

@@ -8,7 +8,7 @@ use Rattle.signal_records.specs.declared.key.Key.{Key}
 use Rattle.signal_records.specs.declared.record.Row.{Row}
 use Rattle.signal_records.specs.declared.record.Change.{Change}
 use Rattle.signal_records.specs.declared.record.Change.TheVariants.{Put, Remove}
-use Rattle.office_tables_shelf.specs.Cells.{Cell, Rows, tree_rows}
+use Rattle.office_tables_shelf.specs.Cells.{Cell, TableRows, tree_rows}
 use Rattle.office_tables_shelf.specs.Content.{Content, content_code, no_content}
 use Rattle.office_tables_shelf.specs.Counts.{counts_code}
 use Rattle.office_tables_shelf.specs.Rows.{intersection_key, intersection_columns, timing_key, timing_columns, left_columns}
@@ -29,13 +29,13 @@ pub record ShelfView : Type 0 where
 abbrev pub place_key : Place → List Cell
 place_key place = timing_key place.inter place.key
 
-abbrev pub intersection_rows : List (ℕ × IntersectionRow) → Rows
+abbrev pub intersection_rows : List (ℕ × IntersectionRow) → TableRows
 intersection_rows = tree_rows intersection_key intersection_columns
 
-abbrev pub timing_rows : List (Place × Row) → Rows
+abbrev pub timing_rows : List (Place × Row) → TableRows
 timing_rows = tree_rows place_key timing_columns
 
-abbrev pub draft_rows : List (Place × Option Row) → Rows
+abbrev pub draft_rows : List (Place × Option Row) → TableRows
 draft_rows = tree_rows place_key left_columns
 
 -- tables that have these rows, and no others

@@ -2,17 +2,17 @@
 ghost use Rattle.std.specs.Prelude.{◌≡◌, OnOk, IfOk, IfSome};
 ghost use Rattle.std.specs.FinMap as finite;
 ghost use Rattle.std.specs.List.{AllByRecursion};
-ghost use Rattle.std.specs.Option.{option_map};
 ghost use Rattle.cabinet_core.specs.Within.{IsInspectionWithin, IsOrderWithin};
 ghost use Rattle.cabinet_core.specs.Within.{IsUsedLineWithin, IsDeliveryWithin};
 ghost use Rattle.office_tables_shelf.specs.CabinetRows.{inspection_key, inspection_columns};
 ghost use Rattle.office_tables_shelf.specs.CabinetRows.{order_key, order_columns, used_key};
 ghost use Rattle.office_tables_shelf.specs.CabinetRows.{used_columns, part_key, part_columns};
 ghost use Rattle.office_tables_shelf.specs.CabinetRows.{delivery_key, delivery_columns};
-ghost use Rattle.office_tables_shelf.specs.CabinetReads.{ReadsInspection, ListsInspections};
-ghost use Rattle.office_tables_shelf.specs.CabinetReads.{ReadsOrder, ListsOrders, ReadsUsed};
-ghost use Rattle.office_tables_shelf.specs.CabinetReads.{ListsUsed, ListsParts, ReadsDelivery};
+ghost use Rattle.office_tables_shelf.specs.CabinetReads.{ListsInspections, ListsOrders};
+ghost use Rattle.office_tables_shelf.specs.CabinetReads.{ListsUsed, ListsParts};
 ghost use Rattle.office_tables_shelf.specs.CabinetReads.{IsHand, IsPartWithin};
+ghost use Rattle.office_tables_shelf.specs.Places as place;
+ghost use Rattle.office_tables_shelf.specs.Places.{ReadsAt};
 ghost use Rattle.office_tables_maps.specs.MapCabinet.{inspection_rows, order_rows, used_rows};
 ghost use Rattle.office_tables_maps.specs.MapCabinet.{part_rows, delivery_rows};
 ghost use Rattle.office_tables_maps.specs.MapCabinet.{with_inspections, with_orders, with_used};
@@ -54,7 +54,7 @@ pub(crate) fn inspection_at(
     number: RecordNo,
 ) -> Result<Option<Inspection>, NoMemory>
     ensures row { IfOk result (λ found. AreInspectionsPlaced rows.now.entries →
-        ReadsInspection (with_inspections rows.now.entries) inter number found) }
+        ReadsAt (with_inspections rows.now.entries) (place.Inspection inter number) found) }
     ensures within { IfOk result (λ found. AreInspectionsPlaced rows.now.entries →
         IfSome found IsInspectionWithin) }
 {
@@ -102,7 +102,7 @@ pub(crate) fn order_at(
     number: RecordNo,
 ) -> Result<Option<Order>, NoMemory>
     ensures row { IfOk result (λ found. AreOrdersPlaced rows.now.entries →
-        ReadsOrder (with_orders rows.now.entries) inter number found) }
+        ReadsAt (with_orders rows.now.entries) (place.Order inter number) found) }
     ensures within { IfOk result (λ found. AreOrdersPlaced rows.now.entries →
         IfSome found IsOrderWithin) }
 {
@@ -151,7 +151,7 @@ pub(crate) fn line_at(
     line: LineNo,
 ) -> Result<Option<UsedLine>, NoMemory>
     ensures row { IfOk result (λ found. AreUsedPlaced rows.now.entries →
-        ReadsUsed (with_used rows.now.entries) inter order line found) }
+        ReadsAt (with_used rows.now.entries) (place.Line inter order line) found) }
     ensures within { IfOk result (λ found. AreUsedPlaced rows.now.entries →
         IfSome found IsUsedLineWithin) }
 {
@@ -194,8 +194,7 @@ pub(crate) fn put_part(
 
 /// How many of a part are on hand, if there ever was a delivery of it.
 pub(crate) fn hand_of(rows: &BTreeMap<PartCode, Hand>, part: &PartCode) -> Option<Hand>
-    ensures row { finite.get (part_rows rows.now.entries) (part_key part.now)
-        ≡ option_map part_columns result }
+    ensures row { ReadsAt (with_parts rows.now.entries) (place.Part part.now) result }
     ensures within { ArePartsWithin rows.now.entries → IfSome result IsHand }
 {
     rows.get(part).copied()
@@ -248,7 +247,7 @@ pub(crate) fn delivery_at(
     number: RecordNo,
 ) -> Result<Option<Delivery>, NoMemory>
     ensures row { IfOk result (λ found. AreDeliveriesPlaced rows.now.entries →
-        ReadsDelivery (with_deliveries rows.now.entries) part.now number found) }
+        ReadsAt (with_deliveries rows.now.entries) (place.Delivery part.now number) found) }
     ensures within { IfOk result (λ found. AreDeliveriesPlaced rows.now.entries →
         IfSome found IsDeliveryWithin) }
 {

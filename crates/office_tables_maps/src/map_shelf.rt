@@ -74,8 +74,11 @@ impl Shelf for MapShelf {
     ghost use Rattle.office_tables_shelf.specs.Change.{changed_by};
     ghost use Rattle.office_tables_shelf.specs.Counts.{count_of, counts_after};
     ghost use Rattle.office_tables_shelf.specs.Rows.{IsIntersectionRow};
-    ghost use Rattle.office_tables_shelf.specs.CabinetReads.{ReadsInspection, ListsInspections, ReadsOrder, ListsOrders, ReadsUsed, ListsUsed, ReadsDelivery, ReadsHand, ListsParts};
+    ghost use Rattle.office_tables_shelf.specs.CabinetReads.{ListsInspections, ListsOrders};
+    ghost use Rattle.office_tables_shelf.specs.CabinetReads.{ListsUsed, ListsParts};
     ghost use Rattle.office_tables_shelf.specs.CabinetReads.{IsHand, IsPartWithin};
+    ghost use Rattle.office_tables_shelf.specs.Places as place;
+    ghost use Rattle.office_tables_shelf.specs.Places.{ReadsAt};
     ghost use Rattle.office_tables_shelf.specs.Shelf.{ReadsIntersection, ListsIntersections, ListsTiming, CountsTiming, ListsDraft};
     ghost use Rattle.office_tables_shelf.specs.Shelf.{IsIntersectionWithin};
     ghost use Rattle.office_tables_shelf.specs.Overdue.{ReadsLast, ListsOverdue, HasOverdueDamage};
@@ -148,7 +151,7 @@ impl Shelf for MapShelf {
         id: InterId,
         number: RecordNo,
     ) -> Result<Option<Inspection>, ShelfFault>
-        ensures row { IfOk result (λ found. ReadsInspection self.old.tables id number found) }
+        ensures row { IfOk result (λ found. ReadsAt self.old.tables (place.Inspection id number) found) }
         ensures within { IfOk result (λ found. IfSome found IsInspectionWithin) }
         ensures unchanged { self.new ≡ self.old }
         ensures sound { IsFreeOfStore result }
@@ -194,7 +197,7 @@ impl Shelf for MapShelf {
         id: InterId,
         number: RecordNo,
     ) -> Result<Option<Order>, ShelfFault>
-        ensures row { IfOk result (λ found. ReadsOrder self.old.tables id number found) }
+        ensures row { IfOk result (λ found. ReadsAt self.old.tables (place.Order id number) found) }
         ensures within { IfOk result (λ found. IfSome found IsOrderWithin) }
         ensures unchanged { self.new ≡ self.old }
         ensures sound { IsFreeOfStore result }
@@ -218,7 +221,7 @@ impl Shelf for MapShelf {
         order: RecordNo,
         line: LineNo,
     ) -> Result<Option<UsedLine>, ShelfFault>
-        ensures row { IfOk result (λ found. ReadsUsed self.old.tables id order line found) }
+        ensures row { IfOk result (λ found. ReadsAt self.old.tables (place.Line id order line) found) }
         ensures within { IfOk result (λ found. IfSome found IsUsedLineWithin) }
         ensures unchanged { self.new ≡ self.old }
         ensures sound { IsFreeOfStore result }
@@ -241,7 +244,7 @@ impl Shelf for MapShelf {
         part: &PartCode,
         number: RecordNo,
     ) -> Result<Option<Delivery>, ShelfFault>
-        ensures row { IfOk result (λ found. ReadsDelivery self.old.tables part.now number found) }
+        ensures row { IfOk result (λ found. ReadsAt self.old.tables (place.Delivery part.now number) found) }
         ensures within { IfOk result (λ found. IfSome found IsDeliveryWithin) }
         ensures unchanged { self.new ≡ self.old }
         ensures sound { IsFreeOfStore result }
@@ -250,7 +253,7 @@ impl Shelf for MapShelf {
     }
 
     fn hand(&mut self, _alloc: Global, part: &PartCode) -> Result<Option<Hand>, ShelfFault>
-        ensures row { IfOk result (λ found. ReadsHand self.old.tables part.now found) }
+        ensures row { IfOk result (λ found. ReadsAt self.old.tables (place.Part part.now) found) }
         ensures within { IfOk result (λ found. IfSome found IsHand) }
         ensures unchanged { self.new ≡ self.old }
         ensures sound { IsFreeOfStore result }

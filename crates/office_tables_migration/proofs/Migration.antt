@@ -18,7 +18,7 @@ use Rattle.signal_rules.specs.{BeforeLead.HasNoLead, BeforeLead.violations_befor
 use Rattle.signal_rules.proofs.BeforeLead.{same_violations}
 use Rattle.draft_core.specs.DraftRows.{Said, silent, leaves, removes}
 use Rattle.draft_state.specs.ChangedRows.{left_by, changed_key}
-use Rattle.office_tables_shelf.specs.{Cells.Cell, Cells.text, Cells.Rows, Cells.cells_cmp, Cells.rows_by, Change.changed_by}
+use Rattle.office_tables_shelf.specs.{Cells.Cell, Cells.text, Cells.TableRows, Cells.cells_cmp, Cells.rows_by, Change.changed_by}
 use Rattle.office_tables_shelf.specs.{Content.Content, Rows.timing_key, Rows.timing_columns_in, Rows.left_columns_in, Rows.body_in}
 use Rattle.office_tables_shelf.specs.RegisterStands.{RegisterStands}
 use Rattle.office_machine.specs.Office.{Office, Intersection, side_at, side_of, AreRecordsIn, IsSoundIntersectionIn, IsSoundDraftIn, today, version_1}
@@ -39,7 +39,7 @@ former k = left_columns_in version_1_limits (left_by k.1)
 -- ---- the rows that are put
 
 -- the table with the rows put that are spelled otherwise
-abbrev puts_in : Rows → List Kept → Rows
+abbrev puts_in : TableRows → List Kept → TableRows
 puts_in rows [] = rows
 puts_in rows (k ∷ ks) = puts_in (if has_ped k.1 then insert rows (kept_key k) (kept_columns k) else rows) ks
 
@@ -78,7 +78,7 @@ abbrev after : List Cell → List Kept → Option (List Cell) → Option (List C
 after q [] o = o
 after q (k ∷ ks) o = after q ks (if has_ped k.1 then cond (is_under kept_key kept_columns q k) (Some (kept_columns k)) o else o)
 
-get_puts : (q : List Cell) (rows : Rows) (ks : List Kept) → get (puts_in rows ks) q ≡ after q ks (get rows q)
+get_puts : (q : List Cell) (rows : TableRows) (ks : List Kept) → get (puts_in rows ks) q ≡ after q ks (get rows q)
 get_puts q rows [] = refl
 get_puts q rows (k ∷ ks) = elim (cases_Bool (has_ped k.1)) [
   | inl some ↦
@@ -128,11 +128,11 @@ spelled q (k ∷ ks) sorted = go (cases_Bool (is_under kept_key kept_columns q k
     go (inr miss) (inl some) later = rw (miss, some) later
     go (inr miss) (inr none) later = rw (miss, none) later
 
-was : (rows : Rows) (ks : List Kept) → AreKept rows ks → (q : List Cell) → get rows q ≡ option_map former (find (is_under kept_key kept_columns q) ks)
+was : (rows : TableRows) (ks : List Kept) → AreKept rows ks → (q : List Cell) → get rows q ≡ option_map former (find (is_under kept_key kept_columns q) ks)
 was rows ks kept q = get-entries rows q ∙ ap (finite.find cells_cmp q) (sym kept.cells) ∙ find_entry kept_key former ks q
 
 -- the rows of version 1, each as it is spelled today
-pub anew : (rows : Rows) (ks : List Kept) → AreKept rows ks → puts_in rows ks ≡ rows_by kept_key kept_columns ks
+pub anew : (rows : TableRows) (ks : List Kept) → AreKept rows ks → puts_in rows ks ≡ rows_by kept_key kept_columns ks
 anew rows ks kept =
     let sorted : T (is_sorted cells_cmp (map former_cells ks)) = subst (λ es. T (is_sorted cells_cmp es)) (sym kept.cells) (entries_sorted rows) in
     same_map cells_total cells_exact _ _ (λ q. get_puts q rows ks ∙ ap (after q ks) (was rows ks kept q) ∙ spelled q ks sorted ∙ sym (get_by kept_key kept_columns ks q))
@@ -210,7 +210,7 @@ left_within : (change : Change) → IsChangeWithin version_1_limits change → I
 left_within (Put r) within = within
 left_within (Remove k) within = tt
 
-module _ (old new : Rows) (ks : List Kept) (anew : IsSpelledAnew old new ks) where
+module _ (old new : TableRows) (ks : List Kept) (anew : IsSpelledAnew old new ks) where
   -- a row that was found, and what it leaves
   kept_anew : (q : List Cell) (k : Kept) (left : Option Row) → find (is_under kept_key kept_columns q) ks ≡ Some k → IfSome left (IsRowWithin version_1_limits)
       → left_columns_in version_1_limits (left_by k.1) ≡ left_columns_in version_1_limits left → Some (kept_columns k) ≡ Some (left_columns_in current_limits left)
@@ -220,7 +220,7 @@ module _ (old new : Rows) (ks : List Kept) (anew : IsSpelledAnew old new ks) whe
 
   said_anew : (q : List Cell) (at_key : Key) (said : Said) → IsSaidIn version_1 at_key said → get old q ≡ said_columns_in version_1_limits said → get new q ≡ said_columns_in current_limits said
   said_anew q at_key said within is =
-      ap (λ (rows : Rows). get rows q) anew.after ∙ get_by kept_key kept_columns ks q
+      ap (λ (rows : TableRows). get rows q) anew.after ∙ get_by kept_key kept_columns ks q
       ∙ go (find (is_under kept_key kept_columns q) ks) refl said within (sym (was old ks anew.before q) ∙ is)
     where
       go : (o : Option Kept) → find (is_under kept_key kept_columns q) ks ≡ o → (said : Said) → IsSaidIn version_1 at_key said
@@ -237,7 +237,7 @@ module _ (old new : Rows) (ks : List Kept) (anew : IsSpelledAnew old new ks) whe
           kept_anew q k None at tt cells
 
   keys_anew : HasTimingKeys new
-  keys_anew q columns is = go (find (is_under kept_key kept_columns q) ks) refl (sym (get_by kept_key kept_columns ks q) ∙ sym (ap (λ (rows : Rows). get rows q) anew.after) ∙ is)
+  keys_anew q columns is = go (find (is_under kept_key kept_columns q) ks) refl (sym (get_by kept_key kept_columns ks q) ∙ sym (ap (λ (rows : TableRows). get rows q) anew.after) ∙ is)
     where
       go : (o : Option Kept) → find (is_under kept_key kept_columns q) ks ≡ o → option_map kept_columns o ≡ Some columns → IsTimingKey q
       go None at e = absurd (let none = e in cc)

@@ -13,7 +13,7 @@ use Rattle.signal_records.specs.declared.record.Row.TheVariants as row
 use Rattle.signal_records.specs.declared.record.Change.{Change}
 use Rattle.signal_records.specs.declared.record.Change.TheVariants.{Put, Remove}
 use Rattle.draft_state.specs.ChangedRows.{left_by}
-use Rattle.office_tables_shelf.specs.Cells.{Cell, Rows, text}
+use Rattle.office_tables_shelf.specs.Cells.{Cell, TableRows, text}
 use Rattle.office_tables_shelf.specs.Rows.{body_in, timing_key, timing_columns_in, draft_key, left_columns_in}
 use Rattle.office_tables_shelf.specs.declared.rows.RowChange.{RowChange}
 use Rattle.office_tables_shelf.specs.declared.rows.RowChange.TheVariants.{PutTiming, PutDraft}
@@ -52,7 +52,7 @@ abbrev pub AreFormer : List (ℕ × Change) → Type 0
 AreFormer kept = AllByRecursion (λ k. IsChangeWithin version_1_limits k.1) kept
 
 -- the table kept these rows and removals, and no others
-pub record AreKept (rows : Rows) (kept : List (ℕ × Change)) : Type 0 where
+pub record AreKept (rows : TableRows) (kept : List (ℕ × Change)) : Type 0 where
   pub cells : map former_cells kept ≡ entries rows
   pub within : AreFormer kept
 
@@ -69,14 +69,14 @@ abbrev pub HaveFive : List SqlRow → Type 0
 HaveFive rows = AllByRecursion (λ row. length row ≡ 5) rows
 
 -- cells stand in the table in which version 1 kept no row and no removal
-pub record HasNoFormer (rows : Rows) : Type 0 where
+pub record HasNoFormer (rows : TableRows) : Type 0 where
   pub key : List Cell
   pub columns : List Cell
   pub stored : get rows key ≡ Some columns
   pub no_former : IsNoFormer key columns
 
 -- cells stand in the table in which version 1 kept no row
-pub record HasNoFormerRow (rows : Rows) : Type 0 where
+pub record HasNoFormerRow (rows : TableRows) : Type 0 where
   pub key : List Cell
   pub columns : List Cell
   pub stored : get rows key ≡ Some columns

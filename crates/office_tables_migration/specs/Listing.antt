@@ -6,7 +6,7 @@ use Rattle.sqlite.specs.Listing.{understood}
 use Rattle.sqlite.specs.State.{State}
 use Rattle.sqlite_tied.specs.Compute.{everything}
 use Rattle.signal_records.specs.declared.record.Change.{Change}
-use Rattle.office_tables_shelf.specs.Cells.{Rows}
+use Rattle.office_tables_shelf.specs.Cells.{TableRows}
 use Rattle.office_tables_shelf.specs.declared.rows.Table.{Table}
 use Rattle.office_tables_shelf.specs.declared.rows.Table.TheVariants.{Timing, Draft}
 use Rattle.office_tables_shelf.specs.declared.shelf.ShelfFault.{ShelfFault}
@@ -25,18 +25,18 @@ pub record ListsAll (t : Table) (sql : List ℕ) : Type 0 where
   pub columns : (layout_at t).columns ≡ 5 ∷ []
 
 -- what a call gives is what the table kept
-abbrev pub Lists : Result (Vec (ℕ × Change) Global) ShelfFault → State → Rows → Type 0
-Lists result new rows = IfOk result (λ kept. IsHonest new → AreKept rows kept.items)
+abbrev pub ListsKept : Result (Vec (ℕ × Change) Global) ShelfFault → State → TableRows → Type 0
+ListsKept result new rows = IfOk result (λ kept. IsHonest new → AreKept rows kept.items)
 
 -- and where it tells damage, version 1 kept no such cells
-abbrev pub TellsNoFormer : Result (Vec (ℕ × Change) Global) ShelfFault → State → Rows → Type 0
+abbrev pub TellsNoFormer : Result (Vec (ℕ × Change) Global) ShelfFault → State → TableRows → Type 0
 TellsNoFormer result new rows = result ≡ Err fault.Damaged → IsHonest new → HasNoFormer rows
 
 -- the same of each table that the text lists
-abbrev pub ListsEach : Result (Vec (ℕ × Change) Global) ShelfFault → State → List ℕ → (Table → Rows) → Type 0
+abbrev pub ListsEach : Result (Vec (ℕ × Change) Global) ShelfFault → State → List ℕ → (Table → TableRows) → Type 0
 ListsEach result new sql rows = IfOk result (λ kept. IsHonest new → (t : Table) → ListsAll t sql → AreKept (rows t) kept.items)
 
-abbrev pub TellsNoFormerOfEach : Result (Vec (ℕ × Change) Global) ShelfFault → State → List ℕ → (Table → Rows) → Type 0
+abbrev pub TellsNoFormerOfEach : Result (Vec (ℕ × Change) Global) ShelfFault → State → List ℕ → (Table → TableRows) → Type 0
 TellsNoFormerOfEach result new sql rows = result ≡ Err fault.Damaged → IsHonest new → (t : Table) → ListsAll t sql → HasNoFormer (rows t)
 
 pub lists_timing : ListsAll Timing TIMING.now

@@ -5,7 +5,7 @@ use Rattle.signal_records.specs.TimingSet.{Rows as Set}
 use Rattle.signal_records.specs.declared.record.Change.{Change}
 use Rattle.signal_rules.specs.Violations.{violations_of}
 use Rattle.signal_rules.specs.BeforeLead.{violations_before_lead}
-use Rattle.office_tables_shelf.specs.Cells.{Cell, Rows, rows_by}
+use Rattle.office_tables_shelf.specs.Cells.{Cell, TableRows, rows_by}
 use Rattle.office_tables_shelf.specs.Content.{Content}
 use Rattle.office_machine.specs.Office.{Office, side_at}
 use Rattle.office_tables_shelf.specs.Rows.{draft_key, draft_columns}
@@ -21,7 +21,7 @@ abbrev pub kept_columns : ℕ × Change → List Cell
 kept_columns kept = draft_columns kept.1
 
 -- a table that kept some rows and removals in version 1, and keeps the same ones today
-pub record IsSpelledAnew (old new : Rows) (kept : List (ℕ × Change)) : Type 0 where
+pub record IsSpelledAnew (old new : TableRows) (kept : List (ℕ × Change)) : Type 0 where
   pub before : AreKept old kept
   pub after : new ≡ rows_by kept_key kept_columns kept
 

@@ -8,7 +8,7 @@ ghost use Rattle.office_tables_statements.specs.Stored.{content_now};
 ghost use Rattle.office_tables_statements.specs.Tables.{rows_at};
 ghost use Rattle.office_tables_migration.specs.Former.{former_cells, shown_cells, AreFormer};
 ghost use Rattle.office_tables_migration.specs.Former.{HaveFive, ShowNoFormer};
-ghost use Rattle.office_tables_migration.specs.Listing.{Lists, ListsEach};
+ghost use Rattle.office_tables_migration.specs.Listing.{ListsKept, ListsEach};
 ghost use Rattle.office_tables_migration.specs.Listing.{TellsNoFormer, TellsNoFormerOfEach};
 
 use crate::growing::push;
@@ -64,7 +64,7 @@ pub fn timing_rows<S: Alter>(
     conn: &mut Connection<S>,
 ) -> Result<Vec<(InterId, Change)>, ShelfFault>
     requires { IsOffice (state S.Store conn.old) }
-    ensures rows { Lists result (state S.Store conn.new)
+    ensures rows { ListsKept result (state S.Store conn.new)
         (content_now (state S.Store conn.old)).timing }
     ensures damaged { TellsNoFormer result (state S.Store conn.new)
         (content_now (state S.Store conn.old)).timing }
@@ -81,7 +81,7 @@ pub fn draft_rows<S: Alter>(
     conn: &mut Connection<S>,
 ) -> Result<Vec<(InterId, Change)>, ShelfFault>
     requires { IsOffice (state S.Store conn.old) }
-    ensures rows { Lists result (state S.Store conn.new)
+    ensures rows { ListsKept result (state S.Store conn.new)
         (content_now (state S.Store conn.old)).draft }
     ensures damaged { TellsNoFormer result (state S.Store conn.new)
         (content_now (state S.Store conn.old)).draft }

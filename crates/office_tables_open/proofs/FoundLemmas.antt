@@ -19,7 +19,7 @@ use Rattle.office_tables_statements.specs.Layout as layout
 use Rattle.office_tables_schema.specs.Schema.{no_schema}
 use Rattle.office_tables_statements.specs.{Layout.has_key, Layout.values_at, Stored.cell_of, Stored.cells, Stored.rows_in}
 use Rattle.office_tables_statements.proofs.StoredLemmas.{get_columns, sound_rowids}
-use Rattle.office_tables_open.specs.Found.{IsOneOf, IsOneOfEight, KeepsVersion, StoresAt, StoreNone, HaveNoRow, IsFoundAt, IsFound, HasOtherVersion, HasRowsAlone, IsUnclaimed}
+use Rattle.office_tables_open.specs.Found.{IsNameAmong, IsOneOfEight, KeepsVersion, StoresAt, StoreNone, HaveNoRow, IsFoundAt, IsFound, HasOtherVersion, HasRowsAlone, IsUnclaimed}
 use Rattle.office_tables_open.specs.{Version.version_at, Version.AreEmpty, Version.stored_trees, Arranged.IsArranged}
 use Rattle.office_tables_open.specs.declared.found.Found.TheVariants.{Nothing, RowsAlone, Unknown}
 use Rattle.office_tables_open.specs.declared.{found.Found.Found, found.TheConstants.EIGHT, found.TheConstants.KEEPER}
@@ -76,7 +76,7 @@ module _ (table : Table) (trees : Trees) (row : Row) (shaped : IsShaped shape.Ta
 -- ---- several tables
 
 -- a name as long as none of some is none of them
-apart_from : (other : List ℕ) (names : List (List ℕ)) (name : List ℕ) → list_all (λ (n : List ℕ). not (eqb (length n) (length other))) names ≡ true → IsOneOf name names → name ≡ other → ⊥
+apart_from : (other : List ℕ) (names : List (List ℕ)) (name : List ℕ) → list_all (λ (n : List ℕ). not (eqb (length n) (length other))) names ≡ true → IsNameAmong name names → name ≡ other → ⊥
 apart_from other [] name longs none same = none
 apart_from other (n ∷ names) name longs (inl is) same =
     true≢false (sym (and_parts _ _ longs).0 ∙ ap not (eq-eqb (length n) (length other) (ap length (sym is ∙ same))))

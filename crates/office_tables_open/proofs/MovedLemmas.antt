@@ -7,7 +7,7 @@ use Rattle.sqlite_schema.specs.{Names.same_name, declared.schema.Schema.Schema, 
 use Rattle.sqlite_tied.specs.Compute.{everything}
 use Rattle.sqlite_trees.specs.Objects.{catalog_tree, number_in}
 use Rattle.sqlite_value.specs.Order.{bytes}
-use Rattle.office_tables_shelf.specs.Cells.{Rows}
+use Rattle.office_tables_shelf.specs.Cells.{TableRows}
 use Rattle.office_tables_shelf.specs.Content.{Content, no_content}
 use Rattle.office_tables_shelf.specs.declared.rows.Table.{Table}
 use Rattle.office_tables_shelf.specs.declared.rows.Table.TheVariants as table
@@ -23,10 +23,10 @@ use Rattle.office_tables_open.specs.declared.gather.TheConstants.{CHILDREN_FIRST
 own_rows : (t : Table) (c : Content) → with_rows c t (rows_at c t) ≡ c
 own_rows t c = each (λ t. with_rows c t (rows_at c t) ≡ c) refl refl refl refl refl refl refl refl t
 
-its_rows : (t : Table) (c : Content) (rows : Rows) → rows_at (with_rows c t rows) t ≡ rows
+its_rows : (t : Table) (c : Content) (rows : TableRows) → rows_at (with_rows c t rows) t ≡ rows
 its_rows t c rows = each (λ t. rows_at (with_rows c t rows) t ≡ rows) refl refl refl refl refl refl refl refl t
 
-last_rows : (t : Table) (c : Content) (rows more : Rows) → with_rows (with_rows c t rows) t more ≡ with_rows c t more
+last_rows : (t : Table) (c : Content) (rows more : TableRows) → with_rows (with_rows c t rows) t more ≡ with_rows c t more
 last_rows t c rows more = each (λ t. with_rows (with_rows c t rows) t more ≡ with_rows c t more) refl refl refl refl refl refl refl refl t
 
 whole_table : (t : Table) (c : Content) (rows : List Row) → rows_at c t ≡ empty → rows_put t c rows ≡ with_rows c t (rows_in (layout_at t) rows)

@@ -20,7 +20,7 @@ use Rattle.office_tables_statements.specs.Stored.{are_sound, cell_of, cells, cel
 use Rattle.office_tables_statements.specs.Tables.{Fits, IsInsertText, layout_at, places_of, schema_at, suit, suits_kind, value_of, values_of}
 use Rattle.office_tables_statements.proofs.{StoredPuts.inserts, TableLemmas.each}
 use Rattle.office_tables_open.specs.Lacking.{IsRefilled}
-use Rattle.office_tables_open.specs.Moved.{Part, all_put, parts, row_put, rows_put, suit_kinds}
+use Rattle.office_tables_open.specs.Moved.{Part, all_put, part_moved, row_put, rows_put, suit_kinds}
 use Rattle.office_tables_open.specs.declared.gather.Moved.{Moved}
 use Rattle.office_tables_open.specs.Opening.{IsNew}
 use Rattle.office_tables_open.specs.declared.refill.TheConstants.{INTERSECTION, TIMING, DRAFT, INSPECTION, WORK_ORDER, PART, DELIVERY, USED_PART}
@@ -46,9 +46,9 @@ back_values [] [] long h = refl
 back_values [] (v ∷ vs) long h = absurd (cc)
 back_values (k ∷ ks) [] long h = absurd (cc)
 back_values (k ∷ ks) (v ∷ vs) long h =
-    let parts = and_parts _ _ h in
-    let one = back_value k v parts.0 in
-    let more = back_values ks vs (cc) parts.1 in
+    let both = and_parts _ _ h in
+    let one = back_value k v both.0 in
+    let more = back_values ks vs (cc) both.1 in
     λ i. one i ∷ more i
 
 same_suit : (cs : List Column) (xs : List Cell) → suit cs xs ≡ suit_kinds (map (λ c. c.kind) cs) xs
@@ -176,7 +176,7 @@ pub last_row : (t : Table) (base : Content) (rows : List Row) (row : Row) → ro
 last_row t base [] row = refl
 last_row t base (r ∷ rows) row = ap (λ c. row_put t c r) (last_row t base rows row)
 
-pub last_moved : (base : Content) (all : List Moved) (moved : Moved) → all_put base (map parts (all ++ moved ∷ [])) ≡ all_put (rows_put moved.table base moved.rows.items) (map parts all)
+pub last_moved : (base : Content) (all : List Moved) (moved : Moved) → all_put base (map part_moved (all ++ moved ∷ [])) ≡ all_put (rows_put moved.table base moved.rows.items) (map part_moved all)
 last_moved base [] moved = refl
 last_moved base (m ∷ all) moved = ap (λ c. rows_put m.table c m.rows.items) (last_moved base all moved)
 

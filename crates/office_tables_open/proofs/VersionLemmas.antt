@@ -10,10 +10,10 @@ use Rattle.sqlite.specs.Effect as effect
 use Rattle.sqlite_tied.specs.Compute.{everything}
 use Rattle.office_tables_statements.specs.Layout as layout
 use Rattle.office_tables_shelf.specs.{Content.no_content, Cells.number, declared.rows.Table.Table}
-use Rattle.office_tables_statements.specs.{Stored.rows_in, Stored.content_of, Stored.cells, Stored.rows_of, Stored.content_now, Calls.IsQuery}
+use Rattle.office_tables_statements.specs.{Stored.rows_in, Stored.content_of, Stored.cells, Stored.rows_stored, Stored.content_now, Calls.IsQuery}
 use Rattle.office_tables_statements.specs.{Calls.Reads, Calls.IsReady, Calls.Ran, Tables.schema_at, Tables.found_by, Layout.office_version}
 use Rattle.office_tables_schema.specs.Schema.{office_schema, version_table}
-use Rattle.office_tables_open.specs.Version.{AreEmpty, IsListing, ListsRows, stored_trees, version_in, current_version}
+use Rattle.office_tables_open.specs.Version.{AreEmpty, IsListing, ShowsAllRows, stored_trees, version_in, current_version}
 use Rattle.office_tables_statements.proofs.QueryLemmas.{answers, IsRead, IsWrite, AreShaped, found_by_key, has_width}
 use Rattle.office_tables_statements.proofs.WriteLemmas.{Added, adds, IsIdle, wrote}
 use Rattle.office_tables_statements.proofs.{StoredLemmas.get_columns, StoredLemmas.sound_rowids, Casts.cast_int, Casts.cast_null, RemoveLemmas.remove_keyed}
@@ -24,7 +24,7 @@ use Rattle.office_tables_open.specs.declared.version.TheConstants.{FIND as FIND_
 
 -- the text shows all rows of that table, and only reads
 pub record Lists (sql : List ℕ) (tree : ℕ) : Type 0 where
-  pub rows : ListsRows sql tree
+  pub rows : ShowsAllRows sql tree
   pub query : IsQuery sql
 
 pub is_listing : {sql : List ℕ} {tree : ℕ} → Lists sql tree → IsListing sql
@@ -49,7 +49,7 @@ lists_eight = (
   record { rows = record { shown = 1; names = codes "inter" ∷ []; is = refl; low = λ trees. refl }; query = record { plain = (refl, refl); unlisted = refl } },
 )
 
-module _ (sql : List ℕ) (tree : ℕ) (it : ListsRows sql tree) where
+module _ (sql : List ℕ) (tree : ℕ) (it : ShowsAllRows sql tree) where
   abbrev whole : layout.Layout
   whole = record { tree = tree; keys = []; places = []; columns = it.shown ∷ [] }
 
@@ -67,7 +67,7 @@ module _ (sql : List ℕ) (tree : ℕ) (it : ListsRows sql tree) where
 
 -- that query shows no row
 abbrev pub ShowNone : Database → Bor (List ℕ) → Type 0
-ShowNone db sql = (tree : ℕ) → ListsRows sql.now tree → db.trees tree ≡ []
+ShowNone db sql = (tree : ℕ) → ShowsAllRows sql.now tree → db.trees tree ≡ []
 
 abbrev tree_of : Join → ℕ
 tree_of (inner t more) = t
@@ -78,10 +78,10 @@ table_of (Select p names) = tree_of p.body.from
 table_of _ = 0
 
 -- a text shows the rows of one table
-pub same_tree : (sql : List ℕ) (m n : ℕ) → ListsRows sql m → ListsRows sql n → m ≡ n
+pub same_tree : (sql : List ℕ) (m n : ℕ) → ShowsAllRows sql m → ShowsAllRows sql n → m ≡ n
 same_tree sql m n a b = ap table_of (sym a.is ∙ b.is)
 
-pub shows_none : (db : Database) (sql : List ℕ) (tree : ℕ) → ListsRows sql tree → db.trees tree ≡ [] → (other : ℕ) → ListsRows sql other → db.trees other ≡ []
+pub shows_none : (db : Database) (sql : List ℕ) (tree : ℕ) → ShowsAllRows sql tree → db.trees tree ≡ [] → (other : ℕ) → ShowsAllRows sql other → db.trees other ≡ []
 shows_none db sql tree lists none other also = subst (λ t. db.trees t ≡ []) (same_tree sql tree other lists also) none
 
 -- trees that hold the same rows of the eight tables have the same content
@@ -152,13 +152,13 @@ put_version old new count ready did =
     let wrote_it = wrote PUT_VERSION.now _ put_version_is 8 version_table refl params old new count (record { runs = λ w. w; does = λ db out d. d }) ready did in
     let it = subst (Added version_table refl version_idle version_source params stored_version old.step_limit old.now.trees) (sym wrote_it.trees)
     (adds version_table refl version_idle version_source params stored_version old.step_limit old.now.trees (λ rows h. h.1) cast_version was wrote_it.written wrote_it.rows) in
-    let at : rows_in layout.office_version (new.now.trees 15) ≡ insert (rows_of layout.office_version old.now.trees) (number (pos 1) ∷ []) current_version =
+    let at : rows_in layout.office_version (new.now.trees 15) ≡ insert (rows_stored layout.office_version old.now.trees) (number (pos 1) ∷ []) current_version =
     ap (rows_in layout.office_version) it.rows ∙ put_at layout.office_version rows [] stored_version (λ r id there among at_id. absurd among) (free_rowid rows (pos 1) (Null ∷ Int (pos 2) ∷ []) was it.fresh layout.office_version refl) it.fresh in
     let key = number (pos 1) ∷ [] in (
       wrote_it.goes_on it.others it.shapes,
       (
         none_in old.now.trees new.now.trees 15 it.others apart,
-        ap (λ rows. get rows key) at ∙ get-insert cells_total (rows_of layout.office_version old.now.trees) key current_version key ∙ ap (λ b. cond b (Some current_version) (version_in old.now.trees)) (tie_self key),
+        ap (λ rows. get rows key) at ∙ get-insert cells_total (rows_stored layout.office_version old.now.trees) key current_version key ∙ ap (λ b. cond b (Some current_version) (version_in old.now.trees)) (tie_self key),
       ),
     )
 

@@ -13,7 +13,7 @@ use Rattle.sqlite_trees.specs.Objects.{catalog_tree}
 use Rattle.office_tables_schema.specs.Schema.{IsOffices}
 use Rattle.office_tables_shelf.specs.Cells.{number}
 use Rattle.office_tables_open.specs.Version.{version_at}
-use Rattle.office_tables_open.specs.Moved.{moved_from, parts}
+use Rattle.office_tables_open.specs.Moved.{moved_from, part_moved}
 use Rattle.office_tables_open.specs.declared.found.Found.{Found}
 use Rattle.office_tables_open.specs.declared.found.Seen.{Seen}
 use Rattle.office_tables_open.specs.declared.gather.Moved.{Moved}
@@ -22,13 +22,13 @@ use Rattle.office_tables_open.specs.declared.found.Found.TheVariants.{Nothing, R
 use Rattle.office_tables_open.specs.declared.found.TheConstants.{EIGHT, KEEPER, COLUMNS}
 
 -- the name is one of these
-abbrev pub IsOneOf : List ℕ → List (List ℕ) → Type 0
-IsOneOf name [] = ⊥
-IsOneOf name (first ∷ more) = (name ≡ first) ⊎ IsOneOf name more
+abbrev pub IsNameAmong : List ℕ → List (List ℕ) → Type 0
+IsNameAmong name [] = ⊥
+IsNameAmong name (first ∷ more) = (name ≡ first) ⊎ IsNameAmong name more
 
 -- it is that of one of the eight tables
 abbrev pub IsOneOfEight : List ℕ → Type 0
-IsOneOfEight name = IsOneOf name (map (λ text. text.now) EIGHT)
+IsOneOfEight name = IsNameAmong name (map (λ text. text.now) EIGHT)
 
 -- or that of the version's
 abbrev pub IsOurs : List ℕ → Type 0
@@ -107,7 +107,7 @@ pub record IsFoundIn (found : Found) (s : State) : Type 0 where
 -- the rows of all tables were read, each of which is the office's but for its number
 pub record IsMoved (moved : List Moved) (tables : List Table) (trees : Trees) : Type 0 where
   pub alike : AllByRecursion IsOffices tables
-  pub rows : map parts moved ≡ moved_from CHILDREN_FIRST tables trees
+  pub rows : map part_moved moved ≡ moved_from CHILDREN_FIRST tables trees
 
 -- so it is where they store today's version
 abbrev pub IsMovedToday : Seen → List Table → Trees → Type 0

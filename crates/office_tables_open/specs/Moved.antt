@@ -5,7 +5,7 @@ use Rattle.sqlite_schema.specs.declared.schema.Kind.{Kind}
 use Rattle.sqlite_schema.specs.declared.schema.Table.{Table as SqlTable}
 use Rattle.sqlite.specs.Order.{Row}
 use Rattle.sqlite.specs.Tree.{Trees}
-use Rattle.office_tables_shelf.specs.Cells.{Cell, Rows}
+use Rattle.office_tables_shelf.specs.Cells.{Cell, TableRows}
 use Rattle.office_tables_shelf.specs.Content.{Content}
 use Rattle.office_tables_shelf.specs.declared.rows.Table.{Table}
 use Rattle.office_tables_shelf.specs.declared.rows.Table.TheVariants as table
@@ -19,7 +19,7 @@ rows_named [] trees name = []
 rows_named (t ∷ ts) trees name = if same_name t.name name then trees t.tree else rows_named ts trees name
 
 -- the same, as the office's table keeps them
-abbrev pub rows_kept : Table → (List ℕ → List Row) → Rows
+abbrev pub rows_kept : Table → (List ℕ → List Row) → TableRows
 rows_kept t rows = rows_in (layout_at t) (rows (schema_at t).name)
 
 -- what rows that are told by the names of their tables hold
@@ -44,8 +44,8 @@ content_in tables trees = content_by (rows_named tables trees)
 abbrev pub Part : Type 0
 Part = Table × List Row
 
-abbrev pub parts : Moved → Part
-parts moved = (moved.table, moved.rows.items)
+abbrev pub part_moved : Moved → Part
+part_moved moved = (moved.table, moved.rows.items)
 
 -- the rows of these tables, in their order
 abbrev pub moved_from : List Table → List SqlTable → Trees → List Part

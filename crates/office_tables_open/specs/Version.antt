@@ -14,12 +14,12 @@ use Rattle.sqlite.specs.Tree.{Trees}
 use Rattle.office_tables_shelf.specs.Cells.{Cell, number}
 use Rattle.office_tables_schema.specs.Schema.{office_schema}
 use Rattle.office_tables_statements.specs.Layout as layout
-use Rattle.office_tables_statements.specs.Stored.{cells, rows_of}
+use Rattle.office_tables_statements.specs.Stored.{cells, rows_stored}
 use Rattle.office_tables_statements.specs.Calls.{IsQuery, command_of}
 
 -- the version that the table with this number stores, if it stores one: the cells under the number 1
 abbrev pub version_at : ℕ → Trees → Option (List Cell)
-version_at tree trees = get (rows_of (record layout.office_version { tree = tree }) trees) (number (pos 1) ∷ [])
+version_at tree trees = get (rows_stored (record layout.office_version { tree = tree }) trees) (number (pos 1) ∷ [])
 
 -- the version that an office stores
 abbrev pub version_in : Trees → Option (List Cell)
@@ -75,7 +75,7 @@ rows_query tree shown = record {
 }
 
 -- the text shows all rows of that table, whose number is not that of a WITH
-pub record ListsRows (sql : List ℕ) (tree : ℕ) : Type 0 where
+pub record ShowsAllRows (sql : List ℕ) (tree : ℕ) : Type 0 where
   pub shown : ℕ
   pub names : List (List ℕ)
   pub is : command_of (understood office_schema sql) ≡ Select (record { lets = []; body = rows_query tree shown }) names
@@ -84,5 +84,5 @@ pub record ListsRows (sql : List ℕ) (tree : ℕ) : Type 0 where
 -- the text is the query of all rows of a table
 pub record IsListing (sql : List ℕ) : Type 0 where
   pub tree : ℕ
-  pub lists : ListsRows sql tree
+  pub lists : ShowsAllRows sql tree
   pub query : IsQuery sql

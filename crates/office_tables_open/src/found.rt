@@ -10,7 +10,7 @@ ghost use Rattle.sqlite_trees.specs.View.{IsClean, IsQuiet};
 ghost use Rattle.sqlite_value.specs.Value.{owned};
 ghost use Rattle.sqlite_value.specs.declared.value.Value.TheVariants.{Int};
 ghost use Rattle.office_tables_open.specs.Arranged.{IsUnchanged, IsTaken, IsCheckedAgain};
-ghost use Rattle.office_tables_open.specs.Found.{IsOneOf, StoresAt, IsFound};
+ghost use Rattle.office_tables_open.specs.Found.{IsNameAmong, StoresAt, IsFound};
 ghost use Rattle.office_tables_open.specs.Found.{IsFoundAt, IsFoundIn, IsMovedToday};
 ghost use Rattle.office_tables_open.specs.Opening.{IsAsFound};
 
@@ -60,7 +60,7 @@ pub enum Found {
 }
 
 pub fn is_one_of(name: &[u8], names: &[&str]) -> bool
-    ensures { IsTrue result → IsOneOf name.now (map (λ text. text.now) names.now) }
+    ensures { IsTrue result → IsNameAmong name.now (map (λ text. text.now) names.now) }
 {
     let Some((first, names)) = names.split_first() else {
         return false;

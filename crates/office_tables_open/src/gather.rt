@@ -4,7 +4,7 @@ ghost use Rattle.std.specs.Prelude.{◌≡◌, ◌++◌, map, IfOk, OnOk};
 ghost use Rattle.sqlite_trees.specs.View.{IsClean, IsQuiet};
 ghost use Rattle.office_tables_statements.specs.Tables.{schema_at};
 ghost use Rattle.office_tables_open.specs.Arranged.{IsUnchanged};
-ghost use Rattle.office_tables_open.specs.Moved.{parts, rows_named, moved_from};
+ghost use Rattle.office_tables_open.specs.Moved.{part_moved, rows_named, moved_from};
 ghost use Rattle.office_tables_open.specs.declared.gather.TheConstants.{CHILDREN_FIRST};
 
 use office_tables_shelf::rows::Table;
@@ -84,7 +84,7 @@ fn gather<S: Store>(
     moved: &mut Vec<Moved>,
 ) -> Result<(), StoreError>
     ensures rows { IsClean (S.Store.view store.new) → OnOk result (
-        map parts moved.new.items ≡ map parts moved.old.items
+        map part_moved moved.new.items ≡ map part_moved moved.old.items
         ++ moved_from homes.now tables.now (S.Store.view store.old).trees) }
     ensures same { IsClean (S.Store.view store.new) →
         OnOk result (IsUnchanged (S.Store.view store.old) (S.Store.view store.new)) }
@@ -107,7 +107,7 @@ pub(crate) fn gathered<S: Store>(
     tables: &[SqlTable],
 ) -> Result<Vec<Moved>, StoreError>
     ensures rows { IsClean (S.Store.view store.new) → IfOk result (λ all.
-        map parts all.items ≡ moved_from CHILDREN_FIRST tables.now
+        map part_moved all.items ≡ moved_from CHILDREN_FIRST tables.now
         (S.Store.view store.old).trees) }
     ensures same { IsClean (S.Store.view store.new) →
         OnOk result (IsUnchanged (S.Store.view store.old) (S.Store.view store.new)) }

@@ -6,7 +6,7 @@ ghost use Rattle.sqlite.specs.State.{HasCleanDisk, Survives};
 ghost use Rattle.office_tables_shelf.specs.Content.{no_content};
 ghost use Rattle.office_tables_statements.specs.Calls.{IsHonest, IsOffice, StandsOn, StaysOpen};
 ghost use Rattle.office_tables_open.specs.Lacking.{AreOurs, Completes, IsRefilled};
-ghost use Rattle.office_tables_open.specs.Moved.{all_put, parts};
+ghost use Rattle.office_tables_open.specs.Moved.{all_put, part_moved};
 ghost use Rattle.office_tables_open.specs.Promises.{KeepsCommitted, LeavesNoMore, WasHonest};
 
 use crate::gather::Moved;
@@ -30,7 +30,7 @@ fn refill<S: Alter>(
         (state S.Store tx.new.conn.now) }
     ensures made { HasCleanDisk (state S.Store tx.new.conn.now) →
         tx.old.conn.now.in_transaction ≡ true → AreOurs (state S.Store tx.old.conn.now).now →
-        OnOk result (IsRefilled (all_put no_content (map parts moved.items))
+        OnOk result (IsRefilled (all_put no_content (map part_moved moved.items))
         (state S.Store tx.new.conn.now)) }
 {
     run_all(tx, &DROPS)?;
@@ -51,11 +51,11 @@ fn make_missing<S: Alter>(
     ensures autocommit { (state S.Store conn.new).in_transaction ≡ false }
     ensures honest { IsHonest (state S.Store conn.new) → IsHonest (state S.Store conn.old) }
     ensures made { IsHonest (state S.Store conn.new) → OnOk result (Completes
-        (all_put no_content (map parts moved.items)) (state S.Store conn.new).now.trees) }
+        (all_put no_content (map part_moved moved.items)) (state S.Store conn.new).now.trees) }
     ensures kept { KeepsCommitted result (state S.Store conn.old) (state S.Store conn.new) }
     ensures crash { Survives (state S.Store conn.old) (state S.Store conn.new)
         (λ trees. IsHonest (state S.Store conn.old)
-        × Completes (all_put no_content (map parts moved.items)) trees) }
+        × Completes (all_put no_content (map part_moved moved.items)) trees) }
 {
     let mut tx = conn.transaction();
     refill(alloc, &mut tx, moved)?;
@@ -76,11 +76,11 @@ pub(crate) fn complete<S: Alter>(
     ensures autocommit { (state S.Store conn.new).in_transaction ≡ false }
     ensures honest { IsHonest (state S.Store conn.new) → IsHonest (state S.Store conn.old) }
     ensures made { IsHonest (state S.Store conn.new) → OnOk result (Completes
-        (all_put no_content (map parts moved.items)) (state S.Store conn.new).now.trees) }
+        (all_put no_content (map part_moved moved.items)) (state S.Store conn.new).now.trees) }
     ensures kept { KeepsCommitted result (state S.Store conn.old) (state S.Store conn.new) }
     ensures crash { Survives (state S.Store conn.old) (state S.Store conn.new)
         (λ trees. IsHonest (state S.Store conn.old)
-        × Completes (all_put no_content (map parts moved.items)) trees) }
+        × Completes (all_put no_content (map part_moved moved.items)) trees) }
 {
     if !has_only_ours(conn.schema()) {
         return Err(SqlFault::Store);

@@ -10,7 +10,8 @@ ghost use Rattle.office_tables_statements.specs.Stored.{are_sound, cell_of, cell
 ghost use Rattle.office_tables_statements.specs.Stored.{content_now, is_sound};
 ghost use Rattle.office_tables_statements.specs.Tables.{layout_at, schema_at, suits_kind};
 ghost use Rattle.office_tables_statements.specs.Tables.{places_of as places_in, IsInsertText};
-ghost use Rattle.office_tables_open.specs.Moved.{parts, row_put, rows_put, all_put, suit_kinds};
+ghost use Rattle.office_tables_open.specs.Moved.{part_moved, row_put, rows_put, all_put};
+ghost use Rattle.office_tables_open.specs.Moved.{suit_kinds};
 ghost use Rattle.office_tables_open.specs.Promises.{LeavesNoMore};
 
 use crate::gather::Moved;
@@ -204,7 +205,7 @@ pub(crate) fn put_all<S: Alter>(
 ) -> Result<(), SqlFault>
     ensures same_reference { tx.new.conn.ghost_name ≡ tx.old.conn.ghost_name }
     ensures put { TurnsTo result
-        (all_put (content_now (state S.Store tx.old.conn.now)) (map parts all.items))
+        (all_put (content_now (state S.Store tx.old.conn.now)) (map part_moved all.items))
         (state S.Store tx.old.conn.now) (state S.Store tx.new.conn.now) }
     ensures stands { StandsOn (state S.Store tx.old.conn.now) (state S.Store tx.new.conn.now) }
     ensures crash { LeavesNoMore (state S.Store tx.old.conn.now) (state S.Store tx.new.conn.now) }

@@ -8,7 +8,7 @@ ghost use Rattle.office_tables_statements.specs.Stored.{cells};
 ghost use Rattle.office_tables_statements.specs.Calls.{IsHonest, IsOffice, IsQuery, Keeps};
 ghost use Rattle.office_tables_statements.specs.Calls.{StandsOn};
 ghost use Rattle.office_tables_statements.specs.Calls.{StaysOpen};
-ghost use Rattle.office_tables_open.specs.Version.{AreEmpty, HasRow, IsListing, ListsRows};
+ghost use Rattle.office_tables_open.specs.Version.{AreEmpty, HasRow, IsListing, ShowsAllRows};
 ghost use Rattle.office_tables_open.specs.Version.{TellsOther, version_in, version_cells};
 ghost use Rattle.office_tables_open.specs.Promises.{WasHonest, StaysReady, StaysSame, StoresToday};
 ghost use Rattle.office_tables_open.specs.Promises.{LeavesNoMore, KeepsContent, KeepsCommitted};
@@ -142,9 +142,9 @@ fn is_empty<S: Alter>(conn: &mut Connection<S>, sql: &str) -> Result<bool, SqlFa
     requires office { IsOffice (state S.Store conn.old) }
     requires query { IsQuery sql.now }
     ensures empty { IsHonest (state S.Store conn.new) → IfOk result (λ empty. IsTrue empty →
-        (tree : ℕ) → ListsRows sql.now tree → (state S.Store conn.old).now.trees tree ≡ []) }
+        (tree : ℕ) → ShowsAllRows sql.now tree → (state S.Store conn.old).now.trees tree ≡ []) }
     ensures has_row { IsHonest (state S.Store conn.new) → IfOk result (λ empty. ¬ IsTrue empty →
-        (tree : ℕ) → ListsRows sql.now tree → (state S.Store conn.old).now.trees tree ≢ []) }
+        (tree : ℕ) → ShowsAllRows sql.now tree → (state S.Store conn.old).now.trees tree ≢ []) }
     ensures open { StaysOpen result (state S.Store conn.new) }
     ensures kept { Keeps (state S.Store conn.old) (state S.Store conn.new) }
     ensures crash { LeavesNoMore (state S.Store conn.old) (state S.Store conn.new) }
@@ -158,10 +158,10 @@ fn show_none<S: Alter>(conn: &mut Connection<S>, queries: &[&str]) -> Result<boo
     requires office { IsOffice (state S.Store conn.old) }
     requires queries { AllByRecursion (λ sql. IsListing sql.now) queries.now }
     ensures empty { IsHonest (state S.Store conn.new) → IfOk result (λ empty. IsTrue empty →
-        AllByRecursion (λ sql. (tree : ℕ) → ListsRows sql.now tree →
+        AllByRecursion (λ sql. (tree : ℕ) → ShowsAllRows sql.now tree →
         (state S.Store conn.old).now.trees tree ≡ []) queries.now) }
     ensures has_row { IsHonest (state S.Store conn.new) → IfOk result (λ empty. ¬ IsTrue empty →
-        ¬ AllByRecursion (λ sql. (tree : ℕ) → ListsRows sql.now tree →
+        ¬ AllByRecursion (λ sql. (tree : ℕ) → ShowsAllRows sql.now tree →
         (state S.Store conn.old).now.trees tree ≡ []) queries.now) }
     ensures open { SeesOpen result (state S.Store conn.new) }
     ensures kept { Keeps (state S.Store conn.old) (state S.Store conn.new) }

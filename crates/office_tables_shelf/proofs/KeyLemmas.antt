@@ -12,7 +12,7 @@ use Rattle.signal_records.specs.{KeyOrder.key_total, KeyOrder.key_exact, Row.key
 use Rattle.signal_records.specs.{declared.record.Change.Change, declared.record.Change.TheVariants.Put}
 use Rattle.signal_records.specs.TimingSet as set
 use Rattle.draft_state.specs.ChangedRows.{changed_key}
-use Rattle.office_tables_shelf.specs.{Cells.Cell, Cells.Rows, Cells.number, Cells.cells_cmp, Content.Content, Rows.timing_key}
+use Rattle.office_tables_shelf.specs.{Cells.Cell, Cells.TableRows, Cells.number, Cells.cells_cmp, Content.Content, Rows.timing_key}
 use Rattle.office_tables_shelf.specs.{Rows.timing_columns, Rows.draft_columns, Shelf.is_of, Shelf.rows_of, Shelf.ListsTiming}
 use Rattle.office_tables_shelf.specs.Shelf.{ListsDraft}
 use Rattle.office_tables_shelf.proofs.CellLemmas.{cells_exact, cell_total, is_under, first_under, find_entry, mapped, tied}
@@ -46,7 +46,7 @@ module _ {X : Type 0} (key : X → Key) (columns : X → List Cell) (id : ℕ) w
       ∙ sym (mapped columns (eq_by_cmp key_cmp q (key x)) (Some x) (first_at key xs q))
 
   -- what a table has at a key is what the list of its rows has
-  pub get_listed : (rows : Rows) (xs : List X) → map placed xs ≡ rows_of id rows → (q : Key) → get rows (timing_key id q) ≡ option_map columns (first_at key xs q)
+  pub get_listed : (rows : TableRows) (xs : List X) → map placed xs ≡ rows_of id rows → (q : Key) → get rows (timing_key id q) ≡ option_map columns (first_at key xs q)
   get_listed rows xs lists q =
       let at = timing_key id q in
       let alike : (k : List Cell) → cells_cmp at k ≡ Equal → is_of id k ≡ is_of id at = λ k tie. ap (is_of id) (sym (cells_exact at k tie)) in
@@ -66,7 +66,7 @@ module _ {X : Type 0} (key : X → Key) (columns : X → List Cell) (id : ℕ) w
   rising_all (x ∷ xs) h = let hs = parts _ _ h in (rising_from x xs hs.0, rising_all xs hs.1)
 
   -- the keys of a list of a table's rows strictly rise
-  pub listed_rise : (rows : Rows) (xs : List X) → map placed xs ≡ rows_of id rows → IsStrictlySortedBy key_cmp (map key xs)
+  pub listed_rise : (rows : TableRows) (xs : List X) → map placed xs ≡ rows_of id rows → IsStrictlySortedBy key_cmp (map key xs)
   listed_rise rows xs lists = rising_all xs (subst (λ es. T (is_sorted cells_cmp es)) (sym lists) (is_sorted-where_key cells_cmp (is_of id) (entries rows) (entries_sorted rows)))
 
   -- no other of a list with rising keys has the key

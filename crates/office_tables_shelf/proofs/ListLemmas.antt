@@ -9,7 +9,7 @@ use Rattle.std.specs.FinMap.Entries.{is_sorted, below_all, where_key, is_sorted-
 use Rattle.std.specs.{List.All, List.AllByRecursion, List.IsDistinct, List.Sorted.IsPermutation, List.Sorted.IsSorted, Ordering.is_eq}
 use Rattle.std.specs.Ordering.{is_lt, is_gt, ordering_reverse, eq_by_cmp}
 use Rattle.std.specs.FinMap as finite
-use Rattle.office_tables_shelf.specs.Cells.{Cell, Rows, rows_by, cells_cmp}
+use Rattle.office_tables_shelf.specs.Cells.{Cell, TableRows, rows_by, cells_cmp}
 use Rattle.office_tables_shelf.proofs.CellLemmas.{cells_total, cells_exact, is_under, find_entry, get_by, tied}
 
 -- ---- elements of a list
@@ -125,7 +125,7 @@ module _ {X : Type 0} (key columns : X → List Cell) where
           sorted_found ys x q sorted (permuted ys zs (IsPermutation-sym zs ys same) x found.0) found.1 ∙ sym is
 
   -- what is in a list of the entries that pass a test stands in the map, under its key
-  pub stands : (test : List Cell → Bool) (rows : Rows) (xs : List X)
+  pub stands : (test : List Cell → Bool) (rows : TableRows) (xs : List X)
       → map entry xs ≡ where_key cells_cmp test (entries rows) → (x : X) → IsIn xs x
       → (test (key x) ≡ true) × (get rows (key x) ≡ Some (columns x))
   stands test rows xs is x there =

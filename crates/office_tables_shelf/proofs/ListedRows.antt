@@ -4,7 +4,7 @@ use Rattle.std.proofs.Common.{List, map, find, length, get_or, Option, Some, Non
 use Rattle.std.proofs.lemmas.List.Elements.{All-from_recursion}
 use Rattle.std.proofs.Common.{refl, ap, subst, sym, ◌∙◌}
 use Rattle.std.specs.FinMap as finite
-use Rattle.std.specs.{FinMap.get, FinMap.entries, FinMap.get-entries, FinMap.Entries.find-where_key, List.AllByRecursion}
+use Rattle.std.specs.{FinMap.get, FinMap.entries, FinMap.get-entries, FinMap.Entries.find-where_key, FinMap.Entries.where_key, List.AllByRecursion}
 use Rattle.cabinet_core.specs.Within.{IsInspectionWithin, IsOrderWithin, IsUsedLineWithin}
 use Rattle.cabinet_core.specs.{declared.record.Inspection.Inspection, declared.record.Order.Order, declared.record.UsedLine.UsedLine}
 use Rattle.office_tables_shelf.proofs.CellLemmas.{cells_exact, find_entry, is_under, tied}
@@ -12,9 +12,12 @@ use Rattle.office_tables_shelf.proofs.ListLemmas.{IsIn, all_in, found_has, in_in
 use Rattle.office_tables_shelf.specs.CabinetReads.{HasDamagedInspection, HasDamagedOrder, HasDamagedPart, HasDamagedUsed, IsPartWithin}
 use Rattle.office_tables_shelf.specs.CabinetReads.{ListsInspections, ListsOrders, ListsParts, ListsUsed}
 use Rattle.office_tables_shelf.specs.CabinetRows.{inspection_columns, inspection_key, order_columns, order_key, part_columns, part_key}
-use Rattle.office_tables_shelf.specs.{CabinetRows.used_columns, CabinetRows.used_key, Cells.Cell, Cells.Rows, Cells.cells_cmp}
-use Rattle.office_tables_shelf.specs.{Content.Content, Damage.HasAnyDamagedIntersection, Rows.intersection_columns, Rows.intersection_key}
-use Rattle.office_tables_shelf.specs.Shelf.{is_of, rows_of, IsIntersectionWithin, IsThere, ListsIntersections}
+use Rattle.office_tables_shelf.specs.{CabinetRows.used_columns, CabinetRows.used_key, Cells.Cell, Cells.TableRows, Cells.cells_cmp}
+use Rattle.office_tables_shelf.specs.{Content.Content, Content.rows_at, Damage.HasAnyDamagedIntersection, Rows.intersection_columns, Rows.intersection_key}
+use Rattle.office_tables_shelf.specs.Reads.{is_among, HasDamagedRow}
+use Rattle.office_tables_shelf.specs.Shelf.{IsIntersectionWithin, IsThere, ListsIntersections}
+use Rattle.office_tables_shelf.specs.declared.rows.Table.{Table}
+use Rattle.office_tables_shelf.specs.declared.rows.Table.TheVariants as table
 use Rattle.office_tables_shelf.specs.declared.rows.IntersectionRow.{IntersectionRow}
 
 -- ---- what stands under a key
@@ -41,49 +44,42 @@ module _ {X : Type 0} (key columns : X → List Cell) (Within : X → Type 0) wh
           (x, whole, cells_exact q (key x) (tied _ there.1), sym same)
 
   -- of the rows of a table, those of the list are all
-  pub table_row : (rows : Rows) (xs : List X) (q cells : List Cell) → map entry xs ≡ entries rows
+  pub table_row : (rows : TableRows) (xs : List X) (q cells : List Cell) → map entry xs ≡ entries rows
       → AllByRecursion Within xs → get rows q ≡ Some cells
       → (x : X) × Within x × (q ≡ key x) × (cells ≡ columns x)
   table_row rows xs q cells lists each stored =
       found_row xs q cells each (ap (finite.find cells_cmp q) lists ∙ sym (get-entries rows q)
       ∙ stored)
 
-  -- and so of the rows of an intersection
-  pub listed_row : (rows : Rows) (id : ℕ) (xs : List X) (q cells : List Cell)
-      → map entry xs ≡ rows_of id rows → AllByRecursion Within xs → is_of id q ≡ true
-      → get rows q ≡ Some cells
-      → (x : X) × Within x × (q ≡ key x) × (cells ≡ columns x)
-  listed_row rows id xs q cells lists each of stored =
-      found_row xs q cells each (
+-- none of the rows of an intersection is damaged, where those that were listed are all within their limits
+module _ {X : Type 0} (t : Table) (Within : X → Type 0) (key : ℕ → X → List Cell) (columns : X → List Cell) where
+  pub listed_whole : (tables : Content) (id : ℕ) (xs : List X)
+      → map (entry (key id) columns Within) xs ≡ where_key cells_cmp (is_among t id) (entries (rows_at tables t))
+      → AllByRecursion Within xs → ¬ HasDamagedRow t Within key columns tables id
+  listed_whole tables id xs lists each damaged =
+      let q = damaged.key in
+      let rows = rows_at tables t in
+      let is = found_row (key id) columns Within xs q damaged.columns each (
       ap (finite.find cells_cmp q) lists
-      ∙ find-where_key cells_cmp (is_of id) q
-      (λ other tie. ap (is_of id) (sym (cells_exact q other tie))) (entries rows)
-      ∙ ap (λ b. cond b (finite.find cells_cmp q (entries rows)) None) of
-      ∙ sym (get-entries rows q) ∙ stored)
+      ∙ find-where_key cells_cmp (is_among t id) q
+      (λ other tie. ap (is_among t id) (sym (cells_exact q other tie))) (entries rows)
+      ∙ ap (λ b. cond b (finite.find cells_cmp q (entries rows)) None) damaged.of
+      ∙ sym (get-entries rows q) ∙ damaged.stored) in
+      damaged.no_row is.0 is.1 is.2 is.3
 
 pub inspections_whole : (tables : Content) (id : ℕ) (list : List Inspection)
     → ListsInspections tables id list → AllByRecursion IsInspectionWithin list
     → ¬ HasDamagedInspection tables id
-inspections_whole tables id list lists within damaged =
-    let is = listed_row (λ x. inspection_key id x.number) inspection_columns IsInspectionWithin
-    tables.inspection id list damaged.key damaged.columns lists within damaged.of
-    damaged.stored in
-    damaged.no_row is.0 is.1 is.2 is.3
+inspections_whole = listed_whole table.Inspection IsInspectionWithin
+    (λ id x. inspection_key id x.number) inspection_columns
 
 pub orders_whole : (tables : Content) (id : ℕ) (list : List Order) → ListsOrders tables id list
     → AllByRecursion IsOrderWithin list → ¬ HasDamagedOrder tables id
-orders_whole tables id list lists within damaged =
-    let is = listed_row (λ x. order_key id x.number) order_columns IsOrderWithin tables.work_order
-    id list damaged.key damaged.columns lists within damaged.of damaged.stored in
-    damaged.no_row is.0 is.1 is.2 is.3
+orders_whole = listed_whole table.WorkOrder IsOrderWithin (λ id x. order_key id x.number) order_columns
 
 pub lines_whole : (tables : Content) (id : ℕ) (list : List UsedLine) → ListsUsed tables id list
     → AllByRecursion IsUsedLineWithin list → ¬ HasDamagedUsed tables id
-lines_whole tables id list lists within damaged =
-    let is = listed_row (λ x. used_key id x.order x.line) used_columns IsUsedLineWithin
-    tables.used_part id list damaged.key damaged.columns lists within damaged.of
-    damaged.stored in
-    damaged.no_row is.0 is.1 is.2 is.3
+lines_whole = listed_whole table.UsedPart IsUsedLineWithin (λ id x. used_key id x.order x.line) used_columns
 
 pub parts_whole : (tables : Content) (list : List (List ℕ × ℕ)) → ListsParts tables list
     → AllByRecursion IsPartWithin list → ¬ HasDamagedPart tables
@@ -91,7 +87,7 @@ parts_whole tables list lists within damaged =
     let is = table_row (λ part. part_key part.0) (λ part. part_columns part.1)
     IsPartWithin tables.part list damaged.key damaged.columns
     lists within damaged.stored in
-    damaged.no_row is.0.0 is.1.0 is.0.1 is.1.1 is.2 is.3
+    damaged.no_row is.0 is.1 is.2 is.3
 
 pub intersections_whole : (tables : Content) (rows : List (ℕ × IntersectionRow))
     → ListsIntersections tables rows → AllByRecursion IsIntersectionWithin rows
@@ -100,7 +96,7 @@ intersections_whole tables rows lists within damaged =
     let is = table_row (λ e. intersection_key e.0) (λ e. intersection_columns e.1)
     IsIntersectionWithin tables.intersection rows damaged.key damaged.columns lists within
     damaged.stored in
-    damaged.no_row is.0.0 is.1.0 is.0.1 is.1.1 is.2 is.3
+    damaged.no_row is.0 is.1 is.2 is.3
 
 -- there is an intersection for each row of the list
 pub listed_is_there : (tables : Content) (rows : List (ℕ × IntersectionRow)) (i : ℕ)

@@ -3,20 +3,20 @@ use Rattle.std.specs.Prelude.{ℕ, pos, Bool, false, not, ◌==◌, cond, List, 
 use Rattle.std.specs.Coded.{Coded, code_by, coded×}
 use Rattle.std.specs.FinMap.{empty, insert, remove, retain_keys}
 use Rattle.std.specs.Ordering.{eq_by_cmp}
-use Rattle.office_tables_shelf.specs.Cells.{Cell, Rows, number, cell_cmp, rows_code}
+use Rattle.office_tables_shelf.specs.Cells.{Cell, TableRows, number, cell_cmp, rows_code}
 use Rattle.office_tables_shelf.specs.declared.rows.Table.{Table}
 use Rattle.office_tables_shelf.specs.declared.rows.Table.TheVariants as table
 
 -- the rows of each table; that of the stored version is no part of it
 pub record Content : Type 0 where
-  pub intersection : Rows
-  pub timing : Rows
-  pub draft : Rows
-  pub inspection : Rows
-  pub work_order : Rows
-  pub part : Rows
-  pub delivery : Rows
-  pub used_part : Rows
+  pub intersection : TableRows
+  pub timing : TableRows
+  pub draft : TableRows
+  pub inspection : TableRows
+  pub work_order : TableRows
+  pub part : TableRows
+  pub delivery : TableRows
+  pub used_part : TableRows
 
 -- no table has a row
 abbrev pub no_content : Content
@@ -33,7 +33,7 @@ no_content = record {
 
 -- ---- one table
 
-abbrev pub rows_at : Content → Table → Rows
+abbrev pub rows_at : Content → Table → TableRows
 rows_at tables table.Intersection = tables.intersection
 rows_at tables table.Timing = tables.timing
 rows_at tables table.Draft = tables.draft
@@ -58,7 +58,7 @@ abbrev pub is_same_table : Table → Table → Bool
 is_same_table t other = place_at t == place_at other
 
 -- it has these rows, and the others stay
-abbrev pub with_rows : Content → Table → Rows → Content
+abbrev pub with_rows : Content → Table → TableRows → Content
 with_rows tables t rows = record {
   intersection = cond (is_same_table t table.Intersection) rows tables.intersection;
   timing = cond (is_same_table t table.Timing) rows tables.timing;
@@ -84,7 +84,7 @@ is_of id [] = false
 is_of id (cell ∷ cells) = eq_by_cmp cell_cmp (number (pos id)) cell
 
 -- the rows of all other intersections
-abbrev pub rows_but : ℕ → Rows → Rows
+abbrev pub rows_but : ℕ → TableRows → TableRows
 rows_but id rows = retain_keys rows (λ key. not (is_of id key))
 
 -- the rows of the intersection are gone from it
@@ -94,7 +94,7 @@ drop_in tables t id = with_rows tables t (rows_but id (rows_at tables t))
 -- ---- how the logic stores it
 
 abbrev pub content_code : Coded Content
-content_code = code_by (Rows × (Rows × (Rows × (Rows × (Rows × (Rows × (Rows × Rows)))))))
+content_code = code_by (TableRows × (TableRows × (TableRows × (TableRows × (TableRows × (TableRows × (TableRows × TableRows)))))))
     (coded× rows_code (coded× rows_code (coded× rows_code (coded× rows_code (coded× rows_code (coded× rows_code (coded× rows_code rows_code)))))))
     (λ c. (c.intersection, (c.timing, (c.draft, (c.inspection, (c.work_order, (c.part, (c.delivery, c.used_part))))))))
     (λ p. record {

@@ -22,19 +22,19 @@ count_of counts table.Delivery = counts.delivery
 count_of counts table.UsedPart = counts.used_part
 
 -- a count after one more; at its largest value it stays
-abbrev pub counted : ℕ → ℕ
-counted n = min (n + 1) (2 ^ 64 - 1)
+abbrev pub next_count : ℕ → ℕ
+next_count n = min (n + 1) (2 ^ 64 - 1)
 
 -- the counts after one more write of a table
 abbrev pub count_at : WriteCounts → Table → WriteCounts
-count_at counts table.Intersection = record counts { intersection = counted counts.intersection }
-count_at counts table.Timing = record counts { timing = counted counts.timing }
-count_at counts table.Draft = record counts { draft = counted counts.draft }
-count_at counts table.Inspection = record counts { inspection = counted counts.inspection }
-count_at counts table.WorkOrder = record counts { work_order = counted counts.work_order }
-count_at counts table.Part = record counts { part = counted counts.part }
-count_at counts table.Delivery = record counts { delivery = counted counts.delivery }
-count_at counts table.UsedPart = record counts { used_part = counted counts.used_part }
+count_at counts table.Intersection = record counts { intersection = next_count counts.intersection }
+count_at counts table.Timing = record counts { timing = next_count counts.timing }
+count_at counts table.Draft = record counts { draft = next_count counts.draft }
+count_at counts table.Inspection = record counts { inspection = next_count counts.inspection }
+count_at counts table.WorkOrder = record counts { work_order = next_count counts.work_order }
+count_at counts table.Part = record counts { part = next_count counts.part }
+count_at counts table.Delivery = record counts { delivery = next_count counts.delivery }
+count_at counts table.UsedPart = record counts { used_part = next_count counts.used_part }
 
 -- the counts after changes
 abbrev pub counts_after : WriteCounts → List RowChange → WriteCounts

@@ -4,9 +4,11 @@ pub mod Rows
 pub mod CabinetRows
 pub mod Change
 pub mod Counts
+pub mod Reads
 pub mod Shelf
 pub mod Keeps
 pub mod Damage
 pub mod CabinetReads
+pub mod Places
 pub mod Overdue
 pub mod RegisterStands

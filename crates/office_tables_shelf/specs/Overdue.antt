@@ -1,7 +1,7 @@
 -- The intersections that are overdue on a day, as the tables hold them.
 use Rattle.std.specs.Prelude.{◌≡◌, ◌⊎◌, ℕ, List, [], ◌∷◌, map, take, Option}
 use Rattle.std.specs.List.{AllByRecursion}
-use Rattle.cabinet_core.specs.Overdue.{latest_day, listed, overdue_list}
+use Rattle.cabinet_core.specs.Overdue.{latest_day, listed_of, overdue_list}
 use Rattle.cabinet_core.specs.Within.{IsInspectionWithin}
 use Rattle.cabinet_core.specs.declared.overdue_inspections.OverdueRow.{OverdueRow}
 use Rattle.cabinet_core.specs.declared.overdue_inspections.Seen.{Seen}
@@ -44,7 +44,7 @@ AreSeen tables seen = (rows : List (ℕ × IntersectionRow)) → ListsIntersecti
 
 -- The rows are the first so many of those that are overdue. What is known of a row that is no record may be anything, so they rest on no such row.
 abbrev pub ListsOverdue : Content → ℕ → ℕ → List OverdueRow → Type 0
-ListsOverdue tables day most found = (seen : List Seen) → AreSeen tables seen → map listed found ≡ take most (overdue_list day seen)
+ListsOverdue tables day most found = (seen : List Seen) → AreSeen tables seen → map listed_of found ≡ take most (overdue_list day seen)
 
 -- ---- damage
 

@@ -7,7 +7,7 @@ use Rattle.std.specs.FinMap.Entries.{where_key}
 use Rattle.signal_records.specs.Row.{key_of}
 use Rattle.signal_records.specs.declared.record.Row.{Row}
 use Rattle.signal_records.specs.declared.record.Change.{Change}
-use Rattle.office_tables_shelf.specs.Cells.{Cell, Rows, cells_cmp}
+use Rattle.office_tables_shelf.specs.Cells.{Cell, TableRows, cells_cmp}
 use Rattle.office_tables_shelf.specs.Content.{Content}
 pub use Rattle.office_tables_shelf.specs.Content.{is_of}
 use Rattle.office_tables_shelf.specs.Rows.{intersection_key, intersection_columns}
@@ -41,7 +41,7 @@ abbrev pub ReadsIntersection : Content → ℕ → Option IntersectionRow → Ty
 ReadsIntersection tables id row = get tables.intersection (intersection_key id) ≡ option_map intersection_columns row
 
 -- the rows of an intersection in a table, by their keys
-abbrev pub rows_of : ℕ → Rows → List (List Cell × List Cell)
+abbrev pub rows_of : ℕ → TableRows → List (List Cell × List Cell)
 rows_of id rows = where_key cells_cmp (is_of id) (entries rows)
 
 -- an intersection stands under the number

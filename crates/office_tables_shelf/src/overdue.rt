@@ -1,7 +1,7 @@
 //! Rows of intersections that are overdue for an inspection.
 
 ghost use Rattle.std.specs.Prelude.{◌≡◌, [], ◌∷◌, ◌++◌, map, OnOk};
-ghost use Rattle.cabinet_core.specs.Overdue.{listed, overdue_list};
+ghost use Rattle.cabinet_core.specs.Overdue.{listed_of, overdue_list};
 ghost use Rattle.office_tables_shelf.specs.Overdue.{seen_row};
 
 use crate::rows::IntersectionRow;
@@ -16,7 +16,7 @@ pub fn add_overdue(
     row: &IntersectionRow,
     last: Option<Day>,
 ) -> Result<(), NoMemory>
-    ensures { OnOk result (map listed found.new.items ≡ map listed found.old.items ++ overdue_list day (seen_row id row.now last ∷ [])) }
+    ensures { OnOk result (map listed_of found.new.items ≡ map listed_of found.old.items ++ overdue_list day (seen_row id row.now last ∷ [])) }
 {
     let seen = Seen {
         id,

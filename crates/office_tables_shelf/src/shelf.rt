@@ -15,15 +15,12 @@ ghost use Rattle.office_tables_shelf.specs.Shelf.{CountsTiming, ListsDraft};
 ghost use Rattle.office_tables_shelf.specs.Damage.{HasDamagedIntersection};
 ghost use Rattle.office_tables_shelf.specs.Damage.{HasAnyDamagedIntersection, HasDamagedTiming};
 ghost use Rattle.office_tables_shelf.specs.Damage.{HasDamagedDraft};
-ghost use Rattle.office_tables_shelf.specs.CabinetReads.{ReadsInspection, HasDamagedInspectionAt};
 ghost use Rattle.office_tables_shelf.specs.CabinetReads.{ListsInspections, HasDamagedInspection};
-ghost use Rattle.office_tables_shelf.specs.CabinetReads.{ReadsOrder, HasDamagedOrderAt};
-ghost use Rattle.office_tables_shelf.specs.CabinetReads.{ListsOrders, HasDamagedOrder, ReadsUsed};
-ghost use Rattle.office_tables_shelf.specs.CabinetReads.{HasDamagedUsedAt, ListsUsed};
-ghost use Rattle.office_tables_shelf.specs.CabinetReads.{HasDamagedUsed, ReadsDelivery};
-ghost use Rattle.office_tables_shelf.specs.CabinetReads.{HasDamagedDelivery, IsHand, ReadsHand};
-ghost use Rattle.office_tables_shelf.specs.CabinetReads.{HasDamagedHand, ListsParts};
-ghost use Rattle.office_tables_shelf.specs.CabinetReads.{IsPartWithin, HasDamagedPart};
+ghost use Rattle.office_tables_shelf.specs.CabinetReads.{ListsOrders, HasDamagedOrder};
+ghost use Rattle.office_tables_shelf.specs.CabinetReads.{ListsUsed, HasDamagedUsed, IsHand};
+ghost use Rattle.office_tables_shelf.specs.CabinetReads.{ListsParts, IsPartWithin, HasDamagedPart};
+ghost use Rattle.office_tables_shelf.specs.Places as place;
+ghost use Rattle.office_tables_shelf.specs.Places.{ReadsAt, DamagedAt};
 ghost use Rattle.office_tables_shelf.specs.Overdue.{ReadsLast, ListsOverdue, HasOverdueDamage};
 ghost use Rattle.office_tables_shelf.specs.declared.counts.WriteCounts.{WriteCounts};
 
@@ -131,9 +128,9 @@ pub trait Shelf {
         id: InterId,
         number: RecordNo,
     ) -> Result<Option<Inspection>, ShelfFault>
-        ensures row { IfOk result (λ found. is_honest self.new → ReadsInspection (content self.old) id number found) }
+        ensures row { IfOk result (λ found. is_honest self.new → ReadsAt (content self.old) (place.Inspection id number) found) }
         ensures within { IfOk result (λ found. IfSome found IsInspectionWithin) }
-        ensures damaged { result ≡ Err ShelfFault.Damaged → is_honest self.new → HasDamagedInspectionAt (content self.old) id number }
+        ensures damaged { result ≡ Err ShelfFault.Damaged → is_honest self.new → DamagedAt (content self.old) (place.Inspection id number) }
         ensures kept { IsKept is_honest content written may_leave self.old self.new }
         ensures open { AnswersOpen is_clean is_honest result self.old self.new };
 
@@ -192,9 +189,9 @@ pub trait Shelf {
         id: InterId,
         number: RecordNo,
     ) -> Result<Option<Order>, ShelfFault>
-        ensures row { IfOk result (λ found. is_honest self.new → ReadsOrder (content self.old) id number found) }
+        ensures row { IfOk result (λ found. is_honest self.new → ReadsAt (content self.old) (place.Order id number) found) }
         ensures within { IfOk result (λ found. IfSome found IsOrderWithin) }
-        ensures damaged { result ≡ Err ShelfFault.Damaged → is_honest self.new → HasDamagedOrderAt (content self.old) id number }
+        ensures damaged { result ≡ Err ShelfFault.Damaged → is_honest self.new → DamagedAt (content self.old) (place.Order id number) }
         ensures kept { IsKept is_honest content written may_leave self.old self.new }
         ensures open { AnswersOpen is_clean is_honest result self.old self.new };
 
@@ -215,9 +212,9 @@ pub trait Shelf {
         order: RecordNo,
         line: LineNo,
     ) -> Result<Option<UsedLine>, ShelfFault>
-        ensures row { IfOk result (λ found. is_honest self.new → ReadsUsed (content self.old) id order line found) }
+        ensures row { IfOk result (λ found. is_honest self.new → ReadsAt (content self.old) (place.Line id order line) found) }
         ensures within { IfOk result (λ found. IfSome found IsUsedLineWithin) }
-        ensures damaged { result ≡ Err ShelfFault.Damaged → is_honest self.new → HasDamagedUsedAt (content self.old) id order line }
+        ensures damaged { result ≡ Err ShelfFault.Damaged → is_honest self.new → DamagedAt (content self.old) (place.Line id order line) }
         ensures kept { IsKept is_honest content written may_leave self.old self.new }
         ensures open { AnswersOpen is_clean is_honest result self.old self.new };
 
@@ -237,17 +234,17 @@ pub trait Shelf {
         part: &PartCode,
         number: RecordNo,
     ) -> Result<Option<Delivery>, ShelfFault>
-        ensures row { IfOk result (λ found. is_honest self.new → ReadsDelivery (content self.old) part.now number found) }
+        ensures row { IfOk result (λ found. is_honest self.new → ReadsAt (content self.old) (place.Delivery part.now number) found) }
         ensures within { IfOk result (λ found. IfSome found IsDeliveryWithin) }
-        ensures damaged { result ≡ Err ShelfFault.Damaged → is_honest self.new → HasDamagedDelivery (content self.old) part.now number }
+        ensures damaged { result ≡ Err ShelfFault.Damaged → is_honest self.new → DamagedAt (content self.old) (place.Delivery part.now number) }
         ensures kept { IsKept is_honest content written may_leave self.old self.new }
         ensures open { AnswersOpen is_clean is_honest result self.old self.new };
 
     /// How many of a part are on hand, if there ever was a delivery of it.
     fn hand(&mut self, alloc: Global, part: &PartCode) -> Result<Option<Hand>, ShelfFault>
-        ensures row { IfOk result (λ found. is_honest self.new → ReadsHand (content self.old) part.now found) }
+        ensures row { IfOk result (λ found. is_honest self.new → ReadsAt (content self.old) (place.Part part.now) found) }
         ensures within { IfOk result (λ found. IfSome found IsHand) }
-        ensures damaged { result ≡ Err ShelfFault.Damaged → is_honest self.new → HasDamagedHand (content self.old) part.now }
+        ensures damaged { result ≡ Err ShelfFault.Damaged → is_honest self.new → DamagedAt (content self.old) (place.Part part.now) }
         ensures kept { IsKept is_honest content written may_leave self.old self.new }
         ensures open { AnswersOpen is_clean is_honest result self.old self.new };
 

@@ -4,8 +4,10 @@ ghost use Rattle.std.specs.Prelude.{◌≡◌, IfOk, IfSome, OnOk};
 ghost use Rattle.std.specs.FinMap.{insert};
 ghost use Rattle.sqlite.specs.State.{HasCleanDisk, Survives};
 ghost use Rattle.sqlite.specs.Held.{state};
-ghost use Rattle.office_tables_shelf.specs.CabinetReads.{IsHand, ReadsHand, HasDamagedHand};
+ghost use Rattle.office_tables_shelf.specs.CabinetReads.{IsHand};
 ghost use Rattle.office_tables_shelf.specs.CabinetRows.{part_key, part_columns};
+ghost use Rattle.office_tables_shelf.specs.Places as place;
+ghost use Rattle.office_tables_shelf.specs.Places.{ReadsAt, DamagedAt};
 ghost use Rattle.office_tables_statements.specs.Stored.{content_now};
 ghost use Rattle.office_tables_statements.specs.Calls.{IsHonest, IsOffice, Keeps, TurnsTo};
 ghost use Rattle.office_tables_statements.specs.Calls.{StandsOn};
@@ -87,9 +89,9 @@ pub fn hand<S: Alter>(
     code: &PartCode,
 ) -> Result<Option<Hand>, ShelfFault>
     requires { IsOffice (state S.Store conn.old) }
-    ensures row { IfOk result (λ hand. IsHonest (state S.Store conn.new) → ReadsHand (content_now (state S.Store conn.old)) code.now hand) }
+    ensures row { IfOk result (λ hand. IsHonest (state S.Store conn.new) → ReadsAt (content_now (state S.Store conn.old)) (place.Part code.now) hand) }
     ensures within { IfOk result (λ hand. IfSome hand IsHand) }
-    ensures damaged { result ≡ Err ShelfFault.Damaged → IsHonest (state S.Store conn.new) → HasDamagedHand (content_now (state S.Store conn.old)) code.now }
+    ensures damaged { result ≡ Err ShelfFault.Damaged → IsHonest (state S.Store conn.new) → DamagedAt (content_now (state S.Store conn.old)) (place.Part code.now) }
     ensures kept { Keeps (state S.Store conn.old) (state S.Store conn.new) }
     ensures crash { Survives (state S.Store conn.old) (state S.Store conn.new) (λ _. ⊥) }
     ensures open { TellsOpen result (state S.Store conn.new) }

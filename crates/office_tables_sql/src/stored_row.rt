@@ -67,7 +67,7 @@ pub trait StoredRow: Sized + Drop {
         ensures key { IfOk result (λ x. key (number of) x ≡ key_shown table row.now) }
         ensures columns { IfOk result (λ x. columns x ≡ columns_shown table row.now) }
         ensures within { IfOk result is_within }
-        ensures damaged { result ≡ Err ShelfFault.Damaged → length row.now ≡ width_of table → IsNoRow is_within key columns (number of) (key_shown table row.now) (columns_shown table row.now) };
+        ensures damaged { result ≡ Err ShelfFault.Damaged → length row.now ≡ width_of table → IsNoRow is_within (key (number of)) columns (key_shown table row.now) (columns_shown table row.now) };
 
     /// The parameters of the statements that put it; `text` is room for a text that is made for it.
     fn bind<'a>(
@@ -101,9 +101,9 @@ pub fn find<T: StoredRow, S: Alter>(
 ) -> Result<Option<T>, ShelfFault>
     requires office { IsOffice (state S.Store conn.old) }
     requires key { IsKeyOf T.table (bound key.now) }
-    ensures row { IfOk result (λ found. IsHonest (state S.Store conn.new) → ReadsRow T.table T.key T.columns (content_now (state S.Store conn.old)) (T.number of) (key_given T.table (bound key.now)) found) }
+    ensures row { IfOk result (λ found. IsHonest (state S.Store conn.new) → ReadsRow T.table (T.key (T.number of)) T.columns (content_now (state S.Store conn.old)) (key_given T.table (bound key.now)) found) }
     ensures within { IfOk result (λ found. IfSome found T.is_within) }
-    ensures damaged { result ≡ Err ShelfFault.Damaged → IsHonest (state S.Store conn.new) → HasDamagedUnder T.table T.is_within T.key T.columns (content_now (state S.Store conn.old)) (T.number of) (key_given T.table (bound key.now)) }
+    ensures damaged { result ≡ Err ShelfFault.Damaged → IsHonest (state S.Store conn.new) → HasDamagedUnder T.table T.is_within (T.key (T.number of)) T.columns (content_now (state S.Store conn.old)) (key_given T.table (bound key.now)) }
     ensures kept { Keeps (state S.Store conn.old) (state S.Store conn.new) }
     ensures crash { Survives (state S.Store conn.old) (state S.Store conn.new) (λ _. ⊥) }
     ensures open { TellsOpen result (state S.Store conn.new) }

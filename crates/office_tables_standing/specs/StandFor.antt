@@ -8,7 +8,7 @@ use Rattle.signal_records.specs.declared.key.Key.{Key}
 use Rattle.signal_records.specs.declared.limits.Limits.{Limits}
 use Rattle.draft_core.specs.Transaction.{holder_of}
 use Rattle.draft_core.specs.DraftRows.{Said, silent, leaves, removes, RowStands}
-use Rattle.office_tables_shelf.specs.Cells.{Cell, Rows, tree_rows}
+use Rattle.office_tables_shelf.specs.Cells.{Cell, TableRows, tree_rows}
 use Rattle.office_tables_shelf.specs.Content.{Content}
 use Rattle.office_tables_shelf.specs.Rows.{intersection_key, intersection_columns, timing_key, timing_columns_in, left_columns_in}
 use Rattle.office_tables_shelf.specs.declared.rows.IntersectionRow.{IntersectionRow}
@@ -23,15 +23,15 @@ abbrev pub columns_of : Intersection → List Cell
 columns_of i = intersection_columns (row_of i)
 
 -- the rows of the intersections, by their numbers
-abbrev pub intersection_rows : Office → Rows
-intersection_rows office = tree_rows intersection_key columns_of (entries office.intersections)
+abbrev pub standing_intersection_rows : Office → TableRows
+standing_intersection_rows office = tree_rows intersection_key columns_of (entries office.intersections)
 
 -- the cells are the key of a row of some intersection
 abbrev pub IsTimingKey : List Cell → Type 0
 IsTimingKey cells = (id : ℕ) × (key : Key) × (cells ≡ timing_key id key)
 
 -- every row of the table stands under such a key
-abbrev pub HasTimingKeys : Rows → Type 0
+abbrev pub HasTimingKeys : TableRows → Type 0
 HasTimingKeys rows = (cells columns : List Cell) → get rows cells ≡ Some columns → IsTimingKey cells
 
 -- a draft row keeps a row within its limits, under its own key, or the removal of a key
@@ -64,7 +64,7 @@ DraftRowStands = DraftRowStandsIn today
 
 -- the tables hold the rows of the office as a version writes them, and no others
 pub record StandForIn (v : Version) (tables : Content) (office : Office) : Type 0 where
-  pub intersection : tables.intersection ≡ intersection_rows office
+  pub intersection : tables.intersection ≡ standing_intersection_rows office
   pub timing : (id : ℕ) (key : Key) → get tables.timing (timing_key id key) ≡ option_map (timing_columns_in v.limits) (get (side_at office id).committed key)
   pub timing_keys : HasTimingKeys tables.timing
   pub draft : (id : ℕ) (key : Key) → DraftRowStandsIn v tables office id key

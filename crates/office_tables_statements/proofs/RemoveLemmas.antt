@@ -19,7 +19,7 @@ use Rattle.sqlite_rules.proofs.{ProbeLemmas.has_mapped, ProbeLemmas.mapped_has, 
 use Rattle.office_tables_schema.specs.Schema.{office_schema}
 use Rattle.office_tables_statements.specs.{Layout.Layout, Layout.values_at, Layout.has_key, Stored.cells_at, Stored.rows_in, Stored.are_sound}
 use Rattle.office_tables_statements.specs.{Calls.IsReady, Calls.Ran, Tables.found_by}
-use Rattle.office_tables_shelf.specs.Cells.{Cell, Rows, cells_cmp}
+use Rattle.office_tables_shelf.specs.Cells.{Cell, TableRows, cells_cmp}
 use Rattle.office_tables_shelf.proofs.CellLemmas.{cells_total, cells_exact, tied}
 use Rattle.office_tables_statements.proofs.StoredLemmas.{agree_ties, has_cells, get_rows, HaveKeys}
 use Rattle.office_tables_statements.proofs.QueryLemmas.{ArePaired, answers, IsWrite}
@@ -98,7 +98,7 @@ module _ (t : Layout) (rows : List Row) (test : List Cell → Bool) (found : Lis
       go other (inr miss) = rw (miss, all_left other miss)
 
 -- all keys but one are left
-removal : (rows : Rows) (key : List Cell) → retain_keys rows (λ k. not (is_eq (cells_cmp k key))) ≡ remove rows key
+removal : (rows : TableRows) (key : List Cell) → retain_keys rows (λ k. not (is_eq (cells_cmp k key))) ≡ remove rows key
 removal rows key = same_map cells_total cells_exact _ _ (λ q.
     get-retain_keys rows (λ k. not (is_eq (cells_cmp k key))) q
     (λ k tie. ap (λ c. not (is_eq (cells_cmp c key))) (sym (cells_exact q k tie)))

@@ -206,7 +206,7 @@ module _ (t : Table) (db : Database) (is : db.schema ≡ office_schema) (sound :
 -- a shown row that is no record
 module _ {X : Type 0} (t : Table) (is_within : X → Type 0) (key : ℕ → X → List Cell) (columns : X → List Cell) where
   pub damaged_at : (tables : Content) (id : ℕ) (rows : List Row) → map (row_shown t) rows ≡ rows_among t id (rows_at tables t) → AllByRecursion (λ row. length row ≡ width_of t) rows
-      → (row : Row) → Has rows row → (length row ≡ width_of t → IsNoRow is_within key columns id (key_shown t row) (columns_shown t row)) → HasDamagedRow t is_within key columns tables id
+      → (row : Row) → Has rows row → (length row ≡ width_of t → IsNoRow is_within (key id) columns (key_shown t row) (columns_shown t row)) → HasDamagedRow t is_within key columns tables id
   damaged_at tables id rows is width row there none =
       let here = stands (key_shown t) (columns_shown t) (is_among t id) (rows_at tables t) rows is row (is_in rows row there) in
       record { key = key_shown t row; columns = columns_shown t row; of = here.0; stored = here.1; no_row = none (all_has (λ (r : Row). length r ≡ width_of t) rows row width there) }

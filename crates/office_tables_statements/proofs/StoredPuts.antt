@@ -6,7 +6,7 @@ use Rattle.sqlite.specs.{declared.types.Value.TheVariants.Null, Cast.cast_row, E
 use Rattle.sqlite.specs.{Program.overlay, Query.IsAnswer, Rows.Written, State.State, Term.col, Term.eval_all}
 use Rattle.sqlite.specs.Kind.TheVariants as kind
 use Rattle.sqlite_rules.specs.Lists.{Has}
-use Rattle.office_tables_shelf.specs.{Cells.Cell, Cells.Rows, Cells.cells_cmp, Cells.null, Content.Content, declared.rows.Table.Table}
+use Rattle.office_tables_shelf.specs.{Cells.Cell, Cells.TableRows, Cells.cells_cmp, Cells.null, Content.Content, declared.rows.Table.Table}
 use Rattle.office_tables_shelf.proofs.CellLemmas.{cells_total}
 use Rattle.office_tables_statements.specs.{Calls.IsReady, Calls.IsTurned, Calls.Ran, Layout.has_key, Layout.values_at}
 use Rattle.office_tables_statements.specs.Stored.{cells_at, content_now, rows_in}
@@ -25,7 +25,7 @@ with_same : (t : Table) (tables : Content) → with_rows tables t (rows_at table
 with_same t tables = each (λ t. with_rows tables t (rows_at tables t) ≡ tables) refl refl refl refl refl refl refl refl t
 
 -- one table has these rows, and the others are as they were, that of the version too
-turned : (old new : State) (t : Table) (rows : Rows) → IsReady new
+turned : (old new : State) (t : Table) (rows : TableRows) → IsReady new
     → AllByRecursion (λ x. x.tree ≢ (schema_at t).tree → new.now.trees x.tree ≡ old.now.trees x.tree) office_schema.tables
     → rows_in (layout_at t) (new.now.trees (schema_at t).tree) ≡ rows
     → IsTurned (with_rows (content_now old) t rows) old new

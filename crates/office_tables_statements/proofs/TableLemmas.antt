@@ -7,7 +7,7 @@ use Rattle.sqlite_rules.specs.Lists.{Has}
 use Rattle.sqlite_rules.proofs.ListLemmas.{all_has}
 use Rattle.sqlite_schema.specs.{Rules.guards, declared.schema.Index.Index}
 use Rattle.sqlite_value.specs.Keys.{plain, first_key}
-use Rattle.office_tables_shelf.specs.{Cells.Rows, Cells.number, Cells.cell_cmp, Shelf.is_of, Content.Content, Content.is_same_table}
+use Rattle.office_tables_shelf.specs.{Cells.TableRows, Cells.number, Cells.cell_cmp, Shelf.is_of, Content.Content, Content.is_same_table}
 use Rattle.office_tables_shelf.specs.declared.rows.Table.{Table}
 use Rattle.office_tables_shelf.specs.declared.rows.Table.TheVariants as table
 use Rattle.office_tables_schema.specs.Schema.{office_schema}
@@ -149,7 +149,7 @@ same_content a b same = λ i. record {
   used_part = same table.UsedPart i;
 }
 
-rows_with : (tables : Content) (t : Table) (rows : Rows) (other : Table) → rows_at (with_rows tables t rows) other ≡ cond (is_same_table t other) rows (rows_at tables other)
+rows_with : (tables : Content) (t : Table) (rows : TableRows) (other : Table) → rows_at (with_rows tables t rows) other ≡ cond (is_same_table t other) rows (rows_at tables other)
 rows_with tables t rows = each (λ other. rows_at (with_rows tables t rows) other
     ≡ cond (is_same_table t other) rows (rows_at tables other)) refl refl refl refl refl refl refl refl
 
@@ -169,7 +169,7 @@ module _ (old new : Trees) (tree : ℕ) (others : AllByRecursion (λ x. x.tree �
   none_in apart = same_content (content_of new) (content_of old) (λ t. stays t (apart t))
 
 -- one table has these rows, and the others are as they were
-pub only_in : (old new : Trees) (t : Table) (rows : Rows) → AllByRecursion (λ x. x.tree ≢ (schema_at t).tree → new x.tree ≡ old x.tree) office_schema.tables → rows_in (layout_at t) (new (schema_at t).tree) ≡ rows
+pub only_in : (old new : Trees) (t : Table) (rows : TableRows) → AllByRecursion (λ x. x.tree ≢ (schema_at t).tree → new x.tree ≡ old x.tree) office_schema.tables → rows_in (layout_at t) (new (schema_at t).tree) ≡ rows
     → content_of new ≡ with_rows (content_of old) t rows
 only_in old new t rows others is =
     same_content (content_of new) (with_rows (content_of old) t rows) (λ other. go other (cases_Bool (is_same_table t other)) ∙ sym (rows_with (content_of old) t rows other))

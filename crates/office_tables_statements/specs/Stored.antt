@@ -6,7 +6,7 @@ use Rattle.sqlite.specs.declared.types.Value.TheVariants.{Null, Int, Real, Text,
 use Rattle.sqlite.specs.Order.{Row, column}
 use Rattle.sqlite.specs.State.{State}
 use Rattle.sqlite.specs.Tree.{Trees}
-use Rattle.office_tables_shelf.specs.Cells.{Cell, Rows, rows_by, null, number, text, odd}
+use Rattle.office_tables_shelf.specs.Cells.{Cell, TableRows, rows_by, null, number, text, odd}
 use Rattle.office_tables_shelf.specs.Content.{Content}
 use Rattle.office_tables_statements.specs.Layout as layout
 use Rattle.office_tables_statements.specs.Layout.{Layout, values_at}
@@ -29,23 +29,23 @@ abbrev pub cells_at : List ℕ → Row → List Cell
 cells_at places row = cells (values_at places row)
 
 -- the rows of a table, by the cells of their keys
-abbrev pub rows_in : Layout → List Row → Rows
+abbrev pub rows_in : Layout → List Row → TableRows
 rows_in t = rows_by (cells_at t.keys) (cells_at t.columns)
 
-abbrev pub rows_of : Layout → Trees → Rows
-rows_of t trees = rows_in t (trees t.tree)
+abbrev pub rows_stored : Layout → Trees → TableRows
+rows_stored t trees = rows_in t (trees t.tree)
 
 -- what the trees of the eight tables hold
 abbrev pub content_of : Trees → Content
 content_of trees = record {
-  intersection = rows_of layout.intersection trees;
-  timing = rows_of layout.timing trees;
-  draft = rows_of layout.draft trees;
-  inspection = rows_of layout.inspection trees;
-  work_order = rows_of layout.work_order trees;
-  part = rows_of layout.part trees;
-  delivery = rows_of layout.delivery trees;
-  used_part = rows_of layout.used_part trees;
+  intersection = rows_stored layout.intersection trees;
+  timing = rows_stored layout.timing trees;
+  draft = rows_stored layout.draft trees;
+  inspection = rows_stored layout.inspection trees;
+  work_order = rows_stored layout.work_order trees;
+  part = rows_stored layout.part trees;
+  delivery = rows_stored layout.delivery trees;
+  used_part = rows_stored layout.used_part trees;
 }
 
 -- what the tables of a connection hold now

@@ -1,5 +1,5 @@
 -- The eight tables by their names: where each keeps its rows, and what its statements mean.
-use Rattle.std.specs.Prelude.{◌≡◌, ◌≢◌, ℕ, suc, ℤ, pos, negsuc, Bool, true, false, ◌&&◌, cond, List, [], ◌∷◌, ◌++◌, map, length, Option, Some, None, IfSome, Ok, slice_get, unwrap_or}
+use Rattle.std.specs.Prelude.{◌≡◌, ℕ, suc, ℤ, pos, negsuc, Bool, true, false, ◌&&◌, cond, List, [], ◌∷◌, ◌++◌, map, length, Option, Some, None, IfSome, Ok, slice_get, unwrap_or}
 use Rattle.std.specs.Option.{option_map}
 use Rattle.std.specs.FinMap.{get, entries}
 use Rattle.std.specs.FinMap.Entries.{where_key}
@@ -28,11 +28,11 @@ use Rattle.sqlite_sql.specs.declared.ops.CompareOp.TheVariants.{Eq}
 use Rattle.sqlite_value.specs.Keys.{ascending}
 use Rattle.signal_records.specs.Key.{kind_of, first_of, second_of}
 use Rattle.signal_records.specs.declared.key.Key.{Key}
-use Rattle.office_tables_shelf.specs.Cells.{Cell, Rows, cells_cmp, null, number, text, odd}
+use Rattle.office_tables_shelf.specs.Cells.{Cell, TableRows, cells_cmp, null, number, text, odd}
 use Rattle.office_tables_shelf.specs.Content.{Content}
 pub use Rattle.office_tables_shelf.specs.Content.{rows_at, place_at, with_rows, put_in, remove_in}
 pub use Rattle.office_tables_shelf.specs.Content.{drop_in}
-use Rattle.office_tables_shelf.specs.Shelf.{is_of}
+pub use Rattle.office_tables_shelf.specs.Reads.{is_parted, is_among, IsNoRow, HasDamagedRow, ReadsRow, HasDamagedUnder}
 use Rattle.office_tables_shelf.specs.declared.rows.Table.{Table}
 use Rattle.office_tables_shelf.specs.declared.rows.Table.TheVariants as table
 use Rattle.office_tables_statements.specs.Calls.{IsQuery, IsWriting, command_of}
@@ -77,16 +77,6 @@ is_keyed table.UsedPart = true
 
 -- ---- the rows of a list: those of an intersection, or all where a table is not parted by intersections
 
-abbrev pub is_parted : Table → Bool
-is_parted table.Intersection = false
-is_parted table.Timing = true
-is_parted table.Draft = true
-is_parted table.Inspection = true
-is_parted table.WorkOrder = true
-is_parted table.Part = false
-is_parted table.Delivery = false
-is_parted table.UsedPart = true
-
 -- the rows whose first key column is the parameter
 abbrev pub of_parameter : List Term
 of_parameter = op2 (Compare Eq Binary) (col 1 1) (col 0 0) ∷ []
@@ -97,10 +87,7 @@ filter_of t = cond (is_parted t) of_parameter []
 abbrev pub params_of : Table → ℕ → Row
 params_of t id = cond (is_parted t) (Int (pos id) ∷ []) []
 
-abbrev pub is_among : Table → ℕ → List Cell → Bool
-is_among t id = cond (is_parted t) (is_of id) (λ _. true)
-
-abbrev pub rows_among : Table → ℕ → Rows → List (List Cell × List Cell)
+abbrev pub rows_among : Table → ℕ → TableRows → List (List Cell × List Cell)
 rows_among t id rows = where_key cells_cmp (is_among t id) (entries rows)
 
 -- ---- a row as a list shows it: the columns of the key, and then the others
@@ -133,29 +120,6 @@ stored_for key columns id x = (key id x, columns x)
 -- the rows of the list in the table, in the order of their keys
 abbrev pub ListsRows : {X : Type 0} → Table → (ℕ → X → List Cell) → (X → List Cell) → Content → ℕ → List X → Type 0
 ListsRows t key columns tables id xs = map (stored_for key columns id) xs ≡ rows_among t id (rows_at tables t)
-
--- nothing within its limits has these cells
-abbrev pub IsNoRow : {X : Type 0} → (X → Type 0) → (ℕ → X → List Cell) → (X → List Cell) → ℕ → List Cell → List Cell → Type 0
-IsNoRow {X} is_within key columns id stored others = (x : X) → is_within x → stored ≡ key id x → others ≢ columns x
-
--- one of those rows is nothing within its limits
-pub record HasDamagedRow {X : Type 0} (t : Table) (is_within : X → Type 0) (key_of : ℕ → X → List Cell) (columns_of : X → List Cell) (tables : Content) (id : ℕ) : Type 0 where
-  pub key : List Cell
-  pub columns : List Cell
-  pub of : is_among t id key ≡ true
-  pub stored : get (rows_at tables t) key ≡ Some columns
-  pub no_row : IsNoRow is_within key_of columns_of id key columns
-
--- what is stored under the key is the row that is found, if one is
-pub record ReadsRow {X : Type 0} (t : Table) (key_of : ℕ → X → List Cell) (columns_of : X → List Cell) (tables : Content) (id : ℕ) (key : List Cell) (found : Option X) : Type 0 where
-  pub stored : get (rows_at tables t) key ≡ option_map columns_of found
-  pub keyed : IfSome found (λ x. key_of id x ≡ key)
-
--- what stands under the key is nothing within its limits
-pub record HasDamagedUnder {X : Type 0} (t : Table) (is_within : X → Type 0) (key_of : ℕ → X → List Cell) (columns_of : X → List Cell) (tables : Content) (id : ℕ) (key : List Cell) : Type 0 where
-  pub columns : List Cell
-  pub stored : get (rows_at tables t) key ≡ Some columns
-  pub no_row : IsNoRow is_within key_of columns_of id key columns
 
 -- the row shows what stands under the key, if anything does
 pub record IsUnder (t : Table) (tables : Content) (key : List Cell) (found : Option Row) : Type 0 where

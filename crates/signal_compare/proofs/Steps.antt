@@ -11,7 +11,7 @@ use Rattle.signal_records.proofs.Sets.{not_found}
 use Rattle.signal_values.proofs.Ties.{both, is_less, parts, tied}
 use Rattle.signal_compare.specs.{declared.difference.Difference.Difference, declared.difference.Difference.TheVariants.Added}
 use Rattle.signal_compare.specs.declared.difference.Difference.TheVariants.{Removed, Changed}
-use Rattle.signal_compare.specs.{Difference.difference_at, Difference.Explains, Merging.keyed, Merging.placed, Merging.AreInOrder}
+use Rattle.signal_compare.specs.{Difference.difference_at, Difference.Explains, Difference.place_of, Merging.under_keys, Merging.KeysAscend}
 use Rattle.signal_compare.specs.Merging.{AreDifferences, TellsChange, next_order}
 
 pub less : (o : Ordering) → o ≡ Less → T (is_lt o)
@@ -65,44 +65,44 @@ pub nothing_left : AreDifferences [] [] []
 nothing_left = record { sorted = tt; explained = λ key. refl; above = λ key one other. tt }
 
 pub removed_first : (a : Row) (first second : List Row) (rest : List Difference)
-    → AreInOrder (a ∷ first) → T (below_all key_cmp (key_of a) (keyed second))
+    → KeysAscend (a ∷ first) → T (below_all key_cmp (key_of a) (under_keys key_of second))
     → AreDifferences first second rest → AreDifferences (a ∷ first) second (Removed a ∷ rest)
 removed_first a first second rest order low are =
-    let own = parts (below_all key_cmp (key_of a) (keyed first)) _ order in
+    let own = parts (below_all key_cmp (key_of a) (under_keys key_of first)) _ order in
     record {
       sorted = both _ _ (are.above (key_of a) own.0 low) are.sorted;
       explained = λ key. explains_removed (is_eq (key_cmp key (key_of a))) a _ _ _
-          (λ e. found_nowhere key (key_of a) (keyed second) e low) (are.explained key);
+          (λ e. found_nowhere key (key_of a) (under_keys key_of second) e low) (are.explained key);
       above = λ key one other. let here = parts (is_lt (key_cmp key (key_of a))) _ one in both _ _
           here.0 (are.above key here.1 other);
     }
 
 pub added_first : (b : Row) (first second : List Row) (rest : List Difference)
-    → AreInOrder (b ∷ second) → T (below_all key_cmp (key_of b) (keyed first))
+    → KeysAscend (b ∷ second) → T (below_all key_cmp (key_of b) (under_keys key_of first))
     → AreDifferences first second rest → AreDifferences first (b ∷ second) (Added b ∷ rest)
 added_first b first second rest order low are =
-    let own = parts (below_all key_cmp (key_of b) (keyed second)) _ order in
+    let own = parts (below_all key_cmp (key_of b) (under_keys key_of second)) _ order in
     record {
       sorted = both _ _ (are.above (key_of b) low own.0) are.sorted;
       explained = λ key. explains_added (is_eq (key_cmp key (key_of b))) b _ _ _
-          (λ e. found_nowhere key (key_of b) (keyed first) e low) (are.explained key);
+          (λ e. found_nowhere key (key_of b) (under_keys key_of first) e low) (are.explained key);
       above = λ key one other. let here = parts (is_lt (key_cmp key (key_of b))) _ other in both _ _
           here.0 (are.above key one here.1);
     }
 
 pub changed_first : (a b : Row) (first second : List Row) (rest : List Difference)
-    → key_of a ≡ key_of b → a ≢ b → AreInOrder (a ∷ first) → AreInOrder (b ∷ second)
+    → key_of a ≡ key_of b → a ≢ b → KeysAscend (a ∷ first) → KeysAscend (b ∷ second)
     → AreDifferences first second rest → AreDifferences (a ∷ first) (b ∷ second)
     (Changed a b ∷ rest)
 changed_first a b first second rest same differ order_a order_b are =
-    let own_a = parts (below_all key_cmp (key_of a) (keyed first)) _ order_a in
-    let own_b = parts (below_all key_cmp (key_of b) (keyed second)) _ order_b in
+    let own_a = parts (below_all key_cmp (key_of a) (under_keys key_of first)) _ order_a in
+    let own_b = parts (below_all key_cmp (key_of b) (under_keys key_of second)) _ order_b in
     record {
-      sorted = both _ _ (are.above (key_of b) (subst (λ k. T (below_all key_cmp k (keyed first)))
+      sorted = both _ _ (are.above (key_of b) (subst (λ k. T (below_all key_cmp k (under_keys key_of first)))
           same own_a.0) own_b.0) are.sorted;
       explained = λ key.
           subst (λ k. Explains (cond (is_eq (key_cmp key k)) (Some a)
-          (find key_cmp key (keyed first))) (find key_cmp key (keyed (b ∷ second)))
+          (find key_cmp key (under_keys key_of first))) (find key_cmp key (under_keys key_of (b ∷ second)))
           (difference_at key (Changed a b ∷ rest))) (sym same)
           (explains_changed (is_eq (key_cmp key (key_of b))) a b _ _ _ differ (are.explained key));
       above = λ key one other.
@@ -112,15 +112,15 @@ changed_first a b first second rest same differ order_a order_b are =
     }
 
 pub same_first : (a : Row) (first second : List Row) (rest : List Difference)
-    → AreInOrder (a ∷ first) → AreInOrder (a ∷ second) → AreDifferences first second rest
+    → KeysAscend (a ∷ first) → KeysAscend (a ∷ second) → AreDifferences first second rest
     → AreDifferences (a ∷ first) (a ∷ second) rest
 same_first a first second rest order_a order_b are =
-    let own_a = parts (below_all key_cmp (key_of a) (keyed first)) _ order_a in
-    let own_b = parts (below_all key_cmp (key_of a) (keyed second)) _ order_b in
+    let own_a = parts (below_all key_cmp (key_of a) (under_keys key_of first)) _ order_a in
+    let own_b = parts (below_all key_cmp (key_of a) (under_keys key_of second)) _ order_b in
     record {
       sorted = are.sorted;
       explained = λ key. explains_same (is_eq (key_cmp key (key_of a))) a _ _ _
-          (λ e. found_nowhere key (key_of a) (placed rest) e (are.above (key_of a) own_a.0 own_b.0))
+          (λ e. found_nowhere key (key_of a) (under_keys place_of rest) e (are.above (key_of a) own_a.0 own_b.0))
           (are.explained key);
       above = λ key one other.
           let here_a = parts (is_lt (key_cmp key (key_of a))) _ one in
@@ -129,10 +129,10 @@ same_first a first second rest order_a order_b are =
     }
 
 -- the rows after the first are in order
-pub in_order_after : (rows next : List Row) → next ≡ drop 1 rows → AreInOrder rows → AreInOrder next
-in_order_after [] next is order = subst AreInOrder (sym is) tt
+pub in_order_after : (rows next : List Row) → next ≡ drop 1 rows → KeysAscend rows → KeysAscend next
+in_order_after [] next is order = subst KeysAscend (sym is) tt
 in_order_after (r ∷ rows) next is order =
-    subst AreInOrder (sym is) (parts (below_all key_cmp (key_of r) (keyed rows)) _ order).1
+    subst KeysAscend (sym is) (parts (below_all key_cmp (key_of r) (under_keys key_of rows)) _ order).1
 
 some_same : (o p : Ordering) → Some o ≡ Some p → o ≡ p
 some_same o p e = cc
@@ -145,7 +145,7 @@ Continues whole_first whole_second first second old =
 
 module _ (whole_first whole_second : List Row) where
   pub after_less : (first second next : List Row) (row copy : Row) (old new : List Difference)
-      → next_order first second ≡ Some Less → AreInOrder first → AreInOrder second
+      → next_order first second ≡ Some Less → KeysAscend first → KeysAscend second
       → row ≡ get_or first 0 row → copy ≡ row → next ≡ drop 1 first → new ≡ old ++ Removed copy ∷ []
       → Continues whole_first whole_second first second old
       → Continues whole_first whole_second next second new
@@ -161,14 +161,14 @@ module _ (whole_first whole_second : List Row) where
       λ order_a order_b at same after pushed so_far rest are.
       let one : copy ≡ a = same ∙ at in
       let lower : key_cmp (key_of a) (key_of b) ≡ Less = some_same _ _ lt in
-      let low = both _ _ (less _ lower) (below_further (key_of a) (key_of b) (keyed second) lower
-      (parts (below_all key_cmp (key_of b) (keyed second)) _ order_b).0) in
+      let low = both _ _ (less _ lower) (below_further (key_of a) (key_of b) (under_keys key_of second) lower
+      (parts (below_all key_cmp (key_of b) (under_keys key_of second)) _ order_b).0) in
       rw (pushed, append_assoc, one) (so_far (Removed a ∷ rest)
       (removed_first a first (b ∷ second) rest order_a low
       (subst (λ n. AreDifferences n (b ∷ second) rest) after are)))
 
   pub after_greater : (first second next : List Row) (row copy : Row) (old new : List Difference)
-      → next_order first second ≡ Some Greater → AreInOrder first → AreInOrder second
+      → next_order first second ≡ Some Greater → KeysAscend first → KeysAscend second
       → row ≡ get_or second 0 row → copy ≡ row → next ≡ drop 1 second → new ≡ old ++ Added copy ∷ []
       → Continues whole_first whole_second first second old
       → Continues whole_first whole_second first next new
@@ -185,15 +185,15 @@ module _ (whole_first whole_second : List Row) where
       let one : copy ≡ b = same ∙ at in
       let lower : key_cmp (key_of b) (key_of a) ≡ Less =
       key_total.antisymm (key_of b) (key_of a) ∙ ap ordering_reverse (some_same _ _ greater) in
-      let low = both _ _ (less _ lower) (below_further (key_of b) (key_of a) (keyed first) lower
-      (parts (below_all key_cmp (key_of a) (keyed first)) _ order_a).0) in
+      let low = both _ _ (less _ lower) (below_further (key_of b) (key_of a) (under_keys key_of first) lower
+      (parts (below_all key_cmp (key_of a) (under_keys key_of first)) _ order_a).0) in
       rw (pushed, append_assoc, one) (so_far (Added b ∷ rest)
       (added_first b (a ∷ first) second rest order_b low
       (subst (λ n. AreDifferences (a ∷ first) n rest) after are)))
 
   pub after_equal : (first second next_first next_second : List Row) (a b : Row)
-      (old new : List Difference) → next_order first second ≡ Some Equal → AreInOrder first
-      → AreInOrder second → a ≡ get_or first 0 a → b ≡ get_or second 0 b → next_first ≡ drop 1 first
+      (old new : List Difference) → next_order first second ≡ Some Equal → KeysAscend first
+      → KeysAscend second → a ≡ get_or first 0 a → b ≡ get_or second 0 b → next_first ≡ drop 1 first
       → next_second ≡ drop 1 second → TellsChange a b old new
       → Continues whole_first whole_second first second old
       → Continues whole_first whole_second next_first next_second new
@@ -208,7 +208,7 @@ module _ (whole_first whole_second : List Row) where
             let one : x ≡ y = sym at_a ∙ same.0 ∙ at_b in
             rw same.1 (so_far rest (subst (λ z. AreDifferences (x ∷ first) (z ∷ second) rest) one
             (same_first x first second rest order_a
-            (subst (λ z. AreInOrder (z ∷ second)) (sym one) order_b) left)))
+            (subst (λ z. KeysAscend (z ∷ second)) (sym one) order_b) left)))
         | inr differ ↦
             let other : x ≢ y = λ e. differ.0 (at_a ∙ e ∙ sym at_b) in
             let key : key_of x ≡ key_of y = key_exact (key_of x) (key_of y) (some_same _ _ equal) in

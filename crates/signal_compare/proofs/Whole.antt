@@ -10,9 +10,9 @@ use Rattle.signal_records.specs.{declared.key.Key.Key, declared.record.Row.Row, 
 use Rattle.signal_records.specs.{Row.key_of, TimingSet.Rows, TimingSet.AreKeyed, TimingSet.after_change, TimingSet.after_changes}
 use Rattle.signal_compare.specs.{declared.difference.Difference.Difference, declared.difference.Difference.TheVariants.Added}
 use Rattle.signal_compare.specs.declared.difference.Difference.TheVariants.{Removed, Changed}
-use Rattle.signal_compare.specs.Difference.{place_of, change_of, changes_of, difference_at, AreTold}
+use Rattle.signal_compare.specs.Difference.{place_of, change_of, difference_changes, difference_at, AreTold}
 use Rattle.signal_compare.specs.Difference.{Explains}
-use Rattle.signal_compare.specs.Merging.{keyed, placed, AreInOrder, AreDifferences}
+use Rattle.signal_compare.specs.Merging.{under_keys, KeysAscend, AreDifferences}
 use Rattle.signal_records.proofs.Sets.{keyed_values}
 use Rattle.signal_values.proofs.Ties.{is_less, parts}
 use Rattle.signal_compare.proofs.Steps.{found_nowhere}
@@ -26,31 +26,31 @@ pub rows_of : {set : Rows} {rows shown : List Row} → shown ≡ rows → rows �
     → AreKeyed (entries set) → AreRowsOf set shown
 rows_of same are stand = record { are = same ∙ are; stand = stand }
 
-keyed_rows : (set : Rows) (rows : List Row) → AreRowsOf set rows → keyed rows ≡ entries set
-keyed_rows set rows of = ap keyed of.are ∙ keyed_values (entries set) of.stand
+keyed_rows : (set : Rows) (rows : List Row) → AreRowsOf set rows → under_keys key_of rows ≡ entries set
+keyed_rows set rows of = ap (under_keys key_of) of.are ∙ keyed_values (entries set) of.stand
 
-pub in_order : (set : Rows) (rows : List Row) → AreRowsOf set rows → AreInOrder rows
+pub in_order : (set : Rows) (rows : List Row) → AreRowsOf set rows → KeysAscend rows
 in_order set rows of = subst (λ es. T (is_sorted key_cmp es)) (sym (keyed_rows set rows of))
     (entries_sorted set)
 
 found : (set : Rows) (rows : List Row) → AreRowsOf set rows → (q : Key)
-    → find key_cmp q (keyed rows) ≡ get set q
+    → find key_cmp q (under_keys key_of rows) ≡ get set q
 found set rows of q = ap (find key_cmp q) (keyed_rows set rows of) ∙ sym (get-entries set q)
 
 -- the keys of the differences ascend
-below_each : (k : Key) (ds : List Difference) → T (below_all key_cmp k (placed ds))
+below_each : (k : Key) (ds : List Difference) → T (below_all key_cmp k (under_keys place_of ds))
     → AllByRecursion (λ j. key_cmp k j ≡ Less) (map place_of ds)
 below_each k [] h = tt
 below_each k (d ∷ ds) h =
     let each = parts (is_lt (key_cmp k (place_of d))) _ h in
     (is_less _ each.0, below_each k ds each.1)
 
-ascend : (ds : List Difference) → T (is_sorted key_cmp (placed ds))
+ascend : (ds : List Difference) → T (is_sorted key_cmp (under_keys place_of ds))
     → IsStrictlySortedBy key_cmp (map place_of ds)
 unfolding IsStrictlySortedBy
 ascend [] h = tt
 ascend (d ∷ ds) h =
-    let each = parts (below_all key_cmp (place_of d) (placed ds)) _ h in
+    let each = parts (below_all key_cmp (place_of d) (under_keys place_of ds)) _ h in
     (below_each (place_of d) ds each.0, ascend ds each.1)
 
 -- what a key has after its difference was made
@@ -80,15 +80,15 @@ first_or_last true (Added row) later there none = rw (none refl) refl
 first_or_last false d later there none = refl
 first_or_last true _ later there none = rw (none refl) refl
 
-made_all : (set : Rows) (ds : List Difference) (q : Key) → T (is_sorted key_cmp (placed ds))
-    → get (after_changes set (changes_of ds)) q ≡ made (difference_at q ds) (get set q)
+made_all : (set : Rows) (ds : List Difference) (q : Key) → T (is_sorted key_cmp (under_keys place_of ds))
+    → get (after_changes set (difference_changes ds)) q ≡ made (difference_at q ds) (get set q)
 made_all set [] q sorted = refl
 made_all set (d ∷ ds) q sorted =
-    let each = parts (below_all key_cmp (place_of d) (placed ds)) _ sorted in
+    let each = parts (below_all key_cmp (place_of d) (under_keys place_of ds)) _ sorted in
     made_all (after_change set (change_of d)) ds q each.1
     ∙ ap (made (difference_at q ds)) (after_one set d q)
     ∙ first_or_last (eq_by_cmp key_cmp q (place_of d)) d (difference_at q ds) (get set q)
-    (λ e. found_nowhere q (place_of d) (placed ds) e each.0)
+    (λ e. found_nowhere q (place_of d) (under_keys place_of ds) e each.0)
 
 module _ (first second : Rows) (before after : List Row) (of_first : AreRowsOf first before)
     (of_second : AreRowsOf second after) (ds : List Difference)
@@ -97,7 +97,7 @@ module _ (first second : Rows) (before after : List Row) (of_first : AreRowsOf f
   explained q = rw (← found first before of_first q, ← found second after of_second q)
       (are.explained q)
 
-  makes : after_changes first (changes_of ds) ≡ second
+  makes : after_changes first (difference_changes ds) ≡ second
   makes = same_map key_total key_exact _ _ (λ q. made_all first ds q are.sorted
       ∙ made_told _ _ (difference_at q ds) (explained q))
 
@@ -117,6 +117,6 @@ module _ {V E : Type 0} (items : V → List Difference) (first second : Rows)
   given_told (Err e) are = tt
 
   pub given_makes : (result : Result V E) → Compared result
-      → IfOk result (λ v. after_changes first (changes_of (items v)) ≡ second)
+      → IfOk result (λ v. after_changes first (difference_changes (items v)) ≡ second)
   given_makes (Ok v) are = makes first second before after of_first of_second (items v) are
   given_makes (Err e) are = tt

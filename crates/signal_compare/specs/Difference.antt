@@ -24,8 +24,8 @@ change_of (Added row) = Put row
 change_of (Removed row) = Remove (key_of row)
 change_of (Changed before after) = Put after
 
-abbrev pub changes_of : List Difference → List Change
-changes_of differences = map change_of differences
+abbrev pub difference_changes : List Difference → List Change
+difference_changes differences = map change_of differences
 
 -- the difference at a key, if there is one
 abbrev pub difference_at : Key → List Difference → Option Difference

@@ -12,17 +12,13 @@ use Rattle.signal_compare.specs.declared.difference.Difference.{Difference}
 use Rattle.signal_compare.specs.declared.difference.Difference.TheVariants.{Changed}
 use Rattle.signal_compare.specs.Difference.{place_of, difference_at, Explains}
 
--- rows under their keys
-abbrev pub keyed : List Row → List (Key × Row)
-keyed rows = map (λ r. (key_of r, r)) rows
-
--- differences under their keys
-abbrev pub placed : List Difference → List (Key × Difference)
-placed differences = map (λ d. (place_of d, d)) differences
+-- values under their keys
+abbrev pub under_keys : {X : Type 0} → (X → Key) → List X → List (Key × X)
+under_keys key xs = map (λ x. (key x, x)) xs
 
 -- the keys of the rows ascend
-abbrev pub AreInOrder : List Row → Type 0
-AreInOrder rows = T (is_sorted key_cmp (keyed rows))
+abbrev pub KeysAscend : List Row → Type 0
+KeysAscend rows = T (is_sorted key_cmp (under_keys key_of rows))
 
 -- how the first rows' keys compare; a list that has no row comes last, and where none has there is
 -- no answer
@@ -34,12 +30,12 @@ next_order (a ∷ first) (b ∷ second) = Some (key_cmp (key_of a) (key_of b))
 
 -- the differences of two lists of rows, in the order of their keys
 pub record AreDifferences (first second : List Row) (differences : List Difference) : Type 0 where
-  pub sorted : T (is_sorted key_cmp (placed differences))
+  pub sorted : T (is_sorted key_cmp (under_keys place_of differences))
   pub explained : (key : Key) →
-      Explains (find key_cmp key (keyed first)) (find key_cmp key (keyed second))
+      Explains (find key_cmp key (under_keys key_of first)) (find key_cmp key (under_keys key_of second))
       (difference_at key differences)
-  pub above : (key : Key) → T (below_all key_cmp key (keyed first))
-      → T (below_all key_cmp key (keyed second)) → T (below_all key_cmp key (placed differences))
+  pub above : (key : Key) → T (below_all key_cmp key (under_keys key_of first))
+      → T (below_all key_cmp key (under_keys key_of second)) → T (below_all key_cmp key (under_keys place_of differences))
 
 -- two rows of a key are told where they differ
 abbrev pub TellsChange : Row → Row → List Difference → List Difference → Type 0

@@ -2,8 +2,8 @@
 
 ghost use Rattle.std.specs.Prelude.{◌≡◌, drop, IfOk, OnOk};
 ghost use Rattle.signal_records.specs.TimingSet.{after_changes};
-ghost use Rattle.signal_compare.specs.Difference.{AreTold, changes_of};
-ghost use Rattle.signal_compare.specs.Merging.{AreInOrder, AreDifferences, TellsChange, next_order};
+ghost use Rattle.signal_compare.specs.Difference.{AreTold, difference_changes};
+ghost use Rattle.signal_compare.specs.Merging.{KeysAscend, AreDifferences, TellsChange, next_order};
 
 use crate::difference::Difference;
 use signal_records::{NoMemory, Row, TimingSet};
@@ -57,8 +57,8 @@ fn differences_of(
     mut first: &[Row],
     mut second: &[Row],
 ) -> Result<Vec<Difference>, NoMemory>
-    requires first { AreInOrder first.now }
-    requires second { AreInOrder second.now }
+    requires first { KeysAscend first.now }
+    requires second { KeysAscend second.now }
     ensures { IfOk result (λ differences. AreDifferences first.now second.now differences.items) }
 {
     let mut differences = Vec::new(alloc);
@@ -93,7 +93,7 @@ pub fn compare(
 ) -> Result<Vec<Difference>, NoMemory>
     ensures told { IfOk result (λ found. AreTold first.now second.now found.items) }
     ensures makes { IfOk result
-        (λ found. after_changes first.now (changes_of found.items) ≡ second.now) }
+        (λ found. after_changes first.now (difference_changes found.items) ≡ second.now) }
 {
     let before = first.rows(alloc)?;
     let after = second.rows(alloc)?;

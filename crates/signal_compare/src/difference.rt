@@ -1,7 +1,7 @@
 //! A difference of two timing sets, and the change that makes it.
 
 ghost use Rattle.std.specs.Prelude.{◌≡◌, IfOk};
-ghost use Rattle.signal_compare.specs.Difference.{change_of, changes_of};
+ghost use Rattle.signal_compare.specs.Difference.{change_of, difference_changes};
 
 use signal_records::{Change, NoMemory, Row};
 use std::alloc::Global;
@@ -31,7 +31,7 @@ fn change_of(difference: &Difference) -> Result<Change, NoMemory>
 /// The changes that make the second set of the first, in the order of the differences: a row that
 /// was added or changed is put, and the key of one that was removed is removed.
 pub fn changes(alloc: Global, differences: &[Difference]) -> Result<Vec<Change>, NoMemory>
-    ensures { IfOk result (λ changes. changes.items ≡ changes_of differences.now) }
+    ensures { IfOk result (λ changes. changes.items ≡ difference_changes differences.now) }
 {
     let mut changes = Vec::new(alloc);
     for difference in differences {

@@ -13,7 +13,7 @@ use Rattle.office_machine.specs.declared.refusal.Refusal.TheVariants as refusal
 use Rattle.office_files.specs.declared.fault.CsvFault.{CsvFault}
 use Rattle.office_files.specs.declared.fault.CsvFault.TheVariants as file
 use Rattle.signal_office_commands.specs.Asking.{IsUnread}
-use Rattle.signal_office_commands.specs.Cabinet.{IsThere}
+use Rattle.signal_office_commands.specs.Cabinet.{HasIntersection}
 use Rattle.signal_office_commands.specs.Fault.{IsFaultOfQuery, TellsUnknown}
 use Rattle.signal_office_commands.specs.Refused.{fault_of, fault_of_record, record_refusal}
 use Rattle.signal_office_faults.specs.declared.fault.Fault.{Fault}
@@ -130,5 +130,5 @@ no_some : IsSome {T = Intersection} None → ⊥
 no_some is = cc
 
 -- nor one of memory of an intersection that the office has
-pub known_tells_memory : (office : Office) (id : ℕ) → IsThere office id → TellsUnknown office id told.Memory
+pub known_tells_memory : (office : Office) (id : ℕ) → HasIntersection office id → TellsUnknown office id told.Memory
 known_tells_memory office id there = record { unknown = λ e. cc; missing = λ none. absurd (no_some (subst IsSome none there)) }

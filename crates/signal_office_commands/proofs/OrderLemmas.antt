@@ -5,7 +5,7 @@ use Rattle.std.specs.{FinMap.entries, FinMap.get, List.AllByRecursion, Option.Is
 use Rattle.office_tables_shelf.specs.{Cells.Cell, Content.Content, Damage.HasAnyDamagedIntersection, Rows.intersection_columns, Rows.intersection_key, declared.rows.IntersectionRow.IntersectionRow}
 use Rattle.office_tables_shelf.proofs.{ListLemmas.all_more, ListedRows.table_row}
 use Rattle.office_desk.specs.Damage.{MeetsDamage}
-use Rattle.office_desk_timing.specs.Listing.{ListsRows, listed_in}
+use Rattle.office_desk_timing.specs.Listing.{ListsEachIntersection, listed_in}
 use Rattle.office_machine.specs.declared.command.Command.TheVariants as command
 use Rattle.office_machine.specs.{Listed.intersection_listed, Listed.intersections_of, Office.Office, Office.Intersection}
 use Rattle.office_machine.specs.declared.intersections.ListedIntersection.{ListedIntersection}
@@ -98,7 +98,7 @@ there_at tables id (inl row) = (row.columns, row.stored)
 there_at tables id (inr cabinet) = some_stored (get tables.intersection (intersection_key id)) cabinet.0
 
 -- where those of all that are listed were read, none is damaged
-pub all_whole : (tables : Content) (list : List ListedIntersection) → ListsRows tables list → ¬ HasAnyDamagedIntersection tables → AreWhole tables list
+pub all_whole : (tables : Content) (list : List ListedIntersection) → ListsEachIntersection tables list → ¬ HasAnyDamagedIntersection tables → AreWhole tables list
     → ¬ MeetsOrdersDamage tables None
 all_whole tables list lists sound whole (inl damaged) = sound damaged
 all_whole tables list lists sound whole (inr damaged) =

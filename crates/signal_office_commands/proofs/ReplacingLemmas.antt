@@ -12,9 +12,9 @@ use Rattle.office_machine.specs.declared.reply.Reply.TheVariants as reply
 use Rattle.office_tables_shelf.specs.Content.{Content}
 use Rattle.signal_office_commands.proofs.{AskingLemmas.was_run, RevisingLemmas.held_base, RevisingLemmas.revised_draft, RevisingLemmas.revised_set, ShownLemmas.timing_found, ShownLemmas.rows_drafted}
 use Rattle.office_files.specs.Changes.{changes_of}
-use Rattle.signal_office_commands.specs.{Asking.Answered, Asking.Ran, Committing.Goes, Committing.commit_commands, Committing.commit_told, Committing.is_due, Showing.ShowsDraft, Showing.ShowsTiming, Showing.draft_shown, Showing.timing_shown}
+use Rattle.signal_office_commands.specs.{Asking.Answered, Asking.RanCommands, Committing.Goes, Committing.commit_commands, Committing.commit_told, Committing.is_due, Showing.ShowsDraft, Showing.ShowsTiming, Showing.draft_shown, Showing.timing_shown}
 use Rattle.signal_office_commands.specs.Replacing.{LeavesPlan, LeftPlan, TellsNoChange, base_at, draft_set, plan_wanted}
-use Rattle.signal_office_commands.specs.Revising.{Drafts, Ends, Finishes, Revises, Stays, WouldBe, outcome_of}
+use Rattle.signal_office_commands.specs.Revising.{Drafts, EndsRevision, Finishes, Revises, Stays, WouldBe, outcome_of}
 use Rattle.signal_office_commands.specs.Standing.{AreWanted, ShowsIfOpen, base_from, base_of, if_open}
 use Rattle.signal_office_commands.specs.declared.revising.{EditMode.EditMode, Outcome.TheVariants.Open, Outcome.TheVariants.Same, Outcome.TheVariants.Committed, Revised.Revised}
 use Rattle.signal_office_commands.specs.declared.standing.StandingPlan.{StandingPlan}
@@ -150,7 +150,7 @@ module _ (bytes : List ℕ) (id : ℕ) (clerk : List ℕ) (mode : EditMode) (old
   }
 
   -- it was committed
-  settled : (middle : Content) → After middle → Ran commit_told middle (commit_commands id clerk) new (Ok tt) → TellsNoChange mode.commit i.timing.committed wanted false
+  settled : (middle : Content) → After middle → RanCommands commit_told middle (commit_commands id clerk) new (Ok tt) → TellsNoChange mode.commit i.timing.committed wanted false
       → LeftPlan bytes id mode before new Committed
   settled middle after ran told =
       let run = ran.run after.office after.stand in
@@ -213,7 +213,7 @@ module _ (bytes : List ℕ) (id : ℕ) (clerk : List ℕ) (mode : EditMode) (old
 pub leaves : (bytes : List ℕ) (id : ℕ) (clerk : List ℕ) (mode : EditMode) (old new : Content) (done : Revised)
     → Revises bytes id clerk mode old new (Ok done) → LeavesPlan bytes id mode done.outcome old new
 leaves bytes id clerk mode old new done r before stands = by_ends r.ends where
-  by_ends : Ends mode.commit r.standing id clerk r.changes old new (Ok done) → LeftPlan bytes id mode before new done.outcome
+  by_ends : EndsRevision mode.commit r.standing id clerk r.changes old new (Ok done) → LeftPlan bytes id mode before new done.outcome
   by_ends (inl memory) = absurd (apart done told.Memory memory.0)
   by_ends (inr (same, would, stays)) =
       let timing = timing_found (get before.intersections id) r.standing.committed

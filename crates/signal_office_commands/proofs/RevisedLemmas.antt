@@ -5,7 +5,7 @@ use Rattle.office_desk.specs.Running.{MakesTables}
 use Rattle.office_tables_shelf.specs.{Content.Content, declared.shelf.Shelf.Ghosts}
 use Rattle.signal_office_commands.proofs.{AskingLemmas.was_run, ReplacingLemmas.leaves, StopLemmas.stop_by, StopLemmas.stop_then}
 use Rattle.signal_office_commands.specs.{Committing.Does, Committing.Goes, Committing.commit_commands, Committing.is_due, Replacing.LeavesPlan}
-use Rattle.signal_office_commands.specs.Revising.{Drafts, Ends, Finishes, RevisesAs, Stays, WouldBe, revise_commands, revise_told}
+use Rattle.signal_office_commands.specs.Revising.{Drafts, EndsRevision, Finishes, RevisesAs, Stays, WouldBe, revise_commands, revise_told}
 use Rattle.signal_office_commands.specs.Stopping.{AfterDrafting, AfterOneOf, StopLeaves}
 use Rattle.signal_office_commands.specs.declared.revising.{EditMode.EditMode, Revised.Revised}
 use Rattle.signal_office_commands.specs.declared.standing.StandingPlan.{StandingPlan}
@@ -38,7 +38,7 @@ module _ (commit same : Bool) (id : ℕ) (clerk : List ℕ) (changes : List Chan
 
 pub ends_so : (commit : Bool) (standing : StandingPlan) (id : ℕ) (clerk : List ℕ) (changes : List Change) (old new : Content) (result : Result Revised Fault) (same idle : Bool)
     → WouldBe commit standing changes same → idle ≡ (same && is_none standing.draft) → Stays idle commit same id clerk changes old new result
-    → Ends commit standing id clerk changes old new result
+    → EndsRevision commit standing id clerk changes old new result
 ends_so commit standing id clerk changes old new result same idle would is stays =
     inr (same, would, subst (λ (b : Bool). Stays b commit same id clerk changes old new result) is stays)
 

@@ -1,7 +1,8 @@
 -- The plan that a revision leaves, from the steps of its commands.
 use Rattle.std.proofs.Common.{◌≡◌, ◌≢◌, inl, inr, ℕ, ◌+◌, Bool, true, false, cond, not, if◌then◌else◌, List, [], ◌∷◌, Option, Some, None, Result, Ok, Err, refl, sym, ap, subst, ◌∙◌}
 use Rattle.std.specs.{Cmp.nat_cmp_is, Cmp.nat_cmp_total, Ordering.is_eq, declared.cmp.Ordering.TheVariants.Equal, FinMap.empty, FinMap.get, FinMap.insert, FinMap.get-insert, Ordering.nat_cmp, Ordering.eq_by_cmp, Prelude.option_map}
-use Rattle.draft_core.specs.Transaction.{Draft, TimingSide, holder_of, owned, with_draft, begun_from, edited, verified, checked, reopened, committed, committed_with, is_stage}
+use Rattle.draft_core.specs.Transaction.{Draft, TimingSide, holder_of, owned, with_draft, begun_from, committed_with, is_stage, table_line}
+use Rattle.draft_core.specs.declared.step.Step.TheVariants as step
 use Rattle.std.specs.Str.{bytes_eq}
 use Rattle.draft_core.specs.declared.refusal.DraftRefusal.{DraftRefusal}
 use Rattle.draft_core.specs.declared.refusal.DraftRefusal.TheVariants.{NotOwner, RevisionFull}
@@ -15,7 +16,7 @@ use Rattle.office_machine.specs.declared.command.Command.TheVariants as command
 use Rattle.office_machine.specs.declared.refusal.Refusal.TheVariants as refusal
 use Rattle.office_machine.specs.declared.reply.Reply.TheVariants as reply
 use Rattle.office_tables_shelf.specs.Content.{Content}
-use Rattle.signal_office_commands.specs.Committing.{◌>>=◌, commit_commands, commit_told, moved}
+use Rattle.signal_office_commands.specs.Committing.{◌>>=◌, commit_commands, commit_told, move_outcome}
 use Rattle.signal_office_commands.specs.Revising.{drafted, revise_commands, revise_told, taken_up}
 use Rattle.signal_office_commands.specs.{Replacing.base_at, Replacing.draft_set}
 use Rattle.signal_office_faults.specs.declared.fault.Fault.{Fault}
@@ -70,7 +71,7 @@ pub record Edits (was is : TimingSide) (changes : List Change) : Type 0 where
   pub set : draft.set ≡ after_changes (base_at was) changes
   pub committed : is.committed ≡ was.committed
 
-edit_makes : (side next : TimingSide) (clerk : List ℕ) (changes : List Change) → edited side clerk changes ≡ Ok next → Edits side next changes
+edit_makes : (side next : TimingSide) (clerk : List ℕ) (changes : List Change) → table_line (step.Edit changes) clerk side ≡ Ok next → Edits side next changes
 edit_makes side next clerk changes e =
     let found = owned_made side.draft Transaction _ clerk _ next e in
     let draft : Draft = record found.0 { stage = Transaction; set = after_changes found.0.set changes } in
@@ -86,7 +87,7 @@ settles side next draft [] e = by_test _ e where
       ap (λ (n : TimingSide). n.committed) is
 settles side next draft (violation ∷ violations) e = cc
 
-commit_makes : (side next : TimingSide) (clerk : List ℕ) → committed side clerk ≡ Ok next → next.committed ≡ base_at side
+commit_makes : (side next : TimingSide) (clerk : List ℕ) → table_line step.Commit clerk side ≡ Ok next → next.committed ≡ base_at side
 commit_makes side next clerk e =
     let found = owned_made side.draft Done _ clerk _ next e in
     settles side next found.0 _ found.2 ∙ sym (held_base side found.0 found.1)
@@ -124,14 +125,14 @@ line_taken office mid id i (Err why) got P there e taken kept =
 
 -- a line that was told as taken
 line_made : (office mid : Office) (id : ℕ) (i : Intersection) (line : Result TimingSide DraftRefusal) (got : Reply) (done : Unit) (P : TimingSide → Type 0)
-    → moved got ≡ Ok done → moved_by office id i line ≡ (got, mid)
+    → move_outcome got ≡ Ok done → moved_by office id i line ≡ (got, mid)
     → ((next : TimingSide) → line ≡ Ok next → P next) → Has mid id P
 line_made office mid id i (Ok next) got done P told e taken =
     let is : with_intersection office id (record i { timing = next }) ≡ mid = ap (λ (p : Reply × Office). p.1) e in
     subst (λ (o : Office). Has o id P) is (record { it = record i { timing = next }; there = placed office id (record i { timing = next }); holds = taken next refl })
 line_made office mid id i (Err why) got done P told e taken =
     let is : reply.Refused (refusal_of_draft why) ≡ got = ap (λ (p : Reply × Office). p.0) e in
-    let refused : moved (reply.Refused (refusal_of_draft why)) ≡ Ok done = ap moved is ∙ told in
+    let refused : move_outcome (reply.Refused (refusal_of_draft why)) ≡ Ok done = ap move_outcome is ∙ told in
     absurd cc
 
 module _ (office mid : Office) (id : ℕ) (asked : Command) (got : Reply) (line : TimingSide → Result TimingSide DraftRefusal) (i : Intersection)
@@ -146,11 +147,11 @@ module _ (office mid : Office) (id : ℕ) (asked : Command) (got : Reply) (line 
     by_step (inl h) = subst (λ (o : Office). Has o id P) (sym h.1) (record { it = i; there = there; holds = kept })
     by_step (inr h) = line_taken office mid id i (line i.timing) got P there (moves_to h) taken kept
 
-  made : (done : Unit) (P : TimingSide → Type 0) → moved got ≡ Ok done → ((next : TimingSide) → line i.timing ≡ Ok next → P next) → Has mid id P
+  made : (done : Unit) (P : TimingSide → Type 0) → move_outcome got ≡ Ok done → ((next : TimingSide) → line i.timing ≡ Ok next → P next) → Has mid id P
   made done P told taken = by_step step where
     by_step : Step office asked got mid → Has mid id P
     by_step (inl h) =
-        let refused : moved (reply.Refused refusal.Unavailable) ≡ Ok done = ap moved (sym h.0) ∙ told in
+        let refused : move_outcome (reply.Refused refusal.Unavailable) ≡ Ok done = ap move_outcome (sym h.0) ∙ told in
         absurd cc
     by_step (inr h) = line_made office mid id i (line i.timing) got done P told (moves_to h) taken
 
@@ -180,8 +181,8 @@ revised_draft office last id clerk changes (a ∷ b ∷ c ∷ d ∷ e ∷ []) vi
     let r2 = r1.2 in
     let r3 = r2.2 in
     let r4 = r3.2 in
-    let up = bound (taken_up a b c) (λ x. moved d >>= λ y. drafted e) violations told in
-    let edit = bound (moved d) (λ y. drafted e) violations up.2 in
+    let up = bound (taken_up a b c) (λ x. move_outcome d >>= λ y. drafted e) violations told in
+    let edit = bound (move_outcome d) (λ y. drafted e) violations up.2 in
     let one = stepped office run.0 id (command.Begin id clerk) a _ i refl there run.1 (Keeps i.timing) (λ next taken. begin_keeps i.timing next clerk i.timing.draft refl taken) (kept i.timing) in
     let two = stepped run.0 r1.0 id (command.Check id clerk) b _ one.it refl one.there r1.1 (Keeps i.timing)
     (λ next taken. then_kept _ _ next one.holds (stage_keeps one.it.timing next _ _ _ clerk taken)) one.holds in
@@ -203,8 +204,8 @@ revised_set office last id clerk (a ∷ b ∷ c ∷ d ∷ more) done i there run
 revised_set office last id clerk (a ∷ b ∷ c ∷ []) done i there run told =
     let r1 = run.2 in
     let r2 = r1.2 in
-    let first = bound (moved a) (λ x. moved b >>= λ y. moved c) done told in
-    let second = bound (moved b) (λ x. moved c) done first.2 in
+    let first = bound (move_outcome a) (λ x. move_outcome b >>= λ y. move_outcome c) done told in
+    let second = bound (move_outcome b) (λ x. move_outcome c) done first.2 in
     let one = stepped office run.0 id (command.Verify id clerk) a _ i refl there run.1 (Keeps i.timing) (λ next taken. stage_keeps i.timing next _ _ _ clerk taken) (kept i.timing) in
     let two = stepped run.0 r1.0 id (command.Check id clerk) b _ one.it refl one.there r1.1 (Keeps i.timing)
     (λ next taken. then_kept _ _ next one.holds (stage_keeps one.it.timing next _ _ _ clerk taken)) one.holds in

@@ -5,7 +5,7 @@ use Rattle.std.specs.{declared.cmp.Ordering.Ordering, declared.cmp.Ordering.TheV
 use Rattle.std.specs.{FinMap.get, Ordering.is_eq, Ordering.ordering_reverse}
 use Rattle.signal_compare.specs.declared.difference.Difference.{Difference}
 use Rattle.signal_compare.specs.declared.difference.Difference.TheVariants.{Added, Removed, Changed}
-use Rattle.signal_compare.specs.Difference.{AreTold, Explains, changes_of, difference_at, place_of}
+use Rattle.signal_compare.specs.Difference.{AreTold, Explains, difference_changes, difference_at, place_of}
 use Rattle.signal_office_commands.specs.Standing.{TellsSame}
 use Rattle.signal_records.specs.{Key.key_cmp, KeyOrder.key_total}
 use Rattle.signal_records.specs.TimingSet.{Rows, after_changes}
@@ -33,7 +33,7 @@ differs row other (Changed before after) told same =
     let is : before ≡ after = cc in
     told.2 is
 
-pub tells_same : (first second : Rows) (found : List Difference) → AreTold first second found → after_changes first (changes_of found) ≡ second
+pub tells_same : (first second : Rows) (found : List Difference) → AreTold first second found → after_changes first (difference_changes found) ≡ second
     → TellsSame first second (length found == 0)
 tells_same first second [] told makes = makes
 tells_same first second (d ∷ ds) told makes =

@@ -1,7 +1,7 @@
 -- What a stop leaves of commands that were run.
 use Rattle.std.proofs.Common.{◌≡◌, ◌⊎◌, List, [], ◌∷◌, Bool, true, Ok, inl, inr, subst, sym, ◌∙◌}
 use Rattle.office_tables_shelf.specs.{Content.Content, declared.shelf.Shelf.Ghosts}
-use Rattle.office_desk.specs.{Answers.IsAfterStep, Running.AreRun, Running.IsRun, Running.MakesTables}
+use Rattle.office_desk.specs.{Answers.StandsAfterStep, Running.AreRun, Running.IsRun, Running.MakesTables}
 use Rattle.office_machine.specs.declared.{command.Command.Command, reply.Reply.Reply}
 use Rattle.signal_office_commands.specs.Stopping.{AfterOneOf, StopLeaves}
 
@@ -19,10 +19,10 @@ module _ {S : Type 0} (g : Ghosts S) where
   ]
 
   -- one command, and commands that were run in turn
-  pub stop_one : (command : Command) (reply : Reply) (old new : S) → IsRun g command reply old new → StopLeaves g old new (λ tables found. IsAfterStep tables command found)
+  pub stop_one : (command : Command) (reply : Reply) (old new : S) → IsRun g command reply old new → StopLeaves g old new (λ tables found. StandsAfterStep tables command found)
   stop_one command reply old new ran clean tables held found may = elim (ran.stop.crash found may) [
     | inl was ↦ inl was
-    | inr step ↦ inr (subst (λ (t : Content). IsAfterStep t command found) (held step.0) step.1)
+    | inr step ↦ inr (subst (λ (t : Content). StandsAfterStep t command found) (held step.0) step.1)
   ]
 
   were_clean : (commands : List Command) (replies : List Reply) (old new : S) → AreRun g commands replies old new → g.is_clean new → g.is_clean old
@@ -38,7 +38,7 @@ module _ {S : Type 0} (g : Ghosts S) where
       elim (stop_all commands replies ran.0 new ran.2 clean made.0 made.2 found may) [
         | inl middle ↦ elim (ran.1.stop.crash found middle) [
           | inl was ↦ inl was
-          | inr step ↦ inr (inl (subst (λ (t : Content). IsAfterStep t command found) (held step.0) step.1))
+          | inr step ↦ inr (inl (subst (λ (t : Content). StandsAfterStep t command found) (held step.0) step.1))
         ]
         | inr later ↦ inr (inr (reply, made.0, made.1, later))
       ]

@@ -31,7 +31,7 @@ pub record Answered {A : Type 0} (made : Reply → Result A Fault) (old : Conten
   pub made_is : result ≡ made reply
 
 -- the office ran commands in turn, and this is made of their replies
-pub record Ran {A : Type 0} (made : List Reply → Result A Fault) (old : Content)
+pub record RanCommands {A : Type 0} (made : List Reply → Result A Fault) (old : Content)
     (commands : List Command) (new : Content)
     (result : Result A Fault) : Type 0 where
   pub replies : List Reply

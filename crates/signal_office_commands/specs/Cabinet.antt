@@ -11,8 +11,8 @@ use Rattle.office_machine.specs.declared.reply.IntersectionState.{IntersectionSt
 use Rattle.office_listings.specs.Cabinet.{cabinet_register}
 
 -- the office has the intersection
-abbrev pub IsThere : Office → ℕ → Type 0
-IsThere office id = IsSome (get office.intersections id)
+abbrev pub HasIntersection : Office → ℕ → Type 0
+HasIntersection office id = IsSome (get office.intersections id)
 
 -- and this is its state
 abbrev pub IsStateOf : Office → ℕ → IntersectionState → Type 0
@@ -21,7 +21,7 @@ IsStateOf office id state =
 
 -- and this is what its register holds of it
 abbrev pub IsCabinetOf : Office → ℕ → CabinetShown → Type 0
-IsCabinetOf office id cabinet = IsThere office id × (cabinet ≡ cabinet_shown office.register id)
+IsCabinetOf office id cabinet = HasIntersection office id × (cabinet ≡ cabinet_shown office.register id)
 
 -- the office has the intersection, and the text is the register of its cabinet
 abbrev pub IsRegisterOf : Office → ℕ → List ℕ → Type 0

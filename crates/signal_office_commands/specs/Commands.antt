@@ -10,7 +10,7 @@ use Rattle.signal_office_faults.specs.declared.fault.Fault.{Fault}
 use Rattle.signal_office_faults.specs.declared.fault.Fault.TheVariants as told
 use Rattle.signal_office_commands.specs.declared.adding.Entered.{Entered}
 use Rattle.signal_office_commands.specs.declared.adding.Entered.TheVariants as entered
-use Rattle.signal_office_commands.specs.Committing.{moved}
+use Rattle.signal_office_commands.specs.Committing.{move_outcome}
 
 -- what is told of the reply to an intersection that is to be added
 abbrev pub entered_told : Reply → Result Entered Fault
@@ -20,10 +20,10 @@ entered_told (reply.Refused why) = Err (fault_of why)
 entered_told other = Err told.Store
 
 -- the office answered the command, or memory was refused before it
-abbrev pub Adds : (id interval : ℕ) → (name : List ℕ) → Content → Content → Result Entered Fault → Type 0
-Adds id interval name old new result =
+abbrev pub AddsIntersection : (id interval : ℕ) → (name : List ℕ) → Content → Content → Result Entered Fault → Type 0
+AddsIntersection id interval name old new result =
     Answered entered_told old (command.AddIntersection id interval name) new result ⊎ IsWant old new result
 
 abbrev pub Abandons : (id : ℕ) → (clerk : List ℕ) → Content → Content → Result Unit Fault → Type 0
 Abandons id clerk old new result =
-    Answered moved old (command.Abandon id clerk) new result ⊎ IsWant old new result
+    Answered move_outcome old (command.Abandon id clerk) new result ⊎ IsWant old new result

@@ -9,7 +9,7 @@ use Rattle.office_machine.specs.declared.reply.Reply.{Reply}
 use Rattle.office_machine.specs.declared.reply.Reply.TheVariants as reply
 use Rattle.signal_office_faults.specs.declared.fault.Fault.{Fault}
 use Rattle.signal_office_faults.specs.declared.fault.Fault.TheVariants as told
-use Rattle.signal_office_commands.specs.Asking.{IsWant, Ran}
+use Rattle.signal_office_commands.specs.Asking.{IsWant, RanCommands}
 use Rattle.signal_office_commands.specs.Refused.{fault_of}
 
 -- what comes next, where a step gave a value; else its fault
@@ -24,24 +24,24 @@ commit_commands id clerk = command.Verify id clerk ∷ command.Check id clerk
     ∷ command.Commit id clerk ∷ []
 
 -- a step of the transaction was made, or is told as refused
-abbrev pub moved : Reply → Result Unit Fault
-moved (reply.Moved revision state verdict) = Ok tt
-moved (reply.Refused why) = Err (fault_of why)
-moved other = Err told.Store
+abbrev pub move_outcome : Reply → Result Unit Fault
+move_outcome (reply.Moved revision state verdict) = Ok tt
+move_outcome (reply.Refused why) = Err (fault_of why)
+move_outcome other = Err told.Store
 
 -- what is told of the replies to a commit: the first step that was refused
 abbrev pub commit_told : List Reply → Result Unit Fault
 commit_told (first ∷ second ∷ third ∷ []) = do
-  _ ← moved first
-  _ ← moved second
-  moved third
+  _ ← move_outcome first
+  _ ← move_outcome second
+  move_outcome third
 commit_told other = Err told.Store
 
 -- the commands were run and the result is told of their replies, or want of memory is, and none
 -- was run
 abbrev pub Does : {A : Type 0} → (List Reply → Result A Fault) → Content → List Command → Content
     → Result A Fault → Type 0
-Does made old commands new result = Ran made old commands new result ⊎ IsWant old new result
+Does made old commands new result = RanCommands made old commands new result ⊎ IsWant old new result
 
 -- where a commit is asked for and the draft breaks no rule, it is committed; else it stays open
 abbrev pub is_due : Bool → List Violation → Bool

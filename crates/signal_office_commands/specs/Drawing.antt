@@ -17,12 +17,12 @@ pub record Draws (plan : Rows) (pattern : ℕ) (text : List ℕ) : Type 0 where
   pub text_is : text ≡ diagram_text plan pattern
 
 -- the plan lacks the pattern, and that is told
-abbrev pub Lacks : Rows → ℕ → Fault → Type 0
-Lacks plan pattern why = (pattern_at plan pattern ≡ None) × (why ≡ told.UnknownPattern)
+abbrev pub LacksPattern : Rows → ℕ → Fault → Type 0
+LacksPattern plan pattern why = (pattern_at plan pattern ≡ None) × (why ≡ told.UnknownPattern)
 
 -- memory was refused, or the plan lacks the pattern
 abbrev pub DrawsNone : Rows → ℕ → Fault → Type 0
-DrawsNone plan pattern why = (why ≡ told.Memory) ⊎ Lacks plan pattern why
+DrawsNone plan pattern why = (why ≡ told.Memory) ⊎ LacksPattern plan pattern why
 
 -- the picture is of the plan of a file
 pub record DrawsFile (bytes : List ℕ) (pattern : ℕ) (text : List ℕ) : Type 0 where
@@ -33,7 +33,7 @@ pub record DrawsFile (bytes : List ℕ) (pattern : ℕ) (text : List ℕ) : Type
 -- the file spells no plan, or its plan lacks the pattern
 abbrev pub DrawsNoFile : List ℕ → ℕ → Fault → Type 0
 DrawsNoFile bytes pattern why =
-    IsUnread (changes_of bytes) why ⊎ ((plan : Rows) × IsPlan bytes plan × Lacks plan pattern why)
+    IsUnread (changes_of bytes) why ⊎ ((plan : Rows) × IsPlan bytes plan × LacksPattern plan pattern why)
 
 -- the picture is of a committed timing set
 pub record DrawsTiming (tables : Content) (id pattern : ℕ) (text : List ℕ) : Type 0 where

@@ -17,7 +17,7 @@ use Rattle.office_listings.specs.declared.orders.OpenOrder.{OpenOrder}
 use Rattle.signal_office_commands.specs.Fault.{TellsUnknown}
 use Rattle.signal_office_faults.specs.declared.fault.Fault.{Fault}
 use Rattle.signal_office_faults.specs.declared.fault.Fault.TheVariants as told
-use Rattle.signal_office_commands.specs.Cabinet.{IsThere, MeetsRegisterDamage}
+use Rattle.signal_office_commands.specs.Cabinet.{HasIntersection, MeetsRegisterDamage}
 
 -- as CSV or as a text
 abbrev pub list_written : Bool → List ListedIntersection → List ℕ
@@ -46,7 +46,7 @@ named_written csv orders = if csv then orders_csv_text orders else named_orders_
 -- the text is the list of those that were asked for: of an intersection that is there, or of all with their names
 abbrev pub IsOrdersListOf : Office → Option ℕ → List ℕ → Type 0
 IsOrdersListOf office None text = text ≡ named_written false (named_in office)
-IsOrdersListOf office (Some id) text = IsThere office id × (text ≡ orders_listing (open_on office id))
+IsOrdersListOf office (Some id) text = HasIntersection office id × (text ≡ orders_listing (open_on office id))
 
 -- the same as CSV, which always has names
 abbrev pub IsOrdersCsvOf : Office → Option ℕ → List ℕ → Type 0

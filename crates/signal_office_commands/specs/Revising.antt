@@ -8,8 +8,8 @@ use Rattle.office_machine.specs.declared.refusal.Refusal.TheVariants as refusal
 use Rattle.office_machine.specs.declared.reply.Reply.{Reply}
 use Rattle.office_machine.specs.declared.reply.Reply.TheVariants as reply
 use Rattle.office_tables_shelf.specs.Content.{Content}
-use Rattle.signal_office_commands.specs.Asking.{IsUnread, Ran}
-use Rattle.signal_office_commands.specs.Committing.{◌>>=◌, Does, Goes, is_due, moved}
+use Rattle.signal_office_commands.specs.Asking.{IsUnread, RanCommands}
+use Rattle.signal_office_commands.specs.Committing.{◌>>=◌, Does, Goes, is_due, move_outcome}
 use Rattle.signal_office_commands.specs.Refused.{fault_of}
 use Rattle.signal_office_commands.specs.Standing.{AreWanted, IsNotStanding, ShowsStanding, TellsSame, base_of}
 use Rattle.signal_office_commands.specs.declared.revising.EditMode.{EditMode}
@@ -31,25 +31,25 @@ revise_commands id clerk changes =
     ∷ command.Edit id clerk changes ∷ command.Draft id ∷ []
 
 -- a step was made, or a transaction is under way
-abbrev pub begun : Reply → Result Unit Fault
-begun (reply.Refused (refusal.Draft NotNormal)) = Ok tt
-begun other = moved other
+abbrev pub begin_outcome : Reply → Result Unit Fault
+begin_outcome (reply.Refused (refusal.Draft NotNormal)) = Ok tt
+begin_outcome other = move_outcome other
 
 -- a step was made, or the draft is in another state
-abbrev pub checked : Reply → Result Unit Fault
-checked (reply.Refused (refusal.Draft NotVerify)) = Ok tt
-checked other = moved other
+abbrev pub check_outcome : Reply → Result Unit Fault
+check_outcome (reply.Refused (refusal.Draft NotVerify)) = Ok tt
+check_outcome other = move_outcome other
 
-abbrev pub reopened : Reply → Result Unit Fault
-reopened (reply.Refused (refusal.Draft NotDone)) = Ok tt
-reopened other = moved other
+abbrev pub reopen_outcome : Reply → Result Unit Fault
+reopen_outcome (reply.Refused (refusal.Draft NotDone)) = Ok tt
+reopen_outcome other = move_outcome other
 
 -- the transaction is one whose draft its owner changes
 abbrev pub taken_up : Reply → Reply → Reply → Result Unit Fault
 taken_up first second third = do
-  _ ← begun first
-  _ ← checked second
-  reopened third
+  _ ← begin_outcome first
+  _ ← check_outcome second
+  reopen_outcome third
 
 -- the rules that the draft breaks
 abbrev pub drafted : Reply → Result (List Violation) Fault
@@ -61,7 +61,7 @@ drafted other = Err told.Store
 abbrev pub revise_told : List Reply → Result (List Violation) Fault
 revise_told (first ∷ second ∷ third ∷ fourth ∷ fifth ∷ []) = do
   _ ← taken_up first second third
-  _ ← moved fourth
+  _ ← move_outcome fourth
   drafted fifth
 revise_told other = Err told.Store
 
@@ -79,7 +79,7 @@ as_it_stands = record { violations = []; outcome = Same }
 pub record Drafts (commit same : Bool) (id : ℕ) (clerk : List ℕ) (changes : List Change) (old new : Content) (violations : List Violation)
     (outcome : Result Unit Fault) : Type 0 where
   pub middle : Content
-  pub edit : Ran revise_told old (revise_commands id clerk changes) middle (Ok violations)
+  pub edit : RanCommands revise_told old (revise_commands id clerk changes) middle (Ok violations)
   pub goes : Goes (is_due (commit && not same) violations) id clerk middle new outcome
 
 -- so it was done; or its changes were not made, or the commit was refused
@@ -102,8 +102,8 @@ Stays true commit same id clerk changes old new result = (result ≡ Ok as_it_st
 Stays false commit same id clerk changes old new result = Finishes commit same id clerk changes old new result
 
 -- memory was refused, and nothing was changed; or it was known what the draft would be
-abbrev pub Ends : (commit : Bool) → StandingPlan → ℕ → List ℕ → List Change → Content → Content → Result Revised Fault → Type 0
-Ends commit standing id clerk changes old new result =
+abbrev pub EndsRevision : (commit : Bool) → StandingPlan → ℕ → List ℕ → List Change → Content → Content → Result Revised Fault → Type 0
+EndsRevision commit standing id clerk changes old new result =
     ((result ≡ Err told.Memory) × (new ≡ old))
     ⊎ ((same : Bool) × WouldBe commit standing changes same × Stays (same && is_none standing.draft) commit same id clerk changes old new result)
 
@@ -115,7 +115,7 @@ pub record Revises (bytes : List ℕ) (id : ℕ) (clerk : List ℕ) (mode : Edit
   pub shows : ShowsStanding old id standing
   pub changes : List Change
   pub wanted : AreWanted mode.replace (base_of standing) asked changes
-  pub ends : Ends mode.commit standing id clerk changes old new result
+  pub ends : EndsRevision mode.commit standing id clerk changes old new result
 
 -- the file was not read, or what stands was not shown, or memory was refused
 abbrev pub IsNotRevised : List ℕ → ℕ → Content → Fault → Type 0

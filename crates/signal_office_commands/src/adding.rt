@@ -1,7 +1,7 @@
 //! An intersection that is added.
 
 ghost use Rattle.std.specs.Prelude.{◌≡◌};
-ghost use Rattle.signal_office_commands.specs.Commands.{Adds, entered_told};
+ghost use Rattle.signal_office_commands.specs.Commands.{AddsIntersection, entered_told};
 ghost use Rattle.office_desk.specs.Running.{MakesTables};
 ghost use Rattle.signal_office_commands.specs.Stopping.{AfterAdding, StopLeaves};
 
@@ -47,7 +47,7 @@ pub fn add_intersection<S: Shelf>(
     ensures clean { S.is_clean office.new → S.is_clean office.old }
     ensures honest { S.is_honest office.new → S.is_honest office.old }
     ensures adds { MakesTables S.Shelf office.old office.new
-        (λ old new. Adds id interval name.now old new result) }
+        (λ old new. AddsIntersection id interval name.now old new result) }
     ensures stop { StopLeaves S.Shelf office.old office.new (AfterAdding id interval name.now) }
 {
     let name = name.clone()?;

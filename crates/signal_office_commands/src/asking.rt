@@ -2,7 +2,7 @@
 
 ghost use Rattle.office_tables_shelf.specs.Keeps.{KeepsShelf};
 ghost use Rattle.office_desk.specs.Answers.{AnswersAny};
-ghost use Rattle.office_desk.specs.Changes.{IsQuery};
+ghost use Rattle.office_desk.specs.Changes.{IsQueryCommand};
 ghost use Rattle.office_desk.specs.Running.{IsRun, TellsTables};
 
 use office_desk::office::Office;
@@ -14,7 +14,7 @@ use std::alloc::Global;
 /// What the office answers, which stays as it is. It takes the query, so that those who ask have
 /// none to drop.
 pub fn ask<S: Shelf>(alloc: Global, office: &mut Office<S>, query: Command) -> Reply
-    requires { IsQuery query }
+    requires { IsQueryCommand query }
     ensures kept { KeepsShelf S.Shelf office.old office.new }
     // It was run as each command is, and is a step that leaves the tables.
     ensures ran { IsRun S.Shelf query result office.old office.new }

@@ -2,7 +2,8 @@
 
 ghost use Rattle.std.specs.Prelude.{◌≡◌, true, IfOk};
 ghost use Rattle.office_desk.specs.Running.{MakesTables};
-ghost use Rattle.signal_office_commands.specs.Committing.{commit_commands, commit_told, moved};
+ghost use Rattle.signal_office_commands.specs.Committing.{commit_commands, commit_told};
+ghost use Rattle.signal_office_commands.specs.Committing.{move_outcome};
 ghost use Rattle.signal_office_commands.specs.Committing.{is_due, Does, Goes};
 ghost use Rattle.signal_office_commands.specs.Stopping.{AfterOneOf, StopLeaves};
 
@@ -17,7 +18,7 @@ use std::alloc::Global;
 
 /// A step of the transaction was made, or why not.
 pub(crate) fn moved(reply: &Reply) -> Result<(), Fault>
-    ensures { result ≡ moved reply.now }
+    ensures { result ≡ move_outcome reply.now }
 {
     match reply {
         Reply::Moved { .. } => Ok(()),

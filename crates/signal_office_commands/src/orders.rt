@@ -6,7 +6,7 @@ ghost use Rattle.office_desk.specs.Damage.{MeetsDamage};
 ghost use Rattle.office_listings.specs.Orders.{orders_listing};
 ghost use Rattle.office_machine.specs.declared.command.Command.TheVariants as command;
 ghost use Rattle.signal_office_commands.specs.Fault.{IsFaultOfQuery, TellsUnknown};
-ghost use Rattle.signal_office_commands.specs.Cabinet.{IsThere, MeetsRegisterDamage};
+ghost use Rattle.signal_office_commands.specs.Cabinet.{HasIntersection, MeetsRegisterDamage};
 ghost use Rattle.signal_office_commands.specs.Listing.{open_on, named_on, named_in, named_written};
 ghost use Rattle.signal_office_commands.specs.Listing.{IsOrdersListOf, MeetsOrdersDamage};
 ghost use Rattle.signal_office_commands.specs.Listing.{IsOrdersCsvOf, MeetsOrdersCsvDamage};
@@ -35,7 +35,7 @@ fn add_orders_on<S: Shelf>(
     ensures kept { KeepsShelf S.Shelf office.old office.new }
     ensures clean { S.is_clean office.new → S.is_clean office.old }
     ensures added { OnOk result (TellsOffice S.Shelf office.old office.new
-        (λ before. IsThere before id
+        (λ before. HasIntersection before id
         × (found.new.items ≡ found.old.items ++ named_on before id name.now))) }
     ensures whole { OnOk result (TellsTables S.Shelf office.old office.new
         (λ tables. ¬ MeetsDamage tables (command.Cabinet id))) }

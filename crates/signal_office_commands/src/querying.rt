@@ -10,7 +10,7 @@ ghost use Rattle.signal_office_commands.specs.Fault.{IsFaultOfQuery, TellsUnknow
 ghost use Rattle.signal_office_commands.specs.Cabinet.{IsCabinetOf, IsStateOf};
 ghost use Rattle.office_desk.specs.Running.{TellsTables};
 ghost use Rattle.signal_office_commands.specs.Asking.{TellsOffice};
-ghost use Rattle.office_desk_timing.specs.Listing.{ListsRows};
+ghost use Rattle.office_desk_timing.specs.Listing.{ListsEachIntersection};
 
 use crate::asking::ask;
 use crate::refused::fault_of;
@@ -33,7 +33,7 @@ pub(crate) fn intersections_asked<S: Shelf>(
     ensures all { IfOk result (λ found. TellsOffice S.Shelf office.old office.new
         (λ before. found.items ≡ intersections_of before)) }
     ensures lists { IfOk result (λ found. TellsTables S.Shelf office.old office.new
-        (λ tables. ListsRows tables found.items)) }
+        (λ tables. ListsEachIntersection tables found.items)) }
     ensures whole { IfOk result (λ _. TellsTables S.Shelf office.old office.new
         (λ tables. ¬ HasAnyDamagedIntersection tables)) }
     ensures refused { IfErr result (λ why. (why ≡ Fault.Store) ⊎ (why ≡ Fault.Damaged)) }

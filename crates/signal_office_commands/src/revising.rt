@@ -4,10 +4,12 @@ ghost use Rattle.std.specs.Prelude.{◌≡◌, ◌&&◌, not, IfOk};
 ghost use Rattle.office_desk.specs.Running.{MakesTables};
 ghost use Rattle.signal_office_commands.specs.Committing.{Does};
 ghost use Rattle.signal_office_commands.specs.Replacing.{LeavesPlan};
-ghost use Rattle.signal_office_commands.specs.Revising.{Ends, Finishes, RevisesAs, WouldBe};
-ghost use Rattle.signal_office_commands.specs.Revising.{as_it_stands, begun, checked, drafted};
+ghost use Rattle.signal_office_commands.specs.Revising.{EndsRevision, Finishes, RevisesAs, WouldBe};
+ghost use Rattle.signal_office_commands.specs.Revising.{as_it_stands, begin_outcome, check_outcome};
+ghost use Rattle.signal_office_commands.specs.Revising.{drafted};
 ghost use Rattle.signal_office_commands.specs.Revising.{outcome_of};
-ghost use Rattle.signal_office_commands.specs.Revising.{reopened, revise_commands, revise_told};
+ghost use Rattle.signal_office_commands.specs.Revising.{reopen_outcome, revise_commands};
+ghost use Rattle.signal_office_commands.specs.Revising.{revise_told};
 ghost use Rattle.signal_office_commands.specs.Revising.{taken_up};
 ghost use Rattle.signal_office_commands.specs.Stopping.{AfterChanging, AfterDrafting, AfterOneOf};
 ghost use Rattle.signal_office_commands.specs.Stopping.{AfterRevising, StopLeaves};
@@ -57,7 +59,7 @@ pub struct Revised {
 
 /// A transaction is begun, or one is under way.
 fn begun(reply: &Reply) -> Result<(), Fault>
-    ensures { result ≡ begun reply.now }
+    ensures { result ≡ begin_outcome reply.now }
 {
     match reply {
         Reply::Refused(Refusal::Draft(DraftRefusal::NotNormal)) => Ok(()),
@@ -67,7 +69,7 @@ fn begun(reply: &Reply) -> Result<(), Fault>
 
 /// A draft that was handed over is checked, or was not handed over.
 fn checked(reply: &Reply) -> Result<(), Fault>
-    ensures { result ≡ checked reply.now }
+    ensures { result ≡ check_outcome reply.now }
 {
     match reply {
         Reply::Refused(Refusal::Draft(DraftRefusal::NotVerify)) => Ok(()),
@@ -77,7 +79,7 @@ fn checked(reply: &Reply) -> Result<(), Fault>
 
 /// A draft that was checked is opened again, or was not checked.
 fn reopened(reply: &Reply) -> Result<(), Fault>
-    ensures { result ≡ reopened reply.now }
+    ensures { result ≡ reopen_outcome reply.now }
 {
     match reply {
         Reply::Refused(Refusal::Draft(DraftRefusal::NotDone)) => Ok(()),
@@ -265,7 +267,7 @@ fn revise<S: Shelf>(
     ensures clean { S.is_clean office.new → S.is_clean office.old }
     ensures honest { S.is_honest office.new → S.is_honest office.old }
     ensures ends { MakesTables S.Shelf office.old office.new
-        (λ old new. Ends commit standing.now id clerk.now changes old new result) }
+        (λ old new. EndsRevision commit standing.now id clerk.now changes old new result) }
     ensures stop { StopLeaves S.Shelf office.old office.new
         (AfterChanging commit standing.now id clerk.now changes) }
 {

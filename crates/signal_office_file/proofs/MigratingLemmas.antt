@@ -9,7 +9,7 @@ use Rattle.office_tables.specs.{Calls.IsHonest, Migrate.IsBrought, Stored.conten
 use Rattle.office_tables_migration.specs.{declared.puts.Migrated.Migrated}
 use Rattle.office_tables_migration.proofs.Migration.{stand_anew}
 use Rattle.office_tables_open.specs.{Version.current_version, Version.first_version, declared.open.OpenFault.OpenFault}
-use Rattle.signal_office_file.specs.Migrating.{AreMigrated, BringsToday, ClosedMigrated, Migrates, MigratesIn, told_of_outcome}
+use Rattle.signal_office_file.specs.Migrating.{AreMigrated, BringsToday, ClosedMigrated, MigratesOnDisk, MigratesIn, told_of_outcome}
 use Rattle.signal_office_file.proofs.FilesLemmas.{copied_alone}
 use Rattle.signal_office_in_file.specs.declared.Ended.TheVariants.{Closed}
 use Rattle.signal_office_file.specs.declared.left.FileLeft.TheVariants as left
@@ -59,7 +59,7 @@ module _ {D : Type 0} {g : Disk D} (files : Files D) (conn : Held (FileStore D g
         };
       }
     where
-      go : (o : Result Migrated OpenFault) → Migrates over_files o it.found conn → HasCleanDisk (file_state conn) → IsTrue (file_state conn).is_open
+      go : (o : Result Migrated OpenFault) → MigratesOnDisk over_files o it.found conn → HasCleanDisk (file_state conn) → IsTrue (file_state conn).is_open
           → AreMigrated (file_state it.found).committed.trees (file_state conn).committed.trees o
       go (Ok count) m was_clean was_open = m.brought was_clean
       go (Err why) m was_clean was_open = m.unchanged (was_clean, was_open)

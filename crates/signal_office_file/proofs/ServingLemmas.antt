@@ -10,21 +10,20 @@ use Rattle.signal_office_in_file.proofs.StopLemmas.{left_of_run}
 use Rattle.office_tables_open.specs.SqlShelf.{MayLeave, SqlView}
 use Rattle.office_desk.specs.StandFor.{StandForSound}
 use Rattle.office_http.specs.Protocol.{office_protocol}
-use Rattle.office_http_framing.specs.{Front.PlainRequest, Protocol.Protocol, Protocol.Run, Serve.Did, Serve.Ends, Stops.Leaves, Stops.Storage}
+use Rattle.office_http_framing.specs.{Front.PlainRequest, Protocol.Protocol, Serve.Did, Serve.Ends, Stops.Leaves, Stops.Moment, Stops.Storage}
 use Rattle.office_http_framing.specs.declared.{engine.Served.Served, engine.ServeFault.ServeFault}
 use Rattle.office_http_framing.proofs.ServeLemmas.{Did-weaker}
 use Rattle.signal_office_file.specs.Serving.{IsServedToAStop, ServesFiles, sql_storage}
 
 -- of less that a crash leaves at the end the same holds
-leaves_less : {Machine State Stored : Type 0} (protocol : Protocol State) (storage : Storage Machine State Stored) (may : Stored → Type 0) (held : Stored) (old : storage.Counts)
-    (before : State) (requests : List PlainRequest) (answers : List (List ℕ)) (after : State) (run : Run protocol before requests answers after)
-    (more less : Stored → Type 0) (kept : Stored) (new : storage.Counts) → ((left : Stored) → less left → more left)
-    → Leaves protocol storage may held old before requests answers after run more kept new → Leaves protocol storage may held old before requests answers after run less kept new
-leaves_less protocol storage may held old before [] [] after run more less kept new fewer it = ((λ left end. it.0 left (fewer left end)), it.1, it.2)
-leaves_less protocol storage may held old before (request ∷ requests) (answer ∷ answers) after run more less kept new fewer it =
-    (it.0, it.1, it.2, leaves_less protocol storage _ it.0 it.1 run.0 requests answers after run.2 more less kept new fewer it.3)
-leaves_less protocol storage may held old before [] (answer ∷ answers) after run more less kept new fewer it = it
-leaves_less protocol storage may held old before (request ∷ requests) [] after run more less kept new fewer it = it
+leaves_less : {Machine State Stored : Type 0} (protocol : Protocol State) (storage : Storage Machine State Stored) (may : Stored → Type 0) (first last : Moment storage)
+    (requests : List PlainRequest) (answers : List (List ℕ)) (more less : Stored → Type 0) → ((left : Stored) → less left → more left)
+    → Leaves protocol storage may first requests answers more last → Leaves protocol storage may first requests answers less last
+leaves_less protocol storage may first last [] [] more less fewer it = ((λ left end. it.0 left (fewer left end)), it.1)
+leaves_less protocol storage may first last (request ∷ requests) (answer ∷ answers) more less fewer it =
+    (it.0, it.1, it.2, leaves_less protocol storage _ it.1 last requests answers more less fewer it.3)
+leaves_less protocol storage may first last [] (answer ∷ answers) more less fewer it = it
+leaves_less protocol storage may first last (request ∷ requests) [] more less fewer it = it
 
 -- whatever a stop leaves of the connection at the end are the tables that the stream found, or those after one of its requests
 pub served_leaves : {S : Type 0} (state_of : Held S → State) (held : Content) (before : Office) (last : SqlView S) (after : Office) (requests : List PlainRequest) (answers : List (List ℕ))
@@ -32,8 +31,9 @@ pub served_leaves : {S : Type 0} (state_of : Held S → State) (held : Content) 
     → (found : Content) → MayLeave (state_of last.conn) found → (found ≡ held) ⊎ AfterRequest before requests answers found
 served_leaves {S = S} state_of held before last after requests answers it found may =
     left_of_run {S = SqlView S} (λ (shelf : SqlView S). IsHonest (state_of shelf.conn)) (λ (shelf : SqlView S). content_now (state_of shelf.conn)) (λ (shelf : SqlView S). shelf.counts)
-    (λ (shelf : SqlView S) (tables : Content). MayLeave (state_of shelf.conn) tables) (λ tables. tables ≡ held) held no_writes before requests answers after it.serves.ran.run
-    (λ tables. MayLeave (state_of last.conn) tables) it.kept last.counts it.serves.ran.leaves found may
+    (λ (shelf : SqlView S) (tables : Content). MayLeave (state_of shelf.conn) tables) (λ tables. tables ≡ held)
+    (record { state = before; kept = held; written = no_writes }) (record { state = after; kept = it.kept; written = last.counts }) requests answers
+    (λ tables. MayLeave (state_of last.conn) tables) it.serves.ran.leaves found may
 
 -- whatever a stop leaves of the connection at the end, it leaves of the stream
 pub served_to_a_stop : {S : Type 0} (state_of : Held S → State) (held : Content) (last : SqlView S) (limit : ℕ) (start end : Ends) (outcome : Result Served ServeFault) (found : Content)
@@ -46,10 +46,9 @@ served_to_a_stop state_of held last limit start end outcome found did may before
           (λ requests answers it. record {
             laws = it.serves.laws;
             found_so = ∥∥₁_map may (λ m. record {
-              run = it.serves.ran.run;
               kept = it.kept;
               counts = last.counts;
-              leaves = leaves_less office_protocol (sql_storage state_of) _ _ _ _ requests answers ran.0 it.serves.ran.run _ _ it.kept last.counts
+              leaves = leaves_less office_protocol (sql_storage state_of) _ _ _ requests answers _ _
                   (λ left is. subst (MayLeave (state_of last.conn)) (sym is) m) it.serves.ran.leaves;
             });
           }) ran.1,

@@ -58,11 +58,11 @@ WasClean g files (Closed done back) = IsCleanFile back → AreClean g files.log 
 WasClean g files _ = Unit {0}
 
 -- They could not be closed: a stop leaves of them the tables that they held, or what one leaves of the work.
-abbrev pub IsLeftOpen : {D : Type 0} (g : Disk D) {T : Type 0} → Files D → (leaves : Content → Content → Type 0) → Ended T (FileLeft D g) → Type 0
-IsLeftOpen g files leaves (Unclosed why back) =
+abbrev pub IsUnclosed : {D : Type 0} (g : Disk D) {T : Type 0} → Files D → (leaves : Content → Content → Type 0) → Ended T (FileLeft D g) → Type 0
+IsUnclosed g files leaves (Unclosed why back) =
     IsCleanFile back → LeavesDatabases back × ((tables : Content) → ∥ MayLeaveOf back tables ∥₁
     → (old : Content) × HoldIn (image_of g files) old × ∥ (tables ≡ old) ⊎ leaves old tables ∥₁)
-IsLeftOpen g files leaves _ = Unit {0}
+IsUnclosed g files leaves _ = Unit {0}
 
 -- the same of files that held this as they were opened
 abbrev pub IsRefusedAt : {D : Type 0} {g : Disk D} → Image → FileLeft D g → Fault → Type 0

@@ -1,5 +1,5 @@
 -- The tables of version 1 in files, and what becomes of them.
-use Rattle.std.specs.Prelude.{◌≡◌, ◌⊎◌, Result, Ok, Err, Some, IfOk, OnOk, IsTrue}
+use Rattle.std.specs.Prelude.{◌≡◌, ◌⊎◌, Result, Ok, Err, IfOk, OnOk, IsTrue}
 use Rattle.sqlite.specs.Files.{image_of, file_state, over_files}
 use Rattle.sqlite.specs.Held.{Held, state}
 use Rattle.sqlite.specs.Recovery.{Image}
@@ -11,16 +11,14 @@ use Rattle.sqlite.specs.declared.FileStore.{FileStore}
 use Rattle.sqlite_disk.specs.declared.Disk.{Ghosts as Disk}
 use Rattle.sqlite_disk.specs.declared.Files.{Files}
 use Rattle.sqlite_trees.specs.declared.store.Store.{Ghosts}
-use Rattle.office_machine.specs.Office.{Office, version_1}
-use Rattle.office_tables_standing.specs.StandFor.{StandForSoundIn}
+use Rattle.office_machine.specs.Office.{Office}
 use Rattle.office_tables.specs.Stored.{content_of}
-use Rattle.office_tables.specs.Migrate.{HasDamagedFormer, HasUnknownVersion, IsBrought, MayBecome, TellsDamage, TellsVersion}
+use Rattle.office_tables.specs.Migrate.{HasDamagedFormer, HasUnknownVersion, IsBrought, MayBecome, StandFormerly, TellsDamage, TellsVersion}
 use Rattle.office_tables_migration.specs.Migration.{StandAnew}
 use Rattle.office_tables_migration.specs.declared.puts.Migrated.{Migrated}
 use Rattle.office_tables_open.specs.Promises.{KeepsCommitted}
 use Rattle.office_tables_open.specs.declared.open.OpenFault.{OpenFault}
 use Rattle.office_tables_open.specs.declared.open.OpenFault.TheVariants as why
-use Rattle.office_tables_open.specs.Version.{AreToday, version_in, first_version}
 use Rattle.signal_office_faults.specs.declared.fault.Fault.{Fault}
 use Rattle.signal_office_in_file.specs.declared.Ended.{Ended}
 use Rattle.signal_office_in_file.specs.declared.Ended.TheVariants.{Unopened, Refused, Closed, Unclosed}
@@ -30,32 +28,28 @@ use Rattle.signal_office_file.specs.Told.{told_of}
 use Rattle.signal_office_file.specs.declared.left.FileLeft.{FileLeft}
 use Rattle.signal_office_file.specs.declared.left.FileLeft.TheVariants as left
 
--- version 1 is stored, and as it reads the tables they stand for the office, which is sound by its rules
-pub record StandFormerly (trees : Trees) (office : Office) : Type 0 where
-  pub version : version_in trees ≡ Some first_version
-  pub stand : StandForSoundIn version_1 (content_of trees) office
-
--- the tables are today's, and stand for the office as they are spelled today
-pub record StandToday (trees : Trees) (office : Office) : Type 0 where
-  pub today : AreToday trees
-  pub stand : StandAnew (content_of trees) office
-
 -- the tables in the files stood formerly for the office
 abbrev pub StandFormerlyInFiles : Image → Office → Type 0
-StandFormerlyInFiles image office = (trees : Trees) → AreThoseOf image trees → StandFormerly trees office
+StandFormerlyInFiles image office =
+    (trees : Trees) → AreThoseOf image trees → StandFormerly trees office
 
 -- a stop leaves tables as they were, or migrated
 abbrev pub LeavesEither : Trees → (Trees → Type 0) → Type 0
 LeavesEither was may_leave = (trees : Trees) → may_leave trees → (trees ≡ was) ⊎ MayBecome was trees
 
--- What `SqlShelf::migrate` says of a database, with what it leaves committed, on a clean disk alone. A stop leaves what was committed, or what becomes of it.
-pub record Migrates {S : Type 0} (g : Ghosts S) (outcome : Result Migrated OpenFault) (old new : Held S) : Type 0 where
-  pub brought : HasCleanDisk (state g new) → IfOk outcome (IsBrought (state g old).committed.trees (state g new).committed.trees)
+-- What `SqlShelf::migrate` says of a database, with what it leaves committed, on a clean disk
+-- alone. A stop leaves what was committed, or what becomes of it.
+pub record MigratesOnDisk
+    {S : Type 0} (g : Ghosts S) (outcome : Result Migrated OpenFault)
+    (old new : Held S) : Type 0 where
+  pub brought : HasCleanDisk (state g new)
+      → IfOk outcome (IsBrought (state g old).committed.trees (state g new).committed.trees)
   pub is_open : HasCleanDisk (state g new) → OnOk outcome (IsTrue (state g new).is_open)
   pub version : TellsVersion g outcome old new
   pub damaged : TellsDamage outcome (state g old) (state g new)
   pub unchanged : KeepsCommitted outcome (state g old) (state g new)
-  pub crash : HasCleanDisk (state g new) → IsTrue (state g old).is_open → LeavesEither (state g old).committed.trees (state g new).may_leave
+  pub crash : HasCleanDisk (state g new) → IsTrue (state g old).is_open
+      → LeavesEither (state g old).committed.trees (state g new).may_leave
 
 -- what became of tables, or they are as they were where that was refused
 abbrev pub AreMigrated : Trees → Trees → Result Migrated OpenFault → Type 0
@@ -75,12 +69,16 @@ told_unclosed closing (Err cause) = told_of cause
 module _ {D : Type 0} (g : Disk D) where
   -- Version and Damaged are told of what the files held.
   pub record TellsOfFiles (files : Files D) (outcome : Result Migrated OpenFault) : Type 0 where
-    pub version : outcome ≡ Err why.Version → (conn : Held (FileStore D g)) × HasCleanDisk (file_state conn) × IsOpenedIn {g = g} files conn × HasUnknownVersion over_files conn
-    pub damaged : outcome ≡ Err why.Damaged → (was : Trees) × AreThoseOf (image_of g files) was × HasDamagedFormer was
+    pub version : outcome ≡ Err why.Version → (conn : Held (FileStore D g))
+        × HasCleanDisk (file_state conn) × IsOpenedIn {g = g} files conn
+        × HasUnknownVersion over_files conn
+    pub damaged : outcome ≡ Err why.Damaged → (was : Trees) × AreThoseOf (image_of g files) was
+        × HasDamagedFormer was
 
-  -- The files are closed, and hold what became of the tables that were found in them, as they read now and after a stop; or those tables, where the migration
-  -- was refused.
-  pub record ClosedMigrated (files : Files D) (outcome : Result Migrated OpenFault) (back : Files D) : Type 0 where
+  -- The files are closed, and hold what became of the tables that were found in them, as they read
+  -- now and after a stop; or those tables, where the migration was refused.
+  pub record ClosedMigrated
+      (files : Files D) (outcome : Result Migrated OpenFault) (back : Files D) : Type 0 where
     pub was : Trees
     pub those : AreThoseOf (image_of g files) was
     pub trees : Trees
@@ -90,11 +88,13 @@ module _ {D : Type 0} (g : Disk D) where
 
 module _ {D : Type 0} {g : Disk D} where
   -- the same of a connection that found its tables in files
-  pub record MigratesIn (files : Files D) (outcome : Result Migrated OpenFault) (conn : Held (FileStore D g)) : Type 0 where
+  pub record MigratesIn
+      (files : Files D) (outcome : Result Migrated OpenFault)
+      (conn : Held (FileStore D g)) : Type 0 where
     pub found : Held (FileStore D g)
     pub finds : IsOpenedIn files found
     pub clean : HasCleanDisk (file_state conn) → HasCleanDisk (file_state found)
-    pub migrates : Migrates over_files outcome found conn
+    pub migrates : MigratesOnDisk over_files outcome found conn
 
   -- They could not be closed. A fault from before comes first.
   pub record FailedToClose (files : Files D) (told : Fault) (back : FileLeft D g) : Type 0 where
@@ -107,7 +107,9 @@ module _ {D : Type 0} {g : Disk D} where
 
   -- They are closed, and hold what became of their tables.
   abbrev pub IsClosedMigrated : Files D → Result Migrated Fault → FileLeft D g → Type 0
-  IsClosedMigrated files told (left.Closed back) = (outcome : Result Migrated OpenFault) × (told ≡ told_of_outcome outcome) × AreUsable g back × (AreClean g back.log back.db → ClosedMigrated g files outcome back)
+  IsClosedMigrated files told (left.Closed back) =
+      (outcome : Result Migrated OpenFault) × (told ≡ told_of_outcome outcome) × AreUsable g back
+      × (AreClean g back.log back.db → ClosedMigrated g files outcome back)
   IsClosedMigrated files told _ = ⊥
 
   -- how a migration of files ended
@@ -120,7 +122,9 @@ module _ {D : Type 0} {g : Disk D} where
   -- So tables that stood formerly for an office stand for it today.
   abbrev pub StandAnewIn : Files D → FileLeft D g → Type 0
   StandAnewIn files (left.Closed back) =
-      AreClean g back.log back.db → (before : Office) → StandFormerlyInFiles (image_of g files) before → (trees : Trees) × HoldToday g back trees × StandAnew (content_of trees) before
+      AreClean g back.log back.db → (before : Office)
+      → StandFormerlyInFiles (image_of g files) before → (trees : Trees) × HoldToday g back trees
+      × StandAnew (content_of trees) before
   StandAnewIn files _ = ⊥
 
   abbrev pub BringsToday : Files D → Ended (Result Migrated Fault) (FileLeft D g) → Type 0

@@ -16,7 +16,6 @@ use Rattle.office_desk.specs.StandFor.{StandForSound}
 use Rattle.office_http.specs.Laws.{KeepsLaws, Serves}
 use Rattle.office_http.specs.Protocol.{office_protocol, office_storage}
 use Rattle.office_http_framing.specs.Front.{PlainRequest}
-use Rattle.office_http_framing.specs.Protocol.{Run}
 use Rattle.office_http_framing.specs.Serve.{Did, Ends}
 use Rattle.office_http_framing.specs.Stops.{Leaves, Storage}
 use Rattle.office_http_framing.specs.declared.engine.Served.{Served}
@@ -25,44 +24,64 @@ use Rattle.signal_office_file.specs.Files.{HoldIn}
 
 -- how the office is stored in the tables of a database, whose connection has these states
 abbrev pub sql_storage : {S : Type 0} → (Held S → State) → Storage (SqlView S) Office Content
-sql_storage state_of = office_storage (λ shelf. IsHonest (state_of shelf.conn)) (λ shelf. content_now (state_of shelf.conn)) (λ shelf. shelf.counts) (λ shelf tables. MayLeave (state_of shelf.conn) tables)
+sql_storage state_of =
+    office_storage (λ shelf. IsHonest (state_of shelf.conn))
+    (λ shelf. content_now (state_of shelf.conn)) (λ shelf. shelf.counts)
+    (λ shelf tables. MayLeave (state_of shelf.conn) tables)
 
--- the tables hold what the files held, and so does whatever a crash may leave of them; no row was written yet
-pub record AreOpenedIn {S : Type 0} (state_of : Held S → State) (image : Image) (opened : SqlView S) : Type 0 where
+-- the tables hold what the files held, and so does whatever a crash may leave of them; no row was
+-- written yet
+pub record AreOpenedIn
+    {S : Type 0} (state_of : Held S → State) (image : Image) (opened : SqlView S) : Type 0 where
   pub is_open : IsTrue (state_of opened.conn).is_open
   pub held : HoldIn image (content_now (state_of opened.conn))
-  pub crash : (tables : Content) → MayLeave (state_of opened.conn) tables → tables ≡ content_now (state_of opened.conn)
+  pub crash : (tables : Content) → MayLeave (state_of opened.conn) tables
+      → tables ≡ content_now (state_of opened.conn)
   pub unwritten : opened.counts ≡ no_writes
 
--- What was done over the requests from an office, and their answers, where the files held these tables, which were all that a crash could leave before.
-pub record ServesFiles {S : Type 0} (state_of : Held S → State) (held : Content) (before : Office) (last : SqlView S) (after : Office) (requests : List PlainRequest) (answers : List (List ℕ)) : Type 0 where
+-- What was done over the requests from an office, and their answers, where the files held these
+-- tables, which were all that a crash could leave before.
+pub record ServesFiles
+    {S : Type 0} (state_of : Held S → State) (held : Content) (before : Office) (last : SqlView S)
+    (after : Office) (requests : List PlainRequest) (answers : List (List ℕ)) : Type 0 where
   pub kept : Content
-  pub serves : Serves (sql_storage state_of) (λ tables. tables ≡ held) held no_writes before last kept after requests answers
+  pub serves : Serves (sql_storage state_of) (λ tables. tables ≡ held)
+      (record { state = before; kept = held; written = no_writes }) last kept after requests answers
 
 -- ---- what a stop leaves of a stream that was served over tables
 
 module _ {S : Type 0} (state_of : Held S → State) where
-  -- A stop leaves these tables after the requests: those after the last answer that was no 503, or after a later request that was answered 503.
-  pub record MayBeFound (old : Content) (before after : Office) (requests : List PlainRequest) (answers : List (List ℕ)) (found : Content) : Type 0 where
-    pub run : Run office_protocol before requests answers after
+  -- A stop leaves these tables after the requests: those after the last answer that was no 503, or
+  -- after a later request that was answered 503.
+  pub record MayBeFound
+      (old : Content) (before after : Office) (requests : List PlainRequest)
+      (answers : List (List ℕ)) (found : Content) : Type 0 where
     pub kept : Content
     pub counts : WriteCounts
-    pub leaves : Leaves office_protocol (sql_storage state_of) (λ tables. tables ≡ old) old no_writes before requests answers after run (λ left. left ≡ found) kept counts
+    pub leaves : Leaves office_protocol (sql_storage state_of) (λ tables. tables ≡ old)
+        (record { state = before; kept = old; written = no_writes }) requests answers
+        (λ left. left ≡ found) (record { state = after; kept = kept; written = counts })
 
   -- the requests were run from the office, and a stop after them leaves these tables
-  pub record RunsToAStop (old : Content) (before after : Office) (found : Content) (requests : List PlainRequest) (answers : List (List ℕ)) : Type 0 where
+  pub record RunsToAStop
+      (old : Content) (before after : Office) (found : Content) (requests : List PlainRequest)
+      (answers : List (List ℕ)) : Type 0 where
     pub laws : KeepsLaws before requests answers after
     pub found_so : ∥ MayBeFound old before after requests answers found ∥₁
 
   -- a stream was served so from whichever office the tables stood for
-  abbrev pub IsServedToAStop : ℕ → Ends → Ends → Content → Result Served ServeFault → Content → Type 0
+  abbrev pub IsServedToAStop : ℕ → Ends → Ends → Content → Result Served ServeFault → Content
+      → Type 0
   IsServedToAStop limit start end old outcome found =
-      (before : Office) → StandForSound old before → (after : Office) × Did office_protocol (RunsToAStop old before after found) limit start end outcome
+      (before : Office) → StandForSound old before → (after : Office)
+      × Did office_protocol (RunsToAStop old before after found) limit start end outcome
 
   -- the same, however that ended
   abbrev pub IsCutShort : ℕ → Ends → Ends → Content → Content → Type 0
-  IsCutShort limit start end old found = (outcome : Result Served ServeFault) × IsServedToAStop limit start end old outcome found
+  IsCutShort limit start end old found =
+      (outcome : Result Served ServeFault) × IsServedToAStop limit start end old outcome found
 
 -- the same over files
 abbrev pub IsCutShortIn : {D : Type 0} (g : Disk D) → ℕ → Ends → Ends → Content → Content → Type 0
-IsCutShortIn {D} g limit start end old found = IsCutShort (file_state {D = D} {g = g}) limit start end old found
+IsCutShortIn {D} g limit start end old found =
+    IsCutShort (file_state {D = D} {g = g}) limit start end old found

@@ -5,7 +5,7 @@ ghost use Rattle.office_http_framing.specs.Serve.{ends_of};
 ghost use Rattle.signal_office_in_file.specs.Ended.{EndsOver, IsBegun, IsCounted};
 ghost use Rattle.signal_office_in_file.specs.Ended.{stream_work, task_work};
 ghost use Rattle.sqlite.specs.WalFiles.{image_at};
-ghost use Rattle.signal_office_file.specs.InFile.{IsLeftOpen, IsMigrated, IsMigratedAt};
+ghost use Rattle.signal_office_file.specs.InFile.{IsUnclosed, IsMigrated, IsMigratedAt};
 ghost use Rattle.signal_office_file.specs.InFile.{IsRefusedAt, IsRefusedFor, WasClean};
 ghost use Rattle.signal_office_file.specs.InFile.{files_view, map_left, rows_counted, view_at};
 ghost use Rattle.signal_office_file.specs.Left.{IsCleanFile};
@@ -80,7 +80,7 @@ pub fn answered_in<D: Disk + Drop, R: Source, W: Sink>(
         ((source.new ≡ source.old) × (out.new ≡ out.old))) result }
     ensures clean { WasClean D.Disk files result }
     // Where they could not be closed, a stop leaves of them what one leaves of the stream.
-    ensures unclosed { IsLeftOpen D.Disk files (IsCutShortIn D.Disk max_requests
+    ensures unclosed { IsUnclosed D.Disk files (IsCutShortIn D.Disk max_requests
         (ends_of (R.told source.old) (W.told out.old))
         (ends_of (R.told source.new) (W.told out.new))) result }
 {

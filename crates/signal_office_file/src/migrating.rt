@@ -7,7 +7,7 @@ ghost use Rattle.sqlite.specs.State.{HasCleanDisk};
 ghost use Rattle.office_tables_open.specs.Promises.{IsArrangedIfClean};
 ghost use Rattle.signal_office_file.specs.Left.{IsUnopened};
 ghost use Rattle.signal_office_file.specs.Migrating.{BringsToday, EndsMigration};
-ghost use Rattle.signal_office_file.specs.Migrating.{Migrates, MigratesIn};
+ghost use Rattle.signal_office_file.specs.Migrating.{MigratesOnDisk, MigratesIn};
 
 use crate::closing::close_file;
 use crate::fault::fault_of_opening;
@@ -32,7 +32,7 @@ fn migrated<S: Alter>(
     mut conn: Connection<S>,
 ) -> (Connection<S>, Result<Migrated, OpenFault>)
     requires { IsArrangedIfClean (state S.Store conn) }
-    ensures migrated { Migrates S.Store result.1 conn result.0 }
+    ensures migrated { MigratesOnDisk S.Store result.1 conn result.0 }
     ensures clean { HasCleanDisk (state S.Store result.0) → HasCleanDisk (state S.Store conn) }
 {
     let outcome = SqlShelf::migrate(alloc, &mut conn);

@@ -5,7 +5,7 @@ ghost use Rattle.office_machine.specs.Office.{Office as OfficeState};
 ghost use Rattle.office_http_framing.specs.Asks.{OnlyAsks};
 ghost use Rattle.office_http_framing.specs.Limits.{longest_request};
 ghost use Rattle.office_http_framing.specs.Serve.{Did, TellsFault, ends_of};
-ghost use Rattle.office_http_framing.specs.Stops.{Keeps};
+ghost use Rattle.office_http_framing.specs.Stops.{KeepsState, moment_of};
 ghost use Rattle.office_http.specs.Laws.{Serves};
 ghost use Rattle.office_http.specs.Protocol.{office_protocol, office_storage};
 ghost use Rattle.office_tables_shelf.specs.Content.{Content};
@@ -27,9 +27,10 @@ pub(crate) fn serve_by<S: Shelf, R: Source, W: Sink>(
     ensures clean { S.is_clean result.0 → S.is_clean office }
     ensures did { let storage = office_storage S.is_honest S.content S.written S.may_leave in
         S.is_clean result.0 →
-        (before : OfficeState) (tables : Content) → Keeps storage office tables before →
+        (before : OfficeState) (tables : Content) → KeepsState storage office tables before →
         (after : OfficeState) × (kept : Content) × Did office_protocol
-        (Serves storage (S.may_leave office) tables (S.written office) before result.0 kept after)
+        (Serves storage (S.may_leave office) (moment_of storage office tables before)
+        result.0 kept after)
         max_requests (ends_of (R.told reader.old) (W.told writer.old))
         (ends_of (R.told reader.new) (W.told writer.new)) result.1 }
     ensures fault { TellsFault (ends_of (R.told reader.old) (W.told writer.old))

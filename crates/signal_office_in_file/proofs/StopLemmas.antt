@@ -1,7 +1,9 @@
 -- What a stop leaves of requests that were answered in turn.
-use Rattle.std.proofs.Common.{◌≡◌, ◌⊎◌, ℕ, List, [], ◌∷◌, inl, inr, subst, sym}
+use Rattle.std.proofs.Common.{◌⊎◌, ℕ, List, [], ◌∷◌, inl, inr, subst, sym}
 use Rattle.office_http.specs.Protocol.{office_protocol, office_storage}
-use Rattle.office_http_framing.specs.{Front.PlainRequest, Protocol.MayAnswer, Protocol.Run, Stops.IsKept, Stops.Leaves, Stops.LeavesOne, Stops.Storage}
+use Rattle.office_http_framing.specs.Front.{PlainRequest}
+use Rattle.office_http_framing.specs.Stops.{How, stepped, unavailable, Leaves, LeavesOne, Moment, Passes, Storage}
+use Rattle.office_http_framing.proofs.StopLemmas.{may_answer}
 use Rattle.office_machine.specs.Office.{Office}
 use Rattle.office_tables_shelf.specs.{Content.Content, declared.counts.WriteCounts.WriteCounts}
 use Rattle.signal_office_in_file.specs.Stopping.{AfterRequest, AfterStepOf}
@@ -11,27 +13,25 @@ module _ {S : Type 0} (is_honest : S → Type 0) (content : S → Content) (writ
   storage = office_storage is_honest content written may_leave
 
   -- one request leaves what was left before, or its own step
-  left_of_one : (may : Content → Type 0) (held kept : Content) (old new : WriteCounts) (before : Office) (request : PlainRequest) (answer : List ℕ) (after : Office)
-      (how : MayAnswer office_protocol before request answer after) → IsKept office_protocol storage held kept old new before request answer after how
-      → (found : Content) → LeavesOne office_protocol storage may held kept before request answer after how found → may found ⊎ AfterStepOf before request found
-  left_of_one may held kept old new before request answer after (inl step) it found (inl same) =
-      inr (answer, after, step, subst (λ (t : Content). storage.stands t after) (sym same) it.0)
-  left_of_one may held kept old new before request answer after (inl step) it found (inr was) = inl was.1
-  left_of_one may held kept old new before request answer after (inr refused) it found (inl was) = inl was
-  left_of_one may held kept old new before request answer after (inr refused) it found (inr step) = inr step
+  left_of_one : (may : Content → Type 0) (how : How) (request : PlainRequest) (answer : List ℕ) (old new : Moment storage) → Passes office_protocol storage how request answer old new
+      → (found : Content) → LeavesOne office_protocol storage how request may old new found → may found ⊎ AfterStepOf old.state request found
+  left_of_one may stepped request answer old new passes found (inl same) =
+      inr (answer, new.state, passes.0, subst (λ (t : Content). storage.stands t new.state) (sym same) passes.1)
+  left_of_one may stepped request answer old new passes found (inr was) = inl was.1
+  left_of_one may unavailable request answer old new passes found (inl was) = inl was
+  left_of_one may unavailable request answer old new passes found (inr step) = inr step
 
-  pub left_of_run : (may : Content → Type 0) (held : Content) (old : WriteCounts) (before : Office) (requests : List PlainRequest) (answers : List (List ℕ)) (after : Office)
-      (run : Run office_protocol before requests answers after) (at_end : Content → Type 0) (kept : Content) (new : WriteCounts)
-      → Leaves office_protocol storage may held old before requests answers after run at_end kept new
-      → (found : Content) → at_end found → may found ⊎ AfterRequest before requests answers found
-  left_of_run may held old before [] [] after run at_end kept new it found end = inl (it.0 found end)
-  left_of_run may held old before (request ∷ requests) (answer ∷ answers) after run at_end kept new it found end =
-      elim (left_of_run (λ left. LeavesOne office_protocol storage may held it.0 before request answer run.0 run.1 left) it.0 it.1 run.0 requests answers after run.2 at_end kept new it.3 found end) [
-        | inl one ↦ elim (left_of_one may held it.0 old it.1 before request answer run.0 run.1 it.2 found one) [
+  pub left_of_run : (may : Content → Type 0) (first last : Moment storage) (requests : List PlainRequest) (answers : List (List ℕ)) (at_end : Content → Type 0)
+      → Leaves office_protocol storage may first requests answers at_end last
+      → (found : Content) → at_end found → may found ⊎ AfterRequest first.state requests answers found
+  left_of_run may first last [] [] at_end it found end = inl (it.0 found end)
+  left_of_run may first last (request ∷ requests) (answer ∷ answers) at_end it found end =
+      elim (left_of_run (λ left. LeavesOne office_protocol storage it.0 request may first it.1 left) it.1 last requests answers at_end it.3 found end) [
+        | inl one ↦ elim (left_of_one may it.0 request answer first it.1 it.2 found one) [
           | inl was ↦ inl was
           | inr step ↦ inr (inl step)
         ]
-        | inr later ↦ inr (inr (run.0, run.1, later))
+        | inr later ↦ inr (inr (it.1.state, may_answer office_protocol storage it.0 request answer first it.1 it.2, later))
       ]
-  left_of_run may held old before [] (answer ∷ answers) after run at_end kept new none found end = absurd none
-  left_of_run may held old before (request ∷ requests) [] after run at_end kept new none found end = absurd none
+  left_of_run may first last [] (answer ∷ answers) at_end none found end = absurd none
+  left_of_run may first last (request ∷ requests) [] at_end none found end = absurd none

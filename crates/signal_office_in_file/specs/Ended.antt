@@ -61,13 +61,13 @@ pub record RunsOver (new : Content) (before after : Office) (requests : List Pla
   pub stands : StandForSound new after
 
 -- a stream was served so from whichever office the tables stood for
-abbrev pub Answers : ℕ → Ends → Ends → Content → Result Served ServeFault → Content → Type 0
-Answers limit start end old outcome new = (before : Office) → StandForSound old before → (after : Office) × Did office_protocol (RunsOver new before after) limit start end outcome
+abbrev pub ServesStoredOffice : ℕ → Ends → Ends → Content → Result Served ServeFault → Content → Type 0
+ServesStoredOffice limit start end old outcome new = (before : Office) → StandForSound old before → (after : Office) × Did office_protocol (RunsOver new before after) limit start end outcome
 
 -- a stream of requests that is answered
 abbrev pub stream_work : ℕ → Ends → Ends → (untouched : Type 0) → Work (Result Served ServeFault)
 stream_work limit start end untouched =
-    record { does = Answers limit start end; stops = AnswersToAStop limit start end; untouched = untouched }
+    record { does = ServesStoredOffice limit start end; stops = AnswersToAStop limit start end; untouched = untouched }
 
 -- A migration was made, and its rows are those that were counted; or it was refused, and the tables are as they were. Nothing is counted that was not closed.
 abbrev pub IsCounted : {Left : Type 0} → (is_clean : Left → Type 0) → (migrated : Left → ℕ → Type 0) → (refused : Left → Fault → Type 0) → Ended (Result ℕ Fault) Left → Type 0

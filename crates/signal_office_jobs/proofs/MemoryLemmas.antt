@@ -4,7 +4,7 @@ use Rattle.std.specs.{Prelude.IfSome, Int.IsInRange, Ordering.nat_cmp, FinMap.em
 use Rattle.std.specs.FinMap.{len-empty, len-entries}
 use Rattle.signal_records.specs.Key.{key_cmp}
 use Rattle.draft_core.specs.DraftRows.{RowStands, silent}
-use Rattle.office_tables_shelf.specs.{Cells.Cell, Cells.Rows, Cells.tree_rows, Cells.cells_cmp, Content.Content, Content.no_content}
+use Rattle.office_tables_shelf.specs.{Cells.Cell, Cells.TableRows, Cells.tree_rows, Cells.cells_cmp, Content.Content, Content.no_content}
 use Rattle.office_tables_shelf.specs.Rows.{intersection_key, timing_key, timing_columns}
 use Rattle.office_desk_cabinet.proofs.EmptyRegister.{nothing_registered}
 use Rattle.office_machine.specs.Office.{Intersection, IsSoundIntersection, side_of}
@@ -19,7 +19,7 @@ no_entries : entries (empty {X = Intersection} {R = nat_cmp}) ≡ []
 no_entries = no_items _ (sym (len-entries empty) ∙ len-empty nat_cmp Intersection)
 
 -- a row of no table
-nothing_at : (rows : Rows) (cells columns : List Cell) → rows ≡ empty → get rows cells ≡ Some columns → ⊥
+nothing_at : (rows : TableRows) (cells columns : List Cell) → rows ≡ empty → get rows cells ≡ Some columns → ⊥
 nothing_at rows cells columns none stored =
     let read : None ≡ Some columns = sym (ap (λ r. get r cells) none ∙ get-empty cells_cmp cells) ∙ stored in
     cc

@@ -7,7 +7,7 @@ use Rattle.signal_office_faults.specs.declared.fault.Fault.{Fault}
 use Rattle.signal_office_in_file.specs.Ended.{EndsOver, FileView, IsBegun, task_work}
 use Rattle.signal_office_in_file.specs.declared.Ended.{Ended}
 use Rattle.signal_office_in_file.specs.declared.Ended.TheVariants.{Unopened, Refused, Closed, Unclosed}
-use Rattle.signal_office_jobs.specs.Printing.{Output, ReadingAnyCsv, ReadingCsv, TellsNothing, text_in, text_in_any}
+use Rattle.signal_office_jobs.specs.Printing.{Output, ReadingAnyCsv, ReadingCsv, TellsNothing, file_text, text_in_any}
 
 -- where nothing was done, that is also what follows from it
 pub ends_quietly : {Left T : Type 0} (view : FileView Left) (does : Content → T → Content → Type 0) (leaves : Content → Content → Type 0) (untouched quiet : Type 0)
@@ -31,7 +31,7 @@ fails why start (Err it) is = (refl, ap Err is)
 
 -- what is done with the text of a CSV file that was read
 pub read_so : (padded : Bool) (next : List ℕ → Output) (text : List ℕ) (start end : Told) (result : Result ℕ Fault)
-    → (bytes : List ℕ) × (text ≡ text_in padded bytes) → next text start end result → ReadingCsv padded next start end result
+    → (bytes : List ℕ) × (text ≡ file_text padded bytes) → next text start end result → ReadingCsv padded next start end result
 read_so padded next text start end result found did = inl (found.0, subst (λ (t : List ℕ). next t start end result) found.1 did)
 
 pub read_any_so : (padded : Option Bool) (next : List ℕ → Output) (text : List ℕ) (start end : Told) (result : Result ℕ Fault)

@@ -1,9 +1,9 @@
 -- What a stop leaves of a task, from what it leaves of a command, of a query and of a port that was served.
-use Rattle.std.proofs.Common.{◌≡◌, ◌⊎◌, ℕ, List, [], ◌∷◌, inl, inr, refl, subst, sym}
+use Rattle.std.proofs.Common.{◌≡◌, ◌⊎◌, List, [], ◌∷◌, inl, inr, subst, sym}
 use Rattle.office_http.specs.Listening.{Connected, Listens, ServesConnection, ServesEach, connection_limit}
 use Rattle.office_http.specs.Protocol.{office_protocol, office_storage}
 use Rattle.office_http_framing.proofs.ServeLemmas.{Did-weaker}
-use Rattle.office_http_framing.specs.Stops.{Keeps, Storage}
+use Rattle.office_http_framing.specs.Stops.{KeepsState, Storage, moment_of}
 use Rattle.office_machine.specs.Office.{Office}
 use Rattle.office_tables_shelf.specs.{Content.Content, Keeps.KeepsShelf, declared.shelf.Shelf.Ghosts}
 use Rattle.signal_office_commands.specs.Stopping.{StopLeaves}
@@ -42,20 +42,19 @@ module _ {S : Type 0} (g : Ghosts S) where
       (it : ServesConnection storage first held before last kept after connection) (found : Content) → g.may_leave last found
       → g.may_leave first found ⊎ ServedFrom before connection after (λ requests answers. AfterRequest before requests answers found)
   after_connection first held before last kept after connection it found may =
-      elim (left_of_run g.is_honest g.content g.written g.may_leave _ _ _ before it.did.requests it.did.answers after it.did.ran.ran.run _ _ _ it.did.ran.ran.leaves found may) [
+      elim (left_of_run g.is_honest g.content g.written g.may_leave _ (moment_of storage first held before) (moment_of storage last kept after) it.did.requests it.did.answers _ it.did.ran.ran.leaves found may) [
         | inl was ↦ inl was
         | inr step ↦ inr (
           it.outcome,
           record {
             given = it.did.given;
             requests = it.did.requests;
-            rest = it.did.rest;
-            left = it.did.left;
             answers = it.did.answers;
-            closing = it.did.closing;
+            tail = it.did.tail;
             reads = it.did.reads;
             begins = it.did.begins;
             ran = (it.did.ran.laws, step);
+            counted = it.did.counted;
             ends = it.did.ends;
             writes = it.did.writes;
           },
@@ -75,7 +74,7 @@ module _ {S : Type 0} (g : Ghosts S) where
         | inr later ↦ inr (each.2, inr ((each.3.outcome, Did-weaker office_protocol _ _ connection_limit _ _ each.3.outcome (λ requests answers it. (it.laws, tt)) each.3.did), later))
       ]
 
-  pub served_within : (old new : S) → (g.is_clean new → (before : Office) (tables : Content) → Keeps storage old tables before → (served : List Connected) × Listens storage old tables before new served)
+  pub served_within : (old new : S) → (g.is_clean new → (before : Office) (tables : Content) → KeepsState storage old tables before → (served : List Connected) × Listens storage old tables before new served)
       → StopsWithin g old new AfterServing
   served_within old new did clean tables held alone found may before stands =
       let x = did clean before tables (record { stands = stands; held = held }) in (

@@ -5,9 +5,10 @@ use Rattle.office_http.specs.Laws.{KeepsLaws}
 use Rattle.office_http.specs.Listening.{Connected, Listens, ServesConnection, ServesEach, connection_limit}
 use Rattle.office_http.specs.Protocol.{office_protocol, office_storage}
 use Rattle.office_http.specs.declared.listening.ListenCounts.{ListenCounts}
+use Rattle.office_http_framing.proofs.ServeLemmas.{Did-weaker}
 use Rattle.office_http_framing.specs.Ends.{Told}
 use Rattle.office_http_framing.specs.Serve.{Did}
-use Rattle.office_http_framing.specs.Stops.{Keeps, Storage}
+use Rattle.office_http_framing.specs.Stops.{KeepsState, Storage}
 use Rattle.office_desk.specs.StandFor.{StandForSound}
 use Rattle.office_machine.specs.Office.{Office}
 use Rattle.office_tables_shelf.specs.Content.{Content}
@@ -30,19 +31,8 @@ module _ {S : Type 0} (g : Ghosts S) where
   keeps_laws : (first : S) (held : Content) (before : Office) (last : S) (kept : Content) (after : Office) (connection : Connected)
       (it : ServesConnection storage first held before last kept after connection)
       → Did office_protocol (λ requests answers. KeepsLaws before requests answers after) connection_limit connection.start connection.end it.outcome
-  keeps_laws first held before last kept after connection it = record {
-    given = it.did.given;
-    requests = it.did.requests;
-    rest = it.did.rest;
-    left = it.did.left;
-    answers = it.did.answers;
-    closing = it.did.closing;
-    reads = it.did.reads;
-    begins = it.did.begins;
-    ran = it.did.ran.laws;
-    ends = it.did.ends;
-    writes = it.did.writes;
-  }
+  keeps_laws first held before last kept after connection it =
+      Did-weaker office_protocol _ _ connection_limit _ _ it.outcome (λ requests answers ran. ran.laws) it.did
 
   in_turn : (served : List Connected) (first : S) (held : Content) (before : Office) (last : S) (kept : Content) (after : Office)
       → ServesEach storage first held before served last kept after → InTurn before served after
@@ -56,7 +46,7 @@ module _ {S : Type 0} (g : Ghosts S) where
 
   pub serves : (port count : ℕ) (old new : S) (start end : Told) (counts : Option ListenCounts) (outcome : Result ⊤ Fault) (result : Result Done Fault)
       → TellsOutcome (λ _. []) (λ _. 0) outcome result → (served : List Connected) × ServesPort port count start end counts served outcome
-      → ((before : Office) (tables : Content) → Keeps storage old tables before
+      → ((before : Office) (tables : Content) → KeepsState storage old tables before
       → (served : List Connected) × Listens storage old tables before new served × ServesPort port count start end counts served outcome)
       → g.is_honest new → ServesAs port count (g.content old) result (g.content new) start end
   serves port count old new start end counts outcome result tells ended did honest = record {

@@ -1,7 +1,7 @@
 -- What a command prints, and the status with which it ends.
 use Rattle.std.specs.Prelude.{◌≡◌, ◌==◌, ℕ, Bool, true, false, if◌then◌else◌, length, List, [], codes, Result, Ok, Err}
 use Rattle.signal_compare.specs.declared.difference.Difference.{Difference}
-use Rattle.signal_compare.specs.Difference.{changes_of}
+use Rattle.signal_compare.specs.Difference.{difference_changes}
 use Rattle.signal_compare.specs.Text.{comparison_text}
 use Rattle.office_files.specs.Timing.{changes_csv_text}
 use Rattle.signal_reasons.specs.declared.reason.Explained.{Explained}
@@ -53,5 +53,5 @@ outcome_line false Open = []
 
 -- what plans differ in, as a text or as CSV
 abbrev pub compared_text : (csv : Bool) → List Difference → List ℕ
-compared_text true differences = changes_csv_text (changes_of differences)
+compared_text true differences = changes_csv_text (difference_changes differences)
 compared_text false differences = comparison_text differences

@@ -34,5 +34,5 @@ pub record ServesInMemory
   pub stands : StandForSound held new_office
   pub last : ShelfView
   pub kept : Content
-  pub serves : Serves memory_storage (λ tables. Unit {0}) held no_writes
-      new_office last kept after requests answers
+  pub serves : Serves memory_storage (λ tables. Unit {0})
+      (record { state = new_office; kept = held; written = no_writes }) last kept after requests answers

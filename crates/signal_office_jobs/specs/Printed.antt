@@ -127,8 +127,8 @@ abbrev pub all_intersections : ℕ
 all_intersections = 9_999
 
 -- how an edit changes a plan
-abbrev pub mode_of : {T : Type 0} → Edit T → EditMode
-mode_of edit = record { replace = edit.replace; commit = edit.commit }
+abbrev pub edit_mode : {T : Type 0} → Edit T → EditMode
+edit_mode edit = record { replace = edit.replace; commit = edit.commit }
 
 -- WHAT IS PRINTED for each job; the answers of `batch` are said by `JobDoes`.
 abbrev pub Printed : {Left : Type 0} → OfficeFiles Left → Asked → Output
@@ -146,7 +146,7 @@ Printed files (job.Import db csv) start end result =
 Printed files (job.Edit e) start end result =
     Naming 40 e.clerk fault.Clerk
     (ReadingAnyCsv (option_map (λ (csv : CsvFile Text). csv.padded) e.csv) (λ plan. InFoundFile files.view
-    (editing plan e.id e.clerk (mode_of e) e.explain))) start end result
+    (editing plan e.id e.clerk (edit_mode e) e.explain))) start end result
 Printed files (job.Abandon db clerk id) start end result =
     Naming 40 clerk fault.Clerk (InFoundFile files.view (abandoning id clerk)) start end result
 Printed files (job.CompareDraft db id csv) start end result = InFoundFile files.view (looking (ComparesAs id csv)) start end result

@@ -81,18 +81,18 @@ Reading next start end result =
     ((bytes : List ℕ) × next bytes start end result) ⊎ ((why : Fault) × IsUnreadFile why × TellsNothing why start end result)
 
 -- the text of a CSV file: its bytes, or those of a file whose records are padded, without that
-abbrev pub text_in : (padded : Bool) → (bytes : List ℕ) → List ℕ
-text_in true bytes = unpadded_text bytes
-text_in false bytes = bytes
+abbrev pub file_text : (padded : Bool) → (bytes : List ℕ) → List ℕ
+file_text true bytes = unpadded_text bytes
+file_text false bytes = bytes
 
 -- the same of a file that may be left out, which has no record then
 abbrev pub text_in_any : (padded : Option Bool) → (bytes : List ℕ) → List ℕ
-text_in_any (Some padded) bytes = text_in padded bytes
+text_in_any (Some padded) bytes = file_text padded bytes
 text_in_any None bytes = []
 
 -- a CSV file was read, and this is done with its text; or it was not
 abbrev pub ReadingCsv : (padded : Bool) → (List ℕ → Output) → Output
-ReadingCsv padded next = Reading (λ bytes. next (text_in padded bytes))
+ReadingCsv padded next = Reading (λ bytes. next (file_text padded bytes))
 
 abbrev pub ReadingAnyCsv : (padded : Option Bool) → (List ℕ → Output) → Output
 ReadingAnyCsv padded next = Reading (λ bytes. next (text_in_any padded bytes))

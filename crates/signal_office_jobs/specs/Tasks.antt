@@ -12,7 +12,7 @@ use Rattle.office_http_framing.specs.declared.engine.ServeFault.{ServeFault}
 use Rattle.office_machine.specs.Office.{Office}
 use Rattle.office_tables_shelf.specs.Content.{Content}
 use Rattle.signal_compare.specs.declared.difference.Difference.{Difference}
-use Rattle.signal_office_commands.specs.Commands.{Adds, Abandons}
+use Rattle.signal_office_commands.specs.Commands.{AddsIntersection, Abandons}
 use Rattle.signal_office_commands.specs.Comparing.{ComparesDraft, ComparesNoDraft, ComparesNoRunning, ComparesRunning}
 use Rattle.signal_office_commands.specs.Importing.{Imports}
 use Rattle.signal_office_commands.specs.Revising.{RevisesAs}
@@ -79,7 +79,7 @@ imported_line imported = codes "added " ++ decimal imported.added ++ codes ", sa
 
 -- one command was done, and the result tells what came of it
 abbrev pub AddsAs : (id interval : ℕ) → (name : List ℕ) → Content → Result Done Fault → Content → Type 0
-AddsAs id interval name old result new = (entered : Result Entered Fault) × Adds id interval name old new entered × TellsOutcome entered_line (λ _. 0) entered result
+AddsAs id interval name old result new = (entered : Result Entered Fault) × AddsIntersection id interval name old new entered × TellsOutcome entered_line (λ _. 0) entered result
 
 abbrev pub ImportsAs : (csv : List ℕ) → Content → Result Done Fault → Content → Type 0
 ImportsAs csv old result new = (imported : Result Imported Fault) × Imports csv old new imported × TellsOutcome imported_line (λ _. 0) imported result

@@ -8,7 +8,7 @@ ghost use Rattle.signal_office_jobs.specs.Printing.{InFile, InFoundFile, InNewFi
 ghost use Rattle.signal_office_jobs.specs.Printing.{IsNameRead, MigratesFile, Naming, OnDay};
 ghost use Rattle.signal_office_jobs.specs.Printing.{ReadingAnyCsv, ReadingCsv, abandoning, adding};
 ghost use Rattle.signal_office_jobs.specs.Printing.{editing, effect_of, importing, looking};
-ghost use Rattle.signal_office_jobs.specs.Printed.{mode_of};
+ghost use Rattle.signal_office_jobs.specs.Printed.{edit_mode};
 ghost use Rattle.signal_office_jobs.specs.Tasks.{ComparesWith, makes_file};
 
 use crate::done::{Done, joined, migrated, print_done};
@@ -181,7 +181,7 @@ pub(crate) fn compare_running<F: OfficeInFile, W: Sink>(
 
 /// How an edit changes a plan.
 fn mode_of(edit: &Edit<&str>) -> EditMode
-    ensures { result ≡ mode_of edit.now }
+    ensures { result ≡ edit_mode edit.now }
 {
     EditMode {
         replace: edit.replace,
@@ -199,7 +199,7 @@ fn edit_by<F: OfficeInFile, W: Sink>(
 ) -> Result<u8, Fault>
     ensures { let view = file_view F.held F.is_clean F.keeps F.refused F.leaves in
         ReadingAnyCsv (option_map (λ csv. csv.padded) edit.now.csv) (λ plan. InFoundFile view
-        (editing plan edit.now.id clerk.now (mode_of edit.now) edit.now.explain))
+        (editing plan edit.now.id clerk.now (edit_mode edit.now) edit.now.explain))
         (W.told out.old) (W.told out.new) result }
 {
     let csv = &read_any_csv(rt, alloc, &edit.csv)?;
@@ -225,7 +225,7 @@ pub(crate) fn edit_plan<F: OfficeInFile, W: Sink>(
         let clerk = edit.now.clerk.now in
         Naming 40 clerk fault.Clerk
         (ReadingAnyCsv (option_map (λ csv. csv.padded) edit.now.csv) (λ plan. InFoundFile view
-        (editing plan edit.now.id clerk (mode_of edit.now) edit.now.explain)))
+        (editing plan edit.now.id clerk (edit_mode edit.now) edit.now.explain)))
         (W.told out.old) (W.told out.new) result }
 {
     let clerk = &named(alloc, edit.clerk, Fault::Clerk)?;

@@ -2,7 +2,7 @@
 
 ghost use Rattle.std.specs.Prelude.{◌≡◌, ℕ, List, IfErr, IfOk, option_map};
 ghost use Rattle.signal_office_faults.specs.Lines.{IsUnreadFile};
-ghost use Rattle.signal_office_jobs.specs.Printing.{text_in, text_in_any};
+ghost use Rattle.signal_office_jobs.specs.Printing.{file_text, text_in_any};
 
 use office_spreadsheets::unpadded_csv;
 use signal_office_commands::Fault;
@@ -17,7 +17,7 @@ pub(crate) fn read_csv(
     file: &CsvFile<&str>,
 ) -> Result<Vec<u8>, Fault>
     ensures text { IfOk result (λ text. (bytes : List ℕ)
-        × (text.items ≡ text_in file.now.padded bytes)) }
+        × (text.items ≡ file_text file.now.padded bytes)) }
     ensures fault { IfErr result IsUnreadFile }
 {
     let bytes = read_file(rt, file.path)?;

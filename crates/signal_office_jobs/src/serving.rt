@@ -3,7 +3,7 @@
 ghost use Rattle.std.specs.Prelude.{◌≡◌, List};
 ghost use Rattle.office_machine.specs.Office.{Office as OfficeState};
 ghost use Rattle.office_tables_shelf.specs.Content.{Content};
-ghost use Rattle.office_http_framing.specs.Stops.{Keeps};
+ghost use Rattle.office_http_framing.specs.Stops.{KeepsState};
 ghost use Rattle.office_http.specs.Listening.{Connected, Listens};
 ghost use Rattle.office_http.specs.Protocol.{office_storage};
 ghost use Rattle.signal_office_jobs.specs.Serving.{SaysListening, ServesPort, fault_of_stop};
@@ -54,7 +54,7 @@ pub fn serve_port<S: Shelf, W: Sink>(
     // asked for, and so many were accepted.
     ensures did { let storage = office_storage S.is_honest S.content S.written S.may_leave in
         S.is_clean office.new →
-        (before : OfficeState) (tables : Content) → Keeps storage office.old tables before →
+        (before : OfficeState) (tables : Content) → KeepsState storage office.old tables before →
         (served : List Connected) × Listens storage office.old tables before office.new served
         × ServesPort port count (W.told out.old) (W.told out.new) result.0 served result.1 }
     // The listener tells how many connections were accepted, and the fault what failed.

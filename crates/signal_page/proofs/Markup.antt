@@ -13,8 +13,8 @@ use Rattle.signal_page.specs.{declared.shown.IntersectionShown.IntersectionShown
 use Rattle.signal_page.specs.{Reading.is_markup, Reading.marks, Blank.blank_state, Blank.blank_inspection, Blank.blank_closing}
 use Rattle.signal_page.specs.{Blank.blank_order, Blank.blank_line, Blank.blank_view, Blank.blank, Cells.row_heading, Cells.text_cell}
 use Rattle.signal_page.specs.{State.fact, State.owner_text, State.last_text, State.due_text, State.draft_facts, State.cabinet_facts, Register.day_cell}
-use Rattle.signal_page.specs.Register.{part_used, part_of, parts_cell, order_cells, closing_cells, open_by, open_row, closed_by, closed_row}
-use Rattle.signal_page.specs.Register.{open_orders, closed_orders, inspection_row, inspections_part, due_note, register_part}
+use Rattle.signal_page.specs.Register.{part_used, part_of, parts_cell, order_cells, closing_cells, row_if_open, open_row, closed_by, closed_row}
+use Rattle.signal_page.specs.Register.{open_orders_part, closed_orders_part, inspection_row, inspections_part, due_note, register_part}
 use Rattle.office_files.specs.Cells.{when_empty}
 use Rattle.signal_page.specs.Tables.{none_row, rows_or_none}
 use Rattle.signal_page.proofs.Newest.{reversed_map}
@@ -214,7 +214,7 @@ closing_alike closing = after _ (text_cell_alike closing.closer [])
 
 open_alike : (lines : List UsedLine) (order : Order) → Alike (open_row lines order) (open_row (map blank_line lines) (blank_order order))
 open_alike lines order = by_closing order.closing where
-  by_closing : (closing : Option Closing) → Alike (open_by lines order closing) (open_by (map blank_line lines) (blank_order order) (option_map blank_closing closing))
+  by_closing : (closing : Option Closing) → Alike (row_if_open lines order closing) (row_if_open (map blank_line lines) (blank_order order) (option_map blank_closing closing))
   by_closing None = before (codes "</tr>\n") (after (codes "<tr>") (order_alike lines order))
   by_closing (Some closing) = same []
 
@@ -229,7 +229,7 @@ closed_alike lines order = by_closing order.closing where
 open_marked : (lines : List UsedLine) (order : Order) → IsRow (open_row lines order)
 unfolding marks
 open_marked lines order = by_closing order.closing where
-  by_closing : (closing : Option Closing) → IsRow (open_by lines order closing)
+  by_closing : (closing : Option Closing) → IsRow (row_if_open lines order closing)
   by_closing None = inr (omega arith)
   by_closing (Some closing) = inl refl
 
@@ -240,15 +240,15 @@ closed_marked lines order = by_closing order.closing where
   by_closing None = inl refl
   by_closing (Some closing) = inr (omega arith)
 
-open_orders_alike : (lines : List UsedLine) (orders : List Order) → Alike (open_orders lines orders) (open_orders (map blank_line lines) (map blank_order orders))
-unfolding open_orders
+open_orders_alike : (lines : List UsedLine) (orders : List Order) → Alike (open_orders_part lines orders) (open_orders_part (map blank_line lines) (map blank_order orders))
+unfolding open_orders_part
 open_orders_alike lines orders =
     before _ (after _ (table_alike 5 (each_back (open_row lines) (open_row (map blank_line lines)) blank_order (open_alike lines) orders)
     (each_marked (open_row lines) (λ order. open_marked lines order) (reverse orders))
     (each_marked (open_row (map blank_line lines)) (λ order. open_marked (map blank_line lines) order) (reverse (map blank_order orders)))))
 
-closed_orders_alike : (lines : List UsedLine) (orders : List Order) → Alike (closed_orders lines orders) (closed_orders (map blank_line lines) (map blank_order orders))
-unfolding closed_orders
+closed_orders_alike : (lines : List UsedLine) (orders : List Order) → Alike (closed_orders_part lines orders) (closed_orders_part (map blank_line lines) (map blank_order orders))
+unfolding closed_orders_part
 closed_orders_alike lines orders =
     before _ (after _ (table_alike 7 (each_back (closed_row lines) (closed_row (map blank_line lines)) blank_order (closed_alike lines) orders)
     (each_marked (closed_row lines) (λ order. closed_marked lines order) (reverse orders))

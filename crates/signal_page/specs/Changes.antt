@@ -11,19 +11,19 @@ use Rattle.signal_page.specs.declared.changes.Mark.TheVariants.{Removed, Added, 
 use Rattle.signal_page.specs.declared.rows.Kind.{Kind}
 use Rattle.signal_page.specs.declared.rows.Kind.TheVariants.{Phases, Sequences, Splits, Patterns}
 use Rattle.signal_page.specs.Cells.{words_heading}
-use Rattle.signal_page.specs.Rows.{row_in, is_of}
+use Rattle.signal_page.specs.Rows.{row_in, is_of_kind}
 use Rattle.signal_page.specs.Tables.{name_of, headings, table_opening, table_body, table_end}
 
 -- how a row opens that was removed or added, or that was changed, as it was and as it is to be
-abbrev pub opening_of : Mark → List ℕ
-opening_of Removed = codes "<tr class='removed'><td class='w'>removed</td>"
-opening_of Added = codes "<tr class='added'><td class='w'>added</td>"
-opening_of Before = codes "<tr class='before'><td class='w'>changed from</td>"
-opening_of After = codes "<tr class='after'><td class='w'>changed to</td>"
+abbrev pub row_opening : Mark → List ℕ
+row_opening Removed = codes "<tr class='removed'><td class='w'>removed</td>"
+row_opening Added = codes "<tr class='added'><td class='w'>added</td>"
+row_opening Before = codes "<tr class='before'><td class='w'>changed from</td>"
+row_opening After = codes "<tr class='after'><td class='w'>changed to</td>"
 
 -- a row of a set
 abbrev pub marked_row : Kind → Mark → Rows → Row → List ℕ
-marked_row kind mark set row = row_in kind (opening_of mark) set [] row
+marked_row kind mark set row = row_in kind (row_opening mark) set [] row
 
 -- a difference of two sets in the table of a kind, each row as its own set has it
 abbrev pub change_rows : Kind → Rows → Rows → Difference → List ℕ
@@ -39,9 +39,9 @@ whole_change_table kind runs draft differences =
     ++ table_end
 
 abbrev pub is_change_of : Kind → Difference → Bool
-is_change_of kind (difference.Removed row) = is_of kind row
-is_change_of kind (difference.Added row) = is_of kind row
-is_change_of kind (difference.Changed before after) = is_of kind before
+is_change_of kind (difference.Removed row) = is_of_kind kind row
+is_change_of kind (difference.Added row) = is_of_kind kind row
+is_change_of kind (difference.Changed before after) = is_of_kind kind before
 
 -- there is one where a row of the kind changes
 abbrev pub change_table : Kind → Rows → Rows → List Difference → List ℕ

@@ -42,12 +42,12 @@ unfoldable pub closing_cells : Closing → List ℕ
 closing_cells closing = day_cell closing.day ++ text_cell closing.closer
 
 -- the row of an order among the open ones, and among the closed ones
-abbrev pub open_by : List UsedLine → Order → Option Closing → List ℕ
-open_by lines order None = codes "<tr>" ++ order_cells lines order ++ codes "</tr>\n"
-open_by lines order (Some closing) = []
+abbrev pub row_if_open : List UsedLine → Order → Option Closing → List ℕ
+row_if_open lines order None = codes "<tr>" ++ order_cells lines order ++ codes "</tr>\n"
+row_if_open lines order (Some closing) = []
 
 abbrev pub open_row : List UsedLine → Order → List ℕ
-open_row lines order = open_by lines order order.closing
+open_row lines order = row_if_open lines order order.closing
 
 abbrev pub closed_by : List UsedLine → Order → Option Closing → List ℕ
 closed_by lines order None = []
@@ -62,13 +62,13 @@ order_headings =
     heading (codes "Order") ++ words_heading (codes "Opened") ++ words_heading (codes "Clerk")
     ++ words_heading (codes "Work") ++ words_heading (codes "Lines: parts used (pieces)")
 
-unfoldable pub open_orders : List UsedLine → List Order → List ℕ
-open_orders lines orders =
+unfoldable pub open_orders_part : List UsedLine → List Order → List ℕ
+open_orders_part lines orders =
     table_opening (codes "Open orders") [] ++ order_headings ++ table_body
     ++ rows_or_none 5 (flat_map (open_row lines) (reverse orders)) ++ table_end
 
-unfoldable pub closed_orders : List UsedLine → List Order → List ℕ
-closed_orders lines orders =
+unfoldable pub closed_orders_part : List UsedLine → List Order → List ℕ
+closed_orders_part lines orders =
     table_opening (codes "Closed orders") [] ++ order_headings ++ words_heading (codes "Closed")
     ++ words_heading (codes "Closed by") ++ table_body
     ++ rows_or_none 7 (flat_map (closed_row lines) (reverse orders)) ++ table_end
@@ -108,5 +108,5 @@ due_note interval latest =
 
 unfoldable pub register_part : ℕ → CabinetView → List ℕ
 register_part interval view =
-    due_note interval (latest_day view.inspections) ++ open_orders view.lines view.orders
-    ++ closed_orders view.lines view.orders ++ inspections_part view.inspections
+    due_note interval (latest_day view.inspections) ++ open_orders_part view.lines view.orders
+    ++ closed_orders_part view.lines view.orders ++ inspections_part view.inspections

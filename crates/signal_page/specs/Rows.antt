@@ -15,7 +15,8 @@ use Rattle.signal_page.specs.declared.rows.Kind.TheVariants.{Phases, Sequences, 
 use Rattle.signal_page.specs.Cells.{row_heading, number_cell, tenths_cell, flag_cell, list_cell}
 use Rattle.signal_page.specs.Cells.{words_cell}
 use Rattle.signal_page.specs.Needs.{need_at, need_cells, coordinated}
-use Rattle.signal_page.specs.Rules.{subject_of, reasons_below}
+use Rattle.signal_rules.specs.RowWalk.{subject_of}
+use Rattle.signal_page.specs.Rules.{reasons_below}
 
 abbrev pub mode_words : SplitMode → List ℕ
 mode_words mode.NoRecall = codes "none"
@@ -68,12 +69,12 @@ columns Sequences = 3
 columns Splits = 7
 columns Patterns = 6
 
-abbrev pub is_of : Kind → Row → Bool
-is_of Phases (row.Phase p phase) = true
-is_of Sequences (row.Seq n ring seq) = true
-is_of Splits (row.Split n p split) = true
-is_of Patterns (row.Pattern n pattern) = true
-is_of kind other = false
+abbrev pub is_of_kind : Kind → Row → Bool
+is_of_kind Phases (row.Phase p phase) = true
+is_of_kind Sequences (row.Seq n ring seq) = true
+is_of_kind Splits (row.Split n p split) = true
+is_of_kind Patterns (row.Pattern n pattern) = true
+is_of_kind kind other = false
 
 -- a row with how it opens, and below it the rules that it breaks
 unfoldable pub whole_row : Kind → List ℕ → Rows → List Explained → Row → List ℕ
@@ -84,4 +85,4 @@ whole_row kind opening set reasons r =
 -- it stands in the table of its kind, and in no other
 abbrev pub row_in : Kind → List ℕ → Rows → List Explained → Row → List ℕ
 row_in kind opening set reasons r =
-    if is_of kind r then whole_row kind opening set reasons r else []
+    if is_of_kind kind r then whole_row kind opening set reasons r else []

@@ -1,27 +1,18 @@
 -- The rules that a row breaks, each with its reason, below it.
 use Rattle.std.specs.Prelude.{ℕ, ◌==◌, ◌&&◌, Bool, true, false, if◌then◌else◌, List, [], ◌++◌}
 use Rattle.std.specs.Prelude.{flat_map, codes, decimal}
-use Rattle.signal_records.specs.declared.record.Row.{Row}
-use Rattle.signal_records.specs.declared.record.Row.TheVariants as row
 use Rattle.signal_rules.specs.declared.violation.Subject.{Subject}
 use Rattle.signal_rules.specs.declared.violation.Subject.TheVariants as subject
 use Rattle.signal_rules.specs.Texts.{rule_text}
 use Rattle.signal_reasons.specs.declared.reason.Explained.{Explained}
 use Rattle.signal_reasons.specs.Texts.{reason_text}
 
--- what a row is judged as: the rows of a sequence together, each other one alone
-abbrev pub subject_of : Row → Subject
-subject_of (row.Phase p phase) = subject.Phase p
-subject_of (row.Seq n ring seq) = subject.Seq n
-subject_of (row.Split n p split) = subject.Split n p
-subject_of (row.Pattern n pattern) = subject.Pattern n
-
-abbrev pub is_same : Subject → Subject → Bool
-is_same (subject.Phase p) (subject.Phase q) = p == q
-is_same (subject.Seq n) (subject.Seq m) = n == m
-is_same (subject.Split n p) (subject.Split m q) = (n == m) && (p == q)
-is_same (subject.Pattern n) (subject.Pattern m) = n == m
-is_same a b = false
+abbrev pub is_same_subject : Subject → Subject → Bool
+is_same_subject (subject.Phase p) (subject.Phase q) = p == q
+is_same_subject (subject.Seq n) (subject.Seq m) = n == m
+is_same_subject (subject.Split n p) (subject.Split m q) = (n == m) && (p == q)
+is_same_subject (subject.Pattern n) (subject.Pattern m) = n == m
+is_same_subject a b = false
 
 -- `V12: ring 1 adds up to 59 s, the cycle is 60 s`
 unfoldable pub reason_note : Explained → List ℕ
@@ -40,7 +31,7 @@ reason_row columns broken =
 -- a broken rule below its subject, and below no other
 abbrev pub reason_below : ℕ → Subject → Explained → List ℕ
 reason_below columns s broken =
-    if is_same s broken.violation.subject then reason_row columns broken else []
+    if is_same_subject s broken.violation.subject then reason_row columns broken else []
 
 abbrev pub reasons_below : ℕ → List Explained → Subject → List ℕ
 reasons_below columns reasons s = flat_map (reason_below columns s) reasons

@@ -4,21 +4,14 @@ use Rattle.std.specs.Prelude.{None}
 use Rattle.cabinet_core.specs.Day.{day_text}
 use Rattle.cabinet_core.specs.Orders.{is_open}
 use Rattle.cabinet_core.specs.declared.record.Order.{Order}
-use Rattle.draft_state.specs.declared.state.DbState.{DbState}
-use Rattle.draft_state.specs.declared.state.DbState.TheVariants.{Normal, Transaction, Verify, Done}
 use Rattle.draft_state.specs.declared.state.Verdict.{Verdict}
 use Rattle.draft_state.specs.declared.state.Verdict.TheVariants.{NotDone, DoneWithError}
 use Rattle.draft_state.specs.declared.state.Verdict.TheVariants.{DoneWithNoError}
+use Rattle.office_machine.specs.States.{state_name}
 use Rattle.office_machine.specs.declared.reply.IntersectionState.{IntersectionState}
 use Rattle.signal_page.specs.Words.{isolated}
 
 -- ---- what is told
-
-abbrev pub state_words : DbState → List ℕ
-state_words Normal = codes "normal"
-state_words Transaction = codes "transaction"
-state_words Verify = codes "verify"
-state_words Done = codes "done"
 
 abbrev pub verdict_words : Verdict → List ℕ
 verdict_words NotDone = codes "not done"
@@ -49,7 +42,7 @@ fact name value =
 
 unfoldable pub draft_facts : IntersectionState → List ℕ
 draft_facts state =
-    fact (codes "State") (state_words state.state)
+    fact (codes "State") (state_name state.state)
     ++ fact (codes "Draft held by") (owner_text state.owner)
     ++ fact (codes "Verify status") (verdict_words state.verify)
     ++ fact (codes "Revision") (decimal state.revision)

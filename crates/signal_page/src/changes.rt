@@ -3,7 +3,7 @@
 ghost use Rattle.std.specs.Prelude.{◌≡◌, ◌++◌, OnOk, codes, flat_map, string_bytes};
 ghost use Rattle.std.specs.List.{list_any};
 ghost use Rattle.office_files.specs.Cells.{when_empty};
-ghost use Rattle.signal_page.specs.Changes.{opening_of, marked_row, change_rows, change_table};
+ghost use Rattle.signal_page.specs.Changes.{row_opening, marked_row, change_rows, change_table};
 ghost use Rattle.signal_page.specs.Changes.{whole_change_table, is_change_of, changes_part};
 
 use crate::cells::push_words_heading;
@@ -27,7 +27,7 @@ pub(crate) enum Mark {
 
 /// How a row opens: with the word that tells what became of it.
 fn opening_of(mark: Mark) -> &'static str
-    ensures { result.now ≡ opening_of mark }
+    ensures { result.now ≡ row_opening mark }
 {
     match mark {
         Mark::Removed => "<tr class='removed'><td class='w'>removed</td>",

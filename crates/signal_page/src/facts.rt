@@ -4,28 +4,17 @@ ghost use Rattle.std.specs.Prelude.{◌≡◌, ◌+◌, ◌++◌, OnOk, codes, d
 ghost use Rattle.std.specs.Prelude.{string_bytes};
 ghost use Rattle.cabinet_core.specs.Day.{day_text};
 ghost use Rattle.cabinet_core.specs.Overdue.{latest_day};
-ghost use Rattle.signal_page.specs.State.{state_words, verdict_words, owner_text, due_text, last_text};
+ghost use Rattle.signal_page.specs.State.{verdict_words, owner_text, due_text, last_text};
 ghost use Rattle.signal_page.specs.State.{fact};
 ghost use Rattle.signal_page.specs.State.{draft_facts, cabinet_facts};
 
 use crate::words::push_isolated;
 use cabinet_core::{Day, Inspection, Order, due, latest, open_count, push_date};
-use draft_core::state::{DbState, Verdict};
-use office_machine::reply::IntersectionState;
+use draft_core::state::Verdict;
+use office_machine::reply::{IntersectionState, state_name};
 use signal_records::{Interval, Words};
 use std::alloc::AllocError;
 use std::fmt::Write;
-
-fn state_words(state: DbState) -> &'static str
-    ensures { result.now ≡ state_words state }
-{
-    match state {
-        DbState::Normal => "normal",
-        DbState::Transaction => "transaction",
-        DbState::Verify => "verify",
-        DbState::Done => "done",
-    }
-}
 
 fn verdict_words(verdict: Verdict) -> &'static str
     ensures { result.now ≡ verdict_words verdict }
@@ -165,7 +154,7 @@ pub(crate) fn push_draft_facts(
     ensures { OnOk result (string_bytes text.new
         ≡ string_bytes text.old ++ draft_facts state.now) }
 {
-    push_words_fact(text, "State", state_words(state.state))?;
+    push_words_fact(text, "State", state_name(state.state))?;
     push_owner_fact(text, "Draft held by", &state.owner)?;
     push_words_fact(text, "Verify status", verdict_words(state.verify))?;
     push_number_fact(text, "Revision", state.revision.get() as usize)?;

@@ -4,7 +4,7 @@
 ghost use Rattle.std.specs.Prelude.{◌≡◌, ◌+◌, ◌++◌, OnOk, flat_map, reverse, string_bytes};
 ghost use Rattle.signal_page.specs.Register.{day_cell, part_used, part_of, parts_cell, order_cells};
 ghost use Rattle.signal_page.specs.Register.{closing_cells, open_row, closed_row, order_headings};
-ghost use Rattle.signal_page.specs.Register.{open_orders, closed_orders, inspection_row};
+ghost use Rattle.signal_page.specs.Register.{open_orders_part, closed_orders_part, inspection_row};
 ghost use Rattle.signal_page.specs.Register.{inspection_headings, inspections_part, due_words};
 ghost use Rattle.signal_page.specs.Register.{due_on, due_note, register_part};
 ghost use Rattle.signal_page.specs.Tables.{rows_or_none};
@@ -189,7 +189,7 @@ fn push_open_orders(
     orders: &[Order],
 ) -> Result<(), NoMemory>
     ensures { OnOk result (string_bytes text.new
-        ≡ string_bytes text.old ++ open_orders lines.now orders.now) }
+        ≡ string_bytes text.old ++ open_orders_part lines.now orders.now) }
 {
     open_table(text, "Open orders", "")?;
     push_order_headings(text)?;
@@ -237,7 +237,7 @@ fn push_closed_orders(
     orders: &[Order],
 ) -> Result<(), NoMemory>
     ensures { OnOk result (string_bytes text.new
-        ≡ string_bytes text.old ++ closed_orders lines.now orders.now) }
+        ≡ string_bytes text.old ++ closed_orders_part lines.now orders.now) }
 {
     open_table(text, "Closed orders", "")?;
     push_order_headings(text)?;

@@ -2,7 +2,8 @@
 
 ghost use Rattle.std.specs.Prelude.{◌≡◌, ◌++◌, OnOk, string_bytes};
 ghost use Rattle.signal_page.specs.Rows.{mode_words, crossing_cells, ped_cells, interval_cells};
-ghost use Rattle.signal_page.specs.Rows.{pattern_cells, row_cells, columns, is_of, whole_row, row_in};
+ghost use Rattle.signal_page.specs.Rows.{pattern_cells, row_cells, columns, is_of_kind, whole_row};
+ghost use Rattle.signal_page.specs.Rows.{row_in};
 
 use crate::cells::{push_flag, push_list, push_number, push_row_heading, push_tenths, push_words};
 use crate::needs::{push_coordinated, push_need};
@@ -136,7 +137,7 @@ pub(crate) fn columns(kind: Kind) -> u32
 
 /// Whether a row is of a kind.
 pub(crate) fn is_of(kind: Kind, row: &Row) -> bool
-    ensures { result ≡ is_of kind row.now }
+    ensures { result ≡ is_of_kind kind row.now }
 {
     match (kind, row) {
         (Kind::Phases, Row::Phase(_, _)) => true,

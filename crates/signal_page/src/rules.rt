@@ -1,7 +1,8 @@
 //! The rules that a row breaks, below it.
 
 ghost use Rattle.std.specs.Prelude.{◌≡◌, ◌++◌, OnOk, string_bytes};
-ghost use Rattle.signal_page.specs.Rules.{subject_of, is_same, reason_note, reason_opening};
+ghost use Rattle.signal_rules.specs.RowWalk.{subject_of};
+ghost use Rattle.signal_page.specs.Rules.{is_same_subject, reason_note, reason_opening};
 ghost use Rattle.signal_page.specs.Rules.{reason_row, reason_below, reasons_below};
 
 use signal_reasons::Explained;
@@ -24,7 +25,7 @@ pub(crate) fn subject_of(row: &Row) -> Subject
 
 /// Whether two subjects are one.
 fn is_same(a: &Subject, b: &Subject) -> bool
-    ensures { result ≡ is_same a.now b.now }
+    ensures { result ≡ is_same_subject a.now b.now }
 {
     match a {
         Subject::Phase(p) => match b {

@@ -4,7 +4,7 @@ use Rattle.std.proofs.lemmas.Bool.{lt-leb, eq-eqb}
 use Rattle.std.proofs.lemmas.Bool.Decides.{nat_tests}
 use Rattle.signal_records.specs.{declared.record.Ped.Ped, declared.record.Phase.Phase, TimingSet.Rows}
 use Rattle.signal_rules.specs.Lookup.{phase_at, is_in}
-use Rattle.signal_rules.specs.PhaseRules.{yellow_is_right, red_is_right, is_mate, mates_agree}
+use Rattle.signal_rules.specs.PhaseRules.{yellow_is_right, red_is_right, clearance, is_mate, mates_agree}
 use Rattle.signal_reasons.specs.declared.reason.IntervalReason.{IntervalReason}
 use Rattle.signal_reasons.specs.declared.reason.IntervalReason.TheVariants as interval
 use Rattle.signal_reasons.specs.declared.reason.CrossingReason.{CrossingReason}
@@ -39,13 +39,13 @@ interval_shows phase (interval.Red tenths) h = let lt : 60 < phase.red = omega (
 short_walk : (short : Bool) (walk seconds least : ℕ) → seconds ≡ walk → least ≡ cond short 4 7 → seconds < least → leb (cond short 4 7) walk ≡ false
 short_walk short walk seconds least e f lt = let less : walk < cond short 4 7 = omega (arith, e, f, lt) in lt-leb (cond short 4 7) walk less
 
-slow_clearance : (w c y r width takes there : ℕ) → width ≡ w → 7 * takes < 2 * width + 7 → there ≡ 10 * c + y + r → there < takes → leb (2 * w) (7 * (10 * c + (y + r))) ≡ false
-slow_clearance w c y r width takes there e round f lt =
-    let less : 7 * (10 * c + (y + r)) < 2 * w = omega arith in lt-leb (2 * w) (7 * (10 * c + (y + r))) less
+slow_clearance : (w time width takes there : ℕ) → width ≡ w → 7 * takes < 2 * width + 7 → there ≡ time → there < takes → leb (2 * w) (7 * time) ≡ false
+slow_clearance w time width takes there e round f lt =
+    let less : 7 * time < 2 * w = omega arith in lt-leb (2 * w) (7 * time) less
 
-slow_setback : (w s k c y r far takes there : ℕ) → far ≡ w + s → 3 * takes < far + 3 → there ≡ 10 * k + (10 * c + y + r) → there < takes → leb (w + s) (3 * (10 * k + (10 * c + (y + r)))) ≡ false
-slow_setback w s k c y r far takes there e round f lt =
-    let less : 3 * (10 * k + (10 * c + (y + r))) < w + s = omega arith in lt-leb (w + s) (3 * (10 * k + (10 * c + (y + r)))) less
+slow_setback : (far_at time far takes there : ℕ) → far ≡ far_at → 3 * takes < far + 3 → there ≡ time → there < takes → leb far_at (3 * time) ≡ false
+slow_setback far_at time far takes there e round f lt =
+    let less : 3 * time < far_at = omega arith in lt-leb far_at (3 * time) less
 
 short_lead : (l w lead : ℕ) → lead ≡ l → 1 ≤ lead → lead < 3 → (eqb l 0 || (leb 3 l && leb l w)) ≡ false
 short_lead l w lead e some lt = grind (arith, nat_tests)
@@ -56,9 +56,9 @@ long_lead l w lead walk e f lt = grind (arith, nat_tests)
 pub crossing_shows : (phase : Phase) (ped : Ped) (why : CrossingReason) → IsCrossingReason phase ped why → crossing_keeps phase ped (crossing_rule why) ≡ false
 crossing_shows phase ped (crossing.ShortWalk seconds least) h = short_walk ped.short ped.walk seconds least h.0 h.1 h.2
 crossing_shows phase ped (crossing.SlowClearance width takes there) h =
-    slow_clearance ped.width ped.clear phase.yellow phase.red width takes there h.0 h.1.1 h.2 h.3
+    slow_clearance ped.width (clearance phase ped) width takes there h.0 h.1.1 h.2 h.3
 crossing_shows phase ped (crossing.SlowSetback far takes there) h =
-    slow_setback ped.width ped.setback ped.walk ped.clear phase.yellow phase.red far takes there h.0 h.1.1 h.2 h.3
+    slow_setback (ped.width + ped.setback) (10 * ped.walk + clearance phase ped) far takes there h.0 h.1.1 h.2 h.3
 crossing_shows phase ped (crossing.ShortLead lead) h = short_lead ped.lead ped.walk lead h.0 h.1 h.2
 crossing_shows phase ped (crossing.LongLead lead walk) h = long_lead ped.lead ped.walk lead walk h.0 h.1 h.2
 

@@ -11,7 +11,7 @@ use Rattle.signal_rules.proofs.{CutPoints.all_numbers, Starts.fill_by_rings, Ste
 use Rattle.signal_street.specs.{Timing.order, Timing.split_time, Timing.BeginsIn, Timing.TimesIn, StreetLaws.Lists, StreetLaws.AreConcurrent}
 use Rattle.signal_street.proofs.{Places.alone_at, Places.filled_at, Places.length_is, Places.times_within}
 use Rattle.signal_reasons.specs.PatternReasons.{AreMatedIn, IsUsed, TimeTogether}
-use Rattle.signal_reasons.specs.Together.{TimesOn, AreFilled, AreMatedBefore, at_second, agree_at}
+use Rattle.signal_reasons.specs.Together.{TimesOn, AreFilled, AreMatedBefore, at_second, all_agree_at}
 use Rattle.signal_reasons.proofs.PatternLaws.{seconds_are, in_lane}
 use Rattle.signal_reasons.proofs.Tests.{is_among, passes_all}
 
@@ -117,7 +117,7 @@ timing set row second ring lt =
     let found = filled_at (split_time set row) (order set row ring) second (subst (λ n. second < n) (sym (seconds_are set row ring)) lt) in
     subst (λ p. TimesIn set row ring p second) (sym (in_lane set row ring found.0 second found.1)) found.1
 
-pub agree_among : (set : Rows) (row : Pattern) (second : ℕ) (rings : List ℕ) → AreFilled set row second rings → is_distinct rings ≡ true → AreMatedIn set row rings second → agree_at set row second rings ≡ true
+pub agree_among : (set : Rows) (row : Pattern) (second : ℕ) (rings : List ℕ) → AreFilled set row second rings → is_distinct rings ≡ true → AreMatedIn set row rings second → all_agree_at set row second rings ≡ true
 agree_among set row second [] filled distinct mated = refl
 agree_among set row second (ring ∷ rings) filled distinct mated =
     let parts = and_parts (not (is_in ring rings)) (is_distinct rings) distinct in
@@ -135,7 +135,7 @@ mapped : (set : Rows) (row : Pattern) (second : ℕ) (rings : List ℕ) → phas
 mapped set row second [] = refl
 mapped set row second (ring ∷ rings) = ap (λ l. at_second set row second ring ∷ l) (mapped set row second rings)
 
-pub agree_all : (set : Rows) (row : Pattern) → ((t : ℕ) → t < row.cycle → agree_at set row t (used_rings set) ≡ true) → lanes_agree set row ≡ true
+pub agree_all : (set : Rows) (row : Pattern) → ((t : ℕ) → t < row.cycle → all_agree_at set row t (used_rings set) ≡ true) → lanes_agree set row ≡ true
 agree_all set row h =
     all_numbers (λ s. all_list_each_other set (phases_at (lanes set row) s)) row.cycle 0
     (λ t low high. ap (all_list_each_other set) (mapped set row t (used_rings set)) ∙ h t (omega arith))

@@ -6,7 +6,7 @@ use Rattle.signal_records.specs.TimingSet.{Rows}
 use Rattle.signal_rules.specs.declared.violation.Rule.{Rule}
 use Rattle.signal_rules.specs.declared.violation.Rule.TheVariants as rule
 use Rattle.signal_rules.specs.Lookup.{phase_at, is_in}
-use Rattle.signal_rules.specs.PhaseRules.{walk_is_long, clears_crossing, clears_setback, lead_is_right}
+use Rattle.signal_rules.specs.PhaseRules.{walk_is_long, clearance, clears_crossing, clears_setback, lead_is_right}
 use Rattle.signal_reasons.specs.declared.reason.IntervalReason.{IntervalReason}
 use Rattle.signal_reasons.specs.declared.reason.IntervalReason.TheVariants as interval
 use Rattle.signal_reasons.specs.declared.reason.CrossingReason.{CrossingReason}
@@ -42,10 +42,6 @@ crossing_rule (crossing.LongLead lead walk) = rule.V14
 -- the quotient of two numbers, rounded up
 abbrev pub IsRoundedUp : ℕ → ℕ → ℕ → Type 0
 IsRoundedUp number by quotient = (number ≤ by * quotient) × (by * quotient < number + by)
-
--- clearance, yellow and red, in tenths of a second
-abbrev pub clearance : Phase → Ped → ℕ
-clearance phase ped = 10 * ped.clear + phase.yellow + phase.red
 
 -- the numbers of the crossing, and that one of them is too short or too long; in 2 tenths of a second
 -- one walks 7 tenths of a foot, or 6 from the setback

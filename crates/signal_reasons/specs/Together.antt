@@ -33,5 +33,5 @@ abbrev pub AreMatedBefore : Rows → Pattern → ℕ → Type 0
 AreMatedBefore set pattern from = (second : ℕ) → second < from → AreMatedIn set pattern (used_rings set) second
 
 -- any two of what some rings have at a second list each other
-abbrev pub agree_at : Rows → Pattern → ℕ → List ℕ → Bool
-agree_at set pattern second rings = all_list_each_other set (map (at_second set pattern second) rings)
+abbrev pub all_agree_at : Rows → Pattern → ℕ → List ℕ → Bool
+all_agree_at set pattern second rings = all_list_each_other set (map (at_second set pattern second) rings)

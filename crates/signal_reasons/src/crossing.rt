@@ -2,9 +2,9 @@
 
 ghost use Rattle.std.specs.Prelude.{◌≡◌, ◌≤◌, true, IfSome, IfNone};
 ghost use Rattle.signal_rules.specs.PhaseRules.{walk_is_long, clears_crossing, clears_setback};
-ghost use Rattle.signal_rules.specs.PhaseRules.{lead_is_right};
+ghost use Rattle.signal_rules.specs.PhaseRules.{clearance, lead_is_right};
 ghost use Rattle.signal_reasons.specs.PhaseReasons.{IsCrossingReason, IsRoundedUp, crossing_rule};
-ghost use Rattle.signal_reasons.specs.PhaseReasons.{clearance, crossing_keeps};
+ghost use Rattle.signal_reasons.specs.PhaseReasons.{crossing_keeps};
 
 use crate::reason::CrossingReason;
 use signal_records::{Ped, Phase};
@@ -48,7 +48,7 @@ fn clearance(phase: &Phase, ped: &Ped) -> u32
 {
     let Ped { clear, .. } = ped;
     let Phase { yellow, red, .. } = phase;
-    10 * u32::from(*clear) + u32::from(*yellow) + u32::from(*red)
+    10 * u32::from(*clear) + (u32::from(*yellow) + u32::from(*red))
 }
 
 /// V4: walking 3.5 feet a second takes no longer than clearance, yellow and red.

@@ -124,27 +124,27 @@ module _ (set : Rows) (clean : IsClean set) (n : ℕ) (pattern : Pattern) (has :
 
   module _ (p : ℕ) (phase : Phase) (of_p : HasPhase set p phase) where
     pub conflicts_cleared : ConflictsAreCleared set pattern p phase
-    conflicts_cleared split fits begin q second row begins apart conflict t after = by_turn (in_turn begins.cycles t.cycles) where
+    conflicts_cleared split begin q second row begins apart conflict t after = by_turn (in_turn begins.cycles t.cycles) where
       start : (phase.ring ≡ phase.ring) × (begins.in_cycle ≡ begin_at (split_time set pattern) (order set pattern phase.ring) p)
       start = begins_there set clean n pattern has p phase of_p phase.ring begins.in_cycle of_p.0.ring begins.so
 
       inside : t.in_cycle < pattern.cycle
       inside = in_cycle t.so.ring q t.in_cycle t.so.ring_number t.so.number t.so.times
 
-      by_turn : (begins.cycles ≡ t.cycles) ⊎ ((begins.cycles < t.cycles) ⊎ (t.cycles < begins.cycles)) → 10 * begin + fits.green_end + phase.yellow + phase.red ≤ 10 * second
+      by_turn : (begins.cycles ≡ t.cycles) ⊎ ((begins.cycles < t.cycles) ⊎ (t.cycles < begins.cycles)) → begin + split.time ≤ second
       by_turn (inl same) =
           let one : begins.cycles * pattern.cycle ≡ t.cycles * pattern.cycle = ap (λ k. k * pattern.cycle) same in
-          shifted _ _ _ _ _ _ _ _ _ begins.counted t.counted one
-          (cleared_in_cycle set clean n pattern has p phase of_p split fits begins.in_cycle q t.in_cycle row begins.so apart conflict t.so (within _ _ _ _ _ _ begins.counted t.counted one after)) where
+          shifted _ _ _ _ _ _ _ begins.counted t.counted one
+          (cleared_in_cycle set clean n pattern has p phase of_p split begins.in_cycle q t.in_cycle row begins.so apart conflict t.so (within _ _ _ _ _ _ begins.counted t.counted one after)) where
             within : (begin second a b whole other : ℕ) → begin ≡ whole + a → second ≡ other + b → whole ≡ other → begin ≤ second → a ≤ b
             within begin second a b whole other e f g le = omega arith
 
-            shifted : (begin second a b whole other green yellow red : ℕ) → begin ≡ whole + a → second ≡ other + b → whole ≡ other → 10 * a + green + yellow + red ≤ 10 * b → 10 * begin + green + yellow + red ≤ 10 * second
-            shifted begin second a b whole other green yellow red e f g le = omega arith
+            shifted : (begin second a b whole other time : ℕ) → begin ≡ whole + a → second ≡ other + b → whole ≡ other → a + time ≤ b → begin + time ≤ second
+            shifted begin second a b whole other time e f g le = omega arith
       by_turn (inr (inl before)) =
-          over _ _ _ _ _ _ _ _ _ _ _ _ begins.counted t.counted start.1 (ends_in_cycle set clean n pattern has p phase of_p split row) fits.cleared (later_cycle begins.cycles t.cycles pattern.cycle before) where
-            over : (begin second a b at time cycle whole other green yellow red : ℕ) → begin ≡ whole + a → second ≡ other + b → a ≡ at → at + time ≤ cycle → green + yellow + red ≡ 10 * time → whole + cycle ≤ other → 10 * begin + green + yellow + red ≤ 10 * second
-            over begin second a b at time cycle whole other green yellow red e f g h i le = omega arith
+          over _ _ _ _ _ _ _ _ _ begins.counted t.counted start.1 (ends_in_cycle set clean n pattern has p phase of_p split row) (later_cycle begins.cycles t.cycles pattern.cycle before) where
+            over : (begin second a b at time cycle whole other : ℕ) → begin ≡ whole + a → second ≡ other + b → a ≡ at → at + time ≤ cycle → whole + cycle ≤ other → begin + time ≤ second
+            over begin second a b at time cycle whole other e f g h le = omega arith
       by_turn (inr (inr behind)) = absurd (never _ _ _ _ _ _ _ begins.counted t.counted inside after (later_cycle t.cycles begins.cycles pattern.cycle behind)) where
         never : (begin second a b cycle whole other : ℕ) → begin ≡ whole + a → second ≡ other + b → b < cycle → begin ≤ second → other + cycle ≤ whole → ⊥
         never begin second a b cycle whole other e f g h le = omega arith

@@ -102,21 +102,18 @@ module _ (set : Rows) (clean : IsClean set) (n : ℕ) (pattern : Pattern) (has :
           in_cycle second sum cycle e lt = omega arith
 
     -- within one cycle
-    pub cleared_in_cycle : (split : Split) (fits : FitsSplit phase split) (begin q second : ℕ) → split_at set pattern.split p ≡ Some split → BeginsIn set pattern phase.ring p begin
-        → p ≢ q → ¬ AreConcurrent set p q → IsTiming set pattern q second → begin ≤ second → 10 * begin + fits.green_end + phase.yellow + phase.red ≤ 10 * second
-    cleared_in_cycle split fits begin q second row begins apart conflict t after = by_place (cases_lt second (begin + split.time)) where
+    pub cleared_in_cycle : (split : Split) (begin q second : ℕ) → split_at set pattern.split p ≡ Some split → BeginsIn set pattern phase.ring p begin
+        → p ≢ q → ¬ AreConcurrent set p q → IsTiming set pattern q second → begin ≤ second → begin + split.time ≤ second
+    cleared_in_cycle split begin q second row begins apart conflict t after = by_place (cases_lt second (begin + split.time)) where
       start : (phase.ring ≡ phase.ring) × (begin ≡ begin_at (split_time set pattern) (order set pattern phase.ring) p)
       start = begins_there phase.ring begin of_p.0.ring begins
 
       shifted : (begin at second time : ℕ) → begin ≡ at → begin ≤ second → second < begin + time → (at ≤ second) × (second < at + time)
       shifted begin at second time e le lt = (omega arith, omega arith)
 
-      over : (begin green yellow red time second : ℕ) → green + yellow + red ≡ 10 * time → begin + time ≤ second → 10 * begin + green + yellow + red ≤ 10 * second
-      over begin green yellow red time second e le = omega arith
-
-      by_place : (second < begin + split.time) ⊎ (begin + split.time ≤ second) → 10 * begin + fits.green_end + phase.yellow + phase.red ≤ 10 * second
+      by_place : (second < begin + split.time) ⊎ (begin + split.time ≤ second) → begin + split.time ≤ second
       by_place (inl lt) = absurd (conflict (concurrent p q second apart ((times_there split row second).1 (shifted begin _ second split.time start.1 after lt)) t))
-      by_place (inr le) = over begin fits.green_end phase.yellow phase.red split.time second fits.cleared le
+      by_place (inr le) = le
 
     called_room : (split : Split) → split_at set pattern.split p ≡ Some split → CallsPedestrian split.mode → FitsSplit phase split
     called_room split row calls =

@@ -80,15 +80,14 @@ pub record IsCoordinated (set : Rows) (pattern : Pattern) : Type 0 where
   pub marked : IsTrue split.coord
   pub served : HasPhase set p phase → IsServed set pattern p
 
--- once a phase has begun, one that is not concurrent with it times only when all of its yellow and
--- red are over, in the same cycle or in a later one
+-- once a phase has begun, one that is not concurrent with it times only when all of its split is
+-- over, with the yellow and red in it (`FitsSplit`), in the same cycle or in a later one
 abbrev pub ConflictsAreCleared : Rows → Pattern → ℕ → Phase → Type 0
 ConflictsAreCleared set pattern p phase =
-    (split : Split) (fits : FitsSplit phase split) (begin q second : ℕ)
-    → split_at set pattern.split p ≡ Some split
+    (split : Split) (begin q second : ℕ) → split_at set pattern.split p ≡ Some split
     → InItsCycle pattern (BeginsIn set pattern phase.ring p) begin
     → p ≢ q → ¬ AreConcurrent set p q → InItsCycle pattern (IsTiming set pattern q) second
-    → begin ≤ second → 10 * begin + fits.green_end + phase.yellow + phase.red ≤ 10 * second
+    → begin ≤ second → begin + split.time ≤ second
 
 -- Rings cross a barrier together: where a phase starts, each ring that timed a phase the second
 -- before that is not concurrent with it starts a phase too, also from one cycle to the next.

@@ -1,9 +1,9 @@
-use Rattle.std.proofs.Common.{◌≡◌, not, ap, sym, subst, ◌∙◌, rules}
+use Rattle.std.proofs.Common.{◌≡◌, [], not, ap, sym, subst, ◌∙◌, rules}
 use Rattle.std.specs.{List.AllByRecursion, Prelude.Ok}
 use Rattle.draft_core.specs.{Moves.Follows, Moves.move_to, News.AddsNone, Transaction.abandoned_from, Writes.dropping}
 use Rattle.draft_core.specs.declared.timing.Move.{Move}
 use Rattle.draft_state.specs.{declared.state.Holding.TheVariants.Dropped, declared.state.Verdict.TheVariants.NotDone}
-use Rattle.draft_core.proofs.{Lines.held, Makes.abandon_makes, Written.drafted_in-dropping, Written.dropping_adds, Written.dropping_writes}
+use Rattle.draft_core.proofs.{Lines.held, Makes.abandon_makes, News.among_none, Written.drafted_in-dropping, Written.dropping_adds, Written.dropping_writes}
 use Rattle.draft_core.proofs.decide.abandon.Goals as goal
 
 pub returns : goal.returns
@@ -14,13 +14,16 @@ returns c =
     let made : c.moves_to.result.changes ≡ dropping timing.delta =
     ap (λ (m : Move). m.changes) c.moves_to.ensures ∙ listed in
     record {
-      line = λ rows side stands.
+      line = λ rows side stands relies.
           held stands (λ d. Follows rows side clerk (Ok c.moves_to.result) (abandoned_from side d))
           (c.is_none.ensures ∙ ap not c.if-is_none.false) (λ draft is.
           abandon_makes stands stands.read clerk c.moves_to.result (c.moves_to.ensures
           ∙ ap (move_to timing.revision Dropped NotDone) listed));
       refuses = search rules;
-      news = subst (AllByRecursion AddsNone) (sym made) (dropping_adds timing.delta);
-      drafts = rw made (drafted_in-dropping timing.delta);
-      bounds = rw made (dropping_writes timing.delta);
+      writes = record {
+        news = subst (AllByRecursion AddsNone) (sym made) (dropping_adds timing.delta);
+        drafts = rw made (among_none _ [] (drafted_in-dropping timing.delta));
+        committed = rw made (dropping_writes timing.delta).0;
+        drafted = rw made (dropping_writes timing.delta).1;
+      };
     }

@@ -1,4 +1,4 @@
-use Rattle.std.proofs.Common.{sym, rules}
+use Rattle.std.proofs.Common.{arith, sym, rules}
 use Rattle.draft_core.proofs.{Lines.owned_moves, Makes.edit_makes}
 use Rattle.draft_core.proofs.decide.edit.Goals as goal
 
@@ -6,12 +6,17 @@ pub returns : goal.returns
 returns c =
     let did = c.in_ok-changes.ensures in
     record {
-      line = λ rows side stands. owned_moves stands _ _ _ _ _ (sym c.in_default.ensures)
-          (λ draft held. edit_makes stands draft c.args.clerk.now _ c.args.changes.now
-          c.in_ok-changes.changes held did c.moves_to.ensures);
-      refuses = search rules;
+      takes = record {
+        line = λ rows side stands relies. owned_moves stands _ _ _ _ _ (sym c.in_default.ensures)
+            (λ draft held. edit_makes stands draft c.args.clerk.now _ c.args.changes.now
+            c.in_ok-changes.changes held did c.moves_to.ensures);
+        refuses = search rules;
+        writes = record {
+          news = rw c.moves_to.ensures (λ order. did.news);
+          drafts = rw c.moves_to.ensures did.among;
+          committed = rw c.moves_to.ensures (omega (arith, did.no_timing));
+          drafted = rw c.moves_to.ensures did.few;
+        };
+      };
       keeps = rw c.moves_to.ensures did.keeps;
-      news = rw c.moves_to.ensures (λ order. did.news);
-      drafts = rw c.moves_to.ensures did.among;
-      bounds = rw c.moves_to.ensures (did.no_timing, did.few);
     }

@@ -1,10 +1,10 @@
-use Rattle.std.proofs.Common.{◌≡◌, ap, sym, subst, ◌∙◌, rules}
+use Rattle.std.proofs.Common.{◌≡◌, [], ap, sym, subst, ◌∙◌, rules}
 use Rattle.std.specs.FinMap.{get}
 use Rattle.signal_rules.specs.Violations.{violations_of}
 use Rattle.draft_state.specs.{declared.state.Holding.TheVariants.Dropped, declared.state.Verdict.TheVariants.NotDone}
 use Rattle.draft_core.specs.{declared.timing.Move.Move, DraftRows.row_at, Moves.move_to, News.AreNewAt, Writes.next_revision}
 use Rattle.draft_core.specs.Writes.{settling}
-use Rattle.draft_core.proofs.{Lines.commit_follows, Lines.commit_refuses, Lines.refusal_follows, Makes.commit_makes, News.settling_new}
+use Rattle.draft_core.proofs.{Lines.commit_follows, Lines.commit_refuses, Lines.refusal_follows, Makes.commit_makes, News.among_none, News.settling_new}
 use Rattle.draft_core.proofs.{Overlaid.draft_violations, Written.drafted_in-settling, Written.settling_writes}
 use Rattle.draft_core.proofs.decide.settled.Goals as goal
 
@@ -25,12 +25,15 @@ returns c =
           (commit_makes stands stands.read.0 draft clerk _ _ held (c.moves_to.ensures
           ∙ ap (move_to c.in_ok-revision.revision Dropped NotDone) listed));
       refuses = search rules;
-      news = λ order key.
-          let said = row_at timing.delta key in
-          subst (λ list. AreNewAt list key (get timing.committed key) said) (sym made)
-          (settling_new timing.committed timing.delta order key said);
-      drafts = rw made (drafted_in-settling timing.committed timing.delta);
-      bounds = rw made (settling_writes timing.committed timing.delta);
+      writes = record {
+        news = λ order key.
+            let said = row_at timing.delta key in
+            subst (λ list. AreNewAt list key (get timing.committed key) said) (sym made)
+            (settling_new timing.committed timing.delta order key said);
+        drafts = rw made (among_none _ [] (drafted_in-settling timing.committed timing.delta));
+        committed = rw made (settling_writes timing.committed timing.delta).0;
+        drafted = rw made (settling_writes timing.committed timing.delta).1;
+      };
     }
 
 pub returns-in_err-revision-clause-line : goal.returns-in_err-revision-clause-line

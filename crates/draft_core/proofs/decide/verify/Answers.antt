@@ -1,8 +1,13 @@
-use Rattle.std.proofs.Common.{refl, sym}
+use Rattle.std.proofs.Common.{refl, sym, rules}
 use Rattle.draft_state.specs.declared.state.Stage.TheVariants.{Verify}
-use Rattle.draft_core.proofs.{Lines.owned_moves, Makes.stays_makes}
+use Rattle.draft_core.proofs.{Lines.owned_moves, Makes.stays_makes, News.idle_writes}
 use Rattle.draft_core.proofs.decide.verify.Goals as goal
 
-pub returns-clause-line : goal.returns-clause-line
-returns-clause-line c = λ rows side stands. owned_moves stands _ _ _ _ _ (sym c.in_default.ensures)
-    (λ draft held. stays_makes stands draft Verify c.args.clerk.now _ _ held refl c.stays.ensures)
+pub returns : goal.returns
+returns c = record {
+  line = λ rows side stands relies. owned_moves stands _ _ _ _ _ (sym c.in_default.ensures)
+      (λ draft held.
+      stays_makes stands draft Verify c.args.clerk.now _ _ held refl c.stays.ensures);
+  refuses = search rules;
+  writes = idle_writes c.stays.ensures;
+}

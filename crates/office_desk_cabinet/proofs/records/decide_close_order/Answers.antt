@@ -4,10 +4,10 @@ use Rattle.office_desk_cabinet.proofs.records.decide_close_order.Goals as goal
 
 pub returns-clause-decides : goal.returns-clause-decides
 returns-clause-decides g c =
-    let read = c.in_ok-there.ensures in
     let says = c.close_order-decision.ensures in
     decided 0 _ _ _ (CloseOrder c.args.id c.args.order c.args.closing.now) c.in_ok-there.there
     c.close_order-decision.result c.registered.result
-    (λ honest. record { reads = read.row honest; whole = read.whole honest })
+    (λ honest. let there = c.in_ok-there.ensures.stands honest in
+    record { reads = there.reads; whole = there.whole })
     says.line (says.makes c.args.id c.args.order)
     c.registered.ensures.tells c.registered.ensures.fault

@@ -4,9 +4,9 @@ use Rattle.office_desk_cabinet.proofs.records.decide_open_order.Goals as goal
 
 pub returns-clause-decides : goal.returns-clause-decides
 returns-clause-decides g c =
-    let read = c.in_ok-there.ensures in
     let says = c.open_order-decision.ensures in
     decided 0 _ _ _ (OpenOrder c.args.id c.args.opening.now) c.in_ok-there.there
     c.open_order-decision.result c.registered.result
-    (λ honest. record { reads = read.row honest; whole = read.whole honest })
+    (λ honest. let there = c.in_ok-there.ensures.stands honest in
+    record { reads = there.reads; whole = there.whole })
     says.line (says.makes c.args.id) c.registered.ensures.tells c.registered.ensures.fault

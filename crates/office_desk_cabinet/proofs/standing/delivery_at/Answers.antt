@@ -1,25 +1,17 @@
-use Rattle.office_desk_cabinet.proofs.{Opened.unread_stays, PendingLemmas.nothing_put, Places.Delivery, Places.whole_at}
+use Rattle.office_tables_shelf.specs.Places.{Delivery}
+use Rattle.office_desk_cabinet.proofs.{Opened.unread_stays, PendingLemmas.put_stands, PendingLemmas.some_put, PendingLemmas.still_stands}
 use Rattle.office_desk_cabinet.proofs.standing.delivery_at.Goals as goal
 
-pub returns-in-Some-clause-row : goal.returns-in-Some-clause-row
-returns-in-Some-clause-row g c = λ honest.
-    (rw c.in-Some.is at c.in_ok-put.ensures.put) (g.S.Shelf.content c.args.shelf.now)
+pub returns-in-Some-clause-stands : goal.returns-in-Some-clause-stands
+returns-in-Some-clause-stands g c = λ honest.
+    put_stands (Delivery c.args.part.now c.args.number) c.args.pending.now _ c.in_ok-put.ensures.put _
+    c.in-Some.is c.in_ok-put.ensures.within (g.S.Shelf.content c.args.shelf.now)
 
-pub returns-clause-row : goal.returns-clause-row
-returns-clause-row g c = λ honest. (rw c.in_default.is at c.in_ok-put.ensures.put)
-    (g.S.Shelf.content c.args.shelf.now) c.in_ok-before.before (c.in_ok-before.ensures.row honest)
-
-pub returns-in-Some-clause-whole : goal.returns-in-Some-clause-whole
-returns-in-Some-clause-whole g c = λ honest.
-    whole_at _ (Delivery c.args.part.now c.args.number) _ (returns-in-Some-clause-row g c honest)
-    (rw c.in-Some.is at c.in_ok-put.ensures.within)
-
-pub returns-clause-whole : goal.returns-clause-whole
-returns-clause-whole g c = λ honest.
-    whole_at _ (Delivery c.args.part.now c.args.number) _ (returns-clause-row g c honest)
-    c.in_ok-before.ensures.within
+pub returns-clause-stands : goal.returns-clause-stands
+returns-clause-stands g c = λ honest.
+    still_stands (Delivery c.args.part.now c.args.number) c.args.pending.now _ c.in_ok-put.ensures.put
+    c.in_default.is _ _ (c.in_ok-before.ensures.row honest) c.in_ok-before.ensures.within
 
 pub returns-in-Some-clause-open : goal.returns-in-Some-clause-open
 returns-in-Some-clause-open g c = unread_stays _ _ _ _ _ (λ none told. absurd
-    (nothing_put (Delivery c.args.part.now c.args.number) c.args.pending.now c.in-Some.put
-    (rw c.in-Some.is at c.in_ok-put.ensures.put) none))
+    (some_put (Delivery c.args.part.now c.args.number) c.args.pending.now _ c.in_ok-put.ensures.put _ c.in-Some.is none))

@@ -1,6 +1,7 @@
 use Rattle.std.proofs.Common.{⊎_elim, subst}
 use Rattle.cabinet_core.specs.{Cabinet.receive_line, declared.command.RecordCommand.TheVariants.Receive}
-use Rattle.office_tables_shelf.specs.{CabinetReads.HasDamagedDelivery, CabinetReads.ReadsDelivery, Change.changed_by}
+use Rattle.office_tables_shelf.specs.{Change.changed_by, Places.Delivery}
+use Rattle.office_desk_cabinet.specs.Puts.{StandsAt}
 use Rattle.office_desk_cabinet.proofs.{Decided.decided, Stocked.received_tells}
 use Rattle.office_desk_cabinet.proofs.stocking.decide_receive.Goals as goal
 
@@ -15,16 +16,10 @@ returns-clause-decides g c =
     (λ honest.
     let at_hand = c.delivery_at.ensures.kept.honest_before honest in
     let first = c.hand_at.ensures.kept.same_content at_hand in
-    record {
-      reads = (
-        subst (λ t. ReadsDelivery (changed_by t pending) asked.part asked.number there) first
-            (c.in_ok-there.ensures.row honest),
-        c.in_ok-hand.ensures.row at_hand,
-      );
-      whole =
-          ⊎_elim (subst (λ t. ¬ HasDamagedDelivery (changed_by t pending) asked.part asked.number)
-          first (c.in_ok-there.ensures.whole honest)) (c.in_ok-hand.ensures.whole at_hand);
-    })
+    let came = subst (λ t. StandsAt (changed_by t pending) (Delivery asked.part asked.number) there)
+    first (c.in_ok-there.ensures.stands honest) in
+    let on = c.in_ok-hand.ensures.stands at_hand in
+    record { reads = (came.reads, on.reads); whole = ⊎_elim came.whole on.whole })
     says.line (says.makes 0)
     (received_tells 0 asked (receive_line there hand asked) hand c.receive-decision.result
     c.received.result says.line c.received.ensures.tells) c.received.ensures.fault

@@ -1,7 +1,7 @@
 use Rattle.std.proofs.Common.{⊎_elim, subst, ◌∙◌}
 use Rattle.cabinet_core.specs.declared.command.RecordCommand.TheVariants.{UsePart}
-use Rattle.office_tables_shelf.specs.CabinetReads.{ReadsUsed, ReadsOrder, HasDamagedOrderAt, HasDamagedUsedAt}
-use Rattle.office_tables_shelf.specs.Change.{changed_by}
+use Rattle.office_tables_shelf.specs.{Change.changed_by, Places.Line, Places.Order}
+use Rattle.office_desk_cabinet.specs.Puts.{StandsAt}
 use Rattle.office_desk_cabinet.proofs.Decided.{decided}
 use Rattle.office_desk_cabinet.proofs.stocking.decide_use_part.Goals as goal
 
@@ -9,7 +9,6 @@ pub returns-clause-decides : goal.returns-clause-decides
 returns-clause-decides g c =
     let id = c.args.id in
     let asked = c.args.line.now in
-    let n = asked.order in
     let there = c.in_ok-there.there in
     let order = c.in_ok-order.order in
     let pending = c.args.pending.now in
@@ -21,18 +20,13 @@ returns-clause-decides g c =
     let at_hand = c.line_at.ensures.kept.honest_before at_line in
     let first = c.hand_at.ensures.kept.same_content at_hand in
     let second = c.line_at.ensures.kept.same_content at_line ∙ first in
+    let line = subst (λ t. StandsAt (changed_by t pending) (Line id asked.order asked.line) there)
+    first (c.in_ok-there.ensures.stands at_line) in
+    let of = subst (λ t. StandsAt (changed_by t pending) (Order id asked.order) order) second
+    (c.in_ok-order.ensures.stands honest) in
+    let on = c.in_ok-hand.ensures.stands at_hand in
     record {
-      reads = (
-        subst (λ t. ReadsUsed (changed_by t pending) id n asked.line there) first
-            (c.in_ok-there.ensures.row at_line),
-        subst (λ t. ReadsOrder (changed_by t pending) id n order) second
-            (c.in_ok-order.ensures.row honest),
-        c.in_ok-hand.ensures.row at_hand,
-      );
-      whole =
-          ⊎_elim (subst (λ t. ¬ HasDamagedUsedAt (changed_by t pending) id n asked.line) first
-          (c.in_ok-there.ensures.whole at_line))
-          (⊎_elim (subst (λ t. ¬ HasDamagedOrderAt (changed_by t pending) id n) second
-          (c.in_ok-order.ensures.whole honest)) (c.in_ok-hand.ensures.whole at_hand));
+      reads = (line.reads, of.reads, on.reads);
+      whole = ⊎_elim line.whole (⊎_elim of.whole on.whole);
     })
     says.line (says.makes id) c.registered.ensures.tells c.registered.ensures.fault

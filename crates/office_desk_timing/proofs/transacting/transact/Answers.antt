@@ -11,14 +11,14 @@ pub returns-in_err-found-clause-decides : goal.returns-in_err-found-clause-decid
 returns-in_err-found-clause-decides g c =
     let tables = g.S.Shelf.content c.args.shelf.now in
     fault_decides _ _ _ _ _ _ c.in_err-found.was c.from_residual.ensures.1
-    (λ damaged honest. meets _ _ _ c.args.ask (subst
+    (λ damaged honest. meets _ _ _ c.args.step.now (subst
     (λ (r : Reach). HasDamageIn r tables c.args.id) c.reach.ensures
     (c.find.ensures.damaged damaged honest)))
 
 pub returns-in_default-clause-decides : goal.returns-in_default-clause-decides
 returns-in_default-clause-decides g c =
     let tables = g.S.Shelf.content c.args.shelf.now in
-    absent_decides _ _ _ _ c.args.ask _ (λ honest. subst
+    absent_decides _ _ _ _ c.args.step.now _ (λ honest. subst
     (λ (r : Reach). FindsAny r tables c.args.id None) c.reach.ensures
     (subst (FindsAny c.reach.result tables c.args.id) c.in_default.is
     (c.in_ok-found.ensures.found honest)))
@@ -29,16 +29,13 @@ returns-in_default-clause-decides g c =
 pub returns-clause-decides : goal.returns-clause-decides
 returns-clause-decides g c =
     let tables = g.S.Shelf.content c.args.shelf.now in
-    transact_decides _ _ _ _ c.args.ask c.in-Some.found _ c.answer.result
-    c.as_str-name.ensures.words c.decision-decision.ensures.within
-    c.decision-decision.ensures.drafts
+    transact_decides _ _ _ _ c.args.step.now c.in-Some.found _ c.answer.result
+    c.as_str-name.ensures.words c.decide-decision.ensures.within
     (λ honest. subst (λ (r : Reach). FindsAny r tables c.args.id (Some c.in-Some.found))
     c.reach.ensures (subst (FindsAny c.reach.result tables c.args.id) c.in-Some.is
     (c.in_ok-found.ensures.found honest)))
     (λ honest. subst (λ (r : Reach). ListsFound r tables c.args.id c.in-Some.found) c.reach.ensures
     (subst (λ (o : Option Found). IfSome o (ListsFound c.reach.result tables c.args.id))
     c.in-Some.is (c.in_ok-found.ensures.listed honest)))
-    c.decision-decision.ensures.line c.decision-decision.ensures.bounds
-    c.decision-decision.ensures.news c.decision-decision.ensures.refuses
-    (λ honest. subst (λ (r : Reach). ¬ HasDamageIn r tables c.args.id) c.reach.ensures
+    c.decide-decision.ensures.takes (λ honest. subst (λ (r : Reach). ¬ HasDamageIn r tables c.args.id) c.reach.ensures
     (c.in_ok-found.ensures.whole honest)) c.answer.ensures.writes c.answer.ensures.fault

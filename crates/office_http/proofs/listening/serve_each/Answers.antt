@@ -1,7 +1,7 @@
 use Rattle.std.proofs.Common.{◌≡◌, ◌∙◌, [], ◌∷◌, ◌++◌, ap, sym, refl, subst, arith}
-use Rattle.office_http.specs.Listening.{Listens, connected, one_accepted, one_failed, more_accepted}
+use Rattle.office_http.specs.Listening.{Listens, connected, one_accepted, one_failed}
 use Rattle.office_http.specs.Protocol.{office_storage}
-use Rattle.office_http.proofs.ListeningLemmas.{when_ok, when_err, listens-start, listens-next, turns_on, one_longer, accepted-next, turns-start, turns-same, turns-next, turns-untouched}
+use Rattle.office_http.proofs.ListeningLemmas.{when_ok, when_err, listens-start, listens-next, one_longer, accepted-next, turns-start, turns-same, turns-next, turns-untouched}
 use Rattle.office_http.proofs.listening.serve_each.Goals as goal
 
 pub loop-init : goal.loop-init
@@ -10,7 +10,6 @@ loop-init g c = record {
   honest = λ honest. honest;
   did = λ clean before tables keeps. ([], listens-start _ _ tables before keeps, refl, turns-start _);
   turned = ([], refl, turns-start _);
-  counts = refl;
 }
 
 pub returns-in_default-clause-did : goal.returns-in_default-clause-did
@@ -20,8 +19,7 @@ returns-in_default-clause-did g c clean before tables keeps =
       so_far.1,
       (
         omega (arith, c.loop-test.true, so_far.2),
-        c.in_default.ensures.counts ∙ ap one_failed (c.loop.invariant.counts ∙ ap (λ n. more_accepted n (g.L.Listen.told c.args.listener.now).counts) (sym so_far.2)),
-        turns-same _ _ _ _ _ so_far.3 c.in_default.ensures.given c.in_default.ensures.returned,
+        turns-same _ _ _ so_far.0 _ _ so_far.3 (c.in_default.ensures.counts ∙ ap one_failed so_far.3.counted) c.in_default.ensures.given c.in_default.ensures.returned,
       ),
     )
 
@@ -31,8 +29,7 @@ returns-in_default-clause-told g c =
       so_far.0,
       (
         omega (arith, c.loop-test.true, so_far.1),
-        c.in_default.ensures.counts ∙ ap one_failed (c.loop.invariant.counts ∙ ap (λ n. more_accepted n (g.L.Listen.told c.args.listener.now).counts) (sym so_far.1)),
-        turns-same _ _ _ _ _ so_far.2 c.in_default.ensures.given c.in_default.ensures.returned,
+        turns-same _ _ _ so_far.0 _ _ so_far.2 (c.in_default.ensures.counts ∙ ap one_failed so_far.2.counted) c.in_default.ensures.given c.in_default.ensures.returned,
       ),
     )
 
@@ -46,9 +43,9 @@ returns-then-is_err-clause-did g c clean before tables keeps =
       subst (λ office. Listens (office_storage g.S.Shelf.is_honest g.S.Shelf.content g.S.Shelf.written g.S.Shelf.may_leave) c.args.office.now tables before office so_far.0) (sym same.1) so_far.1,
       (
         omega (arith, c.loop-test.true, so_far.2),
-        c.take_back.ensures.counts ∙ (c.in-Ok.ensures.counts ∙ ap one_accepted (c.loop.invariant.counts ∙ ap (λ n. more_accepted n (g.L.Listen.told c.args.listener.now).counts) (sym so_far.2))),
         _,
-        turns-untouched (g.L.Listen.told c.args.listener.now) (g.L.Listen.told c.loop.listener) (g.L.Listen.told c.accept.new.self) (g.L.Listen.told c.take_back.new.self) _ _ _ _ so_far.3 c.in-Ok.ensures.given c.in-Ok.ensures.returned c.take_back.ensures.given c.take_back.ensures.returned same.0,
+        turns-untouched (g.L.Listen.told c.args.listener.now) (g.L.Listen.told c.loop.listener) (g.L.Listen.told c.accept.new.self) (g.L.Listen.told c.take_back.new.self) so_far.0 _ _ _ _ so_far.3
+            (c.take_back.ensures.counts ∙ (c.in-Ok.ensures.counts ∙ ap one_accepted so_far.3.counted)) c.in-Ok.ensures.given c.in-Ok.ensures.returned c.take_back.ensures.given c.take_back.ensures.returned same.0,
       ),
     )
 
@@ -60,9 +57,9 @@ returns-then-is_err-clause-told g c =
       so_far.0,
       (
         omega (arith, c.loop-test.true, so_far.1),
-        c.take_back.ensures.counts ∙ (c.in-Ok.ensures.counts ∙ ap one_accepted (c.loop.invariant.counts ∙ ap (λ n. more_accepted n (g.L.Listen.told c.args.listener.now).counts) (sym so_far.1))),
         _,
-        turns-untouched (g.L.Listen.told c.args.listener.now) (g.L.Listen.told c.loop.listener) (g.L.Listen.told c.accept.new.self) (g.L.Listen.told c.take_back.new.self) _ _ _ _ so_far.2 c.in-Ok.ensures.given c.in-Ok.ensures.returned c.take_back.ensures.given c.take_back.ensures.returned same.0,
+        turns-untouched (g.L.Listen.told c.args.listener.now) (g.L.Listen.told c.loop.listener) (g.L.Listen.told c.accept.new.self) (g.L.Listen.told c.take_back.new.self) so_far.0 _ _ _ _ so_far.2
+            (c.take_back.ensures.counts ∙ (c.in-Ok.ensures.counts ∙ ap one_accepted so_far.2.counted)) c.in-Ok.ensures.given c.in-Ok.ensures.returned c.take_back.ensures.given c.take_back.ensures.returned same.0,
       ),
     )
 
@@ -78,25 +75,28 @@ loop-preserved g c =
             so_far.0 ++ connected _ _ ∷ [],
             listens-next _ _ tables before _ _ next.1 next.0 so_far.0 _ so_far.1 next.2,
             one_longer so_far.0 _ c.loop.counter so_far.2,
-            turns_on _ _ so_far.0 _ _ (turns-next (g.L.Listen.told c.args.listener.now) (g.L.Listen.told c.loop.listener) (g.L.Listen.told c.accept.new.self) (g.L.Listen.told c.take_back.new.self) _ _ _ _ so_far.3 c.in-Ok.ensures.given c.in-Ok.ensures.returned c.take_back.ensures.given c.take_back.ensures.returned),
+            turns-next (g.L.Listen.told c.args.listener.now) (g.L.Listen.told c.loop.listener) (g.L.Listen.told c.accept.new.self) (g.L.Listen.told c.take_back.new.self) so_far.0 _ _ _ _ so_far.3
+                (c.take_back.ensures.counts ∙ (c.in-Ok.ensures.counts ∙ ap one_accepted so_far.3.counted) ∙ accepted-next so_far.0 (connected _ _) _)
+                c.in-Ok.ensures.given c.in-Ok.ensures.returned c.take_back.ensures.given c.take_back.ensures.returned,
           );
       turned =
           let so_far = c.loop.invariant.turned in (
             so_far.0 ++ connected _ _ ∷ [],
             one_longer so_far.0 _ c.loop.counter so_far.1,
-            turns_on _ _ so_far.0 _ _ (turns-next (g.L.Listen.told c.args.listener.now) (g.L.Listen.told c.loop.listener) (g.L.Listen.told c.accept.new.self) (g.L.Listen.told c.take_back.new.self) _ _ _ _ so_far.2 c.in-Ok.ensures.given c.in-Ok.ensures.returned c.take_back.ensures.given c.take_back.ensures.returned),
+            turns-next (g.L.Listen.told c.args.listener.now) (g.L.Listen.told c.loop.listener) (g.L.Listen.told c.accept.new.self) (g.L.Listen.told c.take_back.new.self) so_far.0 _ _ _ _ so_far.2
+                (c.take_back.ensures.counts ∙ (c.in-Ok.ensures.counts ∙ ap one_accepted so_far.2.counted) ∙ accepted-next so_far.0 (connected _ _) _)
+                c.in-Ok.ensures.given c.in-Ok.ensures.returned c.take_back.ensures.given c.take_back.ensures.returned,
           );
-      counts = c.take_back.ensures.counts ∙ (c.in-Ok.ensures.counts ∙ ap one_accepted c.loop.invariant.counts) ∙ accepted-next c.loop.counter _;
     }
 
 pub returns-clause-did : goal.returns-clause-did
 returns-clause-did g c clean before tables keeps =
     let so_far = c.loop.invariant.did clean before tables keeps in
     let all : c.loop.counter ≡ c.args.count = omega (arith, c.loop-test.false, c.loop.auto.counter-end) in
-    (so_far.0, so_far.1, (so_far.2 ∙ all, c.loop.invariant.counts ∙ ap (λ n. more_accepted n (g.L.Listen.told c.args.listener.now).counts) (sym so_far.2), so_far.3))
+    (so_far.0, so_far.1, (so_far.2 ∙ all, so_far.3))
 
 pub returns-clause-told : goal.returns-clause-told
 returns-clause-told g c =
     let so_far = c.loop.invariant.turned in
     let all : c.loop.counter ≡ c.args.count = omega (arith, c.loop-test.false, c.loop.auto.counter-end) in
-    (so_far.0, (so_far.1 ∙ all, c.loop.invariant.counts ∙ ap (λ n. more_accepted n (g.L.Listen.told c.args.listener.now).counts) (sym so_far.1), so_far.2))
+    (so_far.0, (so_far.1 ∙ all, so_far.2))

@@ -1,5 +1,5 @@
 use Rattle.std.proofs.Common.{◌≡◌, ◌≤◌, ◌∙◌, [], Ok, inl, inr, sym, subst}
-use Rattle.office_http_framing.specs.{Protocol.bytes_of, Stops.DealsBy}
+use Rattle.office_http_framing.specs.{Protocol.bytes_of, Stops.DealsBy, Stops.moment_of}
 use Rattle.office_tables_shelf.specs.{Change.changed_by, Counts.counts_after, Counts.writes_in, declared.rows.Table.Table}
 use Rattle.office_desk.specs.{Answers.AnswersAny, Changes.most_writes}
 use Rattle.office_desk.proofs.{Runs.idle_answers, Runs.none_or_some, Writes.rise_at_most}
@@ -31,7 +31,7 @@ returns-in-Ok-apply-clause-deals g c clean before tables request is_read keeps =
                 (c.decide-decided.ensures.answers.step (c.apply.ensures.clean clean)))
             | inr idle ↦ idle_answers tables c.args.asked.now.command c.decide-decided.result.reply idle.idle
           ] in
-          subst (λ shelf. DealsBy office_protocol storage c.args.office.now shelf tables before request (Ok c.in-Ok.answer)) (sym (c.apply.ensures.idle (value ∙ none)).0)
+          subst (λ shelf. DealsBy office_protocol storage c.args.office.now shelf (moment_of storage c.args.office.now tables before) request (Ok c.in-Ok.answer)) (sym (c.apply.ensures.idle (value ∙ none)).0)
           (deals_read g.S.Shelf.is_honest g.S.Shelf.content g.S.Shelf.written g.S.Shelf.may_leave tables before request keeps.stands c.args.asked.now c.decide-decided.result.reply is_read c.in-Ok.ensures.told
           c.args.office.now c.decide-decided.new.self c.in-Ok.answer any c.in-Ok.ensures.text (λ honest. kept.same_content honest ∙ keeps.held (kept.honest_before honest)) kept.same_counts kept.same_outcomes)
       | inr changed ↦

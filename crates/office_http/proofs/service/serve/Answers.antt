@@ -1,5 +1,6 @@
 use Rattle.office_http_framing.proofs.ServeLemmas.{Did-weaker}
-use Rattle.office_http.specs.Protocol.{office_protocol}
+use Rattle.office_http_framing.specs.Stops.{moment_of}
+use Rattle.office_http.specs.Protocol.{office_protocol, office_storage}
 use Rattle.office_desk.proofs.Street.{keeps_the_street}
 use Rattle.office_http.proofs.StreamLaws.{serves}
 use Rattle.office_http.proofs.service.serve.Goals as goal
@@ -10,7 +11,8 @@ returns-clause-did g c clean before tables keeps =
       did.0,
       did.1,
       Did-weaker office_protocol _ _ c.args.max_requests _ _ c.serve.result
-          (serves g.S.Shelf.is_honest g.S.Shelf.content g.S.Shelf.written g.S.Shelf.may_leave (g.S.Shelf.may_leave c.args.office.now) tables (g.S.Shelf.written c.args.office.now) before c.serve.new.machine did.1 did.0 keeps.stands.sound) did.2,
+          (serves g.S.Shelf.is_honest g.S.Shelf.content g.S.Shelf.written g.S.Shelf.may_leave (g.S.Shelf.may_leave c.args.office.now)
+          (moment_of (office_storage g.S.Shelf.is_honest g.S.Shelf.content g.S.Shelf.written g.S.Shelf.may_leave) c.args.office.now tables before) c.serve.new.machine did.1 did.0 keeps.stands.sound) did.2,
     )
 
 pub returns-clause-street : goal.returns-clause-street

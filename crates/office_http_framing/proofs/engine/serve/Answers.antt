@@ -32,11 +32,11 @@ returns-then-is_err-clause-did g c clean before held keeps =
     let so_far = c.loop-left.invariant.progress (c.serve_request.ensures.clean clean) before held keeps in
     let step = c.serve_request.ensures.step clean so_far.0 so_far.1 so_far.2.ran.keeps in
     let whole : BeginsWithRequest c.loop-left.buffer (plain c.in-Whole.request) c.in-Whole.length = subst (λ b. BeginsWithRequest b (plain c.in-Whole.request) c.in-Whole.length) c.held.ensures.bytes c.in-Whole.ensures in (
-      step.1,
+      step.3,
       step.2,
       Did-broken g.M.Machine.protocol _ c.args.max_requests c.loop-left.requests c.loop-left.left c.loop-left.buffer
           _ (ends_of (g.R.Source.told c.loop-left.reader) (g.W.Sink.told c.loop-left.writer)) _ so_far.2 _ (plain c.in-Whole.request) c.in-Whole.length step.0 c.loop-left-test.true whole
-          (ran-next g.M.Machine.protocol g.M.Machine.storage _ held _ before c.loop-left.machine c.serve_request.new.machine so_far.1 step.2 so_far.0 (plain c.in-Whole.request) step.0 step.1 step.3 step.4)
+          (ran-next g.M.Machine.protocol g.M.Machine.storage _ _ c.loop-left.machine c.serve_request.new.machine so_far.1 step.2 so_far.0 step.3 step.1 (plain c.in-Whole.request) step.0 step.4)
           (Consumes-nil _) (written_in_part c.serve_request.result _ _ step.0 (sym c.if-is_err.ensures.value) step.5),
     )
 
@@ -56,11 +56,11 @@ loop-left-preserved-in-Whole g c =
       progress = λ clean before held keeps.
           let so_far = c.loop-left.invariant.progress (c.serve_request.ensures.clean clean) before held keeps in
           let step = c.serve_request.ensures.step clean so_far.0 so_far.1 so_far.2.ran.keeps in (
-            step.1,
+            step.3,
             step.2,
             Progress-as _ _ _ _ _ _ _ _ _ _ _ (sym c.left_after-left.ensures.left) (sym c.consume.ensures)
                 (Progress-next _ c.args.max_requests c.loop-left.requests c.loop-left.left buffer (g.R.Source.told c.args.reader.now).bytes (g.R.Source.told c.loop-left.reader).bytes (g.W.Sink.told c.args.writer.now).bytes (g.W.Sink.told c.loop-left.writer).bytes so_far.2 _ request len step.0 (g.W.Sink.told c.serve_request.new.writer).bytes c.loop-left-test.true whole
-                (ran-next g.M.Machine.protocol g.M.Machine.storage _ held _ before c.loop-left.machine c.serve_request.new.machine so_far.1 step.2 so_far.0 request step.0 step.1 step.3 step.4)
+                (ran-next g.M.Machine.protocol g.M.Machine.storage _ _ c.loop-left.machine c.serve_request.new.machine so_far.1 step.2 so_far.0 step.3 step.1 request step.0 step.4)
                 (written_whole c.serve_request.result _ _ step.0 (sym c.if-is_err.ensures.value) step.5)),
           );
       asks = asks-next _ _ _ buffer _ _ c.loop-left.invariant.asks request len _ _ c.loop-left-test.true whole (sym c.left_after-left.ensures.left) (sym c.consume.ensures);
@@ -80,7 +80,7 @@ returns-then-is_err-2-clause-did g c clean before held keeps =
       so_far.1,
       Did-ended g.M.Machine.protocol _ c.args.max_requests c.loop-left.requests c.loop-left.left c.loop-left.buffer
           _ (ends_of (g.R.Source.told c.loop-left.reader) (g.W.Sink.told c.loop-left.writer)) _ so_far.2 _ (closing.0 ∷ []) (Consumes-nil _)
-          (refl, inr (c.in-Bad.fault, (c.loop-left-test.true, at_fault), (closing.0, closing.1, refl)))
+          refl (inr (c.in-Bad.fault, record { ends = (c.loop-left-test.true, at_fault); closes = (closing.0, closing.1, refl) }))
           (λ answers taken. one_more_begun _ _ _ answers closing.0 taken (written_in_part c.serve_fault.result _ _ closing.0 (sym c.if-is_err-2.ensures.value) closing.2)),
     )
 
@@ -93,7 +93,7 @@ returns-in-Bad-clause-did g c clean before held keeps =
       so_far.1,
       Did-ended g.M.Machine.protocol _ c.args.max_requests c.loop-left.requests c.loop-left.left c.loop-left.buffer
           _ (ends_of (g.R.Source.told c.loop-left.reader) (g.W.Sink.told c.loop-left.writer)) _ so_far.2 _ (closing.0 ∷ []) (Consumes-nil _)
-          (refl, faulty c.in-Bad.fault, (c.loop-left-test.true, at_fault), (closing.0, closing.1, refl), λ not_so. cc)
+          refl (faulty c.in-Bad.fault, record { ends = (c.loop-left-test.true, at_fault); closes = (closing.0, closing.1, refl) }, λ not_so. cc)
           (λ answers taken. one_more_taken _ _ _ answers closing.0 taken (written_whole c.serve_fault.result _ _ closing.0 (sym c.if-is_err-2.ensures.value) closing.2)),
     )
 
@@ -110,11 +110,9 @@ returns-in-Ok-eq0-clause-did g c clean before held keeps =
       so_far.0,
       so_far.1,
       Did-ended g.M.Machine.protocol _ c.args.max_requests c.loop-left.requests c.loop-left.left c.loop-left.buffer
-          _ (ends_of (g.R.Source.told c.loop-left.reader) (g.W.Sink.told c.loop-left.writer)) _ so_far.2 _ [] (Consumes-none _ _ bytes.0 (bytes.1 ∙ c.in-Ok-eq0.field-0-test) bytes.3) (
-            refl,
+          _ (ends_of (g.R.Source.told c.loop-left.reader) (g.W.Sink.told c.loop-left.writer)) _ so_far.2 _ [] (Consumes-none _ _ bytes.0 (bytes.1 ∙ c.in-Ok-eq0.field-0-test) bytes.3) refl (
             unfinished,
-            (c.loop-left-test.true, incomplete),
-            refl,
+            record { ends = (c.loop-left-test.true, incomplete); closes = refl },
             λ _. Rose-after _ _ _ c.loop-left.invariant.reader.empties (Rose-empty _ _ c.in-Ok-eq0.field-0 c.in-Ok-eq0.field-0-test (ap (λ k. k.empties) c.in-Ok-eq0.ensures.counts)),
           )
           (λ answers taken. all_taken _ _ answers taken),
@@ -128,7 +126,7 @@ returns-in-Err-clause-did g c clean before held keeps =
       so_far.1,
       Did-ended g.M.Machine.protocol _ c.args.max_requests c.loop-left.requests c.loop-left.left c.loop-left.buffer
           _ (ends_of (g.R.Source.told c.loop-left.reader) (g.W.Sink.told c.loop-left.writer)) _ so_far.2 _ [] (Consumes-from_Keeps _ _ c.in-Err.ensures.bytes.1)
-          (refl, (c.loop-left-test.true, incomplete), refl) (λ answers taken. all_taken _ _ answers taken),
+          refl (record { ends = (c.loop-left-test.true, incomplete); closes = refl }) (λ answers taken. all_taken _ _ answers taken),
     )
 
 pub loop-left-preserved : goal.loop-left-preserved
@@ -180,7 +178,7 @@ returns-clause-did g c clean before held keeps =
       so_far.1,
       Did-ended g.M.Machine.protocol _ c.args.max_requests c.loop-left.requests c.loop-left.left c.loop-left.buffer
           _ (ends_of (g.R.Source.told c.loop-left.reader) (g.W.Sink.told c.loop-left.writer)) _ so_far.2 _ [] (Consumes-nil _)
-          (refl, closed, none, refl, λ not_so. cc) (λ answers taken. all_taken _ _ answers taken),
+          refl (closed, record { ends = none; closes = refl }, λ not_so. cc) (λ answers taken. all_taken _ _ answers taken),
     )
 
 -- the buffer was refused

@@ -1,5 +1,5 @@
 use Rattle.std.proofs.Common.{◌+◌, ◌-◌, ◌*◌, ◌≤◌, length}
-use Rattle.office_http_framing.specs.{Ends.Grows, Stops.Keeps, Stops.Ran}
+use Rattle.office_http_framing.specs.{Ends.Grows, Stops.KeepsState, Stops.Ran, Stops.moment_of}
 use Rattle.office_http_framing.proofs.{ServeLemmas.Progress, AskLemmas.AsksSoFar}
 use Rattle.office_http_framing.proofs.engine.serve.Given as goal
 
@@ -7,9 +7,9 @@ abbrev pub invariant-loop-left : goal.invariant-loop-left
 invariant-loop-left g l = record {
   clean : g.M.Machine.is_clean l.machine → g.M.Machine.is_clean l.fn.machine;
   honest : g.M.Machine.storage.is_honest l.machine → g.M.Machine.storage.is_honest l.fn.machine;
-  progress : g.M.Machine.is_clean l.machine → (before : g.M.Machine.State) (held : g.M.Machine.Stored) → Keeps g.M.Machine.storage l.fn.machine held before →
+  progress : g.M.Machine.is_clean l.machine → (before : g.M.Machine.State) (held : g.M.Machine.Stored) → KeepsState g.M.Machine.storage l.fn.machine held before →
       (after : g.M.Machine.State) × (kept : g.M.Machine.Stored)
-      × Progress (Ran g.M.Machine.protocol g.M.Machine.storage (g.M.Machine.storage.may_leave l.fn.machine) held (g.M.Machine.storage.written l.fn.machine) before l.machine kept after) l.fn.max_requests l.requests l.left l.buffer
+      × Progress (Ran g.M.Machine.protocol g.M.Machine.storage (g.M.Machine.storage.may_leave l.fn.machine) (moment_of g.M.Machine.storage l.fn.machine held before) l.machine kept after) l.fn.max_requests l.requests l.left l.buffer
       (g.R.Source.told l.fn.reader).bytes (g.R.Source.told l.reader).bytes
       (g.W.Sink.told l.fn.writer).bytes (g.W.Sink.told l.writer).bytes;
   asks : AsksSoFar g.R.Source.told l.fn.max_requests l.left l.buffer l.fn.reader l.reader;

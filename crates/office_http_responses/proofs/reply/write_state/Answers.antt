@@ -11,6 +11,6 @@ returns c =
       c.owner_of.ensures,
       c.from-3.ensures,
       c.get-3.ensures.value,
-      c.state_word.ensures,
+      c.state_name.ensures,
       c.verdict_word.ensures,
     ) at c.object.ensures

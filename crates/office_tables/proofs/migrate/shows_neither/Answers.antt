@@ -2,7 +2,7 @@ use Rattle.std.proofs.Common.{◌≡◌, true, IsTrue, refl, subst, rules, arith
 use Rattle.std.proofs.lemmas.Result.{IfOk-weaker}
 use Rattle.std.specs.Prelude.{IfOk}
 use Rattle.sqlite.specs.{Held.state, State.HasCleanDisk}
-use Rattle.office_tables_statements.specs.Calls.{IsHonest, StandsOn}
+use Rattle.office_tables_statements.specs.Calls.{StandsOn}
 use Rattle.office_tables_statements.proofs.CallLemmas.{begun_stands, asked_stands, unasked_stands}
 use Rattle.office_tables.specs.Migrate.{AreNeither, ShowsNeither}
 use Rattle.office_tables.proofs.migrate.shows_neither.Goals as goal

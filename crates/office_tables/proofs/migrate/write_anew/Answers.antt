@@ -3,7 +3,7 @@ use Rattle.sqlite.specs.{Tree.Trees, Held.state, State.Survives}
 use Rattle.office_tables_shelf.specs.Change.{changed_by}
 use Rattle.office_tables_statements.specs.{Calls.IsHonest, Calls.IsOffice, Stored.content_now}
 use Rattle.office_tables_statements.proofs.CallLemmas.{commit_undone, commit_survives}
-use Rattle.office_tables.specs.Migrate.{HoldsToday}
+use Rattle.office_tables_open.specs.Lacking.{Completes}
 use Rattle.office_tables.proofs.migrate.write_anew.Goals as goal
 
 pub returns-in_err-commit-clause-office : goal.returns-in_err-commit-clause-office
@@ -19,7 +19,7 @@ returns-in_err-commit-clause-crash g c =
     let old = state g.S.Store c.args.conn.now in
     let begun = c.transaction-tx.ensures.begun in
     let it = c.in_ok-write_in.ensures in
-    let P = λ (trees : Trees). HoldsToday (changed_by (content_now old) c.args.changes.now) trees in
+    let P = λ (trees : Trees). Completes (changed_by (content_now old) c.args.changes.now) trees in
     let same : c.commit.new.self.0 ≡ c.conn-2-1.given.0 = search rules in
     subst (λ h. Survives old (state g.S.Store h) (λ trees. IsHonest old × P trees)) same (commit_survives g.S.Store c.args.conn.now c.write_in.new.tx.conn.now (state g.S.Store c.commit.new.self.0) c.requires
     P (rw begun at it.crash) c.commit.ensures.survives (λ clean. rw begun at (it.honest clean)) (λ clean. rw begun at (it.written clean)))

@@ -10,4 +10,7 @@ returns-clause-written g c clean ready =
     let it = c.in_ok-renew_version.ensures in
     let early : HasCleanDisk mid = omega (arith, clean, it.crash.clean) in
     let turned = c.in_ok-change_rows.ensures.changed early ready in
-    (it.same clean turned.ready ∙ turned.content, ready_today new (it.ready clean turned.ready) (it.stored clean turned.ready))
+    record {
+      content = it.same clean turned.ready ∙ turned.content;
+      today = ready_today new (it.ready clean turned.ready) (it.stored clean turned.ready);
+    }

@@ -1,6 +1,6 @@
 use Rattle.std.proofs.Common.{rules, ◌≡◌, ◌∙◌, ◌++◌, [], ◌∷◌, List, ap, arith, length, map, subst, sym}
 use Rattle.std.specs.{FinMap.entries, List.AllByRecursion}
-use Rattle.cabinet_core.specs.{Overdue.listed, Overdue.overdue_list, declared.overdue_inspections.OverdueRow.OverdueRow}
+use Rattle.cabinet_core.specs.{Overdue.listed_of, Overdue.overdue_list, declared.overdue_inspections.OverdueRow.OverdueRow}
 use Rattle.office_tables_shelf.specs.{Content.Content, Overdue.ReadsLast, Overdue.seen_row, Shelf.IsIntersectionWithin}
 use Rattle.office_tables_shelf.specs.Shelf.{ListsIntersections, rows_of}
 use Rattle.office_tables_maps.specs.contracts.maps.Maps.{the_view}
@@ -11,7 +11,7 @@ use Rattle.office_tables_maps.proofs.map_overdue.overdue_of.Goals.{else-loop-id-
 
 pub loop-id-init : goal.loop-id-init
 loop-id-init c = record {
-  rows = λ seen all. ap (λ (found : List OverdueRow). map listed found) c.new-found.ensures.items;
+  rows = λ seen all. ap (λ (found : List OverdueRow). map listed_of found) c.new-found.ensures.items;
   whole = tt;
   short = omega (arith, ap (λ (found : List OverdueRow). length found) c.new-found.ensures.items);
 }
@@ -25,7 +25,7 @@ loop-id-preserved c =
     let next = seen_row e.0 e.1 last in
     let old = c.loop-id.found.items in
     let new = c.add_overdue.new.found.items in
-    let added : map listed new ≡ map listed old ++ overdue_list c.args.day (next ∷ []) = c.in_ok-add_overdue.ensures in
+    let added : map listed_of new ≡ map listed_of old ++ overdue_list c.args.day (next ∷ []) = c.in_ok-add_overdue.ensures in
     let viewed : the_view c.tables.inside ≡ tables = search rules in
     let read = c.last_of-last.ensures c.tables.invariant.inspections in
     let reads : ReadsLast tables e.0 last = record {

@@ -3,14 +3,14 @@ use Rattle.std.proofs.Common.{◌≡◌, map, refl, sym, subst, rules}
 use Rattle.sqlite.specs.{Held.state, State.HasCleanDisk, State.Survives, Tree.Trees}
 use Rattle.office_tables_statements.proofs.CallLemmas.{ended_survives}
 use Rattle.office_tables_statements.specs.Calls.{IsHonest, IsOffice}
-use Rattle.office_tables_open.specs.{Lacking.Completes, Lacking.IsRefilled, Moved.all_put, Moved.parts}
+use Rattle.office_tables_open.specs.{Lacking.Completes, Lacking.IsRefilled, Moved.all_put, Moved.part_moved}
 use Rattle.office_tables_open.proofs.{MadeLemmas.committed_office, MadeLemmas.committed_rows, missing.make_missing.Given.Over}
 use Rattle.office_tables_open.proofs.missing.make_missing.Goals.{After-commit}
 use Rattle.office_tables_open.proofs.missing.make_missing.Goals as goal
 
 -- the tables as they stand before the commit
 made : (g : Over) (c : After-commit g) → HasCleanDisk (state g.S.Store c.refill.new.tx.conn.now)
-    → IsRefilled (all_put no_content (map parts c.args.moved.items)) (state g.S.Store c.refill.new.tx.conn.now)
+    → IsRefilled (all_put no_content (map part_moved c.args.moved.items)) (state g.S.Store c.refill.new.tx.conn.now)
 made g c clean =
     let begun = c.transaction-tx.ensures.begun in
     let ours = c.requires.ours (rw begun at (c.in_ok-refill.ensures.honest clean)) in
@@ -18,7 +18,7 @@ made g c clean =
 
 -- what a crash leaves
 crash : (g : Over) (c : After-commit g) (h : _) → c.commit.new.self.0 ≡ h → Survives (state g.S.Store c.args.conn.now) (state g.S.Store h)
-    (λ (trees : Trees). IsHonest (state g.S.Store c.args.conn.now) × Completes (all_put no_content (map parts c.args.moved.items)) trees)
+    (λ (trees : Trees). IsHonest (state g.S.Store c.args.conn.now) × Completes (all_put no_content (map part_moved c.args.moved.items)) trees)
 crash g c h same =
     let begun = c.transaction-tx.ensures.begun in
     let it = c.in_ok-refill.ensures in
@@ -39,7 +39,7 @@ returns-clause-made g c =
     let mid = c.refill.new.tx.conn.now in
     let it = c.in_ok-commit.ensures in
     let at = (goal.at.returns-clause-made g c).After-commit in
-    let P = Completes (all_put no_content (map parts c.args.moved.items)) in
+    let P = Completes (all_put no_content (map part_moved c.args.moved.items)) in
     let whole : IsHonest (state g.S.Store c.commit.new.self.0) → P (state g.S.Store c.commit.new.self.0).now.trees = λ honest. committed_rows (state g.S.Store mid) (state g.S.Store c.commit.new.self.0) it.survives.clean (λ clean. (it.ok clean).1) P (λ clean. (made g at clean).completes) honest.0 in
     let same : c.commit.new.self.0 ≡ c.conn-2-1.given.0 = search rules in
     subst (λ h. IsHonest (state g.S.Store h) → P (state g.S.Store h).now.trees) same whole

@@ -2,7 +2,7 @@ use Rattle.std.proofs.Common.{arith, map, refl, sym, ap, ◌∙◌}
 use Rattle.sqlite.specs.Held.{state}
 use Rattle.office_tables_statements.proofs.CallLemmas.{stands_then, survives_on}
 use Rattle.office_tables_statements.specs.Stored.{content_now}
-use Rattle.office_tables_open.specs.Moved.{all_put, parts}
+use Rattle.office_tables_open.specs.Moved.{all_put, part_moved}
 use Rattle.office_tables_open.proofs.RefillLemmas.{last_moved}
 use Rattle.office_tables_open.proofs.refill.put_all.Goals as goal
 
@@ -21,8 +21,8 @@ loop-moved-preserved g c =
           let before = was.3 (omega (arith, clean, it.crash.clean)) ready in
           let then = it.put clean before.0.ready in (
             record { ready = then.ready; content = refl; version = then.version ∙ before.0.version },
-            ap (λ tables. all_put tables (map parts rest)) then.content
+            ap (λ tables. all_put tables (map part_moved rest)) then.content
                 ∙ sym (last_moved (content_now mid) rest c.in-Some.moved)
-                ∙ ap (λ all. all_put (content_now mid) (map parts all)) (sym c.in-Some.ensures.items) ∙ before.1,
+                ∙ ap (λ all. all_put (content_now mid) (map part_moved all)) (sym c.in-Some.ensures.items) ∙ before.1,
           ),
     )

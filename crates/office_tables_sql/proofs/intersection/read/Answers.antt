@@ -15,7 +15,7 @@ returns-in_err-found-clause-damaged g c is honest =
     let tables = content_now (state g.S.Store c.args.conn.now) in
     let bad : c.find.result ≡ Err Damaged = search rules in
     let d : HasDamagedUnder table.Intersection IsIntersectionWithin
-    (λ _ found. intersection_key found.0) (λ found. intersection_columns found.1) tables 0
+    (λ found. intersection_key found.0) (λ found. intersection_columns found.1) tables
     (intersection_key c.args.id) =
     rw (c.params-to_sql.ensures, c.get.ensures.value) at (c.find.ensures.damaged bad honest) in
     let range : IsInRange 1 9999 c.args.id = subst (IsInRange 1 9999) c.get.ensures.value (c.get.ensures.low, c.get.ensures.high) in

@@ -13,7 +13,7 @@ pub returns-in_err-found-clause-damaged : goal.returns-in_err-found-clause-damag
 returns-in_err-found-clause-damaged g c is honest =
     let tables = content_now (state g.S.Store c.args.conn.now) in
     let bad : c.find.result ≡ Err Damaged = search rules in
-    let d : HasDamagedUnder table.Part IsPartWithin (λ _ part. part_key part.0)
-    (λ part. part_columns part.1) tables 0 (part_key c.args.code.now) =
+    let d : HasDamagedUnder table.Part IsPartWithin (λ part. part_key part.0)
+    (λ part. part_columns part.1) tables (part_key c.args.code.now) =
     rw (c.params-to_sql.ensures, c.as_str.ensures.text) at (c.find.ensures.damaged bad honest) in
-    record { columns = d.columns; stored = d.stored; no_row = λ hand within. d.no_row (c.args.code.now, hand) (c.as_str.ensures.code, within) refl }
+    record { columns = d.columns; stored = d.stored; no_row = λ hand within. d.no_row (c.args.code.now, hand) (c.as_str.ensures.code, within) }

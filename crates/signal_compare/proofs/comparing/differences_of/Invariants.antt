@@ -1,12 +1,12 @@
 use Rattle.std.proofs.Common.{List, ◌++◌, ◌+◌, length}
-use Rattle.signal_compare.specs.{declared.difference.Difference.Difference, Merging.AreInOrder, Merging.AreDifferences}
+use Rattle.signal_compare.specs.{declared.difference.Difference.Difference, Merging.KeysAscend, Merging.AreDifferences}
 use Rattle.signal_compare.proofs.comparing.differences_of.Given as goal
 
 -- what comes before the differences of the rows that are left
 abbrev pub invariant-loop-order : goal.invariant-loop-order
 invariant-loop-order l = record {
-  first : AreInOrder l.first;
-  second : AreInOrder l.second;
+  first : KeysAscend l.first;
+  second : KeysAscend l.second;
   so_far : (rest : List Difference) → AreDifferences l.first l.second rest
       → AreDifferences l.fn.first l.fn.second (l.differences.items ++ rest);
 }

@@ -1,6 +1,6 @@
 use Rattle.std.proofs.Common.{◌∙◌, Err, ap, arith, inl, inr, subst, sym}
 use Rattle.std.proofs.lemmas.List.{take_all}
-use Rattle.office_desk_timing.specs.Listing.{ListsRows}
+use Rattle.office_desk_timing.specs.Listing.{ListsEachIntersection}
 use Rattle.signal_office_commands.proofs.AskingLemmas.{◌then◌, still_held}
 use Rattle.signal_office_commands.proofs.FaultLemmas.{on_fault}
 use Rattle.signal_office_commands.proofs.OrderLemmas.{AreWhole, all_open, all_whole, known_at, known_tells, listed_fault, listed_known, named_of, orders_more, whole_more}
@@ -12,7 +12,7 @@ use Rattle.signal_office_commands.proofs.orders.all_orders.Goals as goal
 pub loop-listed-init : goal.loop-listed-init
 loop-listed-init g c = record {
   all = λ clean tables held before stands. c.as_slice-listed-items.ensures.value ∙ c.in_ok-list.ensures.all clean tables held before stands;
-  lists = λ clean tables held. subst (ListsRows tables) (sym c.as_slice-listed-items.ensures.value) (c.in_ok-list.ensures.lists clean tables held);
+  lists = λ clean tables held. subst (ListsEachIntersection tables) (sym c.as_slice-listed-items.ensures.value) (c.in_ok-list.ensures.lists clean tables held);
   sound = c.in_ok-list.ensures.whole;
   orders = λ clean tables held before stands. c.new-found.ensures.items;
   whole = λ clean tables held. tt;

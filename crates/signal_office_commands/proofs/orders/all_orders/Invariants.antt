@@ -1,7 +1,7 @@
 use Rattle.std.proofs.Common.{◌≡◌, take}
 use Rattle.office_tables_shelf.specs.{Damage.HasAnyDamagedIntersection, Keeps.KeepsShelf}
 use Rattle.office_desk.specs.Running.{TellsTables}
-use Rattle.office_desk_timing.specs.Listing.{ListsRows}
+use Rattle.office_desk_timing.specs.Listing.{ListsEachIntersection}
 use Rattle.office_machine.specs.Listed.{intersections_of}
 use Rattle.signal_office_commands.specs.Asking.{TellsOffice}
 use Rattle.signal_office_commands.proofs.OrderLemmas.{AreWhole, named_of}
@@ -13,7 +13,7 @@ invariant-loop-listed g l =
     let shelf = g.S.Shelf in
     record {
       all : TellsOffice shelf l.fn.office l.office (λ before. l.listed-items ≡ intersections_of before);
-      lists : TellsTables shelf l.fn.office l.office (λ tables. ListsRows tables l.listed-items);
+      lists : TellsTables shelf l.fn.office l.office (λ tables. ListsEachIntersection tables l.listed-items);
       sound : TellsTables shelf l.fn.office l.office (λ tables. ¬ HasAnyDamagedIntersection tables);
       orders : TellsOffice shelf l.fn.office l.office (λ before. l.found.items ≡ named_of before (take l.listed-index l.listed-items));
       whole : TellsTables shelf l.fn.office l.office (λ tables. AreWhole tables (take l.listed-index l.listed-items));

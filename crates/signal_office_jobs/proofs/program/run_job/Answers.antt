@@ -4,7 +4,7 @@ use Rattle.signal_office_faults.specs.declared.fault.Fault.TheVariants as fault
 use Rattle.signal_office_in_file.specs.Ended.{file_view}
 use Rattle.signal_office_jobs.proofs.{RevisedLemmas.padded_asked, RunLemmas.done_so}
 use Rattle.signal_office_jobs.proofs.program.run_job.Goals as goal
-use Rattle.signal_office_jobs.specs.Printed.{mode_of, office_files}
+use Rattle.signal_office_jobs.specs.Printed.{edit_mode, office_files}
 use Rattle.signal_office_jobs.specs.Printing.{InFoundFile, Naming, ReadingAnyCsv, editing}
 use Rattle.signal_office_line.specs.Job.{asked}
 
@@ -62,6 +62,6 @@ returns-in-Edit g c =
     (ends_of (g.R.Source.told c.args.source.now) (told c.edit_plan.new.out)) c.edit_plan.result (ap asked c.in-Edit.is) (
       refl,
       subst (λ padded. Naming 40 edit.clerk.now fault.Clerk
-          (ReadingAnyCsv padded (λ plan. InFoundFile view (editing plan edit.id edit.clerk.now (mode_of edit) edit.explain)))
+          (ReadingAnyCsv padded (λ plan. InFoundFile view (editing plan edit.id edit.clerk.now (edit_mode edit) edit.explain)))
           (told c.args.out.now) (told c.edit_plan.new.out) c.edit_plan.result) (padded_asked edit.csv) c.edit_plan.ensures,
     )

@@ -1,10 +1,10 @@
 use Rattle.std.proofs.lemmas.Result.{on_ok_weaker}
-use Rattle.signal_page.specs.Register.{open_orders}
+use Rattle.signal_page.specs.Register.{open_orders_part}
 use Rattle.signal_page.proofs.Parts.{two}
 use Rattle.signal_page.proofs.register.push_open_orders.Goals as goal
 
 pub returns : goal.returns
-unfolding open_orders
+unfolding open_orders_part
 returns c =
     let to1 = c.in_ok-open_table.ensures in
     let to2 = two _ _ _ _ _ to1 c.in_ok-push_order_headings.ensures in

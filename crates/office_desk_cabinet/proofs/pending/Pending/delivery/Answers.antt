@@ -1,5 +1,6 @@
 use Rattle.std.proofs.Common.{◌≡◌, rules}
-use Rattle.office_desk_cabinet.proofs.{PendingLemmas.put_seen, Places.Delivery}
+use Rattle.office_tables_shelf.specs.Places.{Delivery}
+use Rattle.office_desk_cabinet.proofs.PendingLemmas.{put_seen}
 use Rattle.office_desk_cabinet.proofs.pending.Pending.delivery.Goals as goal
 
 pub returns-clause-put : goal.returns-clause-put

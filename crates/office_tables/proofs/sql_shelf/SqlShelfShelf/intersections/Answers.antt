@@ -9,8 +9,3 @@ use Rattle.office_tables.proofs.sql_shelf.SqlShelfShelf.intersections.Goals as g
 pub returns-clause-rows : goal.returns-clause-rows
 returns-clause-rows g c =
     rw (← c.self.view_is) (IfOk-weaker c.list_all.result _ _ (λ found rows honest. rows honest ∙ where_all (entries (content_now (state g.S.Store c.self.inside.conn)).intersection)) c.list_all.ensures.rows)
-
-pub returns-clause-damaged : goal.returns-clause-damaged
-returns-clause-damaged g c is honest =
-    let d = c.list_all.ensures.damaged is honest in
-    rw (← c.self.view_is) (record { key = d.key; columns = d.columns; stored = d.stored; no_row = λ id within row fits same. d.no_row (id, row) (within, fits) same })

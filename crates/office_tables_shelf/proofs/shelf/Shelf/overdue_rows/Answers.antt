@@ -1,7 +1,7 @@
 use Rattle.std.proofs.Common.{◌≡◌, ◌++◌, [], ◌∷◌, Err, inr, List, ap, arith, length, map, refl, subst, sym}
 use Rattle.std.proofs.lemmas.Result.{err_from_is_err_and}
 use Rattle.std.specs.List.{AllByRecursion}
-use Rattle.cabinet_core.specs.{Overdue.listed, Overdue.overdue_list, declared.overdue_inspections.OverdueRow.OverdueRow}
+use Rattle.cabinet_core.specs.{Overdue.listed_of, Overdue.overdue_list, declared.overdue_inspections.OverdueRow.OverdueRow}
 use Rattle.office_tables_shelf.specs.{CabinetReads.HasDamagedInspection, Overdue.ReadsLast, Overdue.seen_row, Shelf.IsIntersectionWithin}
 use Rattle.office_tables_shelf.specs.{Shelf.ListsIntersections, declared.shelf.ShelfFault.TheVariants.Damaged}
 use Rattle.office_tables_shelf.proofs.{KeptLemmas.hands_on, KeptLemmas.kept_on, ListedRows.listed_is_there, OverdueLemmas.seen_length}
@@ -14,7 +14,7 @@ loop-id-init g c = record {
   read = λ honest. subst (ListsIntersections (g.Self.Shelf.content c.args.self.now)) (sym c.as_slice-id-items.ensures.value) (c.in_ok-rows.ensures.rows honest);
   within = λ honest. subst (AllByRecursion IsIntersectionWithin)
       (sym c.as_slice-id-items.ensures.value) (c.in_ok-rows.ensures.within honest);
-  rows = λ honest seen all. ap (λ (found : List OverdueRow). map listed found) c.new-found.ensures.items;
+  rows = λ honest seen all. ap (λ (found : List OverdueRow). map listed_of found) c.new-found.ensures.items;
   whole = λ honest. tt;
   short = omega (arith, ap (λ (found : List OverdueRow). length found) c.new-found.ensures.items);
   clean = c.in_ok-rows.ensures.open.clean_before;
@@ -79,7 +79,7 @@ loop-id-preserved g c =
     let next = seen_row e.0 e.1 last in
     let old = c.loop-id.found.items in
     let new = c.add_overdue.new.found.items in
-    let added : map listed new ≡ map listed old ++ overdue_list c.args.day (next ∷ []) =
+    let added : map listed_of new ≡ map listed_of old ++ overdue_list c.args.day (next ∷ []) =
     c.in_ok-add_overdue.ensures in
     let before = c.last_inspection.ensures.kept.honest_before in
     let reads : shelf.is_honest c.last_inspection.new.self → ReadsLast tables e.0 last =

@@ -1,6 +1,6 @@
 use Rattle.std.proofs.Common.{◌≡◌, ◌≤◌, List, length, map, take}
 use Rattle.std.specs.List.{AllByRecursion}
-use Rattle.cabinet_core.specs.{Overdue.listed, Overdue.overdue_list, declared.overdue_inspections.Seen.Seen}
+use Rattle.cabinet_core.specs.{Overdue.listed_of, Overdue.overdue_list, declared.overdue_inspections.Seen.Seen}
 use Rattle.office_tables_shelf.specs.{Overdue.AreSeenOf, Shelf.IsIntersectionWithin, Shelf.IsKept, Shelf.ListsIntersections}
 use Rattle.office_tables_shelf.proofs.OverdueLemmas.{AreWhole}
 use Rattle.office_tables_shelf.proofs.shelf.Shelf.overdue_rows.Given as goal
@@ -13,7 +13,7 @@ invariant-loop-id g l =
     record {
       read : shelf.is_honest l.self → ListsIntersections (shelf.content l.fn.self) l.id-items;
       within : shelf.is_honest l.self → AllByRecursion IsIntersectionWithin l.id-items;
-      rows : shelf.is_honest l.self → (seen : List Seen) → AreSeenOf (shelf.content l.fn.self) l.id-items seen → map listed l.found.items ≡ overdue_list l.day (take l.id-index seen);
+      rows : shelf.is_honest l.self → (seen : List Seen) → AreSeenOf (shelf.content l.fn.self) l.id-items seen → map listed_of l.found.items ≡ overdue_list l.day (take l.id-index seen);
       whole : shelf.is_honest l.self
           → AreWhole (shelf.content l.fn.self) (take l.id-index l.id-items);
       short : length l.found.items ≤ l.most;

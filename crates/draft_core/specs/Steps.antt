@@ -1,0 +1,107 @@
+-- What each step of the transaction promises: its line of the table, how much it reads, what it refuses, and what it writes.
+use Rattle.std.specs.Prelude.{◌≡◌, ◌≤◌, ℕ, List, [], length, Option, Some, None, Result, Err, IfErr, IfOk}
+use Rattle.signal_records.specs.declared.record.Change.{Change}
+use Rattle.signal_rules.specs.Violations.{violations_of}
+use Rattle.draft_state.specs.declared.state.Holder.{Holder}
+use Rattle.draft_state.specs.declared.state.Stage.TheVariants.{Transaction, Verify, Done}
+use Rattle.draft_core.specs.declared.step.Step.{Step}
+use Rattle.draft_core.specs.declared.step.Step.TheVariants as step
+use Rattle.draft_core.specs.declared.timing.Timing.{Timing}
+use Rattle.draft_core.specs.declared.timing.Move.{Move}
+use Rattle.draft_core.specs.declared.timing.Reach.{Reach}
+use Rattle.draft_core.specs.declared.timing.Reach.TheVariants as reach
+use Rattle.draft_core.specs.declared.refusal.DraftRefusal.{DraftRefusal}
+use Rattle.draft_core.specs.declared.refusal.DraftRefusal.TheVariants.{NotTransaction, NotVerify, NotDone, VerifyFailed, RevisionFull, NoMemory}
+use Rattle.draft_core.specs.Drafting.{AreAmong}
+use Rattle.draft_core.specs.DraftRows.{RowsByKey, Stands}
+use Rattle.draft_core.specs.Moves.{Follows, draft_writes, drafted_in, timing_writes}
+use Rattle.draft_core.specs.News.{AddsOnlyNew}
+use Rattle.draft_core.specs.Transaction.{TimingSide, refused_by, refused_if_free, refused_if_held, table_line}
+
+-- how much of the timing side it reads: the edit keeps what differs from the committed rows, the
+-- check and the commit judge the draft, the abandon drops its rows
+abbrev pub reach_of : Step → Reach
+reach_of (step.Edit changes) = reach.Plan
+reach_of step.Check = reach.Plan
+reach_of step.Commit = reach.Plan
+reach_of step.Abandon = reach.Drafts
+reach_of _ = reach.Row
+
+-- a step that judges the draft relies on a committed set that breaks no rule
+abbrev pub ReliesOn : Step → TimingSide → Type 0
+ReliesOn step.Check side = violations_of side.committed ≡ []
+ReliesOn step.Commit side = violations_of side.committed ≡ []
+ReliesOn _ side = Unit {0}
+
+-- ---- what it refuses, whichever timing side is stood for, or none
+
+-- what the test of state and owner refuses is refused so, never for want of memory; what it passes is refused, if at all, for what comes after it
+abbrev pub RefusesFirst : Option DraftRefusal → (DraftRefusal → Type 0) → Result Move DraftRefusal → Type 0
+RefusesFirst (Some why) Later result = result ≡ Err why
+RefusesFirst None Later result = IfErr result Later
+
+abbrev pub Never : DraftRefusal → Type 0
+Never why = ⊥
+
+abbrev pub IsMemory : DraftRefusal → Type 0
+IsMemory why = why ≡ NoMemory
+
+-- a draft that was checked is not committed
+abbrev pub IsUnsettled : DraftRefusal → Type 0
+IsUnsettled (VerifyFailed count) = Unit {0}
+IsUnsettled RevisionFull = Unit {0}
+IsUnsettled NoMemory = Unit {0}
+IsUnsettled _ = ⊥
+
+-- what the test of state and owner refuses
+abbrev pub first_refusal : Step → Option Holder → List ℕ → Option DraftRefusal
+first_refusal step.Begin holder clerk = refused_if_held holder
+first_refusal (step.Edit changes) holder clerk = refused_by holder Transaction NotTransaction clerk
+first_refusal step.Verify holder clerk = refused_by holder Transaction NotTransaction clerk
+first_refusal step.Check holder clerk = refused_by holder Verify NotVerify clerk
+first_refusal step.Commit holder clerk = refused_by holder Done NotDone clerk
+first_refusal step.Reopen holder clerk = refused_by holder Done NotDone clerk
+first_refusal step.Abandon holder clerk = refused_if_free holder
+
+-- what may be refused after it
+abbrev pub IsLater : Step → DraftRefusal → Type 0
+IsLater (step.Edit changes) = IsMemory
+IsLater step.Check = IsMemory
+IsLater step.Commit = IsUnsettled
+IsLater step.Abandon = IsMemory
+IsLater _ = Never
+
+-- ---- what it writes
+
+-- the changes that it brings
+abbrev pub asked_changes : Step → List Change
+asked_changes (step.Edit changes) = changes
+asked_changes _ = []
+
+-- the most timing rows that it writes, of a draft with so many rows
+abbrev pub most_committed : Step → ℕ → ℕ
+most_committed step.Commit rows = rows
+most_committed _ rows = 0
+
+-- the most draft rows that it writes
+abbrev pub most_drafted : Step → ℕ → ℕ
+most_drafted (step.Edit changes) rows = length changes
+most_drafted step.Commit rows = rows
+most_drafted step.Abandon rows = rows
+most_drafted _ rows = 0
+
+-- the rows that it adds are new, its draft rows are of the changes that it brings, and so many are written
+pub record StepWrites (step : Step) (timing : Timing) (move : Move) : Type 0 where
+  pub news : AddsOnlyNew (reach_of step) timing move.changes
+  pub drafts : AreAmong (drafted_in move.changes) (asked_changes step)
+  pub committed : timing_writes move.changes ≤ most_committed step (length timing.delta)
+  pub drafted : draft_writes move.changes ≤ most_drafted step (length timing.delta)
+
+-- A STEP IS TAKEN. What is decided on as much as it reads follows its line of the table, for
+-- whichever timing side that is read of, and whichever draft rows stand for its draft.
+pub record Takes (step : Step) (timing : Timing) (clerk : List ℕ)
+    (result : Result Move DraftRefusal) : Type 0 where
+  pub line : (rows : RowsByKey) (side : TimingSide) → Stands (reach_of step) timing rows side
+      → ReliesOn step side → Follows rows side clerk result (table_line step clerk side)
+  pub refuses : RefusesFirst (first_refusal step timing.holder clerk) (IsLater step) result
+  pub writes : IfOk result (StepWrites step timing)

@@ -1,0 +1,74 @@
+-- The places where a row of the register stands, and what is read there, of whichever kind it is.
+use Rattle.std.specs.Prelude.{ℕ, List, Option}
+use Rattle.cabinet_core.specs.Within.{IsInspectionWithin, IsOrderWithin, IsUsedLineWithin, IsDeliveryWithin}
+use Rattle.cabinet_core.specs.declared.record.Inspection.{Inspection as InspectionRecord}
+use Rattle.cabinet_core.specs.declared.record.Order.{Order as OrderRecord}
+use Rattle.cabinet_core.specs.declared.record.UsedLine.{UsedLine}
+use Rattle.cabinet_core.specs.declared.record.Delivery.{Delivery as DeliveryRecord}
+use Rattle.office_tables_shelf.specs.CabinetReads.{IsHand}
+use Rattle.office_tables_shelf.specs.CabinetRows.{part_key, part_columns, delivery_key, delivery_columns, inspection_key, inspection_columns, used_key, used_columns, order_key, order_columns}
+use Rattle.office_tables_shelf.specs.Cells.{Cell}
+use Rattle.office_tables_shelf.specs.Content.{Content}
+use Rattle.office_tables_shelf.specs.Reads.{ReadsRow, HasDamagedUnder}
+use Rattle.office_tables_shelf.specs.declared.rows.Table.{Table}
+use Rattle.office_tables_shelf.specs.declared.rows.Table.TheVariants as table
+
+-- where a row of the register stands
+pub data Place : Type 0 where
+  Inspection : ℕ → ℕ → Place
+  Order : ℕ → ℕ → Place
+  Line : ℕ → ℕ → ℕ → Place
+  Part : List ℕ → Place
+  Delivery : List ℕ → ℕ → Place
+
+-- its table, and the cells of its key there
+abbrev pub table_at : Place → Table
+table_at (Inspection id n) = table.Inspection
+table_at (Order id n) = table.WorkOrder
+table_at (Line id order line) = table.UsedPart
+table_at (Part code) = table.Part
+table_at (Delivery code n) = table.Delivery
+
+abbrev pub key_cells : Place → List Cell
+key_cells (Inspection id n) = inspection_key id n
+key_cells (Order id n) = order_key id n
+key_cells (Line id order line) = used_key id order line
+key_cells (Part code) = part_key code
+key_cells (Delivery code n) = delivery_key code n
+
+-- the kind of its record, the key that a record names, its other cells and its limits
+abbrev pub RecordAt : Place → Type 0
+RecordAt (Inspection id n) = InspectionRecord
+RecordAt (Order id n) = OrderRecord
+RecordAt (Line id order line) = UsedLine
+RecordAt (Part code) = ℕ
+RecordAt (Delivery code n) = DeliveryRecord
+
+abbrev pub own_key : (place : Place) → RecordAt place → List Cell
+own_key (Inspection id n) = λ inspection. inspection_key id inspection.number
+own_key (Order id n) = λ order. order_key id order.number
+own_key (Line id order line) = λ used. used_key id used.order used.line
+own_key (Part code) = λ _. part_key code
+own_key (Delivery code n) = λ delivery. delivery_key delivery.part delivery.number
+
+abbrev pub columns_at : (place : Place) → RecordAt place → List Cell
+columns_at (Inspection id n) = inspection_columns
+columns_at (Order id n) = order_columns
+columns_at (Line id order line) = used_columns
+columns_at (Part code) = part_columns
+columns_at (Delivery code n) = delivery_columns
+
+abbrev pub WithinAt : (place : Place) → RecordAt place → Type 0
+WithinAt (Inspection id n) = IsInspectionWithin
+WithinAt (Order id n) = IsOrderWithin
+WithinAt (Line id order line) = IsUsedLineWithin
+WithinAt (Part code) = IsHand
+WithinAt (Delivery code n) = IsDeliveryWithin
+
+-- the cells that stand there are those of the record, which names its own key; or none stand there, and there is no record
+abbrev pub ReadsAt : Content → (place : Place) → Option (RecordAt place) → Type 0
+ReadsAt tables place = ReadsRow (table_at place) (own_key place) (columns_at place) tables (key_cells place)
+
+-- cells stand there that are those of no record within its limits
+abbrev pub DamagedAt : Content → Place → Type 0
+DamagedAt tables place = HasDamagedUnder (table_at place) (WithinAt place) (own_key place) (columns_at place) tables (key_cells place)

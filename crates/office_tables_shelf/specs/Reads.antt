@@ -1,0 +1,48 @@
+-- What is read of a table, and when a stored row is no record, of whichever kind its records are.
+use Rattle.std.specs.Prelude.{◌≡◌, ◌≢◌, ℕ, Bool, true, false, cond, List, Option, Some, IfSome}
+use Rattle.std.specs.Option.{option_map}
+use Rattle.std.specs.FinMap.{get}
+use Rattle.office_tables_shelf.specs.Cells.{Cell}
+use Rattle.office_tables_shelf.specs.Content.{Content, is_of, rows_at}
+use Rattle.office_tables_shelf.specs.declared.rows.Table.{Table}
+use Rattle.office_tables_shelf.specs.declared.rows.Table.TheVariants as table
+
+-- ---- the rows of a list: those of an intersection, or all where a table is not parted by intersections
+
+abbrev pub is_parted : Table → Bool
+is_parted table.Intersection = false
+is_parted table.Timing = true
+is_parted table.Draft = true
+is_parted table.Inspection = true
+is_parted table.WorkOrder = true
+is_parted table.Part = false
+is_parted table.Delivery = false
+is_parted table.UsedPart = true
+
+abbrev pub is_among : Table → ℕ → List Cell → Bool
+is_among t id = cond (is_parted t) (is_of id) (λ _. true)
+
+-- ---- records, by the cells of their keys, their other cells and their limits
+
+-- nothing within its limits has these cells
+abbrev pub IsNoRow : {X : Type 0} → (X → Type 0) → (key_of columns_of : X → List Cell) → (key columns : List Cell) → Type 0
+IsNoRow {X} is_within key_of columns_of key columns = (x : X) → is_within x → key ≡ key_of x → columns ≢ columns_of x
+
+-- what is stored under the key is the row that is found, if one is
+pub record ReadsRow {X : Type 0} (t : Table) (key_of columns_of : X → List Cell) (tables : Content) (key : List Cell) (found : Option X) : Type 0 where
+  pub stored : get (rows_at tables t) key ≡ option_map columns_of found
+  pub keyed : IfSome found (λ x. key_of x ≡ key)
+
+-- what stands under the key is nothing within its limits
+pub record HasDamagedUnder {X : Type 0} (t : Table) (is_within : X → Type 0) (key_of columns_of : X → List Cell) (tables : Content) (key : List Cell) : Type 0 where
+  pub columns : List Cell
+  pub stored : get (rows_at tables t) key ≡ Some columns
+  pub no_row : IsNoRow is_within key_of columns_of key columns
+
+-- one of the rows of a list is nothing within its limits
+pub record HasDamagedRow {X : Type 0} (t : Table) (is_within : X → Type 0) (key_of : ℕ → X → List Cell) (columns_of : X → List Cell) (tables : Content) (id : ℕ) : Type 0 where
+  pub key : List Cell
+  pub columns : List Cell
+  pub of : is_among t id key ≡ true
+  pub stored : get (rows_at tables t) key ≡ Some columns
+  pub no_row : IsNoRow is_within (key_of id) columns_of key columns
