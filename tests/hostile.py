@@ -42,6 +42,7 @@ ON_FILES = (
     ["list"],
     ["stock"],
     ["orders"],
+    ["used"],
     ["cabinet", "12"],
     ["page", "12"],
 )
@@ -316,6 +317,7 @@ def little_memory(folder):
         ["list", "--db", path],
         ["stock", "--db", path],
         ["orders", "--db", path],
+        ["used", "--db", path],
         ["cabinet", "--db", path, "12"],
         ["page", "--db", path, "12"],
         ["page", "--file", long],
@@ -328,7 +330,7 @@ def little_memory(folder):
                 continue
             if status == 1 and err in refusals[: 1 + ("--db" in words)]:
                 told += 1
-            elif status in (0, 3, 4) and not err:
+            elif status in (0, 3, 4) and all(it.startswith(b"note: ") for it in err.splitlines()):
                 done += 1
             elif told or done:
                 other.append((limit, status, out[:40], err))

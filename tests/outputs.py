@@ -86,6 +86,8 @@ stock --db office.db
 stock --db office.db --csv
 orders --db office.db
 orders --db office.db 12
+used --db office.db
+used --db office.db --csv RELAY
 cabinet --db office.db 12
 overdue --db office.db 2027-03-02
 migrate --db office.db

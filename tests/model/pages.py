@@ -283,12 +283,21 @@ def order_cells(register, id, number, order):
                     word(isolated(order.text)), word(used)])
 
 
+def next_number(records):
+    """One more than the greatest number of some records, unless that is the last."""
+    greatest = max((number for number, _ in records), default=0)
+    return greatest + 1 if greatest < 999_999 else "none"
+
+
 def cabinet_part(register, id, interval):
-    """The cabinet: the due day, open orders, closed orders, inspections, the last number first."""
+    """The cabinet: the due day, the next free numbers, open orders, closed orders, inspections, the
+    last number first."""
     due, orders = register.due(id, interval), records_of(register.orders, id)
     said = (f"The next inspection is due on <strong>{due}</strong>." if due
             else "It was never inspected.")
     yield f"<p>{said} Days from one inspection to the next: {interval}.</p>\n"
+    seen = next_number(records_of(register.inspections, id))
+    yield f"<p>next free numbers: inspection {seen}, order {next_number(orders)}</p>\n"
     yield table("Open orders", ORDERS, [
         f"<tr>{order_cells(register, id, number, it)}</tr>\n"
         for number, it in reversed(orders) if not it.closed])

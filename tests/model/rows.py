@@ -29,27 +29,33 @@ def played(office, asked):
     return " ".join(answer(office, method, target, body.encode()))
 
 
+NOTED = {"phase": "phase {}", "seq": "sequence {} ring {}", "split": "split {} phase {}",
+         "pattern": "pattern {}"}
+
+
 def checked(text):
     """Each file of a plan that a row has the program verify, whether with reasons, and the lines
     that it prints where there is room for them."""
-    files, name, told, flags = {}, None, None, []
+    files, name, told, notes, flags = {}, None, None, [], []
     for line in [*text.split("\n"), "run"]:
         word, _, rest = line.partition(" ")
-        if word in ("run", "file") and told is not None:
-            yield files[name], "--explain" in flags, told
+        if word in ("run", "file", "holds") and told is not None:
+            yield files[name], "--explain" in flags, told + notes
         if word == "file":
             name, files[rest], told = rest, "", None
-        elif word == "|":
+        elif word == "holds":
+            name, told = None, None
+        elif word == "|" and name is not None:
             files[name] += rest + "\n"
         elif word == "run":
             command, *flags = rest.split(" ")
             name = flags.pop() if flags else None
             is_read = command == "verify-file" and name in files and "--padded" not in flags
-            told = [] if is_read else None
+            told, notes = [] if is_read else None, []
         elif word == "room":
             told = None
         elif word in ("out", "err") and told is not None:
-            told.append(rest)
+            (notes if rest.startswith("note: ") else told).append(rest)
 
 
 def verified(text, explain):
@@ -62,8 +68,22 @@ def verified(text, explain):
         return [f"fault: record {it.more['record']}: {it.more['fault']}{field}"]
     made = plan.apply({}, changes)
     if explain:
-        return reasons.explained(made) or ["no violations"]
-    return [f"{it['subject']} {it['rule']}" for it in rules.violations(made)] or ["no violations"]
+        found = reasons.explained(made)
+    else:
+        found = [f"{it['subject']} {it['rule']}" for it in rules.violations(made)]
+    return (found or ["no violations"]) + noted(changes)
+
+
+def noted(changes):
+    """The notes on the records that put or remove a key again, each after the latest before it."""
+    last, notes = {}, []
+    for number, (key, row) in enumerate(changes, 1):
+        if key in last:
+            deed, words = "removes" if row is None else "puts", NOTED[plan.ORDER[key[0]]]
+            notes.append(f"note: record {number} {deed} {words.format(*key[1:])} again, "
+                         f"after record {last[key]}")
+        last[key] = number
+    return notes
 
 
 def asked_of(words):
@@ -125,10 +145,12 @@ def drawn_at(text):
     offices, files, name, base = {}, {}, None, None
     for number, line in enumerate(text.split("\n")):
         word, _, rest = line.partition(" ")
-        if word == "file":
-            name, files[rest] = rest, ""
+        if word in ("file", "holds"):
+            name = rest
+            if word == "file":
+                files[rest] = ""
         elif word == "|":
-            files[name] += rest + "\n"
+            files[name] = files.get(name, "") + rest + "\n"
         elif word == ">":
             played(offices.setdefault(base, Office()), rest)
         elif word == "run":

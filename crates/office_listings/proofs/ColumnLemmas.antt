@@ -39,6 +39,12 @@ pub three_parts : {A E : Type 0} (result : Result A E) (old first second third o
 three_parts (Ok x) old first second third one two new a b c = rw (c, b, a) (simp append_assoc)
 three_parts (Err e) old first second third one two new a b c = tt
 
+-- and four
+pub four_parts : {A E : Type 0} (result : Result A E) (old first second third fourth one two three new : List ℕ) → one ≡ old ++ first → two ≡ one ++ second
+    → three ≡ two ++ third → OnOk result (new ≡ three ++ fourth) → OnOk result (new ≡ old ++ (first ++ second ++ third ++ fourth))
+four_parts (Ok x) old first second third fourth one two three new a b c d = rw (d, c, b, a) (simp append_assoc)
+four_parts (Err e) old first second third fourth one two three new a b c d = tt
+
 -- what a call that may fail has written where it did not
 pub where_ok : {A E : Type 0} (result : Result A E) (old more new : List ℕ) → new ≡ (if is_ok result then old ++ more else old) → OnOk result (new ≡ old ++ more)
 where_ok (Ok x) old more new is = is

@@ -10,6 +10,7 @@ use Rattle.cabinet_core.specs.declared.record.Order.{Order}
 use Rattle.cabinet_core.specs.declared.record.UsedLine.{UsedLine}
 use Rattle.office_files.specs.Records.{is_line_of}
 use Rattle.office_listings.specs.Columns.{last_column, left_aligned, number_in}
+use Rattle.office_listings.specs.Next.{next_numbers_words}
 
 -- the two lines at the top
 abbrev pub cabinet_title : ℕ → List ℕ → ℕ → List ℕ
@@ -73,7 +74,12 @@ abbrev pub cabinet_records : CabinetView → List ℕ
 cabinet_records view =
     inspections_section view.inspections ++ orders_section view.lines view.orders ++ cabinet_count view
 
+-- the line of the next free numbers
+abbrev pub next_numbers_line : CabinetView → List ℕ
+next_numbers_line view = next_numbers_words view ++ codes "\n"
+
 -- the register of the cabinet of an intersection with this name, which is inspected at this interval
 abbrev pub cabinet_register : ℕ → List ℕ → ℕ → CabinetView → List ℕ
 cabinet_register id name interval view =
-    cabinet_title id name interval ++ due_line interval (latest_day view.inspections) ++ cabinet_records view
+    cabinet_title id name interval ++ due_line interval (latest_day view.inspections)
+    ++ next_numbers_line view ++ cabinet_records view

@@ -2,5 +2,7 @@ pub mod Columns
 pub mod Intersections
 pub mod Stock
 pub mod Orders
+pub mod Used
+pub mod Next
 pub mod Cabinet
 pub mod Overdue

@@ -9,11 +9,12 @@ ghost use Rattle.office_listings.specs.Cabinet.{inspection_line, used_line, clos
 ghost use Rattle.office_listings.specs.Cabinet.{closing_line, order_lines};
 ghost use Rattle.office_listings.specs.Cabinet.{inspections_section, orders_section};
 ghost use Rattle.office_listings.specs.Cabinet.{cabinet_count, cabinet_records};
-ghost use Rattle.office_listings.specs.Cabinet.{cabinet_register};
+ghost use Rattle.office_listings.specs.Cabinet.{cabinet_register, next_numbers_line};
 
 use crate::columns::{
     push_day, push_last, push_line_number, push_long_number, push_number, push_word,
 };
+use crate::next_numbers::push_next_numbers;
 use cabinet_core::{
     CabinetView, Closing, Day, Inspection, Order, UsedLine, due, latest, open_count, push_date,
 };
@@ -199,9 +200,19 @@ fn push_records(text: &mut String, view: &CabinetView) -> Result<(), AllocError>
     push_counts(text, view)
 }
 
+/// Appends the line of the next free numbers.
+fn push_next_line(text: &mut String, view: &CabinetView) -> Result<(), AllocError>
+    ensures { OnOk result (string_bytes text.new ≡
+        string_bytes text.old ++ next_numbers_line view.now) }
+{
+    push_next_numbers(text, view)?;
+    text.push_str("\n")
+}
+
 /// The register of a cabinet: the intersection's number and name, the days from one inspection to
-/// the next and the day on which the next is due, which follows the latest inspection, then the
-/// inspections, and the orders, each with its used parts and its closing, and how many there are.
+/// the next and the day on which the next is due, which follows the latest inspection, the next
+/// free numbers, then the inspections, and the orders, each with its used parts and its closing,
+/// and how many there are.
 pub fn cabinet_text(
     alloc: Global,
     name: &Words<120>,
@@ -215,6 +226,7 @@ pub fn cabinet_text(
     push_title(&mut text, cabinet.id, name, interval)?;
     let last = latest(cabinet.view.inspections.as_slice());
     push_due(&mut text, interval, last)?;
+    push_next_line(&mut text, &cabinet.view)?;
     push_records(&mut text, &cabinet.view)?;
     Ok(text.into_bytes())
 }

@@ -31,7 +31,7 @@ pub fn remove_others(rt: &HostRuntime, kept: &[String]) -> Result<(), Trouble> {
             continue;
         }
         if fs::remove_file(rt, name.as_str()).is_err() {
-            fs::remove_dir(rt, name.as_str())?;
+            fs::remove_dir_all(rt, name.as_str())?;
         }
     }
     Ok(())
@@ -53,6 +53,15 @@ pub fn make_folder(rt: &HostRuntime, name: &str) -> Result<(), Trouble> {
 pub fn lacks_file(rt: &HostRuntime, line: usize, name: &str) -> Result<(), Trouble> {
     if fs::read(rt, name).is_ok() {
         return Err(Trouble::differs(rt.alloc(), line, b"no such file", name.as_bytes()));
+    }
+    Ok(())
+}
+
+/// Tells where a file does not hold this text.
+pub fn holds_file(rt: &HostRuntime, line: usize, name: &str, text: &str) -> Result<(), Trouble> {
+    let held = fs::read(rt, name)?;
+    if held.as_slice() != text.as_bytes() {
+        return Err(Trouble::differs(rt.alloc(), line, text.as_bytes(), &held));
     }
     Ok(())
 }

@@ -15,6 +15,13 @@ struct Line<'a> {
     rest: &'a str,
 }
 
+/// Appends a line of a file to its text.
+fn push_line(text: &mut String, line: &str) -> Result<(), Trouble> {
+    text.push_str(line)?;
+    text.push('\n')?;
+    Ok(())
+}
+
 impl<'a> Line<'a> {
     /// It says nothing that a row can say.
     fn unread(self) -> Trouble {
@@ -121,12 +128,11 @@ impl<'a> Line<'a> {
 
     /// A line of a file.
     fn write(self, row: &mut Row<'a>) -> Result<(), Trouble> {
-        let Some(Act::File { text, .. }) = row.last_act() else {
-            return Err(self.unread());
-        };
-        text.push_str(self.rest)?;
-        text.push('\n')?;
-        Ok(())
+        match row.last_act() {
+            Some(Act::File { text, .. }) => push_line(text, self.rest),
+            Some(Act::Holds { text, .. }) => push_line(text, self.rest),
+            _ => Err(self.unread()),
+        }
     }
 
     /// So many committed rows and so many draft rows were written.
@@ -151,6 +157,10 @@ impl<'a> Line<'a> {
             },
             "folder" => Act::Folder(rest),
             "lacks" => Act::Lacks(rest),
+            "holds" => Act::Holds {
+                name: rest,
+                text: String::new(self.alloc),
+            },
             "alter" => {
                 let (name, sql) = rest.split_once(" sql ")?;
                 Act::Alter { name, sql }

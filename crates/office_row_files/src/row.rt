@@ -99,6 +99,8 @@ pub enum Act<'a> {
     Alter { name: &'a str, sql: &'a str },
     /// There is no such file.
     Lacks(&'a str),
+    /// There is such a file, with this text.
+    Holds { name: &'a str, text: String },
 }
 
 /// An act, and the line of the row where it begins.

@@ -2,7 +2,7 @@
 
 use office_row_files::comparing::{compare, compare_statuses};
 use office_row_files::ends::{Cut, Feed, Keep};
-use office_row_files::folder::{lacks_file, make_folder, write_file};
+use office_row_files::folder::{holds_file, lacks_file, make_folder, write_file};
 use office_row_files::row::{Act, Row, Step, Talk};
 use office_row_files::trouble::Trouble;
 use office_row_files::wording::program_words;
@@ -60,6 +60,7 @@ fn play_step(rt: &HostRuntime, step: &Step<'_>, cut: Cut) -> Result<(), Trouble>
         Act::Folder(name) => make_folder(rt, name),
         Act::Alter { name, sql } => alter_file(rt, line, name, sql),
         Act::Lacks(name) => lacks_file(rt, line, name),
+        Act::Holds { name, text } => holds_file(rt, line, name, text.as_str()),
         _ => Err(Trouble::differs(
             rt.alloc(),
             line,

@@ -12,3 +12,4 @@ pub mod SheetLemmas
 pub mod ShownLemmas
 pub mod StopLemmas
 pub mod UnknownLemmas
+pub mod UsedLemmas

@@ -9,6 +9,7 @@ pub mod Fault
 pub mod Importing
 pub mod Intersection
 pub mod Listing
+pub mod Using
 pub mod Overdue
 pub mod Paging
 pub mod Plan

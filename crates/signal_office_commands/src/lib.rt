@@ -26,6 +26,7 @@ mod showing;
 mod standing;
 mod stock;
 mod telling;
+mod used;
 
 pub use abandoning::abandon_draft;
 pub use adding::{Entered, add_intersection};
@@ -48,3 +49,4 @@ pub use showing::{cabinet_in, draft_in, state_in, timing_in};
 pub use signal_office_faults::Fault;
 pub use stock::stock_of;
 pub use telling::report;
+pub use used::used_of;

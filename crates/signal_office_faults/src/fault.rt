@@ -28,6 +28,8 @@ pub enum Fault {
     Bind,
     /// The CSV file can't be read, or the file of an office is not there and is not to be made.
     File,
+    /// Something stands where a copy of an office is to be put, or beside it.
+    Exists,
     /// The office has no such intersection.
     UnknownIntersection,
     /// The plan has no such pattern.
@@ -38,10 +40,14 @@ pub enum Fault {
     Clerk,
     /// The word is no intersection's name: 1 to 120 bytes without control characters.
     Name,
+    /// The word is no part's code: 1 to 20 of the bytes `A` to `Z`, `0` to `9` and `-`.
+    Part,
     /// The office refused a command.
     Refused(Refusal),
     /// The office refused a record of the CSV file, counted from 1.
     Record { at: usize, refusal: Refusal },
+    /// A record of the CSV file, counted from 1, has a later day than an import takes.
+    Late { at: usize },
     /// A record of the CSV file spells nothing; where two are compared, of the first.
     Csv(CsvFault),
     /// A record of the second of two CSV files spells nothing.

@@ -1,3 +1,4 @@
+mod CopyingLemmas
 pub mod FilesLemmas
 mod LeftLemmas
 mod MigratingLemmas

@@ -1,5 +1,5 @@
 -- What the two files of an office hold, as they read now and after a stop.
-use Rattle.std.specs.Prelude.{◌≡◌, ◌⊎◌, IsTrue}
+use Rattle.std.specs.Prelude.{◌≡◌, ◌⊎◌, ℕ, List, [], IsTrue}
 use Rattle.sqlite.specs.Closing.{HoldsAlone}
 use Rattle.sqlite.specs.Files.{HoldsDatabase, AreFoundIn, image_of}
 use Rattle.sqlite.specs.Recovery.{Image}
@@ -34,6 +34,13 @@ pub record HoldIn (image : Image) (tables : Content) : Type 0 where
 -- whatever an open finds in the files stands for the office
 abbrev pub StandInFiles : Image → Office → Type 0
 StandInFiles image office = (tables : Content) → HoldIn image tables → StandForSound tables office
+
+-- A file of these bytes, with no log beside it, holds the office's tables, with today's version.
+pub record HoldAlone (bytes : List ℕ) (tables : Content) : Type 0 where
+  pub trees : Trees
+  pub holds : ∥ HoldsDatabase (record { log = []; db = bytes }) trees ∥₁
+  pub today : AreToday trees
+  pub content : content_of trees ≡ tables
 
 module _ {D : Type 0} (g : Disk D) (files : Files D) where
   -- no sync of either has failed

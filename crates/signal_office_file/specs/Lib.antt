@@ -4,3 +4,4 @@ pub mod Left
 pub mod Serving
 pub mod Migrating
 pub mod InFile
+pub mod Copying

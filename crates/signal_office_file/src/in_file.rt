@@ -12,6 +12,7 @@ ghost use Rattle.signal_office_file.specs.Left.{IsCleanFile};
 ghost use Rattle.signal_office_file.specs.Serving.{IsCutShortIn};
 
 use crate::closing::close_office;
+use crate::copying::copied_at;
 use crate::left::FileLeft;
 use crate::migrating::migrate_file;
 use crate::opening::open_file;
@@ -210,7 +211,7 @@ fn of_system<T>(ended: Ended<T, FileLeft<FileFrom<Wary>>>) -> Ended<T, SystemFil
 pub struct TablesInFile;
 
 impl OfficeInFile for TablesInFile {
-    ghost use Rattle.signal_office_file.specs.Files.{HoldIn};
+    ghost use Rattle.signal_office_file.specs.Files.{HoldAlone, HoldIn};
     ghost use Rattle.signal_office_file.specs.InFile.{IsKept, LeavesTables};
 
     type Left = SystemFile;
@@ -226,6 +227,8 @@ impl OfficeInFile for TablesInFile {
     ghost leaves = { λ file says. LeavesTables file.left says };
 
     ghost migrated = { λ file rows. IsMigratedAt (image_at ⟦<Wary as Start>⟧) file.left rows };
+
+    ghost alone = { HoldAlone };
 
     fn do_task<Done: Drop, T: OfficeTask<Done>, W: Sink>(
         rt: &HostRuntime,
@@ -254,5 +257,14 @@ impl OfficeInFile for TablesInFile {
         path: &str,
     ) -> Ended<Result<u128, Fault>, SystemFile> {
         of_system(migrated_at::<Wary>(rt, alloc, path))
+    }
+
+    fn copy<W: Sink>(
+        rt: &HostRuntime,
+        alloc: Global,
+        path: &str,
+        out: &mut W,
+    ) -> Ended<Result<(), Fault>, SystemFile> {
+        of_system(copied_at::<Wary, W>(rt, alloc, path, out))
     }
 }

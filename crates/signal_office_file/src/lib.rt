@@ -3,6 +3,7 @@
 #![tactic(auto)]
 
 mod closing;
+mod copying;
 mod fault;
 mod in_file;
 mod left;
@@ -13,6 +14,7 @@ mod serving;
 mod streaming;
 
 pub use closing::close_office;
+pub use copying::copied_in;
 pub use in_file::{SystemFile, TablesInFile, answered_in, done_in};
 pub use left::{FileLeft, Refused};
 pub use migrating::migrate_file;

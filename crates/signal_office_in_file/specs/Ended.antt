@@ -1,8 +1,10 @@
 -- How work over the tables of a file ended, and what it did.
-use Rattle.std.specs.Prelude.{◌≡◌, ◌⊎◌, ℕ, List, Result, Ok, Err}
+use Rattle.std.specs.Prelude.{◌≡◌, ◌⊎◌, ℕ, List, Result, Ok, Err, ⊤}
+use Rattle.std.specs.Io.KnownBytes.{Appends}
 use Rattle.office_desk.specs.StandFor.{StandForSound}
 use Rattle.office_http.specs.Laws.{KeepsLaws}
 use Rattle.office_http.specs.Protocol.{office_protocol}
+use Rattle.office_http_framing.specs.Ends.{FailsOrGivesNone, Told}
 use Rattle.office_http_framing.specs.Front.{PlainRequest}
 use Rattle.office_http_framing.specs.Serve.{Did, Ends}
 use Rattle.office_http_framing.specs.declared.engine.Served.{Served}
@@ -68,6 +70,24 @@ ServesStoredOffice limit start end old outcome new = (before : Office) → Stand
 abbrev pub stream_work : ℕ → Ends → Ends → (untouched : Type 0) → Work (Result Served ServeFault)
 stream_work limit start end untouched =
     record { does = ServesStoredOffice limit start end; stops = AnswersToAStop limit start end; untouched = untouched }
+
+-- why bytes were not copied: the disk failed, or memory was refused, or the output failed
+abbrev pub IsUncopied : (start end : Told) → Fault → Type 0
+IsUncopied start end why =
+    (why ≡ fault.Store) ⊎ (((why ≡ fault.Memory) × (end ≡ start)) ⊎ ((why ≡ fault.Write) × FailsOrGivesNone start.counts end.counts))
+
+-- These bytes were copied, and stand for the tables; or they were not.
+abbrev pub IsCopyOf : (Alone : List ℕ → Content → Type 0) → (start end : Told) → Content → Result ⊤ Fault → Type 0
+IsCopyOf Alone start end tables (Ok done) = (bytes : List ℕ) × Appends start.bytes end.bytes bytes × Alone bytes tables
+IsCopyOf Alone start end tables (Err why) = IsUncopied start end why
+
+-- a copy of a file, whose tables stay as they were, also after a stop
+abbrev pub copy_work : (Alone : List ℕ → Content → Type 0) → (start end : Told) → Work (Result ⊤ Fault)
+copy_work Alone start end = record {
+  does = λ old done new. (new ≡ old) × IsCopyOf Alone start end old done;
+  stops = λ old leaves. leaves (λ found. found ≡ old);
+  untouched = end ≡ start;
+}
 
 -- A migration was made, and its rows are those that were counted; or it was refused, and the tables are as they were. Nothing is counted that was not closed.
 abbrev pub IsCounted : {Left : Type 0} → (is_clean : Left → Type 0) → (migrated : Left → ℕ → Type 0) → (refused : Left → Fault → Type 0) → Ended (Result ℕ Fault) Left → Type 0

@@ -76,12 +76,12 @@ pub trait OfficeTask<Done> {
 
 /// How the office of a file is opened, used and closed again. The jobs know no database.
 pub trait OfficeInFile {
-    ghost use Rattle.std.specs.Prelude.{◌≡◌, ℕ};
+    ghost use Rattle.std.specs.Prelude.{◌≡◌, ℕ, List};
     ghost use Rattle.office_http_framing.specs.Serve.{ends_of};
     ghost use Rattle.office_tables_shelf.specs.Content.{Content};
     ghost use Rattle.signal_office_faults.specs.declared.fault.Fault.{Fault};
     ghost use Rattle.signal_office_in_file.specs.Ended.{EndsOver, IsBegun, IsCounted, file_view};
-    ghost use Rattle.signal_office_in_file.specs.Ended.{stream_work, task_work};
+    ghost use Rattle.signal_office_in_file.specs.Ended.{copy_work, stream_work, task_work};
 
     /// What is left of the file.
     type Left: Drop;
@@ -103,6 +103,9 @@ pub trait OfficeInFile {
 
     // It is closed, and holds what became of its tables: so many rows were written anew.
     ghost migrated: { Self.Left → ℕ → Type 0 };
+
+    // A file of these bytes, with no log beside it, holds these tables, as an opening finds them.
+    ghost alone: { List ℕ → Content → Type 0 };
 
     /// Does a task over the tables of a file, which are made where there are none.
     fn do_task<Done: Drop, T: OfficeTask<Done>, W: Sink>(
@@ -139,4 +142,14 @@ pub trait OfficeInFile {
         path: &str,
     ) -> Ended<Result<u128, Fault>, Self::Left>
         ensures { IsCounted is_clean migrated refused result };
+
+    /// Copies the log of a file into it, and then the file's bytes into the output.
+    fn copy<W: Sink>(
+        rt: &HostRuntime,
+        alloc: Global,
+        path: &str,
+        out: &mut W,
+    ) -> Ended<Result<(), Fault>, Self::Left>
+        ensures { EndsOver (file_view held is_clean keeps refused leaves)
+            (copy_work alone (W.told out.old) (W.told out.new)) result };
 }

@@ -1,3 +1,4 @@
+pub mod FillLemmas
 pub mod MemoryLemmas
 pub mod PrintingLemmas
 mod RevisedLemmas

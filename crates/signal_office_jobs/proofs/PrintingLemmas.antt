@@ -1,13 +1,17 @@
 -- What is printed, from what came of words, of files of the system, and of the file of an office.
-use Rattle.std.proofs.Common.{◌≡◌, ℕ, Bool, List, Option, Ok, Err, inl, ap, refl, subst}
+use Rattle.std.proofs.Common.{◌≡◌, ℕ, List, Option, Some, None, Ok, Err, ap, refl, subst, sym}
+use Rattle.clap.specs.Walk.{Text}
 use Rattle.std.specs.Prelude.{IsErrAnd, Result}
 use Rattle.office_http_framing.specs.Ends.{Told}
+use Rattle.office_http_framing.specs.Serve.{Ends}
 use Rattle.office_tables_shelf.specs.Content.{Content}
 use Rattle.signal_office_faults.specs.declared.fault.Fault.{Fault}
 use Rattle.signal_office_in_file.specs.Ended.{EndsOver, FileView, IsBegun, task_work}
 use Rattle.signal_office_in_file.specs.declared.Ended.{Ended}
 use Rattle.signal_office_in_file.specs.declared.Ended.TheVariants.{Unopened, Refused, Closed, Unclosed}
-use Rattle.signal_office_jobs.specs.Printing.{Output, ReadingAnyCsv, ReadingCsv, TellsNothing, file_text, text_in_any}
+use Rattle.signal_office_jobs.specs.Printing.{IsPartRead, TellsNothing}
+use Rattle.signal_office_jobs.specs.Reading.{Course, ReadingAnyPlan}
+use Rattle.signal_office_line.specs.declared.job.CsvFile.{CsvFile}
 
 -- where nothing was done, that is also what follows from it
 pub ends_quietly : {Left T : Type 0} (view : FileView Left) (does : Content → T → Content → Type 0) (leaves : Content → Content → Type 0) (untouched quiet : Type 0)
@@ -29,11 +33,18 @@ pub fails : (why : Fault) (start : Told) (result : Result ℕ Fault) → IsErrAn
 fails why start (Ok status) is = absurd is
 fails why start (Err it) is = (refl, ap Err is)
 
--- what is done with the text of a CSV file that was read
-pub read_so : (padded : Bool) (next : List ℕ → Output) (text : List ℕ) (start end : Told) (result : Result ℕ Fault)
-    → (bytes : List ℕ) × (text ≡ file_text padded bytes) → next text start end result → ReadingCsv padded next start end result
-read_so padded next text start end result found did = inl (found.0, subst (λ (t : List ℕ). next t start end result) found.1 did)
+-- a fault that is handed on
+pub handed : (why : Fault) (result : Result ℕ Fault) → IsErrAnd result (λ it. it ≡ why) → result ≡ Err why
+handed why (Ok status) is = absurd is
+handed why (Err it) is = ap Err is
 
-pub read_any_so : (padded : Option Bool) (next : List ℕ → Output) (text : List ℕ) (start end : Told) (result : Result ℕ Fault)
-    → (bytes : List ℕ) × (text ≡ text_in_any padded bytes) → next text start end result → ReadingAnyCsv padded next start end result
-read_any_so padded next text start end result found did = inl (found.0, subst (λ (t : List ℕ). next t start end result) found.1 did)
+-- a file that may be left out is known by its variant
+pub any_plan_so : (file is : Option (CsvFile Text)) (next : List ℕ → Course) (start end : Ends) (err said : Told) (result : Result ℕ Fault)
+    → file ≡ is → ReadingAnyPlan is next start end err said result → ReadingAnyPlan file next start end err said result
+any_plan_so file is next start end err said result same it =
+    subst (λ (f : Option (CsvFile Text)). ReadingAnyPlan f next start end err said result) (sym same) it
+
+-- the part whose code was read is the one that was named
+pub part_is : (word part : Option (List ℕ)) → IsPartRead word (Ok part) → part ≡ word
+part_is None part read = read
+part_is (Some code) part read = read.1

@@ -1,15 +1,11 @@
--- An edit that was made and is not told, a comparison that was not made, and a file that may be padded.
-use Rattle.std.proofs.Common.{◌≡◌, ◌≢◌, ℕ, Bool, true, List, Option, Some, None, Ok, Err, refl, subst, sym}
-use Rattle.clap.specs.Walk.{Text}
-use Rattle.std.specs.Borrow.{Bor}
-use Rattle.std.specs.Prelude.{IsErrAnd, Result, option_map}
+-- An edit that was made and is not told, and a comparison that was not made.
+use Rattle.std.proofs.Common.{◌≡◌, ◌≢◌, ℕ, Bool, true, List, Ok, Err, subst, sym}
+use Rattle.std.specs.Prelude.{IsErrAnd, Result}
 use Rattle.office_tables_shelf.specs.Content.{Content}
 use Rattle.signal_office_commands.specs.{Comparing.ComparesNoRunning, Showing.ShowsDraft}
 use Rattle.signal_office_commands.specs.declared.revising.{Outcome.TheVariants.Open, Revised.Revised}
 use Rattle.signal_office_faults.specs.declared.fault.Fault.{Fault}
 use Rattle.signal_office_faults.specs.declared.fault.Fault.TheVariants as told
-use Rattle.signal_office_line.specs.Job.{file_asked}
-use Rattle.signal_office_line.specs.declared.job.CsvFile.{CsvFile}
 use Rattle.signal_office_jobs.specs.Tasks.{ComparesWith, TellsEdit}
 use Rattle.signal_office_jobs.specs.declared.done.Done.{Done}
 
@@ -26,8 +22,3 @@ pub not_compared : (id : ℕ) (plan : List ℕ) (csv : Bool) (old : Content) (re
 not_compared id plan csv old (Ok done) fault is none = absurd is
 not_compared id plan csv old (Err why) fault is none =
     subst (λ (w : Fault). ComparesWith id plan csv old (Err w)) (sym is) (λ other. none)
-
--- whether a file is padded is the same of its words and of their texts
-pub padded_asked : (csv : Option (CsvFile (Bor Text))) → option_map (λ (c : CsvFile (Bor Text)). c.padded) csv ≡ option_map (λ (c : CsvFile Text). c.padded) (option_map file_asked csv)
-padded_asked None = refl
-padded_asked (Some csv) = refl

@@ -1,6 +1,6 @@
 -- What a run does, from what was found in its words.
 use Rattle.std.proofs.Common.{◌≡◌, ℕ, List, [], Ok, Err, Some, true, subst, sym}
-use Rattle.std.specs.Prelude.{IfErr, IfOk, Result, is_some}
+use Rattle.std.specs.Prelude.{IfErr, IfOk, Option, Result, is_some}
 use Rattle.std.specs.Borrow.{Bor}
 use Rattle.clap.specs.Simple.{subcommand_of}
 use Rattle.clap.specs.Takes.{takes}
@@ -8,7 +8,8 @@ use Rattle.clap.specs.Walk.{Text}
 use Rattle.office_http_framing.specs.Ends.{Told}
 use Rattle.office_http_framing.specs.Serve.{Ends}
 use Rattle.signal_office_faults.specs.declared.fault.Fault.{Fault}
-use Rattle.signal_office_jobs.specs.Printed.{JobDoes, OfficeFiles, Printed}
+use Rattle.signal_office_in_file.specs.Ended.{FileView}
+use Rattle.signal_office_jobs.specs.Printed.{Batches, JobDoes, OfficeFiles, Printed}
 use Rattle.signal_office_jobs.specs.Runs.{IsFoundInWords, job_asked}
 use Rattle.signal_office_line.specs.CommandLine.{signal_app}
 use Rattle.signal_office_line.specs.Job.{Asked, asked, job_in}
@@ -18,13 +19,18 @@ use Rattle.signal_office_line.specs.declared.job.JobFault.{JobFault}
 use Rattle.signal_office_line.specs.declared.job.JobFault.TheVariants.{NoMemory}
 
 -- a job is known by its variant
-pub done_so : {Left : Type 0} (files : OfficeFiles Left) (job is : Asked) (start end : Ends) (result : Result ℕ Fault)
-    → job ≡ is → JobDoes files is start end result → JobDoes files job start end result
-done_so files job is start end result same it = subst (λ (x : Asked). JobDoes files x start end result) (sym same) it
+pub done_so : {Left : Type 0} (files : OfficeFiles Left) (job is : Asked) (start end : Ends) (err said : Told) (result : Result ℕ Fault)
+    → job ≡ is → JobDoes files is start end err said result → JobDoes files job start end err said result
+done_so files job is start end err said result same it = subst (λ (x : Asked). JobDoes files x start end err said result) (sym same) it
 
 pub printed_so : {Left : Type 0} (files : OfficeFiles Left) (job is : Asked) (start end : Told) (result : Result ℕ Fault)
     → job ≡ is → Printed files is start end result → Printed files job start end result
 printed_so files job is start end result same it = subst (λ (x : Asked). Printed files x start end result) (sym same) it
+
+-- and so is whether a file is given to answer requests over
+pub batched_so : {Left T : Type 0} (view : FileView Left) (db is : Option T) (start end : Ends) (result : Result ℕ Fault)
+    → db ≡ is → Batches view is start end result → Batches view db start end result
+batched_so {T = T} view db is start end result same it = subst (λ (x : Option T). Batches view x start end result) (sym same) it
 
 -- what is found is what the words ask for
 pub found_in : (words : List Text) (found : Result (Job (Bor Text)) JobFault) → IfOk found (λ job. clap_refusals words ≡ [])

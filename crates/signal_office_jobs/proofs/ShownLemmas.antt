@@ -57,6 +57,13 @@ module _ {S : Type 0} (g : Ghosts S) (law : (shelf : S) → g.is_honest shelf �
   shown_so (Err why) items it is same told none = λ h.
       subst (λ (x : Shown). IsShown x (g.content old) (Err why)) (sym same) (none h)
 
+  -- what is known by no variant
+  pub told_so : {A : Type 0} (r : Result A Fault) (items : A → List ℕ) (says : Content → Result (List ℕ) Fault → Type 0)
+      → IfOk r (λ text. Tells (λ tables. says tables (Ok (items text)))) → IfErr r (λ why. Honest (λ tables. says tables (Err why)))
+      → Honest (λ tables. MatchResult r (λ text. says tables (Ok (items text))) (λ why. says tables (Err why)))
+  told_so (Ok text) items says told none = honest_tells g law old new (λ tables. says tables (Ok (items text))) told
+  told_so (Err why) items says told none = none
+
   -- a fault of which something is told where it is not that memory ran out
   pub not_memory : (why : Fault) (says : Content → Type 0) → (why ≢ fault.Memory → Tells says) → why ≢ fault.Memory → Honest says
   not_memory why says told not = honest_tells g law old new says (told not)

@@ -1,7 +1,11 @@
 pub mod Done
+pub mod Filed
+pub mod Filled
 pub mod Memory
+pub mod Backup
 pub mod Printed
 pub mod Printing
+pub mod Reading
 pub mod Runs
 pub mod Serving
 pub mod Shown

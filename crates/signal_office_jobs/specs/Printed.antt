@@ -1,5 +1,5 @@
 -- What each job prints, the status or fault that comes of it, and what becomes of the office.
-use Rattle.std.specs.Prelude.{◌≡◌, ◌≢◌, ℕ, Bool, true, false, List, Option, Some, None, Result, Ok, Err, option_map, unwrap_or}
+use Rattle.std.specs.Prelude.{◌≡◌, ◌≢◌, ℕ, Bool, true, false, List, Option, Some, None, Result, Ok, Err, unwrap_or}
 use Rattle.office_desk.specs.StandFor.{StandForSound}
 use Rattle.office_files.specs.Changes.{changes_of}
 use Rattle.office_files.specs.declared.fault.CsvFault.{CsvFault}
@@ -24,9 +24,7 @@ use Rattle.signal_office_faults.specs.declared.fault.Fault.TheVariants as fault
 use Rattle.signal_office_in_file.specs.Ended.{EndsOver, FileView, file_view, stream_work, told_by}
 use Rattle.signal_office_in_file.specs.declared.Ended.{Ended}
 use Rattle.signal_office_line.specs.Job.{Asked}
-use Rattle.clap.specs.Walk.{Text}
 use Rattle.signal_office_commands.specs.declared.revising.EditMode.{EditMode}
-use Rattle.signal_office_line.specs.declared.job.CsvFile.{CsvFile}
 use Rattle.signal_office_line.specs.declared.job.Edit.{Edit}
 use Rattle.signal_office_line.specs.declared.job.Job.TheVariants as job
 use Rattle.signal_office_line.specs.declared.shows.PlanShown.{PlanShown}
@@ -34,25 +32,29 @@ use Rattle.signal_office_line.specs.declared.shows.PlanShown.TheVariants as plan
 use Rattle.signal_reasons.specs.Texts.{explained_text_of}
 use Rattle.signal_reasons.specs.declared.reason.Explained.{Explained}
 use Rattle.signal_rules.specs.declared.violation.Violation.{Violation}
+use Rattle.signal_office_jobs.specs.Backup.{BacksUpFile}
 use Rattle.signal_office_jobs.specs.Done.{checked_status, compared_status, compared_text, explained_status, status_of, text_of}
 use Rattle.signal_office_jobs.specs.Memory.{ServesInMemory, new_office}
-use Rattle.signal_office_jobs.specs.Printing.{InFoundFile, InNewFile, Made, MigratesFile, Naming, OnDay, Output, PrintsDone, ReadingAnyCsv, ReadingCsv, abandoning, adding, editing, importing, looking, serving}
+use Rattle.signal_office_jobs.specs.Printing.{InFoundFile, InNewFile, InTime, Made, MigratesFile, Naming, OfPart, OnDay, Output, PrintsDone, abandoning, adding, editing, importing, looking, serving}
+use Rattle.signal_office_jobs.specs.Reading.{Course, NamingFirst, OnAnyDayFirst, OnlyPrints, ReadingAnyPlan, ReadingCsv, ReadingPlan}
 use Rattle.signal_office_jobs.specs.Shown.{ShowsAs}
-use Rattle.signal_office_jobs.specs.Tasks.{ComparesAs, ComparesWith, ServesAs}
+use Rattle.signal_office_jobs.specs.Tasks.{ComparesAs, ComparesWith, FillsAs, TellsUsed, ServesAs}
 use Rattle.signal_office_jobs.specs.declared.done.Done.{Done}
 use Rattle.signal_office_line.specs.declared.shows.Shown.{Shown}
 use Rattle.signal_office_line.specs.declared.shows.Shown.TheVariants as shown
 
--- what is known of the files of offices, and of the migration of one
+-- what is known of the files of offices, of the migration of one, and of its copy
 pub record OfficeFiles (Left : Type 0) : Type 1 where
   pub view : FileView Left
   pub migrated : Left → ℕ → Type 0
+  pub alone : List ℕ → Content → Type 0
 
 abbrev pub office_files : {Left : Type 0} → (Content → Type 0) → (Left → Type 0) → (Left → Content → Type 0) → (Left → Fault → Type 0)
-    → (Left → (Content → Type 0) → Type 0) → (Left → ℕ → Type 0) → OfficeFiles Left
-office_files held is_clean keeps refused leaves migrated = record { view = file_view held is_clean keeps refused leaves; migrated = migrated }
+    → (Left → (Content → Type 0) → Type 0) → (Left → ℕ → Type 0) → (List ℕ → Content → Type 0) → OfficeFiles Left
+office_files held is_clean keeps refused leaves migrated alone =
+    record { view = file_view held is_clean keeps refused leaves; migrated = migrated; alone = alone }
 
--- what a run does from the start of its input and output to their ends, and the status or the fault that comes of it
+-- what becomes of a stream from the start of its input and output to their ends, and the status or the fault that comes of it
 abbrev pub Exchange : Type 1
 Exchange = Ends → Ends → Result ℕ Fault → Type 0
 
@@ -83,6 +85,11 @@ abbrev pub BatchOver : {Left : Type 0} → FileView Left → Exchange
 BatchOver {Left} view start end result =
     (ended : Ended (Result Served ServeFault) Left) × EndsOver view (stream_work batch_limit start end (end ≡ start)) ended
     × (result ≡ status_over (told_by ended))
+
+-- the requests of a run, by the office of a file where one is given
+abbrev pub Batches : {Left T : Type 0} → FileView Left → (db : Option T) → Exchange
+Batches view None = BatchInMemory
+Batches view (Some db) = BatchOver view
 
 -- a port was served by a new office in memory
 abbrev pub ServesNew : (port count : ℕ) → Output
@@ -130,34 +137,39 @@ all_intersections = 9_999
 abbrev pub edit_mode : {T : Type 0} → Edit T → EditMode
 edit_mode edit = record { replace = edit.replace; commit = edit.commit }
 
--- WHAT IS PRINTED for each job; the answers of `batch` are said by `JobDoes`.
+-- WHAT IS PRINTED by each job that only prints
 abbrev pub Printed : {Left : Type 0} → OfficeFiles Left → Asked → Output
-Printed files (job.Batch db) start end result = ⊥
 Printed files (job.Serve port count None) start end result = ServesNew port count start end result
 Printed files (job.Serve port count (Some db)) start end result = InNewFile files.view (serving port count) start end result
 Printed files (job.Show db it) start end result = Shows files.view it start end result
+Printed files (job.ExportAll db dir) start end result = InFoundFile files.view (looking FillsAs) start end result
 Printed files (job.Overdue db first csv day) start end result =
     OnDay day (λ on. Shows files.view (shown.Overdue on (unwrap_or first all_intersections) csv)) start end result
+Printed files (job.Used db part csv) start end result =
+    OfPart part (λ of. InFoundFile files.view (looking (TellsUsed of csv))) start end result
 Printed files (job.Add db id interval name) start end result =
     Naming 120 name fault.Name (InNewFile files.view (adding id interval name)) start end result
 Printed files (job.Migrate db) start end result = MigratesFile files.view files.migrated start end result
-Printed files (job.Import db csv) start end result =
-    ReadingCsv csv.padded (λ records. InFoundFile files.view (importing records)) start end result
-Printed files (job.Edit e) start end result =
-    Naming 40 e.clerk fault.Clerk
-    (ReadingAnyCsv (option_map (λ (csv : CsvFile Text). csv.padded) e.csv) (λ plan. InFoundFile files.view
-    (editing plan e.id e.clerk (edit_mode e) e.explain))) start end result
+Printed files (job.Backup db to force) start end result = BacksUpFile files.view files.alone force start end result
 Printed files (job.Abandon db clerk id) start end result =
     Naming 40 clerk fault.Clerk (InFoundFile files.view (abandoning id clerk)) start end result
 Printed files (job.CompareDraft db id csv) start end result = InFoundFile files.view (looking (ComparesAs id csv)) start end result
-Printed files (job.CompareRunning db id plan csv) start end result =
-    ReadingCsv plan.padded (λ other. InFoundFile files.view (looking (ComparesWith id other csv))) start end result
-Printed files (job.CompareFiles first second csv) start end result =
-    ReadingCsv first.padded (λ plan. ReadingCsv second.padded (λ other. Made (Compares csv plan other))) start end result
-Printed files (job.ShowPlan csv it) start end result = ReadingCsv csv.padded (λ plan. Made (ShowsPlan it plan)) start end result
+Printed files _ start end result = ⊥
 
--- what each job does: the input is read by `batch` alone
-abbrev pub JobDoes : {Left : Type 0} → OfficeFiles Left → Asked → Exchange
-JobDoes files (job.Batch None) start end result = BatchInMemory start end result
-JobDoes files (job.Batch (Some db)) start end result = BatchOver files.view start end result
-JobDoes files other start end result = (end.source ≡ start.source) × Printed files other start.sink end.sink result
+-- WHAT EACH JOB DOES: `batch` answers the requests of its input; those with a CSV file read it first, from the input where its path is a dash, and say the notes
+-- on a plan; the others only print
+abbrev pub JobDoes : {Left : Type 0} → OfficeFiles Left → Asked → Course
+JobDoes files (job.Batch db) start end err said result = (said ≡ err) × Batches files.view db start end result
+JobDoes files (job.Import db csv until) start end err said result =
+    OnAnyDayFirst until (λ day. ReadingCsv csv (λ records. OnlyPrints (InTime day records
+    (InFoundFile files.view (importing records))))) start end err said result
+JobDoes files (job.Edit e) start end err said result =
+    NamingFirst 40 e.clerk fault.Clerk (ReadingAnyPlan e.csv (λ plan. OnlyPrints (InFoundFile files.view
+    (editing plan e.id e.clerk (edit_mode e) e.explain)))) start end err said result
+JobDoes files (job.CompareRunning db id plan csv) start end err said result =
+    ReadingPlan false plan (λ other. OnlyPrints (InFoundFile files.view (looking (ComparesWith id other csv)))) start end err said result
+JobDoes files (job.CompareFiles first second csv) start end err said result =
+    ReadingPlan false first (λ plan. ReadingPlan true second (λ other. OnlyPrints (Made (Compares csv plan other)))) start end err said result
+JobDoes files (job.ShowPlan csv it) start end err said result =
+    ReadingPlan false csv (λ plan. OnlyPrints (Made (ShowsPlan it plan))) start end err said result
+JobDoes files other start end err said result = OnlyPrints (Printed files other) start end err said result

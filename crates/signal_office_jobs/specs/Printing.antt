@@ -1,13 +1,13 @@
 -- What a command prints, as its outputs take it.
-use Rattle.std.specs.Prelude.{◌≡◌, ◌⊎◌, ℕ, Bool, true, false, List, [], Option, Some, None, ◌++◌, codes, decimal, Result, Ok, Err}
+use Rattle.std.specs.Prelude.{◌≡◌, ◌⊎◌, ℕ, Bool, true, false, List, Option, Some, None, ◌++◌, codes, decimal, Result, Ok, Err}
 use Rattle.std.specs.Io.KnownBytes.{Appends}
 use Rattle.cabinet_core.specs.Day.{SpellsDay}
+use Rattle.cabinet_core.specs.Part.{IsPartCode}
 use Rattle.office_http_framing.specs.Ends.{AppendsPart, FailsOrGivesNone, Told}
 use Rattle.office_tables_shelf.specs.Content.{Content}
-use Rattle.office_spreadsheets.specs.Padded.{unpadded_text}
+use Rattle.signal_office_checks.specs.Days.{AreInTime}
 use Rattle.signal_office_commands.specs.Stopping.{AfterAbandoning, AfterAdding, AfterImporting, AfterRevising}
 use Rattle.signal_office_commands.specs.declared.revising.EditMode.{EditMode}
-use Rattle.signal_office_faults.specs.Lines.{IsUnreadFile}
 use Rattle.signal_office_faults.specs.declared.fault.Fault.{Fault}
 use Rattle.signal_office_faults.specs.declared.fault.Fault.TheVariants as fault
 use Rattle.signal_office_in_file.specs.Ended.{EndsOver, FileView, IsBegun, IsCounted, task_work, told_by}
@@ -73,29 +73,32 @@ OnDay word next start end result =
     ((day : ℕ) × SpellsDay word day × next day start end result)
     ⊎ ((why : Fault) × IsDayRead word (Err why) × TellsNothing why start end result)
 
--- ---- files of the system
+-- the same of a word that may be left out
+abbrev pub IsAnyDayRead : (word : Option (List ℕ)) → Result (Option ℕ) Fault → Type 0
+IsAnyDayRead (Some word) (Ok (Some day)) = SpellsDay word day
+IsAnyDayRead (Some word) (Ok None) = ⊥
+IsAnyDayRead (Some word) (Err why) = IsDayRead word (Err why)
+IsAnyDayRead None result = result ≡ Ok None
 
--- A file of the system gave these bytes, and this is done with them; or it was not read.
-abbrev pub Reading : (List ℕ → Output) → Output
-Reading next start end result =
-    ((bytes : List ℕ) × next bytes start end result) ⊎ ((why : Fault) × IsUnreadFile why × TellsNothing why start end result)
+-- no record of the file is of a later day than one that is given, and this is done; or that is told
+abbrev pub InTime : (until : Option ℕ) → (csv : List ℕ) → Output → Output
+InTime until csv next start end result =
+    (AreInTime until csv (Ok tt) × next start end result)
+    ⊎ ((why : Fault) × AreInTime until csv (Err why) × TellsNothing why start end result)
 
--- the text of a CSV file: its bytes, or those of a file whose records are padded, without that
-abbrev pub file_text : (padded : Bool) → (bytes : List ℕ) → List ℕ
-file_text true bytes = unpadded_text bytes
-file_text false bytes = bytes
+-- the code of a part that a word is, where one is given; or it is none, and refused, or memory for it was
+abbrev pub IsPartRead : (word : Option (List ℕ)) → Result (Option (List ℕ)) Fault → Type 0
+IsPartRead None (Ok part) = part ≡ None
+IsPartRead None (Err why) = ⊥
+IsPartRead (Some word) (Ok part) = IsPartCode word × (part ≡ Some word)
+IsPartRead (Some word) (Err why) =
+    ((IsPartCode word → ⊥) × (why ≡ fault.Part)) ⊎ (IsPartCode word × (why ≡ fault.Memory))
 
--- the same of a file that may be left out, which has no record then
-abbrev pub text_in_any : (padded : Option Bool) → (bytes : List ℕ) → List ℕ
-text_in_any (Some padded) bytes = file_text padded bytes
-text_in_any None bytes = []
-
--- a CSV file was read, and this is done with its text; or it was not
-abbrev pub ReadingCsv : (padded : Bool) → (List ℕ → Output) → Output
-ReadingCsv padded next = Reading (λ bytes. next (file_text padded bytes))
-
-abbrev pub ReadingAnyCsv : (padded : Option Bool) → (List ℕ → Output) → Output
-ReadingAnyCsv padded next = Reading (λ bytes. next (text_in_any padded bytes))
+-- no part is named, or the code of one, and this is done for it; or what is named is no part, or not taken, and that is told
+abbrev pub OfPart : (word : Option (List ℕ)) → (Option (List ℕ) → Output) → Output
+OfPart word next start end result =
+    (IsPartRead word (Ok word) × next word start end result)
+    ⊎ ((why : Fault) × IsPartRead word (Err why) × TellsNothing why start end result)
 
 -- ---- the file of an office
 

@@ -53,7 +53,7 @@ ShowsRefusal error out ended err said result =
 
 -- What was found is done: the job, or the refusal is shown, or that memory ran out.
 abbrev pub DoesFound : {Left : Type 0} → OfficeFiles Left → Result Asked JobFault → (start end : Ends) → (err said : Told) → Result ℕ Fault → Type 0
-DoesFound files (Ok job) start end err said result = JobDoes files job start end result × (said ≡ err)
+DoesFound files (Ok job) start end err said result = JobDoes files job start end err said result
 DoesFound files (Err (Refused error)) start end err said result =
     (end.source ≡ start.source) × ShowsRefusal error start.sink end.sink err said result
 DoesFound files (Err NoMemory) start end err said result = (end ≡ start) × (said ≡ err) × (result ≡ Err fault.Memory)

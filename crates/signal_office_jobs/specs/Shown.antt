@@ -1,5 +1,5 @@
 -- What is shown of the tables of an office, and why it is not.
-use Rattle.std.specs.Prelude.{◌≡◌, ◌≢◌, ◌⊎◌, ℕ, true, false, List, Result, Ok, Err}
+use Rattle.std.specs.Prelude.{◌≡◌, ◌≢◌, ◌⊎◌, ℕ, Bool, true, false, List, Option, None, Result, Ok, Err}
 use Rattle.cabinet_core.specs.Stock.{stock_of}
 use Rattle.office_desk.specs.Damage.{MeetsDamage}
 use Rattle.office_desk.specs.StandFor.{StandForSound}
@@ -18,6 +18,7 @@ use Rattle.signal_office_commands.specs.Overdue.{IsOverdueCsvOf, IsReportOf, IsW
 use Rattle.signal_office_commands.specs.Paging.{IsPageOf}
 use Rattle.signal_office_commands.specs.Sheet.{IsSheetOf}
 use Rattle.signal_office_commands.specs.Showing.{ShowsTiming, ShowsDraft, ShowsCabinet}
+use Rattle.signal_office_commands.specs.Using.{used_of, used_written}
 use Rattle.signal_office_faults.specs.declared.fault.Fault.{Fault}
 use Rattle.signal_office_faults.specs.declared.fault.Fault.TheVariants as fault
 use Rattle.signal_office_line.specs.declared.shows.View.TheVariants as view
@@ -84,6 +85,11 @@ IsShown (shown.Diagram id pattern) tables result = OfTables (DrawsTiming tables 
 IsShown (shown.Page id) tables result =
     OfTables (λ text. OfOffice tables (λ office. IsPageOf office id text) × IsWholePage tables id text)
     (λ why. why ≢ fault.Memory → IsRefusedShowing tables id why) id tables result
+
+-- what was used of all parts, or of one, as a text or as CSV, or why it is not shown
+abbrev pub IsUsedShown : (part : Option (List ℕ)) → (csv : Bool) → Content → Result (List ℕ) Fault → Type 0
+IsUsedShown part csv tables result =
+    OfOne (λ office text. text ≡ used_written csv (used_of part office)) (MeetsOrdersDamage tables None) (λ office why. TellsOrders office None why) tables result
 
 -- what is shown is told with status 0, or why it is not
 abbrev pub ShowsAs : Shown → Content → Result Done Fault → Type 0

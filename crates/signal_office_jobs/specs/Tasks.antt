@@ -32,11 +32,13 @@ use Rattle.signal_office_commands.specs.declared.revising.Revised.{Revised}
 use Rattle.signal_office_faults.specs.declared.fault.Fault.{Fault}
 use Rattle.signal_office_faults.specs.declared.fault.Fault.TheVariants as fault
 use Rattle.signal_office_jobs.specs.Done.{TellsAs, compared_status, compared_text, edited_status, outcome_line, status_of, text_of}
+use Rattle.signal_office_folder.specs.Folder.{NamedText}
+use Rattle.signal_office_jobs.specs.Filled.{AreFilesOfAll, IsBeginning, IsUnfilled}
 use Rattle.signal_office_jobs.specs.Serving.{ServesPort}
-use Rattle.signal_office_jobs.specs.Shown.{ShowsAs}
+use Rattle.signal_office_jobs.specs.Shown.{IsUsedShown, ShowsAs}
 use Rattle.signal_office_jobs.specs.declared.done.Done.{Done}
 use Rattle.signal_office_jobs.specs.declared.task.Task.{Task}
-use Rattle.signal_office_jobs.specs.declared.task.Task.TheVariants.{Serve, Show, Add, Import, Edit, Abandon, Compare, CompareWith}
+use Rattle.signal_office_jobs.specs.declared.task.Task.TheVariants.{Serve, Show, Fill, Add, Import, Edit, Abandon, Compare, CompareWith, Used}
 
 -- a server and an intersection that is added begin a new office where there is none; whatever asks, changes a plan, or takes records
 -- of an office's cabinets, does not: a mistyped name is no office
@@ -76,6 +78,11 @@ entered_line entered.Same = codes "same\n"
 -- the line that tells how many records of an import were new, and how many were there
 abbrev pub imported_line : Imported → List ℕ
 imported_line imported = codes "added " ++ decimal imported.added ++ codes ", same " ++ decimal imported.same ++ codes "\n"
+
+-- what was used is told with status 0, or why it is not
+abbrev pub TellsUsed : (part : Option (List ℕ)) → (csv : Bool) → Content → Result Done Fault → Type 0
+TellsUsed part csv old (Ok done) = IsUsedShown part csv old (Ok (text_of done)) × (status_of done ≡ 0)
+TellsUsed part csv old (Err why) = IsUsedShown part csv old (Err why)
 
 -- one command was done, and the result tells what came of it
 abbrev pub AddsAs : (id interval : ℕ) → (name : List ℕ) → Content → Result Done Fault → Content → Type 0
@@ -121,10 +128,17 @@ ComparesWith id plan csv old (Ok done) = (found : List Difference) × ComparesRu
     × (text_of done ≡ compared_text csv found) × (status_of done ≡ compared_status found)
 ComparesWith id plan csv old (Err why) = why ≢ fault.Memory → ComparesNoRunning old id plan why
 
+-- a folder was filled, and nothing is told; or this is why not
+abbrev pub FillsAs : Content → Result Done Fault → Type 0
+FillsAs tables (Ok done) = (put : List NamedText) × AreFilesOfAll tables put × (text_of done ≡ []) × (status_of done ≡ 0)
+FillsAs tables (Err why) = (put : List NamedText) × IsBeginning tables put × (why ≡ fault.Damaged → put ≡ []) × IsUnfilled tables why
+
 -- What a task makes of the tables, what it gives, and what its output took. A task that only shows leaves both as they were.
 abbrev pub TaskDoes : Task → Content → Result Done Fault → Content → Told → Told → Type 0
 TaskDoes (Serve port count) old result new start end = ServesAs port count old result new start end
 TaskDoes (Show shown) old result new start end = (new ≡ old) × (end ≡ start) × ShowsAs shown old result
+TaskDoes (Fill dir) old result new start end = (new ≡ old) × (end ≡ start) × FillsAs old result
+TaskDoes (Used part csv) old result new start end = (new ≡ old) × (end ≡ start) × TellsUsed part.now csv old result
 TaskDoes (Add id interval name) old result new start end = AddsAs id interval name.now old result new × (end ≡ start)
 TaskDoes (Import csv) old result new start end = ImportsAs csv.now old result new × (end ≡ start)
 TaskDoes (Edit id clerk csv mode explain) old result new start end = EditsBy csv.now id clerk.now mode explain old result new × (end ≡ start)

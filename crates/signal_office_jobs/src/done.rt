@@ -2,6 +2,7 @@
 
 ghost use Rattle.std.specs.Prelude.{◌≡◌, ◌++◌, IfOk};
 ghost use Rattle.office_files.specs.Violations.{violations_text};
+ghost use Rattle.signal_office_jobs.specs.Backup.{copied_line};
 ghost use Rattle.signal_office_jobs.specs.Done.{TellsAs, checked_status, compared_status};
 ghost use Rattle.signal_office_jobs.specs.Done.{compared_text, edited_status, explained_status};
 ghost use Rattle.signal_office_jobs.specs.Done.{outcome_line, status_of, text_of};
@@ -188,6 +189,16 @@ pub(crate) fn migrated(alloc: Global, outcome: Result<u128, Fault>) -> Result<Do
 {
     match outcome {
         Ok(rows) => Done::migrating(alloc, rows),
+        Err(fault) => Err(fault),
+    }
+}
+
+/// Tells that an office was copied, or its fault.
+pub(crate) fn copied(alloc: Global, outcome: Result<(), Fault>) -> Result<Done, Fault>
+    ensures { TellsOutcome (λ _. copied_line) (λ _. 0) outcome result }
+{
+    match outcome {
+        Ok(()) => Done::telling(alloc, b"copied\n"),
         Err(fault) => Err(fault),
     }
 }

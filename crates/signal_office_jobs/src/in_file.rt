@@ -1,25 +1,32 @@
 //! Jobs over the office of a file.
 
-ghost use Rattle.std.specs.Prelude.{◌≡◌, Option, option_map, unwrap_or};
+ghost use Rattle.std.specs.Prelude.{◌≡◌, Option, Some, option_map, unwrap_or};
 ghost use Rattle.signal_office_in_file.specs.Ended.{file_view};
 ghost use Rattle.signal_office_faults.specs.declared.fault.Fault.TheVariants as fault;
 ghost use Rattle.signal_office_jobs.specs.Printed.{Shows, all_intersections};
 ghost use Rattle.signal_office_jobs.specs.Printing.{InFile, InFoundFile, InNewFile, IsDayRead};
-ghost use Rattle.signal_office_jobs.specs.Printing.{IsNameRead, MigratesFile, Naming, OnDay};
-ghost use Rattle.signal_office_jobs.specs.Printing.{ReadingAnyCsv, ReadingCsv, abandoning, adding};
-ghost use Rattle.signal_office_jobs.specs.Printing.{editing, effect_of, importing, looking};
+ghost use Rattle.signal_office_jobs.specs.Printing.{InTime, IsAnyDayRead, IsNameRead, IsPartRead};
+ghost use Rattle.signal_office_jobs.specs.Printing.{MigratesFile, Naming, OfPart, OnDay};
+ghost use Rattle.signal_office_jobs.specs.Printing.{abandoning, adding, editing};
+ghost use Rattle.signal_office_jobs.specs.Printing.{effect_of, importing, looking};
 ghost use Rattle.signal_office_jobs.specs.Printed.{edit_mode};
-ghost use Rattle.signal_office_jobs.specs.Tasks.{ComparesWith, makes_file};
+ghost use Rattle.signal_office_jobs.specs.Reading.{NamingFirst, OnAnyDayFirst, OnlyPrints};
+ghost use Rattle.signal_office_jobs.specs.Reading.{ReadingAnyPlan, ReadingCsv};
+ghost use Rattle.signal_office_jobs.specs.Tasks.{ComparesWith, TellsUsed, makes_file};
+ghost use Rattle.signal_office_line.specs.Job.{file_asked};
+ghost use Rattle.office_http_framing.specs.Ends.{Told};
+ghost use Rattle.office_http_framing.specs.Serve.{ends_of};
 
 use crate::done::{Done, joined, migrated, print_done};
-use crate::reading::{read_any_csv, read_csv};
 use crate::task::Task;
-use cabinet_core::{Day, read_day};
-use office_http::Sink;
+use cabinet_core::{Day, PartCode, read_day};
+use office_http::{Sink, Source};
+use signal_office_checks::check_days;
 use signal_office_commands::{EditMode, Fault};
 use signal_office_faults::is_missing;
 use signal_office_in_file::OfficeInFile;
 use signal_office_line::{CsvFile, Edit, Shown};
+use signal_office_reading::{read_csv, read_plan};
 use signal_records::{InterId, Interval, Words};
 use std::alloc::Global;
 
@@ -43,6 +50,19 @@ fn day_of(word: &str) -> Result<Day, Fault>
     match read_day(word.as_bytes()) {
         Some(day) => Ok(day),
         None => Err(Fault::Day),
+    }
+}
+
+/// The day of a word that may be left out.
+fn any_day_of(word: &Option<&str>) -> Result<Option<Day>, Fault>
+    ensures { IsAnyDayRead (option_map (λ word. word.now) word.now) result }
+{
+    match word {
+        Some(word) => match day_of(word) {
+            Ok(day) => Ok(Some(day)),
+            Err(fault) => Err(fault),
+        },
+        None => Ok(None),
     }
 }
 
@@ -107,6 +127,44 @@ pub(crate) fn overdue<F: OfficeInFile, W: Sink>(
     show_of::<F, W>(rt, alloc, path, Shown::Overdue { day, most, csv }, out)
 }
 
+/// The part that a word is the code of, if it is one.
+fn part_named(alloc: Global, word: &str) -> Result<Option<PartCode>, Fault>
+    ensures { IsPartRead (Some word.now) result }
+{
+    match PartCode::new(alloc, word.as_bytes())? {
+        Some(part) => Ok(Some(part)),
+        None => Err(Fault::Part),
+    }
+}
+
+/// The same of a word that may be left out, which names no part then.
+fn any_part(alloc: Global, word: &Option<&str>) -> Result<Option<PartCode>, Fault>
+    ensures { IsPartRead (option_map (λ word. word.now) word.now) result }
+{
+    match word {
+        Some(word) => part_named(alloc, word),
+        None => Ok(None),
+    }
+}
+
+/// Prints what was used of all parts, or of one, whose code is read before the file is opened.
+pub(crate) fn used<F: OfficeInFile, W: Sink>(
+    rt: &HostRuntime,
+    alloc: Global,
+    db: &str,
+    word: &Option<&str>,
+    csv: bool,
+    out: &mut W,
+) -> Result<u8, Fault>
+    ensures { let view = file_view F.held F.is_clean F.keeps F.refused F.leaves in
+        OfPart (option_map (λ word. word.now) word.now)
+        (λ part. InFoundFile view (looking (TellsUsed part csv)))
+        (W.told out.old) (W.told out.new) result }
+{
+    let part = &any_part(alloc, word)?;
+    in_file::<F, W>(rt, alloc, db, &Task::Used { part, csv }, out)
+}
+
 /// Adds an intersection, whose name is read before the file is opened.
 pub(crate) fn add<F: OfficeInFile, W: Sink>(
     rt: &HostRuntime,
@@ -144,38 +202,80 @@ pub(crate) fn migrate<F: OfficeInFile, W: Sink>(
     print_done(migrated(alloc, joined(ended.told())), out)
 }
 
-/// Takes the records of a CSV file into the office of a file, which has to be there.
-pub(crate) fn import<F: OfficeInFile, W: Sink>(
+/// Takes the records of a CSV text into the office of a file, which has to be there. Their days are
+/// looked at before it is opened.
+fn import_text<F: OfficeInFile, W: Sink>(
+    rt: &HostRuntime,
+    alloc: Global,
+    db: &str,
+    csv: &[u8],
+    until: Option<Day>,
+    out: &mut W,
+) -> Result<u8, Fault>
+    ensures { let view = file_view F.held F.is_clean F.keeps F.refused F.leaves in
+        InTime until csv.now (InFoundFile view (importing csv.now))
+        (W.told out.old) (W.told out.new) result }
+{
+    check_days(alloc, csv, until)?;
+    in_file::<F, W>(rt, alloc, db, &Task::Import { csv }, out)
+}
+
+/// The same of a CSV file.
+fn import_until<F: OfficeInFile, R: Source, W: Sink>(
     rt: &HostRuntime,
     alloc: Global,
     db: &str,
     csv: &CsvFile<&str>,
+    until: Option<Day>,
+    source: &mut R,
     out: &mut W,
 ) -> Result<u8, Fault>
     ensures { let view = file_view F.held F.is_clean F.keeps F.refused F.leaves in
-        ReadingCsv csv.now.padded (λ records. InFoundFile view (importing records))
-        (W.told out.old) (W.told out.new) result }
+        (err : Told) → ReadingCsv (file_asked csv.now)
+        (λ records. OnlyPrints (InTime until records (InFoundFile view (importing records))))
+        (ends_of (R.told source.old) (W.told out.old))
+        (ends_of (R.told source.new) (W.told out.new)) err err result }
 {
-    let csv = &read_csv(rt, alloc, csv)?;
-    in_file::<F, W>(rt, alloc, db, &Task::Import { csv }, out)
+    let csv = &read_csv(rt, alloc, csv, source)?;
+    import_text::<F, W>(rt, alloc, db, csv, until, out)
 }
 
-/// Prints what the plan in a CSV file differs in from the committed timing set of an intersection.
+/// Takes the records of a CSV file into the office of a file, which has to be there. The day of a
+/// word is read first, where one is given.
+pub(crate) fn import<F: OfficeInFile, R: Source, W: Sink>(
+    rt: &HostRuntime,
+    alloc: Global,
+    db: &str,
+    csv: &CsvFile<&str>,
+    until: &Option<&str>,
+    source: &mut R,
+    out: &mut W,
+) -> Result<u8, Fault>
+    ensures { let view = file_view F.held F.is_clean F.keeps F.refused F.leaves in
+        (err : Told) → OnAnyDayFirst (option_map (λ word. word.now) until.now)
+        (λ day. ReadingCsv (file_asked csv.now)
+        (λ records. OnlyPrints (InTime day records (InFoundFile view (importing records)))))
+        (ends_of (R.told source.old) (W.told out.old))
+        (ends_of (R.told source.new) (W.told out.new)) err err result }
+{
+    let until = any_day_of(until)?;
+    import_until::<F, R, W>(rt, alloc, db, csv, until, source, out)
+}
+
+/// Prints what a plan differs in from the committed timing set of an intersection.
 pub(crate) fn compare_running<F: OfficeInFile, W: Sink>(
     rt: &HostRuntime,
     alloc: Global,
     db: &str,
     id: InterId,
-    plan: &CsvFile<&str>,
+    plan: &[u8],
     csv: bool,
     out: &mut W,
 ) -> Result<u8, Fault>
     ensures { let view = file_view F.held F.is_clean F.keeps F.refused F.leaves in
-        ReadingCsv plan.now.padded
-        (λ other. InFoundFile view (looking (ComparesWith id other csv)))
+        InFoundFile view (looking (ComparesWith id plan.now csv))
         (W.told out.old) (W.told out.new) result }
 {
-    let plan = &read_csv(rt, alloc, plan)?;
     in_file::<F, W>(rt, alloc, db, &Task::CompareWith { id, plan, csv }, out)
 }
 
@@ -189,20 +289,20 @@ fn mode_of(edit: &Edit<&str>) -> EditMode
     }
 }
 
-/// Changes a plan by a CSV file, for a clerk whose name is known.
-fn edit_by<F: OfficeInFile, W: Sink>(
+/// Changes a plan by the text of a CSV file, for a clerk whose name is known.
+fn edit_with<F: OfficeInFile, W: Sink>(
     rt: &HostRuntime,
     alloc: Global,
     edit: &Edit<&str>,
     clerk: &Words<40>,
+    csv: &[u8],
     out: &mut W,
 ) -> Result<u8, Fault>
     ensures { let view = file_view F.held F.is_clean F.keeps F.refused F.leaves in
-        ReadingAnyCsv (option_map (λ csv. csv.padded) edit.now.csv) (λ plan. InFoundFile view
-        (editing plan edit.now.id clerk.now (edit_mode edit.now) edit.now.explain))
+        InFoundFile view
+        (editing csv.now edit.now.id clerk.now (edit_mode edit.now) edit.now.explain)
         (W.told out.old) (W.told out.new) result }
 {
-    let csv = &read_any_csv(rt, alloc, &edit.csv)?;
     let (id, mode, explain) = (edit.id, mode_of(edit), edit.explain);
     let task = Task::Edit {
         id,
@@ -214,22 +314,51 @@ fn edit_by<F: OfficeInFile, W: Sink>(
     in_file::<F, W>(rt, alloc, edit.db, &task, out)
 }
 
-/// Changes a plan by a CSV file. The name of the clerk is read first.
-pub(crate) fn edit_plan<F: OfficeInFile, W: Sink>(
+/// Changes a plan by a CSV file, for a clerk whose name is known; without a file nothing but the
+/// state of the draft.
+fn edit_by<F: OfficeInFile, R: Source, W: Sink, E: Sink>(
     rt: &HostRuntime,
     alloc: Global,
     edit: &Edit<&str>,
+    clerk: &Words<40>,
+    source: &mut R,
     out: &mut W,
+    err: &mut E,
+) -> Result<u8, Fault>
+    ensures { let view = file_view F.held F.is_clean F.keeps F.refused F.leaves in
+        ReadingAnyPlan (option_map file_asked edit.now.csv) (λ plan. OnlyPrints (InFoundFile view
+        (editing plan edit.now.id clerk.now (edit_mode edit.now) edit.now.explain)))
+        (ends_of (R.told source.old) (W.told out.old))
+        (ends_of (R.told source.new) (W.told out.new)) (E.told err.old) (E.told err.new) result }
+{
+    match &edit.csv {
+        Some(file) => {
+            let plan = read_plan(rt, alloc, file, false, source, err)?;
+            edit_with::<F, W>(rt, alloc, edit, clerk, &plan, out)
+        }
+        None => edit_with::<F, W>(rt, alloc, edit, clerk, b"", out),
+    }
+}
+
+/// Changes a plan by a CSV file. The name of the clerk is read first.
+pub(crate) fn edit_plan<F: OfficeInFile, R: Source, W: Sink, E: Sink>(
+    rt: &HostRuntime,
+    alloc: Global,
+    edit: &Edit<&str>,
+    source: &mut R,
+    out: &mut W,
+    err: &mut E,
 ) -> Result<u8, Fault>
     ensures { let view = file_view F.held F.is_clean F.keeps F.refused F.leaves in
         let clerk = edit.now.clerk.now in
-        Naming 40 clerk fault.Clerk
-        (ReadingAnyCsv (option_map (λ csv. csv.padded) edit.now.csv) (λ plan. InFoundFile view
-        (editing plan edit.now.id clerk (edit_mode edit.now) edit.now.explain)))
-        (W.told out.old) (W.told out.new) result }
+        NamingFirst 40 clerk fault.Clerk (ReadingAnyPlan (option_map file_asked edit.now.csv)
+        (λ plan. OnlyPrints (InFoundFile view
+        (editing plan edit.now.id clerk (edit_mode edit.now) edit.now.explain))))
+        (ends_of (R.told source.old) (W.told out.old))
+        (ends_of (R.told source.new) (W.told out.new)) (E.told err.old) (E.told err.new) result }
 {
     let clerk = &named(alloc, edit.clerk, Fault::Clerk)?;
-    edit_by::<F, W>(rt, alloc, edit, clerk, out)
+    edit_by::<F, R, W, E>(rt, alloc, edit, clerk, source, out, err)
 }
 
 /// Drops the draft of an intersection, for a clerk whose name is read before the file is opened.

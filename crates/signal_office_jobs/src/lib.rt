@@ -6,16 +6,21 @@
 //! it works over the office of a file a `Task` with an arm of `done_by` and a row of `TaskDoes`.
 #![tactic(auto)]
 
+mod backup;
 mod done;
+mod filed;
+mod filling;
 mod in_file;
 mod memory;
 mod plans;
 mod program;
-mod reading;
 mod serving;
 mod task;
+mod using;
 
 pub use done::Done;
+pub use filed::FileOf;
+pub use filling::fill;
 pub use memory::{open_in_memory, serve_new_office};
 pub use program::run_words;
 pub use serving::serve_port;

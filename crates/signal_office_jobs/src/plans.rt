@@ -1,16 +1,19 @@
 //! Plans in CSV files: shown, and compared.
 
-ghost use Rattle.std.specs.Prelude.{◌≡◌};
+ghost use Rattle.std.specs.Prelude.{◌≡◌, false, true};
+ghost use Rattle.office_http_framing.specs.Serve.{ends_of};
 ghost use Rattle.signal_office_jobs.specs.Printed.{Compares, ShowsPlan};
-ghost use Rattle.signal_office_jobs.specs.Printing.{Made, ReadingCsv};
+ghost use Rattle.signal_office_jobs.specs.Printing.{Made};
+ghost use Rattle.signal_office_jobs.specs.Reading.{OnlyPrints, ReadingPlan};
+ghost use Rattle.signal_office_line.specs.Job.{file_asked};
 
 use crate::done::{Done, print_done};
-use crate::reading::read_csv;
-use office_http::Sink;
+use office_http::{Sink, Source};
 use signal_office_commands::{
     Fault, compare_files, diagram_in, page_in, reasons_in, violations_in,
 };
 use signal_office_line::{CsvFile, PlanShown};
+use signal_office_reading::read_plan;
 use std::alloc::Global;
 
 /// Tells what is shown of a plan.
@@ -30,18 +33,22 @@ fn shown_in(alloc: Global, csv: &[u8], shown: PlanShown) -> Result<Done, Fault>
 }
 
 /// Prints what is shown of the plan in a CSV file.
-pub(crate) fn show_plan<W: Sink>(
+pub(crate) fn show_plan<R: Source, W: Sink, E: Sink>(
     rt: &HostRuntime,
     alloc: Global,
     csv: &CsvFile<&str>,
     shown: PlanShown,
+    source: &mut R,
     out: &mut W,
+    err: &mut E,
 ) -> Result<u8, Fault>
-    ensures { ReadingCsv csv.now.padded (λ plan. Made (ShowsPlan shown plan)) (W.told out.old)
-        (W.told out.new) result }
+    ensures { ReadingPlan false (file_asked csv.now)
+        (λ plan. OnlyPrints (Made (ShowsPlan shown plan)))
+        (ends_of (R.told source.old) (W.told out.old))
+        (ends_of (R.told source.new) (W.told out.new)) (E.told err.old) (E.told err.new) result }
 {
-    let bytes = read_csv(rt, alloc, csv)?;
-    print_done(shown_in(alloc, &bytes, shown), out)
+    let plan = read_plan(rt, alloc, csv, false, source, err)?;
+    print_done(shown_in(alloc, &plan, shown), out)
 }
 
 /// Tells what two plans differ in, as a text or as CSV.
@@ -53,18 +60,23 @@ fn compared(alloc: Global, first: &[u8], second: &[u8], csv: bool) -> Result<Don
 }
 
 /// Prints what the plans in two CSV files differ in.
-pub(crate) fn compare_plans<W: Sink>(
+pub(crate) fn compare_plans<R: Source, W: Sink, E: Sink>(
     rt: &HostRuntime,
     alloc: Global,
     first: &CsvFile<&str>,
     second: &CsvFile<&str>,
     csv: bool,
+    source: &mut R,
     out: &mut W,
+    err: &mut E,
 ) -> Result<u8, Fault>
-    ensures { ReadingCsv first.now.padded (λ plan. ReadingCsv second.now.padded
-        (λ other. Made (Compares csv plan other))) (W.told out.old) (W.told out.new) result }
+    ensures { ReadingPlan false (file_asked first.now) (λ plan.
+        ReadingPlan true (file_asked second.now) (λ other.
+        OnlyPrints (Made (Compares csv plan other))))
+        (ends_of (R.told source.old) (W.told out.old))
+        (ends_of (R.told source.new) (W.told out.new)) (E.told err.old) (E.told err.new) result }
 {
-    let plan = read_csv(rt, alloc, first)?;
-    let other = read_csv(rt, alloc, second)?;
+    let plan = read_plan(rt, alloc, first, false, source, err)?;
+    let other = read_plan(rt, alloc, second, true, source, err)?;
     print_done(compared(alloc, &plan, &other, csv), out)
 }

@@ -3,15 +3,17 @@
 ghost use Rattle.std.specs.Prelude.{◌≡◌, map, option_map};
 ghost use Rattle.office_http_framing.specs.Serve.{ends_of};
 ghost use Rattle.signal_office_line.specs.Job.{asked};
-ghost use Rattle.signal_office_jobs.specs.Printed.{JobDoes, Printed, ServesNew, office_files};
-ghost use Rattle.signal_office_jobs.specs.Printed.{status_over, stream_status};
+ghost use Rattle.signal_office_in_file.specs.Ended.{file_view};
+ghost use Rattle.signal_office_jobs.specs.Printed.{Batches, JobDoes, Printed, ServesNew};
+ghost use Rattle.signal_office_jobs.specs.Printed.{office_files, status_over, stream_status};
 ghost use Rattle.signal_office_jobs.specs.Runs.{DoesFound, EndsWith, RunsWords, ShowsRefusal};
 ghost use Rattle.signal_office_jobs.specs.Runs.{job_asked};
 ghost use Rattle.signal_office_jobs.specs.Printing.{Prints};
 
+use crate::backup::backup;
 use crate::done::print_done;
 use crate::in_file::{
-    abandon, add, compare_running, edit_plan, import, in_file, migrate, overdue, show_of,
+    abandon, add, compare_running, edit_plan, import, in_file, migrate, overdue, show_of, used,
 };
 use crate::memory::{open_in_memory, serve_new_office};
 use crate::plans::{compare_plans, show_plan};
@@ -21,6 +23,7 @@ use office_http::{ServeFault, Served, Sink, Source, write_all};
 use signal_office_commands::{Fault, report};
 use signal_office_in_file::OfficeInFile;
 use signal_office_line::{Job, JobFault, job_of};
+use signal_office_reading::read_plan;
 use std::alloc::Global;
 
 /// The most requests of one run of `batch`.
@@ -57,8 +60,7 @@ fn batch<F: OfficeInFile, R: Source, W: Sink>(
     source: &mut R,
     out: &mut W,
 ) -> Result<u8, Fault>
-    ensures { let files = office_files F.held F.is_clean F.keeps F.refused F.leaves F.migrated in
-        JobDoes files (Job.Batch (option_map (λ path. path.now) db.now))
+    ensures { Batches (file_view F.held F.is_clean F.keeps F.refused F.leaves) db.now
         (ends_of (R.told source.old) (W.told out.old))
         (ends_of (R.told source.new) (W.told out.new)) result }
 {
@@ -93,7 +95,7 @@ fn serve<F: OfficeInFile, W: Sink>(
     db: &Option<&str>,
     out: &mut W,
 ) -> Result<u8, Fault>
-    ensures { Printed (office_files F.held F.is_clean F.keeps F.refused F.leaves F.migrated)
+    ensures { Printed (office_files F.held F.is_clean F.keeps F.refused F.leaves F.migrated F.alone)
         (Job.Serve port count (option_map (λ path. path.now) db.now)) (W.told out.old)
         (W.told out.new) result }
 {
@@ -104,27 +106,31 @@ fn serve<F: OfficeInFile, W: Sink>(
 }
 
 /// Does a job, and gives the status.
-fn run_job<F: OfficeInFile, R: Source, W: Sink>(
+fn run_job<F: OfficeInFile, R: Source, W: Sink, E: Sink>(
     rt: &HostRuntime,
     alloc: Global,
     job: &Job<&str>,
     source: &mut R,
     out: &mut W,
+    err: &mut E,
 ) -> Result<u8, Fault>
-    ensures { let files = office_files F.held F.is_clean F.keeps F.refused F.leaves F.migrated in
+    ensures { let files = office_files F.held F.is_clean F.keeps F.refused F.leaves F.migrated
+        F.alone in
         JobDoes files (asked job.now) (ends_of (R.told source.old) (W.told out.old))
-        (ends_of (R.told source.new) (W.told out.new)) result }
+        (ends_of (R.told source.new) (W.told out.new)) (E.told err.old) (E.told err.new) result }
 {
     match job {
         Job::Batch { db } => batch::<F, R, W>(rt, alloc, db, source, out),
         Job::Serve { port, count, db } => serve::<F, W>(rt, alloc, *port, *count, db, out),
         Job::Show { db, shown } => show_of::<F, W>(rt, alloc, db, *shown, out),
+        Job::ExportAll { db, dir } => in_file::<F, W>(rt, alloc, db, &Task::Fill { dir }, out),
         Job::Overdue {
             db,
             first,
             csv,
             day,
         } => overdue::<F, W>(rt, alloc, db, *first, *csv, day, out),
+        Job::Used { db, part, csv } => used::<F, W>(rt, alloc, db, part, *csv, out),
         Job::Add {
             db,
             id,
@@ -132,19 +138,23 @@ fn run_job<F: OfficeInFile, R: Source, W: Sink>(
             name,
         } => add::<F, W>(rt, alloc, db, *id, *interval, name, out),
         Job::Migrate { db } => migrate::<F, W>(rt, alloc, db, out),
-        Job::Import { db, csv } => import::<F, W>(rt, alloc, db, csv, out),
-        Job::Edit(edit) => edit_plan::<F, W>(rt, alloc, edit, out),
+        Job::Backup { db, to, force } => backup::<F, W>(rt, alloc, db, to, *force, out),
+        Job::Import { db, csv, until } => {
+            import::<F, R, W>(rt, alloc, db, csv, until, source, out)
+        }
+        Job::Edit(edit) => edit_plan::<F, R, W, E>(rt, alloc, edit, source, out, err),
         Job::Abandon { db, clerk, id } => abandon::<F, W>(rt, alloc, db, clerk, *id, out),
         Job::CompareDraft { db, id, csv } => {
             in_file::<F, W>(rt, alloc, db, &Task::Compare { id: *id, csv: *csv }, out)
         }
         Job::CompareRunning { db, id, plan, csv } => {
-            compare_running::<F, W>(rt, alloc, db, *id, plan, *csv, out)
+            let text = read_plan(rt, alloc, plan, false, source, err)?;
+            compare_running::<F, W>(rt, alloc, db, *id, &text, *csv, out)
         }
         Job::CompareFiles { first, second, csv } => {
-            compare_plans(rt, alloc, first, second, *csv, out)
+            compare_plans(rt, alloc, first, second, *csv, source, out, err)
         }
-        Job::ShowPlan { csv, shown } => show_plan(rt, alloc, csv, *shown, out),
+        Job::ShowPlan { csv, shown } => show_plan(rt, alloc, csv, *shown, source, out, err),
     }
 }
 
@@ -185,14 +195,15 @@ fn do_found<F: OfficeInFile, R: Source, W: Sink, E: Sink>(
     out: &mut W,
     err: &mut E,
 ) -> Result<u8, Fault>
-    ensures { let files = office_files F.held F.is_clean F.keeps F.refused F.leaves F.migrated in
+    ensures { let files = office_files F.held F.is_clean F.keeps F.refused F.leaves F.migrated
+        F.alone in
         DoesFound files (job_asked found.now)
         (ends_of (R.told source.old) (W.told out.old))
         (ends_of (R.told source.new) (W.told out.new))
         (E.told err.old) (E.told err.new) result }
 {
     match found {
-        Ok(job) => run_job::<F, R, W>(rt, alloc, job, source, out),
+        Ok(job) => run_job::<F, R, W, E>(rt, alloc, job, source, out, err),
         Err(JobFault::Refused(error)) => show(alloc, error, out, err),
         Err(JobFault::NoMemory) => Err(Fault::Memory),
     }
@@ -222,7 +233,8 @@ pub fn run_words<F: OfficeInFile, R: Source, W: Sink, E: Sink>(
     // What the words ask for is done, over the office of the file that it names: what is printed is
     // the text of that, with its status, or a part of it where the output failed; a fault is said
     // by its line, with status 1. Words that are refused, or ask for help, do nothing else.
-    ensures { let files = office_files F.held F.is_clean F.keeps F.refused F.leaves F.migrated in
+    ensures { let files = office_files F.held F.is_clean F.keeps F.refused F.leaves F.migrated
+        F.alone in
         RunsWords files (map (λ word. word.now) words.now)
         (ends_of (R.told source.old) (W.told out.old))
         (ends_of (R.told source.new) (W.told out.new))

@@ -4,6 +4,7 @@ ghost use Rattle.std.specs.Prelude.{◌≡◌, ◌≢◌, true, false, Ok, Err, 
 ghost use Rattle.office_tables_shelf.specs.Keeps.{KeepsShelf};
 ghost use Rattle.signal_office_jobs.specs.Shown.{IsShown, ShowsAs};
 ghost use Rattle.signal_office_jobs.specs.Tasks.{AbandonsAs, AddsAs, ComparesAs, ComparesWith, EditsBy};
+ghost use Rattle.signal_office_jobs.specs.Tasks.{FillsAs};
 ghost use Rattle.signal_office_jobs.specs.Tasks.{ImportsAs, IsBroken, ServesAs, TaskDoes};
 ghost use Rattle.signal_office_commands.specs.Showing.{ShowsDraft};
 ghost use Rattle.signal_office_commands.specs.Stopping.{AfterAbandoning, AfterAdding};
@@ -12,8 +13,10 @@ ghost use Rattle.signal_office_in_file.specs.Stopping.{StopsWithin};
 ghost use Rattle.signal_office_jobs.specs.Stopped.{AfterServing, SaysPort, TaskLeaves, TaskSays};
 
 use crate::done::Done;
+use crate::filling::fill;
 use crate::serving::serve_port;
-use cabinet_core::Day;
+use crate::using::used;
+use cabinet_core::{Day, PartCode};
 use office_desk::office::Office;
 use office_files::violation_text;
 use office_http::Sink;
@@ -24,6 +27,7 @@ use signal_office_commands::{
     orders_of, overdue_csv_of, overdue_of, page_of, revise_plan, running_differences, sheet_of,
     stock_of, timing_csv_of,
 };
+use signal_office_folder::SystemFolder;
 use signal_office_in_file::OfficeTask;
 use signal_office_line::{Shown, View};
 use signal_reasons::explained_text;
@@ -42,6 +46,15 @@ pub enum Task<'a> {
     },
     /// What is printed of it.
     Show(Shown),
+    /// A folder that is filled with what it shows.
+    Fill {
+        dir: &'a str,
+    },
+    /// What was used of all parts, or of one, as a text or as CSV.
+    Used {
+        part: &'a Option<PartCode>,
+        csv: bool,
+    },
     /// An intersection that is added.
     Add {
         id: InterId,
@@ -152,7 +165,11 @@ fn orders<S: Shelf>(
 }
 
 /// What is printed of an office.
-fn shown_of<S: Shelf>(alloc: Global, office: &mut Office<S>, shown: Shown) -> Result<Vec<u8>, Fault>
+pub(crate) fn shown_of<S: Shelf>(
+    alloc: Global,
+    office: &mut Office<S>,
+    shown: Shown,
+) -> Result<Vec<u8>, Fault>
     ensures kept { KeepsShelf S.Shelf office.old office.new }
     ensures clean { S.is_clean office.new → S.is_clean office.old }
     ensures shown { S.is_honest office.new → MatchResult result
@@ -201,6 +218,22 @@ fn show<S: Shelf>(alloc: Global, office: &mut Office<S>, shown: Shown) -> Result
     ensures does { S.is_honest office.new → ShowsAs shown (S.content office.old) result }
 {
     Ok(Done::with(shown_of(alloc, office, shown)?))
+}
+
+/// Fills a folder of the system with what the office shows, and tells nothing.
+fn fill_folder<S: Shelf>(
+    rt: &HostRuntime,
+    alloc: Global,
+    office: &mut Office<S>,
+    dir: &str,
+) -> Result<Done, Fault>
+    ensures kept { KeepsShelf S.Shelf office.old office.new }
+    ensures clean { S.is_clean office.new → S.is_clean office.old }
+    ensures does { S.is_honest office.new → FillsAs (S.content office.old) result }
+{
+    let mut folder = SystemFolder::new(rt, alloc, dir);
+    fill(alloc, office, &mut folder)?;
+    Ok(Done::with(Vec::new(alloc)))
 }
 
 /// Adds an intersection, and tells whether it was new.
@@ -369,6 +402,8 @@ fn done_by<S: Shelf, W: Sink>(
     match *task {
         Task::Serve { port, count } => serve(rt, alloc, office, port, count, out),
         Task::Show(shown) => show(alloc, office, shown),
+        Task::Fill { dir } => fill_folder(rt, alloc, office, dir),
+        Task::Used { part, csv } => used(alloc, office, part, csv),
         Task::Add { id, interval, name } => add(alloc, office, id, interval, name),
         Task::Import { csv } => import(alloc, office, csv),
         Task::Edit {

@@ -1,5 +1,5 @@
 -- The job that a command line states, by the command and the values that `clap` finds in it.
-use Rattle.std.specs.Prelude.{ℕ, ◌&&◌, Bool, true, false, not, if◌then◌else◌, List, [], ◌∷◌, length}
+use Rattle.std.specs.Prelude.{ℕ, ◌&&◌, ◌||◌, Bool, true, false, not, if◌then◌else◌, List, [], ◌∷◌, length}
 use Rattle.std.specs.Prelude.{Option, Some, None, option_map, option_and_then, codes, nat_lt}
 use Rattle.std.specs.Prelude.{nat_le, find, unwrap_or}
 use Rattle.std.specs.Borrow.{Bor}
@@ -29,10 +29,13 @@ abbrev pub asked : Job (Bor Text) → Asked
 asked (job.Batch db) = job.Batch (option_map (λ (s : Bor Text). s.now) db)
 asked (job.Serve port count db) = job.Serve port count (option_map (λ (s : Bor Text). s.now) db)
 asked (job.Show db it) = job.Show db.now it
+asked (job.ExportAll db dir) = job.ExportAll db.now dir.now
 asked (job.Overdue db first csv day) = job.Overdue db.now first csv day.now
+asked (job.Used db part csv) = job.Used db.now (option_map (λ (s : Bor Text). s.now) part) csv
 asked (job.Add db id interval name) = job.Add db.now id interval name.now
 asked (job.Migrate db) = job.Migrate db.now
-asked (job.Import db csv) = job.Import db.now (file_asked csv)
+asked (job.Backup db to force) = job.Backup db.now to.now force
+asked (job.Import db csv until) = job.Import db.now (file_asked csv) (option_map (λ (s : Bor Text). s.now) until)
 asked (job.Edit e) = job.Edit (record {
   db = e.db.now;
   clerk = e.clerk.now;
@@ -115,6 +118,12 @@ overdue_at rows = do
   day ← first_of (codes "DAY") rows
   Some (job.Overdue db first (flag_at (codes "csv") rows) day)
 
+-- `used --db FILE [--csv] [PART]`
+abbrev pub used_at : List Row → Option Asked
+used_at rows = do
+  db ← first_of (codes "db") rows
+  Some (job.Used db (first_of (codes "PART") rows) (flag_at (codes "csv") rows))
+
 -- `verify-file [--explain] [--padded] CSV`
 abbrev pub verify_file_at : List Row → Option Asked
 verify_file_at rows = do
@@ -127,12 +136,19 @@ migrate_at rows = do
   db ← first_of (codes "db") rows
   Some (job.Migrate db)
 
--- `import --db FILE [--padded] CSV`
+-- `backup --db FILE [--force] TO`
+abbrev pub backup_at : List Row → Option Asked
+backup_at rows = do
+  db ← first_of (codes "db") rows
+  to ← first_of (codes "TO") rows
+  Some (job.Backup db to (flag_at (codes "force") rows))
+
+-- `import --db FILE [--until DAY] [--padded] CSV`
 abbrev pub import_at : List Row → Option Asked
 import_at rows = do
   db ← first_of (codes "db") rows
   csv ← csv_at (codes "CSV") rows
-  Some (job.Import db csv)
+  Some (job.Import db csv (first_of (codes "until") rows))
 
 -- the file of an edit, which may be left out where a draft is committed as it is
 abbrev pub edited_file : Option (CsvFile Text) → (commit replace : Bool) → Option (Option (CsvFile Text))
@@ -253,12 +269,25 @@ show_at name rows = do
   it ← shown_at name rows
   Some (job.Show db it)
 
+-- the same, or `export --db FILE --all DIR`
+abbrev pub folder_of : (all part : Bool) → List Row → Option Asked
+folder_of false part rows = show_at (codes "export") rows
+folder_of true true rows = None
+folder_of true false rows = do
+  db ← first_of (codes "db") rows
+  dir ← first_of (codes "ID") rows
+  Some (job.ExportAll db dir)
+
+abbrev pub export_job_at : List Row → Option Asked
+export_job_at rows = folder_of (flag_at (codes "all") rows) (flag_at (codes "draft") rows || flag_at (codes "cabinet") rows) rows
+
 -- the other commands
 abbrev pub jobs : List (Text × (List Row → Option Asked))
 jobs =
     (codes "batch", batch_at) ∷ (codes "serve", serve_at) ∷ (codes "overdue", overdue_at)
-    ∷ (codes "add", add_at) ∷ (codes "verify-file", verify_file_at)
-    ∷ (codes "migrate", migrate_at) ∷ (codes "import", import_at) ∷ (codes "edit", edit_at)
+    ∷ (codes "used", used_at) ∷ (codes "add", add_at) ∷ (codes "verify-file", verify_file_at)
+    ∷ (codes "migrate", migrate_at) ∷ (codes "backup", backup_at) ∷ (codes "import", import_at)
+    ∷ (codes "export", export_job_at) ∷ (codes "edit", edit_at)
     ∷ (codes "abandon", abandon_at) ∷ (codes "compare", compare_at)
     ∷ (codes "diagram", diagram_at) ∷ (codes "page", page_at) ∷ []
 

@@ -35,6 +35,7 @@ const STATUSES: &str = "Status: 0 done, 1 a fault, 2 refused words";
 
 /// What the help says of the records of a plan, and of the statuses of a command that reads them.
 const PLAN_RECORDS: &str = "\
+A CSV file may be -, which is standard input.
 Records of CSV, the fields in this order:
   phase,PHASE,RING,MIN_GREEN,PASSAGE,MAX1,YELLOW,RED,MATES
   phase, the same, then WALK,CLEAR,WIDTH,SETBACK,SHORT,LEAD
@@ -50,6 +51,7 @@ Status: 0 done, 1 a fault or a bad record, 2 refused words,
 
 /// What the help says of the records that change a plan, and of the statuses of `edit`.
 const PLAN_CHANGES: &str = "\
+CSV may be -, which is standard input.
 Records of CSV: those of a plan, which `verify-file --help` lists, and
   remove,phase,PHASE
   remove,seq,SEQUENCE,RING
@@ -61,6 +63,7 @@ Status: 0 done, 1 a fault or a bad record, 2 refused words,
 
 /// What the help says of the records of cabinets, and of the statuses of `import`.
 const CABINET_RECORDS: &str = "\
+CSV may be -, which is standard input.
 Records of CSV, the fields in this order:
   inspection,ID,NUMBER,DAY,CLERK,TEXT
   order,ID,NUMBER,DAY,CLERK,TEXT

@@ -1,7 +1,9 @@
 //! The words that the program takes, with what its help says of them.
 
 ghost use Rattle.std.specs.Prelude.{IfOk};
-ghost use Rattle.signal_office_line.specs.CommandLine.{ParsesAs, signal_app};
+ghost use Rattle.clap.specs.Simple.{App};
+ghost use Rattle.signal_office_line.specs.CommandLine.{ParsesAs, office_commands, plan_commands};
+ghost use Rattle.signal_office_line.specs.CommandLine.{signal_app, with_subcommands};
 
 use crate::arguments::{
     Argument, EXPLAIN, Ending, FILE_OR_MEMORY, FOUND_FILE, Form, ID, MADE_FILE, PADDED, Usage,
@@ -11,10 +13,11 @@ use clap::Command;
 use std::alloc::{AllocError, Global};
 
 /// The program's version, as the newest heading of CHANGELOG.md has it, and that of its tables.
-const VERSION: &str = "2026-11-27, tables of version 2";
+const VERSION: &str = "2026-11-28, tables of version 2";
 
-/// The commands, in the order of the help.
-const COMMANDS: &[Usage<'static>] = &[
+/// The commands, in the order of the help: first those that serve an office and show what it holds.
+/// One table of all would be too large for the prover.
+const OFFICE_COMMANDS: &[Usage<'static>] = &[
     Usage(
         "batch",
         "Reads HTTP requests from standard input, at most 1,000,000, and writes the answers to \
@@ -121,6 +124,21 @@ const COMMANDS: &[Usage<'static>] = &[
         Ending::Statuses,
     ),
     Usage(
+        "used",
+        "Prints what was used of all parts, or of one: with the intersection and the work order, \
+         open or closed",
+        &[
+            Argument("db", Form::Needed("FILE"), FOUND_FILE),
+            Argument("csv", Form::Flag, "Print as CSV, without heading or count"),
+            Argument(
+                "PART",
+                Form::SecondWord,
+                "The part's code, 1 to 20 of A to Z, 0 to 9 and -; without it all are printed",
+            ),
+        ],
+        Ending::Statuses,
+    ),
+    Usage(
         "cabinet",
         "Prints the records of an intersection's cabinet: when its next inspection is due, its \
          inspections, and its work orders with their used parts and closings",
@@ -130,6 +148,10 @@ const COMMANDS: &[Usage<'static>] = &[
         ],
         Ending::Statuses,
     ),
+];
+
+/// Then those that read files, change plans, and draw.
+const PLAN_COMMANDS: &[Usage<'static>] = &[
     Usage(
         "verify-file",
         "Checks the timing plan in a CSV file against the fourteen rules; ends with status 3 \
@@ -152,11 +174,31 @@ const COMMANDS: &[Usage<'static>] = &[
         Ending::Statuses,
     ),
     Usage(
+        "backup",
+        "Copies an office into another file, which is whole without a log; the office's own log \
+         is copied into its file before",
+        &[
+            Argument("db", Form::Needed("FILE"), FOUND_FILE),
+            Argument("force", Form::Flag, "Replace the file TO"),
+            Argument(
+                "TO",
+                Form::Word,
+                "The file of the copy; none with this name, or with a log, may be there",
+            ),
+        ],
+        Ending::Statuses,
+    ),
+    Usage(
         "import",
         "Takes the cabinet records of a CSV file in turn, all of them or none; says how many \
          are new",
         &[
             Argument("db", Form::Needed("FILE"), FOUND_FILE),
+            Argument(
+                "until",
+                Form::Choice("DAY"),
+                "Take none where one is of a later day, as YYYY-MM-DD; a used part has no day",
+            ),
             Argument("padded", Form::Flag, PADDED),
             Argument(
                 "CSV",
@@ -169,12 +211,23 @@ const COMMANDS: &[Usage<'static>] = &[
     Usage(
         "export",
         "Prints the committed timing plan of an intersection as CSV, or its draft, or its \
-         cabinet",
+         cabinet; or writes the lists, all plans and all cabinets into a folder",
         &[
             Argument("db", Form::Needed("FILE"), FOUND_FILE),
             Argument("draft", Form::Flag, "Print the draft"),
             Argument("cabinet", Form::Flag, "Print the cabinet"),
-            Argument("ID", Form::Word, ID),
+            Argument(
+                "all",
+                Form::Flag,
+                "Write intersections.csv, stock.csv and, for each ID, ID-plan.csv and \
+                 ID-cabinet.csv into a folder",
+            ),
+            Argument(
+                "ID",
+                Form::Word,
+                "The intersection's number, 1 to 9999; with --all the folder, which is made if \
+                 there is none",
+            ),
         ],
         Ending::Statuses,
     ),
@@ -308,6 +361,22 @@ const COMMANDS: &[Usage<'static>] = &[
     ),
 ];
 
+/// The program with the commands that serve an office and show what it holds.
+fn with_office<'a>(alloc: Global, program: Command<'a>) -> Result<Command<'a>, AllocError>
+    ensures { (app : App) → ParsesAs program.entry app →
+        IfOk result (λ c. ParsesAs c (with_subcommands app office_commands)) }
+{
+    with_commands(alloc, program, OFFICE_COMMANDS)
+}
+
+/// The program with the commands that read files, change plans, and draw.
+fn with_plans<'a>(alloc: Global, program: Command<'a>) -> Result<Command<'a>, AllocError>
+    ensures { (app : App) → ParsesAs program.entry app →
+        IfOk result (λ c. ParsesAs c (with_subcommands app plan_commands)) }
+{
+    with_commands(alloc, program, PLAN_COMMANDS)
+}
+
 /// The command line of the program.
 pub(crate) fn command_line<'a>(alloc: Global) -> Result<Command<'a>, AllocError>
     ensures { IfOk result (λ c. ParsesAs c signal_app) }
@@ -316,18 +385,45 @@ pub(crate) fn command_line<'a>(alloc: Global) -> Result<Command<'a>, AllocError>
         .about("The office of a city's traffic signals: timing plans, cabinets and stock")
         .version(VERSION)
         .subcommand_required(true);
-    with_commands(alloc, program, COMMANDS)
+    let begun = with_office(alloc, program)?;
+    with_plans(alloc, begun)
+}
+
+/// The command of a name in a table.
+fn usage_in(usages: &[Usage<'static>], name: &str) -> Option<Usage<'static>> {
+    for usage in usages {
+        let Usage(own, ..) = *usage;
+        if *own == *name {
+            return Some(*usage);
+        }
+    }
+    None
+}
+
+fn office_usage(name: &str) -> Option<Usage<'static>> {
+    usage_in(OFFICE_COMMANDS, name)
+}
+
+fn plan_usage(name: &str) -> Option<Usage<'static>> {
+    usage_in(PLAN_COMMANDS, name)
+}
+
+/// The command of a name.
+fn usage_named(name: &str) -> Option<Usage<'static>> {
+    match office_usage(name) {
+        Some(usage) => Some(usage),
+        None => plan_usage(name),
+    }
 }
 
 /// A command of the program by itself, as its usage names it; the program where it has no such
 /// command.
 pub(crate) fn command_named<'a>(alloc: Global, name: &str) -> Result<Command<'a>, AllocError> {
-    for usage in COMMANDS {
-        let Usage(own, ..) = *usage;
-        if *own == *name {
+    match usage_named(name) {
+        Some(usage) => {
             let shown = format!(in alloc; "signal_office {name}")?;
-            return command_of(alloc, usage)?.bin_name(shown.as_str());
+            command_of(alloc, &usage)?.bin_name(shown.as_str())
         }
+        None => command_line(alloc),
     }
-    command_line(alloc)
 }

@@ -41,8 +41,8 @@ pub struct Edit<T> {
     pub explain: bool,
 }
 
-/// What the words ask the program to do. A word `T` that names a file, a clerk, an intersection or
-/// a day may name none: a job that reads such a word, or a file, before it opens the office's is a
+/// What the words ask the program to do. A word `T` that names a file, a clerk, an intersection, a
+/// part or a day may name none: a job that reads such a word, or a file, before it opens the office's is a
 /// variant of its own, as is one that writes or tells by its status.
 #[derive(Clone, Copy)]
 pub enum Job<T> {
@@ -62,6 +62,11 @@ pub enum Job<T> {
         db: T,
         shown: Shown,
     },
+    /// Write the lists, and what is kept of each intersection as CSV, into a folder.
+    ExportAll {
+        db: T,
+        dir: T,
+    },
     /// Print the intersections that are overdue on a day, at most so many, 1 to 9999, as a report
     /// or as CSV.
     Overdue {
@@ -69,6 +74,12 @@ pub enum Job<T> {
         first: Option<u32>,
         csv: bool,
         day: T,
+    },
+    /// Print what was used of all parts, or of one, as a text or as CSV.
+    Used {
+        db: T,
+        part: Option<T>,
+        csv: bool,
     },
     /// Add an intersection.
     Add {
@@ -81,10 +92,18 @@ pub enum Job<T> {
     Migrate {
         db: T,
     },
-    /// Take the records of a CSV file in turn: all of them, or none.
+    /// Copy the office of a file into another, which is replaced where that is asked.
+    Backup {
+        db: T,
+        to: T,
+        force: bool,
+    },
+    /// Take the records of a CSV file in turn: all of them, or none. None is taken where one is of
+    /// a later day than one that is given.
     Import {
         db: T,
         csv: CsvFile<T>,
+        until: Option<T>,
     },
     /// Change a plan by a CSV file.
     Edit(Edit<T>),

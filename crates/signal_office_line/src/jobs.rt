@@ -3,10 +3,11 @@
 ghost use Rattle.std.specs.Prelude.{◌≡◌, option_map};
 ghost use Rattle.clap.specs.Matches.{found_of};
 ghost use Rattle.clap.specs.Walk.{rows_of};
-ghost use Rattle.signal_office_line.specs.Job.{abandon_at, add_at, asked, batch_at, compare_at};
+ghost use Rattle.signal_office_line.specs.Job.{abandon_at, add_at, asked, backup_at, batch_at, compare_at};
 ghost use Rattle.signal_office_line.specs.Job.{diagram_at, edit_at, import_at, job_at, migrate_at};
-ghost use Rattle.signal_office_line.specs.Job.{csv_at, edited_file, file_asked, number_at};
-ghost use Rattle.signal_office_line.specs.Job.{overdue_at, page_at, serve_at, show_at};
+ghost use Rattle.signal_office_line.specs.Job.{csv_at, edited_file, export_job_at, file_asked};
+ghost use Rattle.signal_office_line.specs.Job.{number_at, overdue_at, page_at, serve_at, show_at};
+ghost use Rattle.signal_office_line.specs.Job.{used_at};
 ghost use Rattle.signal_office_line.specs.Job.{verify_file_at};
 
 use crate::job::{CsvFile, Edit, Job};
@@ -92,6 +93,16 @@ fn overdue<'a>(matches: &ArgMatches<'a>) -> Option<Job<&'a str>>
     })
 }
 
+/// `used --db FILE [--csv] [PART]`.
+fn used<'a>(matches: &ArgMatches<'a>) -> Option<Job<&'a str>>
+    ensures { option_map asked result ≡ used_at (rows_of (found_of matches.entry.now)) }
+{
+    let db = word(matches, "db")?;
+    let part = word(matches, "PART");
+    let csv = flag(matches, "csv");
+    Some(Job::Used { db, part, csv })
+}
+
 /// `add --db FILE ID INTERVAL NAME`.
 fn add<'a>(matches: &ArgMatches<'a>) -> Option<Job<&'a str>>
     ensures { option_map asked result ≡ add_at (rows_of (found_of matches.entry.now)) }
@@ -126,13 +137,24 @@ fn migrate<'a>(matches: &ArgMatches<'a>) -> Option<Job<&'a str>>
     Some(Job::Migrate { db })
 }
 
-/// `import --db FILE [--padded] CSV`.
+/// `backup --db FILE [--force] TO`.
+fn backup<'a>(matches: &ArgMatches<'a>) -> Option<Job<&'a str>>
+    ensures { option_map asked result ≡ backup_at (rows_of (found_of matches.entry.now)) }
+{
+    let db = word(matches, "db")?;
+    let to = word(matches, "TO")?;
+    let force = flag(matches, "force");
+    Some(Job::Backup { db, to, force })
+}
+
+/// `import --db FILE [--until DAY] [--padded] CSV`.
 fn import<'a>(matches: &ArgMatches<'a>) -> Option<Job<&'a str>>
     ensures { option_map asked result ≡ import_at (rows_of (found_of matches.entry.now)) }
 {
     let db = word(matches, "db")?;
     let csv = csv_file(matches, "CSV")?;
-    Some(Job::Import { db, csv })
+    let until = word(matches, "until");
+    Some(Job::Import { db, csv, until })
 }
 
 /// `edit --db FILE --clerk NAME [--replace] [--commit] [--explain] [--padded] ID CSV`, or
@@ -239,6 +261,21 @@ fn show<'a>(name: &str, matches: &ArgMatches<'a>) -> Option<Job<&'a str>>
     Some(Job::Show { db, shown })
 }
 
+/// `export --db FILE [--draft] [--cabinet] ID`, or `export --db FILE --all DIR`.
+fn export<'a>(matches: &ArgMatches<'a>) -> Option<Job<&'a str>>
+    ensures { option_map asked result ≡ export_job_at (rows_of (found_of matches.entry.now)) }
+{
+    if !flag(matches, "all") {
+        return show("export", matches);
+    }
+    if flag(matches, "draft") || flag(matches, "cabinet") {
+        return None;
+    }
+    let db = word(matches, "db")?;
+    let dir = word(matches, "ID")?;
+    Some(Job::ExportAll { db, dir })
+}
+
 /// What the command of a name asks for, where its values are there and its numbers in their ranges.
 pub(crate) fn job_at<'a>(name: &str, matches: &ArgMatches<'a>) -> Option<Job<&'a str>>
     ensures { option_map asked result ≡ job_at name.now (rows_of (found_of matches.entry.now)) }
@@ -247,10 +284,13 @@ pub(crate) fn job_at<'a>(name: &str, matches: &ArgMatches<'a>) -> Option<Job<&'a
         "batch" => batch(matches),
         "serve" => serve(matches),
         "overdue" => overdue(matches),
+        "used" => used(matches),
         "add" => add(matches),
         "verify-file" => verify_file(matches),
         "migrate" => migrate(matches),
+        "backup" => backup(matches),
         "import" => import(matches),
+        "export" => export(matches),
         "edit" => edit(matches),
         "abandon" => abandon(matches),
         "compare" => compare(matches),

@@ -7,7 +7,7 @@ ghost use Rattle.clap.specs.Walk.{rows_of};
 ghost use Rattle.signal_office_line.specs.Refusals.{IsWrongNumber};
 
 use crate::command_line::{command_line, command_named};
-use crate::values::{number, word};
+use crate::values::{flag, number, word};
 use clap::error::ErrorKind;
 use clap::{ArgMatches, Error};
 use std::alloc::{AllocError, Global};
@@ -88,6 +88,7 @@ fn numbers_of(name: &str, matches: &ArgMatches<'_>) -> &'static [NumberArgument<
         "add" => NEW_INTERSECTION,
         "compare" if word(matches, "db").is_some() => COMPARED,
         "compare" => &[],
+        "export" if flag(matches, "all") => &[],
         "diagram" if has_file => DRAWN_OF_FILE,
         "diagram" => DRAWN,
         _ => OTHER,
@@ -95,8 +96,9 @@ fn numbers_of(name: &str, matches: &ArgMatches<'_>) -> &'static [NumberArgument<
 }
 
 /// What a command takes, where each of its numbers is one.
-fn forms_of(name: &str) -> &'static str {
+fn forms_of(name: &str, matches: &ArgMatches<'_>) -> &'static str {
     match name {
+        "export" if flag(matches, "all") => "export --all takes neither --draft nor --cabinet",
         "edit" => "edit needs a CSV file, or --commit without --replace",
         "export" => "export takes --draft or --cabinet, not both",
         "compare" => "compare needs two CSV files, or --db FILE ID",
@@ -131,7 +133,7 @@ fn reason(alloc: Global, name: &str, matches: &ArgMatches<'_>) -> Result<String,
         Some((NumberArgument { shown, most, .. }, word)) => {
             format!(in alloc; "{shown} {word}: a number from 1 to {most}")
         }
-        None => String::from_str(alloc, forms_of(name)),
+        None => String::from_str(alloc, forms_of(name, matches)),
     }
 }
 

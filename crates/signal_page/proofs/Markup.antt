@@ -1,8 +1,9 @@
 -- The tags of a page are its own, whatever names and texts of others hold.
 use Rattle.std.proofs.Common.{◌≡◌, ℕ, suc, ◌+◌, ◌≤◌, ◌⊎◌, inl, inr, arith, eqb, Bool, true, false, List, [], ◌∷◌, ◌++◌, map, flat_map}
-use Rattle.std.proofs.Common.{filter, length, codes, Option, Some, None, refl, sym, ap, ap₂, ◌∙◌}
+use Rattle.std.proofs.Common.{filter, length, max, codes, Option, Some, None, refl, sym, ap, ap₂, ◌∙◌}
 use Rattle.std.proofs.{lemmas.List.Elements.filter-append, lemmas.List.length-append}
 use Rattle.std.specs.Prelude.{cond, reverse, decimal, is_some, not, option_map}
+use Rattle.cabinet_core.specs.{Places.inspection_place, Places.order_place}
 use Rattle.cabinet_core.specs.{Orders.is_open, Overdue.greater, Overdue.latest_day, declared.record.CabinetView.CabinetView}
 use Rattle.cabinet_core.specs.{declared.record.Closing.Closing, declared.record.Inspection.Inspection, declared.record.Order.Order}
 use Rattle.cabinet_core.specs.declared.record.UsedLine.{UsedLine}
@@ -14,8 +15,9 @@ use Rattle.signal_page.specs.{Reading.is_markup, Reading.marks, Blank.blank_stat
 use Rattle.signal_page.specs.{Blank.blank_order, Blank.blank_line, Blank.blank_view, Blank.blank, Cells.row_heading, Cells.text_cell}
 use Rattle.signal_page.specs.{State.fact, State.owner_text, State.last_text, State.due_text, State.draft_facts, State.cabinet_facts, Register.day_cell}
 use Rattle.signal_page.specs.Register.{part_used, part_of, parts_cell, order_cells, closing_cells, row_if_open, open_row, closed_by, closed_row}
-use Rattle.signal_page.specs.Register.{open_orders_part, closed_orders_part, inspection_row, inspections_part, due_note, register_part}
+use Rattle.signal_page.specs.Register.{open_orders_part, closed_orders_part, inspection_row, inspections_part, due_note, next_note, register_part}
 use Rattle.office_files.specs.Cells.{when_empty}
+use Rattle.office_listings.specs.Next.{greatest_of, next_after, next_word}
 use Rattle.signal_page.specs.Tables.{none_row, rows_or_none}
 use Rattle.signal_page.proofs.Newest.{reversed_map}
 use Rattle.signal_page.specs.Page.{header, plan_section, draft_section, cabinet_section, page_end, page_text}
@@ -273,10 +275,24 @@ inspections_alike inspections =
     (each_marked inspection_row inspection_marked (reverse inspections))
     (each_marked inspection_row inspection_marked (reverse (map blank_inspection inspections)))))
 
+greatest_same : {A : Type 0} (to : A → A) (place : A → ℕ) → ((x : A) → place (to x) ≡ place x) → (xs : List A)
+    → greatest_of (map place (map to xs)) ≡ greatest_of (map place xs)
+greatest_same to place same [] = refl
+greatest_same to place same (x ∷ xs) = ap₂ max (same x) (greatest_same to place same xs)
+
+next_same : (view : CabinetView) → next_note (blank_view view) ≡ next_note view
+unfolding next_note
+next_same view =
+    ap₂ (λ (inspection order : ℕ).
+    codes "<p>" ++ (codes "next free numbers: inspection " ++ next_word (next_after inspection) ++ codes ", order " ++ next_word (next_after order))
+    ++ codes "</p>\n")
+    (greatest_same blank_inspection inspection_place (λ x. refl) view.inspections) (greatest_same blank_order order_place (λ x. refl) view.orders)
+
 register_alike : (interval : ℕ) (view : CabinetView) → Alike (register_part interval view) (register_part interval (blank_view view))
 unfolding register_part
 register_alike interval view =
-    joined (joined (joined (equal _ _ (ap (due_note interval) (sym (latest_same view.inspections))))
+    joined (joined (joined (joined (equal _ _ (ap (due_note interval) (sym (latest_same view.inspections))))
+    (equal _ _ (sym (next_same view))))
     (open_orders_alike view.lines view.orders))
     (closed_orders_alike view.lines view.orders)) (inspections_alike view.inspections)
 

@@ -10,6 +10,7 @@ use Rattle.cabinet_core.specs.declared.record.Inspection.{Inspection}
 use Rattle.cabinet_core.specs.declared.record.Order.{Order}
 use Rattle.cabinet_core.specs.declared.record.UsedLine.{UsedLine}
 use Rattle.office_files.specs.Records.{is_line_of}
+use Rattle.office_listings.specs.Next.{next_numbers_words}
 use Rattle.signal_page.specs.Words.{isolated}
 use Rattle.signal_page.specs.Cells.{heading, words_heading, row_heading, text_cell}
 use Rattle.signal_page.specs.Tables.{table_opening, table_body, table_end, rows_or_none}
@@ -106,7 +107,12 @@ due_note interval latest =
     due_words interval latest ++ codes " Days from one inspection to the next: " ++ decimal interval
     ++ codes ".</p>\n"
 
+-- the next free numbers
+unfoldable pub next_note : CabinetView → List ℕ
+next_note view = codes "<p>" ++ next_numbers_words view ++ codes "</p>\n"
+
 unfoldable pub register_part : ℕ → CabinetView → List ℕ
 register_part interval view =
-    due_note interval (latest_day view.inspections) ++ open_orders_part view.lines view.orders
-    ++ closed_orders_part view.lines view.orders ++ inspections_part view.inspections
+    due_note interval (latest_day view.inspections) ++ next_note view
+    ++ open_orders_part view.lines view.orders ++ closed_orders_part view.lines view.orders
+    ++ inspections_part view.inspections

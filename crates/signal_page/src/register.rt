@@ -1,12 +1,12 @@
-//! The register of a cabinet in the page: the due day, open orders first, then closed ones, and the
-//! inspections.
+//! The register of a cabinet in the page: the due day and the next free numbers, open orders first,
+//! then closed ones, and the inspections.
 
 ghost use Rattle.std.specs.Prelude.{◌≡◌, ◌+◌, ◌++◌, OnOk, flat_map, reverse, string_bytes};
 ghost use Rattle.signal_page.specs.Register.{day_cell, part_used, part_of, parts_cell, order_cells};
 ghost use Rattle.signal_page.specs.Register.{closing_cells, open_row, closed_row, order_headings};
 ghost use Rattle.signal_page.specs.Register.{open_orders_part, closed_orders_part, inspection_row};
 ghost use Rattle.signal_page.specs.Register.{inspection_headings, inspections_part, due_words};
-ghost use Rattle.signal_page.specs.Register.{due_on, due_note, register_part};
+ghost use Rattle.signal_page.specs.Register.{due_on, due_note, next_note, register_part};
 ghost use Rattle.signal_page.specs.Tables.{rows_or_none};
 
 use crate::cells::{push_heading, push_row_heading, push_text, push_words_heading};
@@ -14,6 +14,7 @@ use crate::facts::push_due_day;
 use crate::tables::{begin_rows, end_table, open_table, push_none_since};
 use crate::words::{push_isolated, push_markup};
 use cabinet_core::{CabinetView, Closing, Day, Inspection, Order, UsedLine, latest, write_day};
+use office_listings::push_next_numbers;
 use signal_records::{Interval, NoMemory, RecordNo};
 use std::alloc::{AllocError, Global};
 use std::fmt::Write;
@@ -360,6 +361,15 @@ fn push_due_note(
     write!(text, " Days from one inspection to the next: {days}.</p>\n")
 }
 
+/// Appends the next free numbers.
+fn push_next_note(text: &mut String, view: &CabinetView) -> Result<(), AllocError>
+    ensures { OnOk result (string_bytes text.new ≡ string_bytes text.old ++ next_note view.now) }
+{
+    push_markup(text, "<p>")?;
+    push_next_numbers(text, view)?;
+    push_markup(text, "</p>\n")
+}
+
 /// Appends the register of a cabinet.
 #[tactic(auto, unfolding(crate::specs::Register::register_part))]
 pub(crate) fn push_register(
@@ -375,6 +385,7 @@ pub(crate) fn push_register(
     let lines = view.lines.as_slice();
     let orders = view.orders.as_slice();
     push_due_note(text, interval, latest(inspections))?;
+    push_next_note(text, view)?;
     push_open_orders(alloc, text, lines, orders)?;
     push_closed_orders(alloc, text, lines, orders)?;
     push_inspections(alloc, text, inspections)

@@ -1,21 +1,35 @@
-use Rattle.std.proofs.Common.{inr, option_map, subst, ◌∙◌}
+use Rattle.std.proofs.Common.{ap, inl, inr, option_map, refl, subst}
 use Rattle.signal_office_in_file.specs.Ended.{file_view}
-use Rattle.signal_office_jobs.proofs.PrintingLemmas.{fails, read_any_so}
+use Rattle.signal_office_jobs.proofs.PrintingLemmas.{any_plan_so, handed}
 use Rattle.signal_office_jobs.proofs.in_file.edit_by.Goals as goal
 use Rattle.signal_office_jobs.specs.Printed.{edit_mode}
 use Rattle.signal_office_jobs.specs.Printing.{InFoundFile, editing}
+use Rattle.signal_office_line.specs.Job.{file_asked}
 
-pub returns-in_err-csv : goal.returns-in_err-csv
-returns-in_err-csv g c = inr (_, c.in_err-csv.ensures.fault, fails _ _ c.from_residual.result c.from_residual.ensures.1)
+pub returns-in_err-plan-in-Some : goal.returns-in_err-plan-in-Some
+returns-in_err-plan-in-Some g c =
+    let why = c.in_err-plan-in-Some.ensures.fault in
+    any_plan_so _ _ _ _ _ _ _ _ (ap (option_map file_asked) c.in-Some.is)
+    (inr (_, why.0, refl, why.1, handed _ c.from_residual.result c.from_residual.ensures.1))
 
-pub returns : goal.returns
-returns g c =
+pub returns-in_ok-plan-in-Some : goal.returns-in_ok-plan-in-Some
+returns-in_ok-plan-in-Some g c =
     let f = g.F.OfficeInFile in
     let view = file_view f.held f.is_clean f.keeps f.refused f.leaves in
     let told = g.W.Sink.told in
     let edit = c.args.edit.now in
-    let found = c.in_ok-csv.ensures.text in
-    read_any_so (option_map (λ csv. csv.padded) edit.csv) (λ plan. InFoundFile view (editing plan edit.id c.args.clerk.now (edit_mode edit) edit.explain))
-    c.deref.result.now (told c.args.out.now) (told c.in_file.new.out) c.in_file.result (found.0, c.deref.ensures.value ∙ found.1)
-    (subst (λ mode. InFoundFile view (editing c.deref.result.now edit.id c.args.clerk.now mode edit.explain) (told c.args.out.now) (told c.in_file.new.out) c.in_file.result)
-    c.mode_of-mode.ensures c.in_file.ensures)
+    let read = c.in_ok-plan-in-Some.ensures.plan in
+    any_plan_so _ _ _ _ _ _ _ _ (ap (option_map file_asked) c.in-Some.is)
+    (inl (
+      c.in_ok-plan-in-Some.plan.items,
+      _,
+      _,
+      read.0,
+      read.1,
+      (
+        refl,
+        refl,
+        subst (λ plan. InFoundFile view (editing plan edit.id c.args.clerk.now (edit_mode edit) edit.explain) (told c.args.out.now) (told c.edit_with.new.out) c.edit_with.result)
+            c.deref.ensures.value c.edit_with.ensures,
+      ),
+    ))

@@ -15,6 +15,9 @@ returns-in-Serve-clause-stop g c = within_so g.S.Shelf _ _ _ _ c.in-Serve.is c.s
 pub returns-in-Show-clause-stop : goal.returns-in-Show-clause-stop
 returns-in-Show-clause-stop g c = within_so g.S.Shelf _ _ _ _ c.in-Show.is (kept_within g.S.Shelf _ _ c.show.ensures.kept)
 
+pub returns-in-Used-clause-stop : goal.returns-in-Used-clause-stop
+returns-in-Used-clause-stop g c = within_so g.S.Shelf _ _ _ _ c.in-Used.is (kept_within g.S.Shelf _ _ c.used.ensures.kept)
+
 pub returns-in-Add-clause-stop : goal.returns-in-Add-clause-stop
 returns-in-Add-clause-stop g c = within_so g.S.Shelf _ _ _ _ c.in-Add.is (changed_within g.S.Shelf _ _ _ c.add.ensures.stop)
 
@@ -32,3 +35,12 @@ returns-in-Compare-clause-stop g c = within_so g.S.Shelf _ _ _ _ c.in-Compare.is
 
 pub returns-in-CompareWith-clause-stop : goal.returns-in-CompareWith-clause-stop
 returns-in-CompareWith-clause-stop g c = within_so g.S.Shelf _ _ _ _ c.in-CompareWith.is (kept_within g.S.Shelf _ _ c.compare_with.ensures.kept)
+
+pub returns-in-Fill-clause-stop : goal.returns-in-Fill-clause-stop
+returns-in-Fill-clause-stop g c = within_so g.S.Shelf _ _ _ _ c.in-Fill.is (kept_within g.S.Shelf _ _ c.fill_folder.ensures.kept)
+
+pub returns-in-Fill-clause-does : goal.returns-in-Fill-clause-does
+returns-in-Fill-clause-does g c = λ clean honest.
+    let told = g.W.Sink.told c.args.out.now in
+    subst (λ task. TaskDoes task (g.S.Shelf.content c.args.office.now) c.fill_folder.result (g.S.Shelf.content c.fill_folder.new.office) told told) (sym c.in-Fill.is)
+    (c.fill_folder.ensures.kept.same_content honest, refl, c.fill_folder.ensures.does honest)

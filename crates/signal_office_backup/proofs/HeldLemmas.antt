@@ -1,0 +1,42 @@
+-- What is known of a file up to a place, and of the bytes there, is known of it up to their end; and so it is of a sink.
+use Rattle.std.proofs.Common.{◌≡◌, ◌⊎◌, ℕ, ◌+◌, ◌<◌, ◌≤◌, List, ◌++◌, length, take, drop, ap, ◌∙◌, inl, inr}
+use Rattle.std.proofs.Common.{arith, get_or-drop, get_or-take, length-drop, length-take}
+use Rattle.std.proofs.Math.Seq.{take-add}
+use Rattle.std.proofs.lemmas.List.{ext_get_or}
+use Rattle.office_http_framing.specs.Ends.{FailsOrGivesNone, Grows, Rose, Told}
+use Rattle.office_http_framing.specs.declared.ends.Counts.{Counts}
+use Rattle.sqlite_disk.specs.Disk.{Holds}
+use Rattle.signal_office_backup.specs.Copying.{CopyBreaksOff, FailsToCopy}
+use Rattle.signal_office_backup.specs.declared.copying.CopyFault.{CopyFault}
+use Rattle.signal_office_backup.specs.declared.copying.CopyFault.TheVariants as fault
+
+part_held : (file bytes : List ℕ) (at : ℕ) → Holds file at bytes → take (length bytes) (drop at file) ≡ bytes
+part_held file bytes at holds =
+    let within = holds.within in
+    let whole : length (take (length bytes) (drop at file)) ≡ length bytes =
+    omega (arith, length-take (length bytes) (drop at file), length-drop at file) in
+    ext_get_or 0 (take (length bytes) (drop at file)) bytes whole
+    (λ i low.
+    let inside : i < length bytes = omega (arith, whole) in
+    get_or-take (length bytes) (drop at file) i 0 inside ∙ get_or-drop at file i 0 ∙ holds.each i inside)
+
+pub held_more : (file bytes : List ℕ) (at : ℕ) → Holds file at bytes → take (at + length bytes) file ≡ take at file ++ bytes
+held_more file bytes at holds = take-add at (length bytes) file ∙ ap (λ (back : List ℕ). take at file ++ back) (part_held file bytes at holds)
+
+rose_before : (first old new : ℕ) → first ≤ old → Rose old new → Rose first new
+rose_before first old new grows (inl rose) = inl (omega arith)
+rose_before first old new grows (inr full) = inr full
+
+fails_before : (first old new : Counts) → Grows first old → FailsOrGivesNone old new → FailsOrGivesNone first new
+fails_before first old new grows (inl fails) = inl (rose_before first.failures old.failures new.failures grows.failures fails)
+fails_before first old new grows (inr none) = inr (rose_before first.empties old.empties new.empties grows.empties none)
+
+pub breaks_before : (first old new : Told) → Grows first.counts old.counts → (why : CopyFault) → CopyBreaksOff old new why → CopyBreaksOff first new why
+breaks_before first old new grows fault.Read it = tt
+breaks_before first old new grows fault.Write it = fails_before first.counts old.counts new.counts grows it
+breaks_before first old new grows fault.NoMemory it = it
+
+pub breaks_fails : (start end : Told) (why : CopyFault) → CopyBreaksOff start end why → FailsToCopy start end why
+breaks_fails start end fault.Read it = it
+breaks_fails start end fault.Write it = it
+breaks_fails start end fault.NoMemory it = absurd it

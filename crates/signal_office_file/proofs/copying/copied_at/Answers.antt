@@ -1,0 +1,10 @@
+use Rattle.sqlite.specs.WalFiles.{image_at}
+use Rattle.signal_office_in_file.specs.Ended.{copy_work}
+use Rattle.signal_office_file.specs.Files.{HoldAlone}
+use Rattle.signal_office_file.proofs.InFileLemmas.{ends_at}
+use Rattle.signal_office_file.proofs.copying.copied_at.Goals as goal
+
+pub returns-in-Ok : goal.returns-in-Ok
+returns-in-Ok g c =
+    ends_at _ (image_at g.S.Start) c.in-Ok.files c.in-Ok.ensures.new
+    (copy_work HoldAlone (g.W.Sink.told c.args.out.now) (g.W.Sink.told c.copied_in.new.out)) c.copied_in.result c.copied_in.ensures

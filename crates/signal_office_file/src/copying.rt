@@ -1,0 +1,88 @@
+//! The office of a file, copied: the log into the database file, and that file's bytes into a sink.
+
+ghost use Rattle.std.specs.Prelude.{◌≡◌};
+ghost use Rattle.sqlite.specs.WalFiles.{image_at};
+ghost use Rattle.signal_office_in_file.specs.Ended.{EndsOver, copy_work};
+ghost use Rattle.signal_office_file.specs.Copying.{PoursAs, told_of_copy};
+ghost use Rattle.signal_office_file.specs.Files.{AreUsable, HoldAlone};
+ghost use Rattle.signal_office_file.specs.InFile.{files_view, view_at};
+
+use crate::closing::close_office;
+use crate::in_file::Begin;
+use crate::left::FileLeft;
+use crate::opening::open_file;
+use crate::paths::files_at;
+use office_http::Sink;
+use signal_office_backup::{CopyFault, copy_all};
+use signal_office_faults::Fault;
+use signal_office_in_file::Ended;
+use sqlite::{FileFrom, Options};
+use sqlite_disk::{Disk, Files};
+use std::alloc::Global;
+
+/// What is told of a file that was not copied.
+fn fault_of_copy(fault: CopyFault) -> Fault
+    ensures { result ≡ told_of_copy fault }
+{
+    match fault {
+        CopyFault::Read => Fault::Store,
+        CopyFault::Write => Fault::Write,
+        CopyFault::NoMemory => Fault::Memory,
+    }
+}
+
+/// Writes the bytes of the database file to the sink, and gives both files back.
+fn poured<D: Disk + Drop, W: Sink>(
+    alloc: Global,
+    mut files: Files<D>,
+    out: &mut W,
+) -> (Result<(), Fault>, Files<D>)
+    requires { AreUsable D.Disk files }
+    ensures { PoursAs D.Disk files (W.told out.old) (W.told out.new) result.0 result.1 }
+{
+    let done = match copy_all(alloc, &mut files.db, out) {
+        Ok(()) => Ok(()),
+        Err(fault) => Err(fault_of_copy(fault)),
+    };
+    (done, files)
+}
+
+/// Opens the office in the two files and closes it, so that its log is copied into the database
+/// file, whose bytes are then written to the sink: a file of these alone is the whole office.
+pub fn copied_in<D: Disk + Drop, W: Sink>(
+    alloc: Global,
+    files: Files<D>,
+    options: Options,
+    out: &mut W,
+) -> Ended<Result<(), Fault>, FileLeft<D>>
+    ensures { EndsOver (files_view D.Disk files)
+        (copy_work HoldAlone (W.told out.old) (W.told out.new)) result }
+{
+    let office = match open_file(alloc, files, options) {
+        Ok(office) => office,
+        Err((fault, left)) => return Ended::Refused(fault, left),
+    };
+    match close_office(office) {
+        Ok(files) => {
+            let (done, files) = poured(alloc, files, out);
+            Ended::Closed(done, FileLeft::Closed(files))
+        }
+        Err((fault, left)) => Ended::Unclosed(fault, left),
+    }
+}
+
+/// Copies the office of a file.
+pub(crate) fn copied_at<S: Begin, W: Sink>(
+    rt: &HostRuntime,
+    alloc: Global,
+    path: &str,
+    out: &mut W,
+) -> Ended<Result<(), Fault>, FileLeft<FileFrom<S>>>
+    ensures { EndsOver (view_at ⟦<FileFrom<S> as Disk>⟧ (image_at S.Start))
+        (copy_work HoldAlone (W.told out.old) (W.told out.new)) result }
+{
+    match files_at(rt, path, S::begin()) {
+        Ok((files, options)) => copied_in(alloc, files, options, out),
+        Err(fault) => Ended::Unopened(fault),
+    }
+}

@@ -1,0 +1,22 @@
+-- What was put into a folder.
+use Rattle.std.specs.Prelude.{◌≡◌, ◌⊎◌, ℕ, List, ◌++◌, Option, Some, None, ⊤}
+use Rattle.signal_office_faults.specs.declared.fault.Fault.{Fault}
+use Rattle.signal_office_faults.specs.declared.fault.Fault.TheVariants as fault
+
+-- a file: its name and its text
+abbrev pub NamedText : Type 0
+NamedText = List ℕ × List ℕ
+
+-- those that were put, the last one last, where they are known
+abbrev pub KnownFiles : Type 0
+KnownFiles = Option (List NamedText)
+
+-- these were put besides
+abbrev pub AddsFiles : (old new : KnownFiles) → (added : List NamedText) → Type 0
+AddsFiles None None added = ⊤
+AddsFiles (Some old) (Some new) added = new ≡ old ++ added
+AddsFiles _ _ added = ⊥
+
+-- a file was not put: it was not written, or memory was refused
+abbrev pub IsUnput : Fault → Type 0
+IsUnput why = (why ≡ fault.Write) ⊎ (why ≡ fault.Memory)

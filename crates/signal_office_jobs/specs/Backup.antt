@@ -1,0 +1,58 @@
+-- What a copy of an office does, and when it is refused.
+use Rattle.std.specs.Prelude.{◌≡◌, ◌⊎◌, ℕ, Bool, true, false, not, ◌&&◌, ◌||◌, List, codes, Result, Ok, Err, ⊤}
+use Rattle.office_http_framing.specs.Ends.{Told}
+use Rattle.office_tables_shelf.specs.Content.{Content}
+use Rattle.signal_office_faults.specs.declared.fault.Fault.{Fault}
+use Rattle.signal_office_faults.specs.declared.fault.Fault.TheVariants as fault
+use Rattle.signal_office_in_file.specs.Ended.{EndsOver, FileView, copy_work, told_by}
+use Rattle.signal_office_in_file.specs.declared.Ended.{Ended}
+use Rattle.signal_office_jobs.specs.Printing.{IsMissing, Output, PrintsDone, TellsNothing, joined}
+use Rattle.signal_office_jobs.specs.Tasks.{TellsOutcome}
+use Rattle.signal_office_jobs.specs.declared.backup.Standing.{Standing}
+use Rattle.signal_office_jobs.specs.declared.done.Done.{Done}
+
+-- what is told of a copy
+abbrev pub copied_line : List ℕ
+copied_line = codes "copied\n"
+
+-- A copy may be put where no log lies, which would bring another office back, nor a copy that was not finished; a file is replaced only by force.
+abbrev pub leaves_room : (force : Bool) → Standing → Bool
+leaves_room force found = not found.log && (not found.part && (force || not found.file))
+
+-- a copy that was made is put in its place, or that fails
+abbrev pub IsPut : (copied result : Result ⊤ Fault) → Type 0
+IsPut (Ok done) result = (result ≡ Ok done) ⊎ (result ≡ Err fault.Write)
+IsPut (Err why) result = result ≡ Err why
+
+-- a copy may be put at a place; or something stands there, or memory for the names was refused
+abbrev pub FindsRoom : (force : Bool) → Result ⊤ Fault → Type 0
+FindsRoom force (Ok done) = (found : Standing) × (leaves_room force found ≡ true)
+FindsRoom force (Err why) = (why ≡ fault.Memory) ⊎ ((why ≡ fault.Exists) × ((found : Standing) × (leaves_room force found ≡ false)))
+
+module _ {Left : Type 0} (view : FileView Left) (Alone : List ℕ → Content → Type 0) where
+  -- the office of the file was copied to some output, and the result tells how that ended
+  pub record CopiesOffice (result : Result ⊤ Fault) : Type 0 where
+    pub start : Told
+    pub end : Told
+    pub ended : Ended (Result ⊤ Fault) Left
+    pub over : EndsOver view (copy_work Alone start end) ended
+    pub put : IsPut (joined (told_by ended)) result
+
+  -- the same; or there was no output, or no memory for its name
+  abbrev pub CopiesTo : Result ⊤ Fault → Type 0
+  CopiesTo result = CopiesOffice result ⊎ ((result ≡ Err fault.Write) ⊎ (result ≡ Err fault.Memory))
+
+  -- the place was free, or was to be replaced, and what came of the copy is printed
+  pub record BacksUp (force : Bool) (start end : Told) (result : Result ℕ Fault) : Type 0 where
+    pub room : FindsRoom force (Ok tt)
+    pub copied : Result ⊤ Fault
+    pub copies : CopiesTo copied
+    pub done : Result Done Fault
+    pub tells : TellsOutcome (λ _. copied_line) (λ _. 0) copied done
+    pub prints : PrintsDone done start end result
+
+  -- the same; or the file is not there, or the place is not free, and that is told
+  abbrev pub BacksUpFile : Bool → Output
+  BacksUpFile force start end result =
+      BacksUp force start end result
+      ⊎ ((why : Fault) × (IsMissing fault.File why ⊎ FindsRoom force (Err why)) × TellsNothing why start end result)

@@ -1,0 +1,144 @@
+//! The office of a file, copied into another.
+
+ghost use Rattle.std.specs.Prelude.{◌≡◌};
+ghost use Rattle.signal_office_in_file.specs.Ended.{file_view};
+ghost use Rattle.signal_office_jobs.specs.Backup.{BacksUpFile, CopiesTo, FindsRoom, IsPut};
+ghost use Rattle.signal_office_jobs.specs.Backup.{leaves_room};
+
+use crate::done::{copied, joined, print_done};
+use office_http::{Sink, ToWrite};
+use signal_office_commands::Fault;
+use signal_office_faults::is_missing;
+use signal_office_in_file::OfficeInFile;
+use std::alloc::{AllocError, Global};
+use std::fs::{File, OpenOptions};
+use std::os::unix::fs::{MetadataExt, OpenOptionsExt};
+use std::{fs, io};
+
+/// What stands where a copy is to be put, and beside it: a file, its log, and a copy that was not
+/// finished.
+#[derive(Clone, Copy)]
+struct Standing {
+    file: bool,
+    log: bool,
+    part: bool,
+}
+
+impl Standing {
+    /// Whether a copy may be put there. A log would bring another office back, so that of no file is
+    /// replaced.
+    fn leaves_room(self, force: bool) -> bool
+        ensures { result ≡ leaves_room force self }
+    {
+        !self.log && !self.part && (force || !self.file)
+    }
+}
+
+/// Whether there is a file that has a byte.
+fn has_bytes(rt: &HostRuntime, path: &str) -> bool {
+    match fs::metadata(rt, path) {
+        Ok(found) => found.len() > 0,
+        Err(_) => false,
+    }
+}
+
+/// What stands at a path, as the system tells.
+fn standing_at(rt: &HostRuntime, alloc: Global, path: &str) -> Result<Standing, AllocError> {
+    let log = format!(in alloc; "{path}-wal")?;
+    let part = format!(in alloc; "{path}.part")?;
+    Ok(Standing {
+        file: fs::symlink_metadata(rt, path).is_ok(),
+        log: has_bytes(rt, log.as_str()),
+        part: fs::symlink_metadata(rt, part.as_str()).is_ok(),
+    })
+}
+
+/// Finds out whether a copy may be put at a path.
+fn room_at(rt: &HostRuntime, alloc: Global, path: &str, force: bool) -> Result<(), Fault>
+    ensures { FindsRoom force result }
+{
+    match standing_at(rt, alloc, path) {
+        Ok(found) if found.leaves_room(force) => Ok(()),
+        Ok(_) => Err(Fault::Exists),
+        Err(_) => Err(Fault::Memory),
+    }
+}
+
+/// Makes a new file, which those may read who may read the other one.
+fn made_like(rt: &HostRuntime, other: &str, path: &str) -> io::Result<File> {
+    let mode = fs::metadata(rt, other)?.mode() & 0o777;
+    OpenOptions::new()
+        .write(true)
+        .create_new(true)
+        .mode(mode)
+        .open(rt, path)
+}
+
+/// Puts a file that was written whole in the place of another.
+fn moved(rt: &HostRuntime, file: &File, part: &str, to: &str) -> io::Result<()> {
+    file.sync_all()?;
+    fs::rename(rt, part, to)
+}
+
+/// Puts a copy that was made in its place. One that was not made is removed.
+fn put(
+    rt: &HostRuntime,
+    file: &File,
+    copied: Result<(), Fault>,
+    part: &str,
+    to: &str,
+) -> Result<(), Fault>
+    ensures { IsPut copied result }
+{
+    match copied {
+        Ok(()) if moved(rt, file, part, to).is_ok() => Ok(()),
+        Ok(()) => {
+            let _ = fs::remove_file(rt, part);
+            Err(Fault::Write)
+        }
+        Err(fault) => {
+            let _ = fs::remove_file(rt, part);
+            Err(fault)
+        }
+    }
+}
+
+/// Copies the office of a file into a new one beside another, and puts that in its place.
+fn copied_to<F: OfficeInFile>(
+    rt: &HostRuntime,
+    alloc: Global,
+    db: &str,
+    to: &str,
+) -> Result<(), Fault>
+    ensures { CopiesTo (file_view F.held F.is_clean F.keeps F.refused F.leaves) F.alone result }
+{
+    let part = format!(in alloc; "{to}.part")?;
+    let Ok(file) = made_like(rt, db, part.as_str()) else {
+        return Err(Fault::Write);
+    };
+    let mut sink = ToWrite::new(file);
+    let ended = F::copy(rt, alloc, db, &mut sink);
+    put(rt, &sink.writer, joined(ended.told()), part.as_str(), to)
+}
+
+/// Copies the office of a file into another, where that is free or is to be replaced, and prints
+/// that. The file has to be there.
+pub(crate) fn backup<F: OfficeInFile, W: Sink>(
+    rt: &HostRuntime,
+    alloc: Global,
+    db: &str,
+    to: &str,
+    force: bool,
+    out: &mut W,
+) -> Result<u8, Fault>
+    ensures { BacksUpFile (file_view F.held F.is_clean F.keeps F.refused F.leaves) F.alone force
+        (W.told out.old) (W.told out.new) result }
+{
+    if is_missing(rt, alloc, db)? {
+        return Err(Fault::File);
+    }
+    match room_at(rt, alloc, to, force) {
+        Ok(()) => print_done(copied(alloc, copied_to::<F>(rt, alloc, db, to)), out),
+        Err(fault) => Err(fault),
+    }
+}

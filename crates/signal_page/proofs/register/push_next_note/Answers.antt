@@ -1,0 +1,11 @@
+use Rattle.std.proofs.{Common.string_bytes, lemmas.Result.on_ok_weaker}
+use Rattle.signal_page.specs.Register.{next_note}
+use Rattle.signal_page.proofs.Parts.{two}
+use Rattle.signal_page.proofs.register.push_next_note.Goals as goal
+
+pub returns : goal.returns
+unfolding next_note
+returns c =
+    let to1 = c.in_ok-push_markup.ensures in
+    let to2 = two (string_bytes c.args.text.now) _ _ _ _ to1 c.in_ok-push_next_numbers.ensures in
+    on_ok_weaker c.push_markup-2.result (λ last. two (string_bytes c.args.text.now) _ _ _ _ to2 last) c.push_markup-2.ensures
