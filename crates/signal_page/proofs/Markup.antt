@@ -25,26 +25,26 @@ use Rattle.signal_page.specs.Page.{header, plan_section, draft_section, cabinet_
 pub record Alike (a b : List ℕ) : Type 0 where
   pub marked : marks a ≡ marks b
 
-same : (a : List ℕ) → Alike a a
+pub same : (a : List ℕ) → Alike a a
 same a = record { marked = refl }
 
-equal : (a b : List ℕ) → a ≡ b → Alike a b
+pub equal : (a b : List ℕ) → a ≡ b → Alike a b
 equal a b e = record { marked = ap marks e }
 
-joined : {a b c d : List ℕ} → Alike a b → Alike c d → Alike (a ++ c) (b ++ d)
+pub joined : {a b c d : List ℕ} → Alike a b → Alike c d → Alike (a ++ c) (b ++ d)
 unfolding marks
 joined {a = a} {b = b} {c = c} {d = d} p q = record {
   marked = filter-append is_markup a c ∙ ap₂ (λ (xs ys : List ℕ). xs ++ ys) p.marked q.marked
       ∙ sym (filter-append is_markup b d);
 }
 
-after : (a : List ℕ) {c d : List ℕ} → Alike c d → Alike (a ++ c) (a ++ d)
+pub after : (a : List ℕ) {c d : List ℕ} → Alike c d → Alike (a ++ c) (a ++ d)
 after a p = joined (same a) p
 
-before : {a b : List ℕ} (c : List ℕ) → Alike a b → Alike (a ++ c) (b ++ c)
+pub before : {a b : List ℕ} (c : List ℕ) → Alike a b → Alike (a ++ c) (b ++ c)
 before c p = joined p (same c)
 
-each : {A : Type 0} (f g : A → List ℕ) (blanked : A → A)
+pub each : {A : Type 0} (f g : A → List ℕ) (blanked : A → A)
     → ((x : A) → Alike (f x) (g (blanked x)))
     → (xs : List A) → Alike (flat_map f xs) (flat_map g (map blanked xs))
 each f g blanked h [] = same []
@@ -114,21 +114,21 @@ byte_marks b =
     in_case (eqb b 34) (codes "&quot;") _ refl (λ quot.
     in_case (eqb b 39) (codes "&#39;") _ refl (λ apos. plain b lt gt quot apos)))))
 
-escaped_marks : (words : List ℕ) → marks (escaped words) ≡ []
+pub escaped_marks : (words : List ℕ) → marks (escaped words) ≡ []
 unfolding escaped marks
 escaped_marks [] = refl
 escaped_marks (b ∷ bs) =
     filter-append is_markup (escaped_byte b) (escaped bs)
     ∙ ap₂ (λ (xs ys : List ℕ). xs ++ ys) (byte_marks b) (escaped_marks bs)
 
-escaped_alike : (x y : List ℕ) → Alike (escaped x) (escaped y)
+pub escaped_alike : (x y : List ℕ) → Alike (escaped x) (escaped y)
 escaped_alike x y = record { marked = escaped_marks x ∙ sym (escaped_marks y) }
 
-isolated_alike : (x y : List ℕ) → Alike (isolated x) (isolated y)
+pub isolated_alike : (x y : List ℕ) → Alike (isolated x) (isolated y)
 unfolding isolated
 isolated_alike x y = before (codes "</bdi>") (after (codes "<bdi>") (escaped_alike x y))
 
-text_cell_alike : (x y : List ℕ) → Alike (text_cell x) (text_cell y)
+pub text_cell_alike : (x y : List ℕ) → Alike (text_cell x) (text_cell y)
 unfolding text_cell
 text_cell_alike x y = before (codes "</td>") (after (codes "<td class='w'>") (isolated_alike x y))
 

@@ -23,7 +23,7 @@ use std::alloc::{AllocError, Global};
 use std::fmt::Write;
 
 /// Opens the head of a page, up to its title.
-fn open_head(text: &mut String) -> Result<(), AllocError>
+pub fn open_head(text: &mut String) -> Result<(), AllocError>
     ensures { OnOk result (string_bytes text.new ≡ string_bytes text.old ++ head_opening) }
 {
     push_markup(
@@ -51,7 +51,7 @@ fn end_head(text: &mut String) -> Result<(), AllocError>
 
 /// Ends a page.
 #[tactic(auto, unfolding(crate::specs::Page::page_end))]
-fn end_page(text: &mut String) -> Result<(), AllocError>
+pub fn end_page(text: &mut String) -> Result<(), AllocError>
     ensures { OnOk result (string_bytes text.new ≡ string_bytes text.old ++ page_end) }
 {
     text.push_str("</main>\n</body>\n</html>\n")

@@ -19,7 +19,7 @@ use std::alloc::{AllocError, Global};
 use std::fmt::Write;
 
 /// Appends a day.
-fn push_day(alloc: Global, text: &mut String, day: Day) -> Result<(), NoMemory>
+pub fn push_day(alloc: Global, text: &mut String, day: Day) -> Result<(), NoMemory>
     ensures { OnOk result (string_bytes text.new ≡ string_bytes text.old ++ day_cell day) }
 {
     let spelling = write_day(alloc, day)?;
