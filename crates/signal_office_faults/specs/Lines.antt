@@ -25,6 +25,7 @@ line_text fault.Clerk = codes "fault: clerk"
 line_text fault.Name = codes "fault: name"
 line_text (fault.Refused why) = codes "fault: " ++ (line_of why).name
 line_text (fault.Record at why) = codes "fault: record " ++ decimal at ++ codes ": " ++ (line_of why).name
+line_text (fault.Late at) = codes "fault: record " ++ decimal at ++ codes ": Late"
 line_text (fault.Csv why) = codes "fault: " ++ fault_text why
 line_text (fault.OtherCsv bad) = codes "fault: other " ++ bad_row_text bad
 line_text fault.Words = codes "the command line is not UTF-8"

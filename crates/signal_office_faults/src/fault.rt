@@ -42,6 +42,8 @@ pub enum Fault {
     Refused(Refusal),
     /// The office refused a record of the CSV file, counted from 1.
     Record { at: usize, refusal: Refusal },
+    /// A record of the CSV file, counted from 1, has a later day than an import takes.
+    Late { at: usize },
     /// A record of the CSV file spells nothing; where two are compared, of the first.
     Csv(CsvFault),
     /// A record of the second of two CSV files spells nothing.

@@ -86,6 +86,18 @@ fn push_record(line: &mut ArrayString<ROOM>, at: usize, refusal: Refusal)
     line.push_str(refusal_name(refusal));
 }
 
+/// The line of a record that is too late.
+fn push_late(line: &mut ArrayString<ROOM>, at: usize)
+    requires { array_string_len line.old ≤ 24 }
+    ensures bytes { line.new.bytes ≡ line.old.bytes ++ codes "fault: record " ++ decimal at
+        ++ codes ": Late" }
+    ensures len { array_string_len line.new ≤ 200 }
+{
+    line.push_str("fault: record ");
+    push_number(line, at);
+    line.push_str(": Late");
+}
+
 /// Writes the line that says a fault, without the line's end.
 fn push_fault(line: &mut ArrayString<ROOM>, fault: Fault)
     requires { array_string_len line.old ≡ 0 }
@@ -111,6 +123,7 @@ fn push_fault(line: &mut ArrayString<ROOM>, fault: Fault)
             line.push_str(refusal_name(refusal));
         }
         Fault::Record { at, refusal } => push_record(line, at, refusal),
+        Fault::Late { at } => push_late(line, at),
         Fault::Csv(fault) => {
             line.push_str("fault: ");
             push_csv_fault(line, &fault);

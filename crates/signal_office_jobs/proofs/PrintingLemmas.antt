@@ -1,13 +1,14 @@
 -- What is printed, from what came of words, of files of the system, and of the file of an office.
-use Rattle.std.proofs.Common.{◌≡◌, ℕ, Bool, List, Option, Ok, Err, inl, ap, refl, subst}
+use Rattle.std.proofs.Common.{◌≡◌, ℕ, Bool, List, Option, Some, None, Ok, Err, inl, inr, ap, refl, subst, subst₂}
 use Rattle.std.specs.Prelude.{IsErrAnd, Result}
 use Rattle.office_http_framing.specs.Ends.{Told}
 use Rattle.office_tables_shelf.specs.Content.{Content}
+use Rattle.signal_office_checks.specs.RecordLines.{record_lines}
 use Rattle.signal_office_faults.specs.declared.fault.Fault.{Fault}
 use Rattle.signal_office_in_file.specs.Ended.{EndsOver, FileView, IsBegun, task_work}
 use Rattle.signal_office_in_file.specs.declared.Ended.{Ended}
 use Rattle.signal_office_in_file.specs.declared.Ended.TheVariants.{Unopened, Refused, Closed, Unclosed}
-use Rattle.signal_office_jobs.specs.Printing.{Output, ReadingAnyCsv, ReadingCsv, TellsNothing, file_text, text_in_any}
+use Rattle.signal_office_jobs.specs.Printing.{IsAnyDayRead, OnAnyDay, Output, Reading, ReadingAnyCsv, ReadingCsv, TellsNothing, file_text, text_in_any}
 
 -- where nothing was done, that is also what follows from it
 pub ends_quietly : {Left T : Type 0} (view : FileView Left) (does : Content → T → Content → Type 0) (leaves : Content → Content → Type 0) (untouched quiet : Type 0)
@@ -37,3 +38,23 @@ read_so padded next text start end result found did = inl (found.0, subst (λ (t
 pub read_any_so : (padded : Option Bool) (next : List ℕ → Output) (text : List ℕ) (start end : Told) (result : Result ℕ Fault)
     → (bytes : List ℕ) × (text ≡ text_in_any padded bytes) → next text start end result → ReadingAnyCsv padded next start end result
 read_any_so padded next text start end result found did = inl (found.0, subst (λ (t : List ℕ). next t start end result) found.1 did)
+
+-- the same with the lines on which its records begin
+pub read_lines_so : (padded : Bool) (next : (text lines : List ℕ) → Output) (text lines : List ℕ) (start end : Told) (result : Result ℕ Fault)
+    → (bytes : List ℕ) × (text ≡ file_text padded bytes) × (lines ≡ record_lines bytes) → next text lines start end result
+    → Reading (λ bytes. next (file_text padded bytes) (record_lines bytes)) start end result
+read_lines_so padded next text lines start end result found did =
+    inl (found.0, subst₂ (λ (t l : List ℕ). next t l start end result) found.1 found.2 did)
+
+-- what is done on the day of a word that may be left out
+pub any_day_so : (word : Option (List ℕ)) (day : Option ℕ) (next : Option ℕ → Output) (start end : Told) (result : Result ℕ Fault)
+    → IsAnyDayRead word (Ok day) → next day start end result → OnAnyDay word next start end result
+any_day_so (Some word) (Some day) next start end result read did = inl (day, read, did)
+any_day_so (Some word) None next start end result read did = absurd read
+any_day_so None (Some day) next start end result read did = cc
+any_day_so None None next start end result read did = did
+
+pub any_day_fails : (word : Option (List ℕ)) (why : Fault) (next : Option ℕ → Output) (start : Told) (result : Result ℕ Fault)
+    → IsAnyDayRead word (Err why) → IsErrAnd result (λ it. it ≡ why) → OnAnyDay word next start start result
+any_day_fails (Some word) why next start result read is = inr (why, read, fails why start result is)
+any_day_fails None why next start result read is = cc

@@ -26,6 +26,10 @@ abbrev pub TellsAs : (text : List ℕ) → (status : ℕ) → Result Done Fault 
 TellsAs text status (Ok done) = (text_of done ≡ text) × (status_of done ≡ status)
 TellsAs text status (Err why) = why ≡ fault.Memory
 
+-- the status of records that were tried: 1 where one would be refused
+abbrev pub refused_status : (refused : ℕ) → ℕ
+refused_status refused = if refused == 0 then 0 else 1
+
 -- the status of a plan that was checked: 3 where it breaks a rule
 abbrev pub checked_status : List Violation → ℕ
 checked_status violations = if length violations == 0 then 0 else 3

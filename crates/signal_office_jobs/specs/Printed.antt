@@ -13,6 +13,7 @@ use Rattle.office_http_framing.specs.declared.engine.Served.{Served}
 use Rattle.office_machine.specs.Office.{Office}
 use Rattle.office_tables_shelf.specs.Content.{Content}
 use Rattle.signal_compare.specs.declared.difference.Difference.{Difference}
+use Rattle.signal_office_checks.specs.RecordLines.{record_lines}
 use Rattle.signal_office_commands.specs.Comparing.{ComparesFiles, IsFirstBad}
 use Rattle.signal_office_commands.specs.Drawing.{DrawsFile, DrawsNoFile}
 use Rattle.signal_office_commands.specs.Explaining.{ExplainsPlan}
@@ -36,7 +37,7 @@ use Rattle.signal_reasons.specs.declared.reason.Explained.{Explained}
 use Rattle.signal_rules.specs.declared.violation.Violation.{Violation}
 use Rattle.signal_office_jobs.specs.Done.{checked_status, compared_status, compared_text, explained_status, status_of, text_of}
 use Rattle.signal_office_jobs.specs.Memory.{ServesInMemory, new_office}
-use Rattle.signal_office_jobs.specs.Printing.{InFoundFile, InNewFile, Made, MigratesFile, Naming, OnDay, Output, PrintsDone, ReadingAnyCsv, ReadingCsv, abandoning, adding, editing, importing, looking, serving}
+use Rattle.signal_office_jobs.specs.Printing.{InTime, OnAnyDay, InFoundFile, InNewFile, Made, MigratesFile, Naming, OnDay, Output, PrintsDone, Reading, ReadingAnyCsv, ReadingCsv, abandoning, adding, editing, file_text, looking, serving, trying_or_importing}
 use Rattle.signal_office_jobs.specs.Shown.{ShowsAs}
 use Rattle.signal_office_jobs.specs.Tasks.{ComparesAs, ComparesWith, ServesAs}
 use Rattle.signal_office_jobs.specs.declared.done.Done.{Done}
@@ -141,8 +142,9 @@ Printed files (job.Overdue db first csv day) start end result =
 Printed files (job.Add db id interval name) start end result =
     Naming 120 name fault.Name (InNewFile files.view (adding id interval name)) start end result
 Printed files (job.Migrate db) start end result = MigratesFile files.view files.migrated start end result
-Printed files (job.Import db csv) start end result =
-    ReadingCsv csv.padded (λ records. InFoundFile files.view (importing records)) start end result
+Printed files (job.Import db csv until check) start end result =
+    OnAnyDay until (λ day. Reading (λ bytes. let records = file_text csv.padded bytes in InTime day records
+    (InFoundFile files.view (trying_or_importing check records (record_lines bytes))))) start end result
 Printed files (job.Edit e) start end result =
     Naming 40 e.clerk fault.Clerk
     (ReadingAnyCsv (option_map (λ (csv : CsvFile Text). csv.padded) e.csv) (λ plan. InFoundFile files.view

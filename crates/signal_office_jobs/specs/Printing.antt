@@ -5,6 +5,7 @@ use Rattle.cabinet_core.specs.Day.{SpellsDay}
 use Rattle.office_http_framing.specs.Ends.{AppendsPart, FailsOrGivesNone, Told}
 use Rattle.office_tables_shelf.specs.Content.{Content}
 use Rattle.office_spreadsheets.specs.Padded.{unpadded_text}
+use Rattle.signal_office_checks.specs.Days.{AreInTime}
 use Rattle.signal_office_commands.specs.Stopping.{AfterAbandoning, AfterAdding, AfterImporting, AfterRevising}
 use Rattle.signal_office_commands.specs.declared.revising.EditMode.{EditMode}
 use Rattle.signal_office_faults.specs.Lines.{IsUnreadFile}
@@ -15,7 +16,7 @@ use Rattle.signal_office_in_file.specs.Stopping.{SameOr}
 use Rattle.signal_office_in_file.specs.declared.Ended.{Ended}
 use Rattle.signal_office_jobs.specs.Done.{status_of, text_of}
 use Rattle.signal_office_jobs.specs.Stopped.{AfterServing, SaysPort, TaskLeaves, TaskSays}
-use Rattle.signal_office_jobs.specs.Tasks.{AbandonsAs, AddsAs, EditsBy, ImportsAs, ServesAs, TaskDoes, TellsOutcome}
+use Rattle.signal_office_jobs.specs.Tasks.{AbandonsAs, AddsAs, ChecksAs, EditsBy, ImportsAs, ServesAs, TaskDoes, TellsOutcome}
 use Rattle.signal_office_jobs.specs.declared.done.Done.{Done}
 use Rattle.signal_office_jobs.specs.declared.task.Task.{Task}
 use Rattle.signal_values.specs.Words.{AreWords}
@@ -72,6 +73,23 @@ abbrev pub OnDay : (word : List ℕ) → (ℕ → Output) → Output
 OnDay word next start end result =
     ((day : ℕ) × SpellsDay word day × next day start end result)
     ⊎ ((why : Fault) × IsDayRead word (Err why) × TellsNothing why start end result)
+
+-- the same of a word that may be left out
+abbrev pub IsAnyDayRead : (word : Option (List ℕ)) → Result (Option ℕ) Fault → Type 0
+IsAnyDayRead (Some word) (Ok (Some day)) = SpellsDay word day
+IsAnyDayRead (Some word) (Ok None) = ⊥
+IsAnyDayRead (Some word) (Err why) = IsDayRead word (Err why)
+IsAnyDayRead None result = result ≡ Ok None
+
+abbrev pub OnAnyDay : (word : Option (List ℕ)) → (Option ℕ → Output) → Output
+OnAnyDay None next = next None
+OnAnyDay (Some word) next = OnDay word (λ day. next (Some day))
+
+-- no record of the file is of a later day than one that is given, and this is done; or that is told
+abbrev pub InTime : (until : Option ℕ) → (csv : List ℕ) → Output → Output
+InTime until csv next start end result =
+    (AreInTime until csv (Ok tt) × next start end result)
+    ⊎ ((why : Fault) × AreInTime until csv (Err why) × TellsNothing why start end result)
 
 -- ---- files of the system
 
@@ -131,6 +149,14 @@ adding id interval name = silent (AddsAs id interval name) (AfterAdding id inter
 
 abbrev pub importing : (records : List ℕ) → Effect
 importing records = silent (ImportsAs records) (AfterImporting records)
+
+abbrev pub checking : (records lines : List ℕ) → Effect
+checking records lines = looking (ChecksAs records lines)
+
+-- records that are tried, or imported
+abbrev pub trying_or_importing : (check : Bool) → (records lines : List ℕ) → Effect
+trying_or_importing true records lines = checking records lines
+trying_or_importing false records lines = importing records
 
 abbrev pub editing : (plan : List ℕ) → (id : ℕ) → (clerk : List ℕ) → EditMode → (explain : Bool) → Effect
 editing plan id clerk mode explain = silent (EditsBy plan id clerk mode explain) (AfterRevising plan id clerk mode)

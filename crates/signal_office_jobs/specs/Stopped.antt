@@ -17,7 +17,7 @@ use Rattle.signal_office_faults.specs.declared.fault.Fault.{Fault}
 use Rattle.signal_office_in_file.specs.Stopping.{AfterRequest, SameOr}
 use Rattle.signal_office_jobs.specs.Serving.{ServesPort}
 use Rattle.signal_office_jobs.specs.declared.task.Task.{Task}
-use Rattle.signal_office_jobs.specs.declared.task.Task.TheVariants.{Serve, Show, Add, Import, Edit, Abandon, Compare, CompareWith}
+use Rattle.signal_office_jobs.specs.declared.task.Task.TheVariants.{Serve, Show, Add, Import, Check, Edit, Abandon, Compare, CompareWith}
 
 -- a connection was served from the office, of whose requests and answers this holds too
 abbrev pub ServedFrom : Office → Connected → Office → (List PlainRequest → List (List ℕ) → Type 0) → Type 0
@@ -44,6 +44,7 @@ TaskLeaves (Serve port count) = AfterServing
 TaskLeaves (Show shown) = λ old found. found ≡ old
 TaskLeaves (Add id interval name) = SameOr (AfterAdding id interval name.now)
 TaskLeaves (Import csv) = SameOr (AfterImporting csv.now)
+TaskLeaves (Check csv lines) = λ old found. found ≡ old
 TaskLeaves (Edit id clerk csv mode explain) = SameOr (AfterRevising csv.now id clerk.now mode)
 TaskLeaves (Abandon id clerk) = SameOr (AfterAbandoning id clerk.now)
 TaskLeaves (Compare id csv) = λ old found. found ≡ old

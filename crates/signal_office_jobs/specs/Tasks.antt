@@ -12,6 +12,8 @@ use Rattle.office_http_framing.specs.declared.engine.ServeFault.{ServeFault}
 use Rattle.office_machine.specs.Office.{Office}
 use Rattle.office_tables_shelf.specs.Content.{Content}
 use Rattle.signal_compare.specs.declared.difference.Difference.{Difference}
+use Rattle.signal_office_checks.specs.Checks.{ChecksFile}
+use Rattle.signal_office_checks.specs.declared.checking.Report.{Report}
 use Rattle.signal_office_commands.specs.Commands.{AddsIntersection, Abandons}
 use Rattle.signal_office_commands.specs.Comparing.{ComparesDraft, ComparesNoDraft, ComparesNoRunning, ComparesRunning}
 use Rattle.signal_office_commands.specs.Importing.{Imports}
@@ -31,12 +33,12 @@ use Rattle.signal_office_commands.specs.declared.revising.Outcome.TheVariants.{O
 use Rattle.signal_office_commands.specs.declared.revising.Revised.{Revised}
 use Rattle.signal_office_faults.specs.declared.fault.Fault.{Fault}
 use Rattle.signal_office_faults.specs.declared.fault.Fault.TheVariants as fault
-use Rattle.signal_office_jobs.specs.Done.{TellsAs, compared_status, compared_text, edited_status, outcome_line, status_of, text_of}
+use Rattle.signal_office_jobs.specs.Done.{TellsAs, compared_status, compared_text, edited_status, outcome_line, refused_status, status_of, text_of}
 use Rattle.signal_office_jobs.specs.Serving.{ServesPort}
 use Rattle.signal_office_jobs.specs.Shown.{ShowsAs}
 use Rattle.signal_office_jobs.specs.declared.done.Done.{Done}
 use Rattle.signal_office_jobs.specs.declared.task.Task.{Task}
-use Rattle.signal_office_jobs.specs.declared.task.Task.TheVariants.{Serve, Show, Add, Import, Edit, Abandon, Compare, CompareWith}
+use Rattle.signal_office_jobs.specs.declared.task.Task.TheVariants.{Serve, Show, Add, Import, Check, Edit, Abandon, Compare, CompareWith}
 
 -- a server and an intersection that is added begin a new office where there is none; whatever asks, changes a plan, or takes records
 -- of an office's cabinets, does not: a mistyped name is no office
@@ -84,6 +86,12 @@ AddsAs id interval name old result new = (entered : Result Entered Fault) × Add
 abbrev pub ImportsAs : (csv : List ℕ) → Content → Result Done Fault → Content → Type 0
 ImportsAs csv old result new = (imported : Result Imported Fault) × Imports csv old new imported × TellsOutcome imported_line (λ _. 0) imported result
 
+-- the records of the file were tried, and those that would be refused are told, with the status whether there are any; or a fault is
+abbrev pub ChecksAs : (csv lines : List ℕ) → Content → Result Done Fault → Type 0
+ChecksAs csv lines old (Ok done) =
+    (report : Report) × ChecksFile csv lines old (Ok report) × (text_of done ≡ report.text.items) × (status_of done ≡ refused_status report.refused)
+ChecksAs csv lines old (Err why) = ChecksFile csv lines old (Err why)
+
 -- The rules that an edited draft breaks, as they are told: where that is asked and the draft stays open, those of the draft that the tables hold, each with
 -- its reason. Of a draft that would be the committed set nothing is told.
 abbrev pub IsBroken : (explain : Bool) → Outcome → (id : ℕ) → Content → List Violation → (text : List ℕ) → Type 0
@@ -127,6 +135,7 @@ TaskDoes (Serve port count) old result new start end = ServesAs port count old r
 TaskDoes (Show shown) old result new start end = (new ≡ old) × (end ≡ start) × ShowsAs shown old result
 TaskDoes (Add id interval name) old result new start end = AddsAs id interval name.now old result new × (end ≡ start)
 TaskDoes (Import csv) old result new start end = ImportsAs csv.now old result new × (end ≡ start)
+TaskDoes (Check csv lines) old result new start end = (new ≡ old) × (end ≡ start) × ChecksAs csv.now lines.now old result
 TaskDoes (Edit id clerk csv mode explain) old result new start end = EditsBy csv.now id clerk.now mode explain old result new × (end ≡ start)
 TaskDoes (Abandon id clerk) old result new start end = AbandonsAs id clerk.now old result new × (end ≡ start)
 TaskDoes (Compare id csv) old result new start end = (new ≡ old) × (end ≡ start) × ComparesAs id csv old result

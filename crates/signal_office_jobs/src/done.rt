@@ -4,7 +4,7 @@ ghost use Rattle.std.specs.Prelude.{◌≡◌, ◌++◌, IfOk};
 ghost use Rattle.office_files.specs.Violations.{violations_text};
 ghost use Rattle.signal_office_jobs.specs.Done.{TellsAs, checked_status, compared_status};
 ghost use Rattle.signal_office_jobs.specs.Done.{compared_text, edited_status, explained_status};
-ghost use Rattle.signal_office_jobs.specs.Done.{outcome_line, status_of, text_of};
+ghost use Rattle.signal_office_jobs.specs.Done.{outcome_line, refused_status, status_of, text_of};
 ghost use Rattle.signal_office_jobs.specs.Printing.{Prints, PrintsDone, joined, migrated_line};
 ghost use Rattle.signal_office_jobs.specs.Tasks.{TellsOutcome, entered_line, imported_line};
 ghost use Rattle.signal_reasons.specs.Texts.{explained_text_of};
@@ -12,11 +12,15 @@ ghost use Rattle.signal_reasons.specs.Texts.{explained_text_of};
 use office_files::{changes_csv, violation_text};
 use office_http::{Sink, write_all};
 use signal_compare::{Difference, changes, comparison_text};
+use signal_office_checks::Report;
 use signal_office_commands::{Entered, Fault, Imported, Outcome, Revised};
 use signal_reasons::{Explained, explained_text};
 use signal_records::NoMemory;
 use signal_rules::Violation;
 use std::alloc::Global;
+
+/// The status where a record would be refused.
+const HAS_REFUSED: u8 = 1;
 
 /// The status where a plan that is checked, or is to be committed, breaks a rule.
 const HAS_VIOLATIONS: u8 = 3;
@@ -131,6 +135,16 @@ impl Done {
         let Imported { added, same } = imported;
         let line = format!(in alloc; "added {added}, same {same}\n")?;
         Ok(Done::with(line.into_bytes()))
+    }
+
+    /// The records of a file that would be refused. That there are any is told by the status.
+    pub(crate) fn reporting(report: Report) -> Done
+        ensures text { text_of result ≡ report.text.items }
+        ensures status { status_of result ≡ refused_status report.refused }
+    {
+        let Report { text, refused } = report;
+        let status = if refused == 0 { 0 } else { HAS_REFUSED };
+        Done { text, status }
     }
 
     /// The rules that an edited draft breaks, which are told already, and what became of it. A

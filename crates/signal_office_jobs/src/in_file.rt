@@ -6,16 +6,20 @@ ghost use Rattle.signal_office_faults.specs.declared.fault.Fault.TheVariants as 
 ghost use Rattle.signal_office_jobs.specs.Printed.{Shows, all_intersections};
 ghost use Rattle.signal_office_jobs.specs.Printing.{InFile, InFoundFile, InNewFile, IsDayRead};
 ghost use Rattle.signal_office_jobs.specs.Printing.{IsNameRead, MigratesFile, Naming, OnDay};
+ghost use Rattle.signal_office_jobs.specs.Printing.{InTime, IsAnyDayRead, OnAnyDay};
 ghost use Rattle.signal_office_jobs.specs.Printing.{ReadingAnyCsv, ReadingCsv, abandoning, adding};
-ghost use Rattle.signal_office_jobs.specs.Printing.{editing, effect_of, importing, looking};
+ghost use Rattle.signal_office_jobs.specs.Printing.{Reading, editing, effect_of, file_text};
+ghost use Rattle.signal_office_jobs.specs.Printing.{looking, trying_or_importing};
+ghost use Rattle.signal_office_checks.specs.RecordLines.{record_lines};
 ghost use Rattle.signal_office_jobs.specs.Printed.{edit_mode};
 ghost use Rattle.signal_office_jobs.specs.Tasks.{ComparesWith, makes_file};
 
 use crate::done::{Done, joined, migrated, print_done};
-use crate::reading::{read_any_csv, read_csv};
+use crate::reading::{read_any_csv, read_csv, read_record_csv};
 use crate::task::Task;
 use cabinet_core::{Day, read_day};
 use office_http::Sink;
+use signal_office_checks::check_days;
 use signal_office_commands::{EditMode, Fault};
 use signal_office_faults::is_missing;
 use signal_office_in_file::OfficeInFile;
@@ -43,6 +47,19 @@ fn day_of(word: &str) -> Result<Day, Fault>
     match read_day(word.as_bytes()) {
         Some(day) => Ok(day),
         None => Err(Fault::Day),
+    }
+}
+
+/// The day of a word that may be left out.
+fn any_day_of(word: &Option<&str>) -> Result<Option<Day>, Fault>
+    ensures { IsAnyDayRead (option_map (λ word. word.now) word.now) result }
+{
+    match word {
+        Some(word) => match day_of(word) {
+            Ok(day) => Ok(Some(day)),
+            Err(fault) => Err(fault),
+        },
+        None => Ok(None),
     }
 }
 
@@ -144,20 +161,85 @@ pub(crate) fn migrate<F: OfficeInFile, W: Sink>(
     print_done(migrated(alloc, joined(ended.told())), out)
 }
 
-/// Takes the records of a CSV file into the office of a file, which has to be there.
+/// Takes the records of a CSV text into the office of a file, which has to be there, or tries them.
+fn try_or_import<F: OfficeInFile, W: Sink>(
+    rt: &HostRuntime,
+    alloc: Global,
+    db: &str,
+    csv: &[u8],
+    lines: &[usize],
+    check: bool,
+    out: &mut W,
+) -> Result<u8, Fault>
+    ensures { let view = file_view F.held F.is_clean F.keeps F.refused F.leaves in
+        InFoundFile view (trying_or_importing check csv.now lines.now)
+        (W.told out.old) (W.told out.new) result }
+{
+    if check {
+        in_file::<F, W>(rt, alloc, db, &Task::Check { csv, lines }, out)
+    } else {
+        in_file::<F, W>(rt, alloc, db, &Task::Import { csv }, out)
+    }
+}
+
+/// The same, where none of the records has a later day than one that is given. Their days are
+/// looked at before the office is opened.
+fn import_text<F: OfficeInFile, W: Sink>(
+    rt: &HostRuntime,
+    alloc: Global,
+    db: &str,
+    csv: &[u8],
+    lines: &[usize],
+    until: Option<Day>,
+    check: bool,
+    out: &mut W,
+) -> Result<u8, Fault>
+    ensures { let view = file_view F.held F.is_clean F.keeps F.refused F.leaves in
+        InTime until csv.now (InFoundFile view (trying_or_importing check csv.now lines.now))
+        (W.told out.old) (W.told out.new) result }
+{
+    check_days(alloc, csv, until)?;
+    try_or_import::<F, W>(rt, alloc, db, csv, lines, check, out)
+}
+
+/// The same of a CSV file.
+fn import_until<F: OfficeInFile, W: Sink>(
+    rt: &HostRuntime,
+    alloc: Global,
+    db: &str,
+    csv: &CsvFile<&str>,
+    until: Option<Day>,
+    check: bool,
+    out: &mut W,
+) -> Result<u8, Fault>
+    ensures { let view = file_view F.held F.is_clean F.keeps F.refused F.leaves in
+        Reading (λ bytes. let records = file_text csv.now.padded bytes in InTime until records
+        (InFoundFile view (trying_or_importing check records (record_lines bytes))))
+        (W.told out.old) (W.told out.new) result }
+{
+    let read = read_record_csv(rt, alloc, csv)?;
+    import_text::<F, W>(rt, alloc, db, &read.0, &read.1, until, check, out)
+}
+
+/// Takes the records of a CSV file into the office of a file, which has to be there, or tries them.
+/// The day of a word is read first, where one is given.
 pub(crate) fn import<F: OfficeInFile, W: Sink>(
     rt: &HostRuntime,
     alloc: Global,
     db: &str,
     csv: &CsvFile<&str>,
+    until: &Option<&str>,
+    check: bool,
     out: &mut W,
 ) -> Result<u8, Fault>
     ensures { let view = file_view F.held F.is_clean F.keeps F.refused F.leaves in
-        ReadingCsv csv.now.padded (λ records. InFoundFile view (importing records))
+        OnAnyDay (option_map (λ word. word.now) until.now)
+        (λ day. Reading (λ bytes. let records = file_text csv.now.padded bytes in InTime day records
+        (InFoundFile view (trying_or_importing check records (record_lines bytes)))))
         (W.told out.old) (W.told out.new) result }
 {
-    let csv = &read_csv(rt, alloc, csv)?;
-    in_file::<F, W>(rt, alloc, db, &Task::Import { csv }, out)
+    let until = any_day_of(until)?;
+    import_until::<F, W>(rt, alloc, db, csv, until, check, out)
 }
 
 /// Prints what the plan in a CSV file differs in from the committed timing set of an intersection.

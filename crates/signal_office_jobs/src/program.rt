@@ -132,7 +132,12 @@ fn run_job<F: OfficeInFile, R: Source, W: Sink>(
             name,
         } => add::<F, W>(rt, alloc, db, *id, *interval, name, out),
         Job::Migrate { db } => migrate::<F, W>(rt, alloc, db, out),
-        Job::Import { db, csv } => import::<F, W>(rt, alloc, db, csv, out),
+        Job::Import {
+            db,
+            csv,
+            until,
+            check,
+        } => import::<F, W>(rt, alloc, db, csv, until, *check, out),
         Job::Edit(edit) => edit_plan::<F, W>(rt, alloc, edit, out),
         Job::Abandon { db, clerk, id } => abandon::<F, W>(rt, alloc, db, clerk, *id, out),
         Job::CompareDraft { db, id, csv } => {

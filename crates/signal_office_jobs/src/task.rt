@@ -4,7 +4,7 @@ ghost use Rattle.std.specs.Prelude.{◌≡◌, ◌≢◌, true, false, Ok, Err, 
 ghost use Rattle.office_tables_shelf.specs.Keeps.{KeepsShelf};
 ghost use Rattle.signal_office_jobs.specs.Shown.{IsShown, ShowsAs};
 ghost use Rattle.signal_office_jobs.specs.Tasks.{AbandonsAs, AddsAs, ComparesAs, ComparesWith, EditsBy};
-ghost use Rattle.signal_office_jobs.specs.Tasks.{ImportsAs, IsBroken, ServesAs, TaskDoes};
+ghost use Rattle.signal_office_jobs.specs.Tasks.{ChecksAs, ImportsAs, IsBroken, ServesAs, TaskDoes};
 ghost use Rattle.signal_office_commands.specs.Showing.{ShowsDraft};
 ghost use Rattle.signal_office_commands.specs.Stopping.{AfterAbandoning, AfterAdding};
 ghost use Rattle.signal_office_commands.specs.Stopping.{AfterImporting, AfterRevising, StopLeaves};
@@ -18,6 +18,7 @@ use office_desk::office::Office;
 use office_files::violation_text;
 use office_http::Sink;
 use office_tables_shelf::shelf::Shelf;
+use signal_office_checks::check_csv;
 use signal_office_commands::{
     EditMode, Fault, Outcome, Revised, abandon_draft, add_intersection, cabinet_csv_of, cabinet_of,
     diagram_of, draft_csv_of, draft_differences, draft_reasons, import_csv, list_of, orders_csv_of,
@@ -51,6 +52,12 @@ pub enum Task<'a> {
     /// The records of a CSV file.
     Import {
         csv: &'a [u8],
+    },
+    /// The records of a CSV file that are tried and not taken, with the lines of the file on which
+    /// they begin.
+    Check {
+        csv: &'a [u8],
+        lines: &'a [usize],
     },
     /// A plan's CSV file that edits a draft, which is committed where that is asked. The rules that
     /// it breaks are told with their reasons where that is.
@@ -233,6 +240,22 @@ fn import<S: Shelf>(alloc: Global, office: &mut Office<S>, csv: &[u8]) -> Result
     Done::importing(alloc, imported)
 }
 
+/// Tries the records of a CSV file, and tells those that would be refused.
+fn check<S: Shelf>(
+    alloc: Global,
+    office: &mut Office<S>,
+    csv: &[u8],
+    lines: &[usize],
+) -> Result<Done, Fault>
+    ensures kept { KeepsShelf S.Shelf office.old office.new }
+    ensures clean { S.is_clean office.new → S.is_clean office.old }
+    ensures does { S.is_honest office.new →
+        ChecksAs csv.now lines.now (S.content office.old) result }
+{
+    let report = check_csv(alloc, office, csv, lines)?;
+    Ok(Done::reporting(report))
+}
+
 /// The rules that a draft breaks which stays open, with their reasons where that is asked.
 fn open_rules<S: Shelf>(
     alloc: Global,
@@ -371,6 +394,7 @@ fn done_by<S: Shelf, W: Sink>(
         Task::Show(shown) => show(alloc, office, shown),
         Task::Add { id, interval, name } => add(alloc, office, id, interval, name),
         Task::Import { csv } => import(alloc, office, csv),
+        Task::Check { csv, lines } => check(alloc, office, csv, lines),
         Task::Edit {
             id,
             clerk,

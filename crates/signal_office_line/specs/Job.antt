@@ -32,7 +32,7 @@ asked (job.Show db it) = job.Show db.now it
 asked (job.Overdue db first csv day) = job.Overdue db.now first csv day.now
 asked (job.Add db id interval name) = job.Add db.now id interval name.now
 asked (job.Migrate db) = job.Migrate db.now
-asked (job.Import db csv) = job.Import db.now (file_asked csv)
+asked (job.Import db csv until check) = job.Import db.now (file_asked csv) (option_map (λ (s : Bor Text). s.now) until) check
 asked (job.Edit e) = job.Edit (record {
   db = e.db.now;
   clerk = e.clerk.now;
@@ -127,12 +127,12 @@ migrate_at rows = do
   db ← first_of (codes "db") rows
   Some (job.Migrate db)
 
--- `import --db FILE [--padded] CSV`
+-- `import --db FILE [--check] [--until DAY] [--padded] CSV`
 abbrev pub import_at : List Row → Option Asked
 import_at rows = do
   db ← first_of (codes "db") rows
   csv ← csv_at (codes "CSV") rows
-  Some (job.Import db csv)
+  Some (job.Import db csv (first_of (codes "until") rows) (flag_at (codes "check") rows))
 
 -- the file of an edit, which may be left out where a draft is committed as it is
 abbrev pub edited_file : Option (CsvFile Text) → (commit replace : Bool) → Option (Option (CsvFile Text))

@@ -157,6 +157,17 @@ const COMMANDS: &[Usage<'static>] = &[
          are new",
         &[
             Argument("db", Form::Needed("FILE"), FOUND_FILE),
+            Argument(
+                "check",
+                Form::Flag,
+                "Take nothing; print each record that would be refused, with its line and what is \
+                 there. Status 1 if there is one",
+            ),
+            Argument(
+                "until",
+                Form::Choice("DAY"),
+                "Take none where one is of a later day, as YYYY-MM-DD; a used part has no day",
+            ),
             Argument("padded", Form::Flag, PADDED),
             Argument(
                 "CSV",

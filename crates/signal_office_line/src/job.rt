@@ -81,10 +81,14 @@ pub enum Job<T> {
     Migrate {
         db: T,
     },
-    /// Take the records of a CSV file in turn: all of them, or none.
+    /// Take the records of a CSV file in turn: all of them, or none. None is taken where one is of
+    /// a later day than one that is given, or where they are only tried: then those that would be
+    /// refused are told.
     Import {
         db: T,
         csv: CsvFile<T>,
+        until: Option<T>,
+        check: bool,
     },
     /// Change a plan by a CSV file.
     Edit(Edit<T>),

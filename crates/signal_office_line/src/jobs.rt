@@ -126,13 +126,20 @@ fn migrate<'a>(matches: &ArgMatches<'a>) -> Option<Job<&'a str>>
     Some(Job::Migrate { db })
 }
 
-/// `import --db FILE [--padded] CSV`.
+/// `import --db FILE [--check] [--until DAY] [--padded] CSV`.
 fn import<'a>(matches: &ArgMatches<'a>) -> Option<Job<&'a str>>
     ensures { option_map asked result ≡ import_at (rows_of (found_of matches.entry.now)) }
 {
     let db = word(matches, "db")?;
     let csv = csv_file(matches, "CSV")?;
-    Some(Job::Import { db, csv })
+    let until = word(matches, "until");
+    let check = flag(matches, "check");
+    Some(Job::Import {
+        db,
+        csv,
+        until,
+        check,
+    })
 }
 
 /// `edit --db FILE --clerk NAME [--replace] [--commit] [--explain] [--padded] ID CSV`, or

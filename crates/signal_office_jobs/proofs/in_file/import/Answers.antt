@@ -1,17 +1,21 @@
-use Rattle.std.proofs.Common.{inr, ◌∙◌}
+use Rattle.std.proofs.Common.{option_map}
+use Rattle.signal_office_checks.specs.RecordLines.{record_lines}
 use Rattle.signal_office_in_file.specs.Ended.{file_view}
-use Rattle.signal_office_jobs.proofs.PrintingLemmas.{fails, read_so}
+use Rattle.signal_office_jobs.proofs.PrintingLemmas.{any_day_fails, any_day_so}
 use Rattle.signal_office_jobs.proofs.in_file.import.Goals as goal
-use Rattle.signal_office_jobs.specs.Printing.{InFoundFile, importing}
+use Rattle.signal_office_jobs.specs.Printing.{InFoundFile, InTime, Reading, file_text, trying_or_importing}
 
-pub returns-in_err-csv : goal.returns-in_err-csv
-returns-in_err-csv g c = inr (_, c.in_err-csv.ensures.fault, fails _ _ c.from_residual.result c.from_residual.ensures.1)
+pub returns-in_err-until : goal.returns-in_err-until
+returns-in_err-until g c =
+    let f = g.F.OfficeInFile in
+    let view = file_view f.held f.is_clean f.keeps f.refused f.leaves in
+    any_day_fails _ _ (λ day. Reading (λ bytes. let records = file_text c.args.csv.now.padded bytes in InTime day records (InFoundFile view (trying_or_importing c.args.check records (record_lines bytes))))) _ c.from_residual.result
+    c.in_err-until.ensures c.from_residual.ensures.1
 
 pub returns : goal.returns
 returns g c =
     let f = g.F.OfficeInFile in
     let view = file_view f.held f.is_clean f.keeps f.refused f.leaves in
     let told = g.W.Sink.told in
-    let found = c.in_ok-csv.ensures.text in
-    read_so c.args.csv.now.padded (λ records. InFoundFile view (importing records)) c.deref.result.now
-    (told c.args.out.now) (told c.in_file.new.out) c.in_file.result (found.0, c.deref.ensures.value ∙ found.1) c.in_file.ensures
+    any_day_so _ _ (λ day. Reading (λ bytes. let records = file_text c.args.csv.now.padded bytes in InTime day records (InFoundFile view (trying_or_importing c.args.check records (record_lines bytes)))))
+    (told c.args.out.now) (told c.import_until.new.out) c.import_until.result c.in_ok-until.ensures c.import_until.ensures

@@ -22,6 +22,13 @@ returns-in-Add g c =
     done_so files (asked c.args.job.now) _ (ends_of (g.R.Source.told c.args.source.now) (g.W.Sink.told c.args.out.now))
     (ends_of (g.R.Source.told c.args.source.now) (g.W.Sink.told c.add.new.out)) c.add.result (ap asked c.in-Add.is) (refl, c.add.ensures)
 
+pub returns-in-Import : goal.returns-in-Import
+returns-in-Import g c =
+    let f = g.F.OfficeInFile in
+    let files = office_files f.held f.is_clean f.keeps f.refused f.leaves f.migrated in
+    done_so files (asked c.args.job.now) _ (ends_of (g.R.Source.told c.args.source.now) (g.W.Sink.told c.args.out.now))
+    (ends_of (g.R.Source.told c.args.source.now) (g.W.Sink.told c.import.new.out)) c.import.result (ap asked c.in-Import.is) (refl, c.import.ensures)
+
 pub returns-in-Abandon : goal.returns-in-Abandon
 returns-in-Abandon g c =
     let f = g.F.OfficeInFile in

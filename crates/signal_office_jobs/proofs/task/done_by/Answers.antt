@@ -21,6 +21,9 @@ returns-in-Add-clause-stop g c = within_so g.S.Shelf _ _ _ _ c.in-Add.is (change
 pub returns-in-Import-clause-stop : goal.returns-in-Import-clause-stop
 returns-in-Import-clause-stop g c = within_so g.S.Shelf _ _ _ _ c.in-Import.is (changed_within g.S.Shelf _ _ _ c.import.ensures.stop)
 
+pub returns-in-Check-clause-stop : goal.returns-in-Check-clause-stop
+returns-in-Check-clause-stop g c = within_so g.S.Shelf _ _ _ _ c.in-Check.is (kept_within g.S.Shelf _ _ c.check.ensures.kept)
+
 pub returns-in-Edit-clause-stop : goal.returns-in-Edit-clause-stop
 returns-in-Edit-clause-stop g c = within_so g.S.Shelf _ _ _ _ c.in-Edit.is (changed_within g.S.Shelf _ _ _ c.edit.ensures.stop)
 

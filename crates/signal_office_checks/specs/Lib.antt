@@ -1,0 +1,4 @@
+pub mod Days
+pub mod RecordLines
+pub mod Texts
+pub mod Checks
