@@ -71,7 +71,8 @@ class Office:
     def wanted(self):
         """The files of the folder, as the other commands print them."""
         lines = self.printed("list", "--db", self.db, "--csv")
-        files = {"intersections.csv": lines, "stock.csv": self.printed("stock", "--db", self.db, "--csv")}
+        stock = self.printed("stock", "--db", self.db, "--csv")
+        files = {"intersections.csv": lines, "stock.csv": stock}
         for line in lines.decode().splitlines():
             number = line.split(",")[0]
             files[f"{number}-plan.csv"] = self.printed("export", "--db", self.db, number)
