@@ -1,6 +1,6 @@
 #!/usr/bin/env python3
-"""Writes folders with `export --all`, whole ones and such as fail, and holds them against what the
-other commands print.
+"""Writes folders with `export --all` and `pages`, whole ones and such as fail, and holds them against
+what the other commands print.
 
     tests/folder.py [PROGRAM]       by default the program that ./office built
 
@@ -11,6 +11,8 @@ other commands print.
   `fault: write`; the files that are there are whole. (A full disk needs root, for a small tmpfs.)
 - A run that is killed at a random moment leaves each file as it was before, or as it is to be.
 - 9,999 intersections are written within two minutes.
+- Each page is what `page ID` prints with one link more, to the index; the index has a link to each
+  page, marks those that `overdue --csv` prints, and shows a name as it is.
 
 Prints a line for each, and ends with status 1 if anything else happened.
 """
@@ -18,6 +20,7 @@ import contextlib
 import os
 import pathlib
 import random
+import re
 import sqlite3
 import subprocess
 import sys
@@ -36,6 +39,8 @@ use,12,1,1,RELAY,2
 MOST_SECONDS = 120
 KILLS = 10
 WRITE_FAULT = (1, b"", b"fault: write\n")
+BACK = b"<li><a href='index.html'>All intersections</a></li>\n"
+DAY = "2027-03-02"  # the day after the one on which the inspection of 12 falls due
 
 
 class Office:
@@ -53,6 +58,9 @@ class Office:
         status, out, err = self.run(*words)
         assert (status, err) == (0, b""), (words, status, err)
         return out
+
+    def lines(self, command, *words):
+        return self.printed(command, "--db", self.db, "--csv", *words).decode().splitlines()
 
     def export(self, name):
         return self.run("export", "--db", self.db, "--all", name)
@@ -170,6 +178,28 @@ def leaves_whole_files_where_it_is_killed(office):
         old = new
 
 
+def writes_pages(office):
+    office.printed("add", "--db", office.db, "300", "30", "<b>A & 'B'</b>")
+    assert office.run("pages", "--db", office.db, "--day", DAY, "pages") == (0, b"", b"")
+    held = office.held("pages")
+    numbers = [it.split(",")[0] for it in office.lines("list")]
+    assert set(held) == {"index.html", *(f"{it}.html" for it in numbers)}
+    index = held["index.html"].decode()
+    links = re.findall(r"<a href='([^']*)'>", index)
+    assert sorted(links) == sorted(f"{it}.html" for it in numbers)
+    marked = re.findall(r"<a href='([0-9]+)\.html'>[^\n]*class='late'", index)
+    late = [it.split(",")[0] for it in office.lines("overdue", DAY)]
+    assert marked == late == [it[:-5] for it in links[:len(late)]], (marked, late)
+    assert "<b>" not in index and "&lt;b&gt;A &amp; &#39;B&#39;&lt;/b&gt;" in index
+    for number in numbers:
+        page = held[f"{number}.html"]
+        assert page.count(BACK) == 1
+        assert page.replace(BACK, b"") == office.printed("page", "--db", office.db, number)
+    assert office.run("pages", "--db", office.db, "plain") == WRITE_FAULT
+    assert office.run("pages", "--db", office.db, "pages") == (0, b"", b"")
+    assert "class='late'" not in office.held("pages")["index.html"].decode()
+
+
 def writes_9999_in_time(office):
     with contextlib.closing(sqlite3.connect(office.db)) as tables, tables:
         columns = [it[1] for it in tables.execute("PRAGMA table_info(intersection)")]
@@ -188,7 +218,7 @@ def writes_9999_in_time(office):
 
 TRIALS = (writes_whole, refuses_a_file, refuses_a_closed_folder, stops_before_a_row_that_is_none,
           leaves_whole_files_on_a_full_disk, leaves_whole_files_where_it_is_killed,
-          writes_9999_in_time)
+          writes_pages, writes_9999_in_time)
 
 
 def main():

@@ -79,6 +79,7 @@ compare --db office.db 12
 diagram --db office.db 12 1
 diagram --file plan.csv 1
 import --db office.db more.csv
+import --db office.db --check more.csv
 export --db office.db 12
 export --db office.db --draft 12
 export --db office.db --cabinet 12

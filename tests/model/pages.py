@@ -280,7 +280,7 @@ def order_cells(register, id, number, order):
     used = "".join(f"<div>{line}: {it.count} &times; {isolated(it.part)}</div>"
                    for line, it in register.used_for(id, number))
     return "".join([first(number), cell(order.opened, "d"), word(isolated(order.clerk)),
-                    word(isolated(order.text)), word(used)])
+                    word(isolated(order.text)), word(used or "none")])
 
 
 def next_number(records):

@@ -3,7 +3,7 @@ import itertools
 import pathlib
 import shlex
 
-from . import commands, fields, pages, pictures, plan, reasons, rules
+from . import commands, fields, hints, pages, pictures, plan, reasons, rules
 from .office import Office
 from .refusal import Refused
 from .wire import answer, read_each
@@ -60,12 +60,14 @@ def checked(text):
 
 def verified(text, explain):
     """What is told of a plan in a file: what it breaks, with reasons where that is asked, or the
-    first record that spells nothing."""
+    first record that spells nothing, with its line too."""
     try:
         changes = read_each(plan.read_change, fields.read_csv(text))
     except Refused as it:
-        field = f" {it.more['field']}" if it.more["field"] else ""
-        return [f"fault: record {it.more['record']}: {it.more['fault']}{field}"]
+        number, name, field = (it.more[word] for word in ("record", "fault", "field"))
+        fault = f"fault: record {number}: {name}{f' {field}' if field else ''}"
+        records = fields.read_csv(text)
+        return [fault] + explain * [hints.second_line(text, records, number, name, field)]
     made = plan.apply({}, changes)
     if explain:
         found = reasons.explained(made)

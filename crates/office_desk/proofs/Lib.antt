@@ -14,3 +14,4 @@ pub mod OverdueRows
 pub mod Writes
 pub mod Street
 pub mod Runs
+mod TriedRecords

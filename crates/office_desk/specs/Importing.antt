@@ -1,12 +1,12 @@
 -- What comes of a record of an import, after those before it.
-use Rattle.std.specs.Prelude.{◌≡◌, ◌⊎◌, ℕ, false, List, ◌++◌, Result, Err}
+use Rattle.std.specs.Prelude.{◌≡◌, ◌⊎◌, ℕ, Bool, true, false, List, ◌++◌, Result, Err}
 use Rattle.cabinet_core.specs.declared.command.RecordCommand.{RecordCommand}
 use Rattle.office_tables_shelf.specs.Change.{changed_by}
 use Rattle.office_tables_shelf.specs.Content.{Content}
 use Rattle.office_tables_shelf.specs.declared.rows.RowChange.{RowChange}
 use Rattle.cabinet_core.specs.Register.{Register}
 use Rattle.cabinet_core.specs.Step.{line_at, with_record}
-use Rattle.cabinet_core.specs.Cabinet.{added as added_line, same as same_line}
+use Rattle.cabinet_core.specs.Cabinet.{Line, added as added_line, same as same_line, refused as refused_line}
 use Rattle.office_desk_decisions.specs.RecordBounds.{IsOneOf}
 use Rattle.office_desk_cabinet.specs.Registers.{LeavesTiming}
 use Rattle.office_tables_shelf.specs.RegisterStands.{RegisterStandsSound}
@@ -17,12 +17,12 @@ use Rattle.office_desk.specs.Named.{number_of, numbers_of}
 use Rattle.office_desk.specs.Recording.{HasDamagedAbout, TellsAbout}
 use Rattle.office_machine.specs.Refusal.{line_of}
 use Rattle.office_desk.specs.StandFor.{StandForSound}
-use Rattle.office_machine.specs.Step.{cabinet_of, import_by, import_from, is_known}
+use Rattle.office_machine.specs.Step.{cabinet_of, import_by, import_from, is_known, refusal_of_record}
 use Rattle.office_machine.specs.declared.command.Command.TheVariants as command
 use Rattle.office_desk.specs.declared.importing.Taken.{Taken}
 use Rattle.office_desk.specs.declared.importing.Taken.TheVariants.{Added, Same, Refused}
 use Rattle.office_machine.specs.declared.refusal.Refusal.{Refusal}
-use Rattle.office_machine.specs.declared.refusal.Refusal.TheVariants.{ImportRow}
+use Rattle.office_machine.specs.declared.refusal.Refusal.TheVariants.{ImportRow, UnknownIntersection}
 
 -- of whatever tables, rows of the register alone are written
 abbrev pub LeavesAnyTiming : List RowChange → Type 0
@@ -38,6 +38,19 @@ goes_on at (Refused why) added same = Err (ImportRow at (line_of why).number)
 abbrev pub IsNamedTaken : RecordCommand → Taken → Type 0
 IsNamedTaken c (Refused why) = IsOneOf (numbers_of (command.Record c)) (number_of why)
 IsNamedTaken c _ = Unit {0}
+
+-- what comes of a record, by the machine: of one whose intersection is there, its line of the table
+abbrev pub taken_by : (is_there : Bool) → Line → Taken
+taken_by false line = Refused UnknownIntersection
+taken_by true added_line = Added
+taken_by true same_line = Same
+taken_by true (refused_line why) = Refused (refusal_of_record why)
+
+-- whichever sound office the stored tables stand for, and whichever register the pending rows made of its own
+abbrev pub TellsTaken : Content → List RowChange → RecordCommand → Taken → Type 0
+TellsTaken stored before c taken =
+    (office : Office) → StandForSound stored office → (r : Register) → RegisterStandsSound (changed_by stored before) r
+    → taken ≡ taken_by (is_known office (cabinet_of c)) (line_at r c)
 
 -- the register after a record
 abbrev pub register_with : Taken → Register → RecordCommand → Register

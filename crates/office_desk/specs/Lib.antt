@@ -8,3 +8,4 @@ pub use Rattle.office_desk_decisions.specs.Blaming
 pub use Rattle.office_desk_decisions.specs.Deciding
 pub mod Running
 pub mod Importing
+pub mod Checking

@@ -10,6 +10,7 @@ ghost use Rattle.office_desk.specs.Deciding.{AddsNothing, Decides};
 ghost use Rattle.office_desk.specs.Damage.{MeetsCabinetDamage};
 ghost use Rattle.office_desk.specs.Importing.{IsNamedTaken, LeavesAnyTiming};
 ghost use Rattle.office_desk.specs.Importing.{TakesLine, TakesRecord, TakesWhole};
+ghost use Rattle.office_desk.specs.Importing.{TellsTaken};
 ghost use Rattle.office_desk.specs.Recording.{AreFound};
 ghost use Rattle.office_machine.specs.Step.{cabinet_of as about_of};
 
@@ -29,7 +30,7 @@ use std::collections::BTreeSet;
 
 /// What came of a record of an import.
 #[derive(Clone, Copy)]
-enum Taken {
+pub(crate) enum Taken {
     /// It is new.
     Added,
     /// An equal record is there.
@@ -40,7 +41,7 @@ enum Taken {
 
 /// Takes a record after those whose rows are pending, and gives them back with its own. Of the
 /// intersections that were found no row is read again.
-fn take_record<S: Shelf>(
+pub(crate) fn take_record<S: Shelf>(
     shelf: &mut S,
     alloc: Global,
     found: &mut BTreeSet<InterId>,
@@ -51,6 +52,8 @@ fn take_record<S: Shelf>(
     ensures found { IfOk result (λ _. S.is_honest shelf.new →
         AreFound (S.content shelf.old) found.new) }
     ensures step { S.is_honest shelf.new → IfOk result (λ taken. TakesRecord (S.content shelf.old) pending command.now taken.0 taken.1) }
+    ensures told { S.is_honest shelf.new → IfOk result (λ taken.
+        TellsTaken (S.content shelf.old) pending command.now taken.0) }
     ensures damaged { result ≡ Err ShelfFault.Damaged → S.is_honest shelf.new → MeetsCabinetDamage (S.content shelf.old) command.now (about_of command.now) }
     ensures whole { IfOk result (λ taken. S.is_honest shelf.new →
         TakesWhole (S.content shelf.old) pending command.now taken.1) }

@@ -1,6 +1,7 @@
 //! The commands and queries of the office, over any shelf.
 #![tactic(auto)]
 
+mod checking;
 mod deciding;
 mod found;
 mod importing;
@@ -8,6 +9,9 @@ pub mod office;
 mod overdue;
 mod recording;
 mod register_showing;
+mod there;
 
 pub use cabinet_core::RecordCommand;
+pub use checking::Checked;
 pub use office_desk_decisions::decided;
+pub use there::There;

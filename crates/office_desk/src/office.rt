@@ -7,6 +7,7 @@ ghost use Rattle.office_tables_shelf.specs.Change.{changed_by};
 ghost use Rattle.office_tables_shelf.specs.Counts.{counts_after};
 ghost use Rattle.office_tables_shelf.specs.Damage.{HasAnyDamagedIntersection};
 ghost use Rattle.office_tables_shelf.specs.Keeps.{KeepsShelf};
+ghost use Rattle.office_desk.specs.Checking.{Checks, MeetsCheckDamage};
 ghost use Rattle.office_desk.specs.Damage.{MeetsDamage};
 ghost use Rattle.office_desk.specs.Deciding.{DecidesIdly, IsAnswered};
 ghost use Rattle.office_machine.specs.Office.{Office as OfficeState};
@@ -16,8 +17,9 @@ ghost use Rattle.office_desk_timing.specs.Listing.{ListsEachIntersection};
 ghost use Rattle.office_machine.specs.Listed.{intersections_of};
 ghost use Rattle.office_machine.specs.Step.{overdue_on};
 
+use crate::checking::{Checked, check_records};
 use crate::deciding::{refused, try_decide};
-use cabinet_core::{Day, OverdueRow};
+use cabinet_core::{Day, OverdueRow, RecordCommand};
 use office_desk_decisions::decided::Decided;
 use office_desk_timing::list_intersections;
 use office_machine::command::Command;
@@ -145,6 +147,29 @@ impl<S: Shelf> Office<S> {
             add_reply(&mut replies, reply);
         }
         Ok(replies)
+    }
+
+    /// What would come of records that are taken in turn, each after those before it that would be;
+    /// one that would be refused leaves the office to those after it. Nothing is taken. Where memory
+    /// or the shelf refuses, the error is Unavailable; where a stored row that it reads is no record,
+    /// Damaged.
+    pub fn check(
+        &mut self,
+        alloc: Global,
+        records: &[RecordCommand],
+    ) -> Result<Vec<Checked>, Refusal>
+        ensures checks { IfOk result (λ checked. S.is_honest self.new →
+            Checks (S.content self.old) records.now checked.items) }
+        ensures refused { IfErr result (λ why. (why ≡ Refusal.Unavailable) ⊎ (why ≡ Refusal.Damaged)) }
+        ensures damaged { result ≡ Err Refusal.Damaged → S.is_honest self.new →
+            MeetsCheckDamage (S.content self.old) records.now }
+        ensures clean { S.is_clean self.new → S.is_clean self.old }
+        ensures kept { KeepsShelf S.Shelf self.old self.new }
+    {
+        match check_records(&mut self.shelf, alloc, records) {
+            Ok(checked) => return Ok(checked),
+            Err(fault) => return Err(refused(fault)),
+        }
     }
 
     /// The first `most` of the intersections that are overdue for an inspection on a day, in the

@@ -14,7 +14,7 @@ use signal_records::{InterId, LineNo, RecordNo};
 use std::alloc::Global;
 
 /// The inspection of a number once the pending rows are written, if there is one.
-pub(crate) fn inspection_at<S: Shelf>(
+pub fn inspection_at<S: Shelf>(
     shelf: &mut S,
     alloc: Global,
     pending: &Pending,
@@ -37,7 +37,7 @@ pub(crate) fn inspection_at<S: Shelf>(
 }
 
 /// The order of a number once the pending rows are written, if there is one.
-pub(crate) fn order_at<S: Shelf>(
+pub fn order_at<S: Shelf>(
     shelf: &mut S,
     alloc: Global,
     pending: &Pending,
@@ -60,7 +60,7 @@ pub(crate) fn order_at<S: Shelf>(
 }
 
 /// The line of an order and a number once the pending rows are written, if there is one.
-pub(crate) fn line_at<S: Shelf>(
+pub fn line_at<S: Shelf>(
     shelf: &mut S,
     alloc: Global,
     pending: &Pending,
@@ -85,7 +85,7 @@ pub(crate) fn line_at<S: Shelf>(
 
 /// How many of a part are on hand once the pending rows are written, if there ever was a
 /// delivery of it.
-pub(crate) fn hand_at<S: Shelf>(
+pub fn hand_at<S: Shelf>(
     shelf: &mut S,
     alloc: Global,
     pending: &Pending,
@@ -107,7 +107,7 @@ pub(crate) fn hand_at<S: Shelf>(
 }
 
 /// The delivery of a part with a number once the pending rows are written, if there is one.
-pub(crate) fn delivery_at<S: Shelf>(
+pub fn delivery_at<S: Shelf>(
     shelf: &mut S,
     alloc: Global,
     pending: &Pending,

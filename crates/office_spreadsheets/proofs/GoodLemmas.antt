@@ -1,5 +1,5 @@
 -- Records that spell something are not padded.
-use Rattle.std.proofs.Common.{◌≡◌, ℕ, ◌+◌, ◌<◌, ◌≤◌, Bool, true, false, List, [], ◌∷◌, length, map, Option, Some, None, Result, Ok, Err, refl, ap, sym, ◌∙◌, arith}
+use Rattle.std.proofs.Common.{◌≡◌, ℕ, ◌+◌, ◌<◌, true, false, List, [], ◌∷◌, length, map, Option, Some, None, Result, Ok, refl, ap, sym, ◌∙◌, arith}
 use Rattle.std.proofs.lemmas.Fmt.{decimal_nonempty}
 use Rattle.std.specs.Fmt.{decimal}
 use Rattle.cabinet_core.specs.Within.{IsRecordWithin}
@@ -10,7 +10,6 @@ use Rattle.office_files.specs.{Changes.changes_of, Csv.csv_records, CsvRow.rows_
 use Rattle.office_spreadsheets.specs.Padded.{is_blank, unpadded}
 use Rattle.signal_records.specs.{Reading.change_at, Spelling.change_spelling, Spelling.spelling, Within.current_limits, Within.IsAnyPedWithin, Within.IsChangeWithin, Within.IsRowWithin}
 use Rattle.signal_records.specs.declared.fault.RowFault.{RowFault}
-use Rattle.signal_records.specs.declared.key.Key.{Key}
 use Rattle.signal_records.specs.declared.key.Key.TheVariants as key
 use Rattle.signal_records.specs.declared.record.{Change.Change, Ped.Ped, Phase.Phase, Row.Row}
 use Rattle.signal_records.specs.declared.record.Change.TheVariants.{Put, Remove}

@@ -1,2 +1,4 @@
 mod PaddedLemmas
 mod GoodLemmas
+mod HintLemmas
+mod LineLemmas

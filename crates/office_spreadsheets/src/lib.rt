@@ -1,9 +1,18 @@
-//! CSV files as spreadsheets leave them: records that are padded with empty fields.
+//! CSV files as spreadsheets leave them: records that are padded with empty fields; and what their
+//! users look for in them: the line of a record, and what is wrong with a bad one.
 #![tactic(auto)]
 
+mod explaining;
 mod fields;
+mod hints;
+mod kinds;
+mod lines;
 mod padded;
 mod reading;
 mod width;
 
+pub use explaining::{hint_of, line_of_record};
+pub use hints::{Field, Hint};
+pub use kinds::RowKind;
+pub use lines::record_lines;
 pub use padded::unpadded_csv;

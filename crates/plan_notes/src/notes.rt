@@ -1,14 +1,24 @@
 //! Notes on records that put or remove a key again.
 
 ghost use Rattle.std.specs.Prelude.{◌≡◌, ◌++◌, length, IfOk, OnOk, string_bytes};
-ghost use Rattle.plan_notes.specs.Notes.{deed, key_words, note_on, notes_in, notes_within};
+ghost use Rattle.plan_notes.specs.Notes.{deed, key_for, key_words, note_on, notes_in, notes_within};
 ghost use Rattle.plan_notes.specs.Notes.{record_word};
 
-use crate::earlier::{key_for, last_within};
 use office_files::{CsvFault, read_timing_csv};
 use signal_records::{Change, Key, NoMemory};
 use std::alloc::{AllocError, Global};
+use std::collections::BTreeMap;
 use std::fmt::Write;
+
+/// The key that a change puts a row under, or removes.
+fn key_for(change: &Change) -> Key
+    ensures { result ≡ key_for change.now }
+{
+    match change {
+        Change::Put(row) => row.key(),
+        Change::Remove(key) => *key,
+    }
+}
 
 /// What a change does to its key.
 fn deed(change: &Change) -> &'static str
@@ -60,15 +70,15 @@ fn push_note(
     writeln!(text, " again, after record {earlier}")
 }
 
-/// The notes on changes.
-#[tactic(auto, using(crate::proofs::NoteLemmas::next_note))]
+/// The notes on changes. The number of the latest change of each key is kept.
 fn notes_on(alloc: Global, other: bool, changes: &[Change]) -> Result<String, NoMemory>
     ensures { IfOk result (λ text.
         string_bytes text ≡ notes_within other changes.now (length changes.now)) }
 {
     let mut text = String::new(alloc);
+    let mut latest = BTreeMap::new(alloc);
     for (place, change) in changes.iter().enumerate() {
-        let earlier = last_within(&key_for(change), changes, place);
+        let earlier = latest.insert(key_for(change), place + 1)?;
         push_note(&mut text, other, place + 1, change, earlier)?;
     }
     Ok(text)

@@ -1,21 +1,21 @@
 -- The plan that a revision leaves, from what stood and what was done.
 use Rattle.std.proofs.Common.{◌≡◌, ◌≢◌, inl, inr, ℕ, Bool, true, false, ◌&&◌, not, List, Option, Some, None, Result, Ok, Err, refl, sym, ap, subst, ◌∙◌}
-use Rattle.std.specs.{FinMap.empty, FinMap.get, Prelude.is_none, Prelude.option_map}
+use Rattle.std.specs.{FinMap.get, Prelude.is_none, Prelude.option_map}
 use Rattle.draft_core.specs.Transaction.{Draft, TimingSide}
 use Rattle.draft_core.specs.declared.refusal.DraftRefusal.TheVariants.{NotTransaction}
 use Rattle.office_desk.specs.StandFor.{StandForSound}
-use Rattle.office_machine.specs.{Office.Office, Office.Intersection, Step.Step, Step.answered, Step.shown, declared.command.Command.Command, declared.reply.Reply.Reply}
-use Rattle.office_machine.specs.Step.{draft_shown as draft_of_intersection, timing_shown as timing_of_intersection}
+use Rattle.office_machine.specs.{Office.Office, Office.Intersection, Step.Step, Step.answered, declared.command.Command.Command, declared.reply.Reply.Reply}
+use Rattle.office_machine.specs.Step.{draft_shown as draft_of_intersection}
 use Rattle.office_machine.specs.declared.command.Command.TheVariants as command
 use Rattle.office_machine.specs.declared.refusal.Refusal.TheVariants as refusal
 use Rattle.office_machine.specs.declared.reply.Reply.TheVariants as reply
 use Rattle.office_tables_shelf.specs.Content.{Content}
 use Rattle.signal_office_commands.proofs.{AskingLemmas.was_run, RevisingLemmas.held_base, RevisingLemmas.revised_draft, RevisingLemmas.revised_set, ShownLemmas.timing_found, ShownLemmas.rows_drafted}
 use Rattle.office_files.specs.Changes.{changes_of}
-use Rattle.signal_office_commands.specs.{Asking.Answered, Asking.RanCommands, Committing.Goes, Committing.commit_commands, Committing.commit_told, Committing.is_due, Showing.ShowsDraft, Showing.ShowsTiming, Showing.draft_shown, Showing.timing_shown}
+use Rattle.signal_office_commands.specs.{Asking.Answered, Asking.RanCommands, Committing.Goes, Committing.commit_commands, Committing.commit_told, Committing.is_due, Showing.ShowsDraft, Showing.draft_shown, Showing.timing_shown}
 use Rattle.signal_office_commands.specs.Replacing.{LeavesPlan, LeftPlan, TellsNoChange, base_at, draft_set, plan_wanted}
 use Rattle.signal_office_commands.specs.Revising.{Drafts, EndsRevision, Finishes, Revises, Stays, WouldBe, outcome_of}
-use Rattle.signal_office_commands.specs.Standing.{AreWanted, ShowsIfOpen, base_from, base_of, if_open}
+use Rattle.signal_office_commands.specs.Standing.{AreWanted, base_from, base_of, if_open}
 use Rattle.signal_office_commands.specs.declared.revising.{EditMode.EditMode, Outcome.TheVariants.Open, Outcome.TheVariants.Same, Outcome.TheVariants.Committed, Revised.Revised}
 use Rattle.signal_office_commands.specs.declared.standing.StandingPlan.{StandingPlan}
 use Rattle.signal_office_faults.specs.declared.fault.Fault.{Fault}

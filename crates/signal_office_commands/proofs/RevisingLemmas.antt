@@ -1,6 +1,6 @@
 -- The plan that a revision leaves, from the steps of its commands.
-use Rattle.std.proofs.Common.{◌≡◌, ◌≢◌, inl, inr, ℕ, ◌+◌, Bool, true, false, cond, not, if◌then◌else◌, List, [], ◌∷◌, Option, Some, None, Result, Ok, Err, refl, sym, ap, subst, ◌∙◌}
-use Rattle.std.specs.{Cmp.nat_cmp_is, Cmp.nat_cmp_total, Ordering.is_eq, declared.cmp.Ordering.TheVariants.Equal, FinMap.empty, FinMap.get, FinMap.insert, FinMap.get-insert, Ordering.nat_cmp, Ordering.eq_by_cmp, Prelude.option_map}
+use Rattle.std.proofs.Common.{◌≡◌, inl, inr, ℕ, ◌+◌, Bool, true, false, cond, not, if◌then◌else◌, List, [], ◌∷◌, Option, Some, None, Result, Ok, Err, refl, sym, ap, subst, ◌∙◌}
+use Rattle.std.specs.{Cmp.nat_cmp_is, Cmp.nat_cmp_total, Ordering.is_eq, declared.cmp.Ordering.TheVariants.Equal, FinMap.get, FinMap.get-insert}
 use Rattle.draft_core.specs.Transaction.{Draft, TimingSide, holder_of, owned, with_draft, begun_from, committed_with, is_stage, table_line}
 use Rattle.draft_core.specs.declared.step.Step.TheVariants as step
 use Rattle.std.specs.Str.{bytes_eq}
@@ -8,19 +8,17 @@ use Rattle.draft_core.specs.declared.refusal.DraftRefusal.{DraftRefusal}
 use Rattle.draft_core.specs.declared.refusal.DraftRefusal.TheVariants.{NotOwner, RevisionFull}
 use Rattle.draft_state.specs.declared.state.Stage.{Stage}
 use Rattle.draft_state.specs.declared.state.Stage.TheVariants.{Transaction, Done}
-use Rattle.office_desk.specs.StandFor.{StandForSound}
 use Rattle.office_machine.specs.{Office.Office, Office.Intersection, Step.Run, Step.Step, Step.answered, Step.transacted, Step.with_intersection}
 use Rattle.office_machine.specs.{declared.command.Command.Command, declared.reply.Reply.Reply}
 use Rattle.office_machine.specs.Step.{moved as moved_by, refusal_of_draft}
 use Rattle.office_machine.specs.declared.command.Command.TheVariants as command
 use Rattle.office_machine.specs.declared.refusal.Refusal.TheVariants as refusal
 use Rattle.office_machine.specs.declared.reply.Reply.TheVariants as reply
-use Rattle.office_tables_shelf.specs.Content.{Content}
 use Rattle.signal_office_commands.specs.Committing.{◌>>=◌, commit_commands, commit_told, move_outcome}
 use Rattle.signal_office_commands.specs.Revising.{drafted, revise_commands, revise_told, taken_up}
-use Rattle.signal_office_commands.specs.{Replacing.base_at, Replacing.draft_set}
+use Rattle.signal_office_commands.specs.{Replacing.base_at}
 use Rattle.signal_office_faults.specs.declared.fault.Fault.{Fault}
-use Rattle.signal_records.specs.TimingSet.{Rows, after_changes}
+use Rattle.signal_records.specs.TimingSet.{after_changes}
 use Rattle.signal_records.specs.declared.record.Change.{Change}
 use Rattle.signal_rules.specs.declared.violation.Violation.{Violation}
 

@@ -1,5 +1,5 @@
 -- What the queries show is the intersection of the office that the tables stand for.
-use Rattle.std.proofs.Common.{◌≡◌, ◌≢◌, inl, inr, ℕ, List, Option, Some, None, Result, Ok, refl, sym, ap, subst, ◌∙◌}
+use Rattle.std.proofs.Common.{◌≡◌, ◌≢◌, inl, inr, ℕ, Bool, List, Option, Some, None, Result, Ok, refl, sym, ap, subst, ◌∙◌}
 use Rattle.std.specs.{FinMap.get, Prelude.option_map}
 use Rattle.draft_core.specs.Transaction.{Draft, state_of, in_stage}
 use Rattle.draft_state.specs.declared.state.DbState.{DbState}
@@ -129,13 +129,13 @@ all_shown tables office id it shows stands =
       )
 
 -- the page of what is shown is that of the intersection
-pub page_shown : (tables : Content) (office : Office) (id : ℕ) (it : IntersectionShown) (text : List ℕ)
-    → ShowsIntersection tables id it → StandForSound tables office → IsPage it text
-    → IsPageOf office id text
-page_shown tables office id it text shows stands page =
+pub page_shown : (linked : Bool) (tables : Content) (office : Office) (id : ℕ) (it : IntersectionShown) (text : List ℕ)
+    → ShowsIntersection tables id it → StandForSound tables office → IsPage linked it text
+    → IsPageOf linked office id text
+page_shown linked tables office id it text shows stands page =
     by_all (all_shown tables office id it shows stands) where
-      by_all : ((i : Intersection) × (get office.intersections id ≡ Some i) × (it ≡ shown_of office.register id i)) → IsPageOf office id text
-      by_all (i, there, is) = (i, there, subst (λ (x : IntersectionShown). IsPage x text) is page)
+      by_all : ((i : Intersection) × (get office.intersections id ≡ Some i) × (it ≡ shown_of office.register id i)) → IsPageOf linked office id text
+      by_all (i, there, is) = (i, there, subst (λ (x : IntersectionShown). IsPage linked x text) is page)
 
 -- ---- no damaged row was read for the page
 

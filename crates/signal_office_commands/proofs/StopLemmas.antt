@@ -1,5 +1,5 @@
 -- What a stop leaves of commands that were run.
-use Rattle.std.proofs.Common.{◌≡◌, ◌⊎◌, List, [], ◌∷◌, Bool, true, Ok, inl, inr, subst, sym, ◌∙◌}
+use Rattle.std.proofs.Common.{◌⊎◌, List, [], ◌∷◌, inl, inr, subst}
 use Rattle.office_tables_shelf.specs.{Content.Content, declared.shelf.Shelf.Ghosts}
 use Rattle.office_desk.specs.{Answers.StandsAfterStep, Running.AreRun, Running.IsRun, Running.MakesTables}
 use Rattle.office_machine.specs.declared.{command.Command.Command, reply.Reply.Reply}

@@ -1,5 +1,5 @@
 -- What the queries of the office show of an intersection for its page.
-use Rattle.std.specs.Prelude.{◌≡◌, ◌≢◌, ◌⊎◌, ℕ, List, Option, Some, None, Result, Ok, Err}
+use Rattle.std.specs.Prelude.{◌≡◌, ◌≢◌, ◌⊎◌, ℕ, Bool, List, Option, Some, None, Result, Ok, Err}
 use Rattle.draft_state.specs.declared.state.DbState.{DbState}
 use Rattle.draft_state.specs.declared.state.DbState.TheVariants.{Normal}
 use Rattle.office_tables_shelf.specs.Content.{Content}
@@ -44,6 +44,6 @@ MeetsPageDamage tables id state =
     ⊎ (MeetsDamage tables (command.Cabinet id) ⊎ ((state ≢ Normal) × MeetsDamage tables (command.Draft id))))
 
 -- the text is the page of what the queries show, for which no such row was read
-abbrev pub IsWholePage : Content → ℕ → List ℕ → Type 0
-IsWholePage tables id text =
-    (shown : IntersectionShown) × ShowsIntersection tables id shown × IsPage shown text × ¬ MeetsPageDamage tables id shown.state.state
+abbrev pub IsWholePage : (linked : Bool) → Content → ℕ → List ℕ → Type 0
+IsWholePage linked tables id text =
+    (shown : IntersectionShown) × ShowsIntersection tables id shown × IsPage linked shown text × ¬ MeetsPageDamage tables id shown.state.state

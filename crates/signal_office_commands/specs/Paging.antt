@@ -1,5 +1,5 @@
 -- What the page of an intersection and that of a plan in a file are pages of.
-use Rattle.std.specs.Prelude.{◌≡◌, ℕ, List, Some, Ok, option_map}
+use Rattle.std.specs.Prelude.{◌≡◌, ℕ, Bool, List, Some, Ok, option_map}
 use Rattle.std.specs.FinMap.{get, empty}
 use Rattle.cabinet_core.specs.Register.{Register}
 use Rattle.draft_core.specs.Transaction.{Draft}
@@ -20,11 +20,11 @@ shown_of register id i = record {
   cabinet = cabinet_shown register id;
 }
 
--- the office has the intersection, and the text is its page
-abbrev pub IsPageOf : Office → ℕ → List ℕ → Type 0
-IsPageOf office id text =
+-- the office has the intersection, and the text is its page, linked to the index or not
+abbrev pub IsPageOf : (linked : Bool) → Office → ℕ → List ℕ → Type 0
+IsPageOf linked office id text =
     (i : Intersection) × (get office.intersections id ≡ Some i)
-    × IsPage (shown_of office.register id i) text
+    × IsPage linked (shown_of office.register id i) text
 
 -- the text is the page of the plan that the file's changes make of the empty set
 pub record IsPageOfFile (bytes text : List ℕ) : Type 0 where

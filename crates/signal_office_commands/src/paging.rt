@@ -19,21 +19,22 @@ use signal_page::{intersection_page, plan_page};
 use signal_records::InterId;
 use std::alloc::Global;
 
-/// The page of an intersection. The office is as it was.
+/// The page of an intersection, linked to an index beside it or not. The office is as it was.
 pub fn page_of<S: Shelf>(
     alloc: Global,
     office: &mut Office<S>,
     id: InterId,
+    linked: bool,
 ) -> Result<Vec<u8>, Fault>
     // It changes nothing.
     ensures kept { KeepsShelf S.Shelf office.old office.new }
     ensures clean { S.is_clean office.new → S.is_clean office.old }
     // The page shows the plan that runs as that, the draft as the draft, and the register.
     ensures page { IfOk result (λ text. TellsOffice S.Shelf office.old office.new
-        (λ before. IsPageOf before id text.items)) }
+        (λ before. IsPageOf linked before id text.items)) }
     // No row that is read for it and is no record is passed over.
     ensures whole { IfOk result (λ text. TellsTables S.Shelf office.old office.new
-        (λ tables. IsWholePage tables id text.items)) }
+        (λ tables. IsWholePage linked tables id text.items)) }
     // Where it fails, memory was refused, or one of the queries.
     ensures fault { IfErr result (λ why. why ≢ Fault.Memory → TellsTables S.Shelf office.old office.new
         (λ tables. IsRefusedShowing tables id why)) }
@@ -42,7 +43,7 @@ pub fn page_of<S: Shelf>(
         (λ before. TellsUnknown before id why)) }
 {
     let shown = intersection_in(alloc, office, id)?;
-    Ok(intersection_page(alloc, &shown)?)
+    Ok(intersection_page(alloc, linked, &shown)?)
 }
 
 /// The page of the plan that the records of a CSV file make of the empty set, or the first bad

@@ -24,7 +24,7 @@ use signal_records::InterId;
 use std::alloc::Global;
 
 /// All intersections, by their numbers.
-pub(crate) fn intersections_asked<S: Shelf>(
+pub fn intersections_asked<S: Shelf>(
     alloc: Global,
     office: &mut Office<S>,
 ) -> Result<Vec<ListedIntersection>, Fault>
@@ -72,7 +72,7 @@ pub(crate) fn state_asked<S: Shelf>(
 }
 
 /// What the register holds of an intersection.
-pub(crate) fn cabinet_asked<S: Shelf>(
+pub fn cabinet_asked<S: Shelf>(
     alloc: Global,
     office: &mut Office<S>,
     id: InterId,

@@ -32,7 +32,7 @@ fn stock_written(alloc: Global, csv: bool, parts: &[(PartCode, Hand)]) -> Result
 }
 
 /// Each part that was ever delivered, with how many are on hand.
-fn stock_asked<S: Shelf>(alloc: Global, office: &mut Office<S>) -> Result<Stock, Fault>
+pub fn stock_asked<S: Shelf>(alloc: Global, office: &mut Office<S>) -> Result<Stock, Fault>
     ensures kept { KeepsShelf S.Shelf office.old office.new }
     ensures clean { S.is_clean office.new → S.is_clean office.old }
     ensures stock { IfOk result (λ parts. TellsOffice S.Shelf office.old office.new

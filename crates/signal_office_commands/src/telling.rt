@@ -20,6 +20,7 @@ pub fn report<W: Sink>(err: &mut W, fault: Fault) -> u8
     ensures status { result ≡ status_of fault }
     ensures bad { 1 ≤ result }
 {
-    say(err, line_of(fault).as_str().as_bytes());
+    let told = fault; // a copy of its own for its line
+    say(err, line_of(told).as_str().as_bytes());
     fault.status()
 }

@@ -5,10 +5,16 @@ use Rattle.office_files.specs.CsvFault.{bad_row_text, fault_text}
 use Rattle.office_http_framing.specs.declared.engine.ServeFault.{ServeFault}
 use Rattle.office_http_framing.specs.declared.engine.ServeFault.TheVariants as stop
 use Rattle.office_machine.specs.Refusal.{line_of}
+use Rattle.office_spreadsheets.specs.Hints.{hint_text}
+use Rattle.office_spreadsheets.specs.declared.hints.Hint.{Hint}
 use Rattle.signal_office_faults.specs.declared.fault.Fault.{Fault}
 use Rattle.signal_office_faults.specs.declared.fault.Fault.TheVariants as fault
 
--- the line that tells it, without the line's end
+-- the second line of a bad record, as `line 36, offset: 0 to 255 seconds`
+abbrev pub hint_line : (line : ℕ) → Hint → List ℕ
+hint_line line hint = codes "\nline " ++ decimal line ++ codes ", " ++ hint_text hint
+
+-- the line that tells it, or its two lines, without the end of the last
 abbrev pub line_text : Fault → List ℕ
 line_text fault.Read = codes "fault: read"
 line_text fault.Write = codes "fault: write"
@@ -29,6 +35,8 @@ line_text (fault.Refused why) = codes "fault: " ++ (line_of why).name
 line_text (fault.Record at why) = codes "fault: record " ++ decimal at ++ codes ": " ++ (line_of why).name
 line_text (fault.Late at) = codes "fault: record " ++ decimal at ++ codes ": Late"
 line_text (fault.Csv why) = codes "fault: " ++ fault_text why
+line_text (fault.Explained bad line hint) = codes "fault: " ++ bad_row_text bad ++ hint_line line hint
+line_text (fault.HeldBy clerk) = codes "fault: NotOwner\nheld by " ++ clerk.bytes
 line_text (fault.OtherCsv bad) = codes "fault: other " ++ bad_row_text bad
 line_text fault.Words = codes "the command line is not UTF-8"
 

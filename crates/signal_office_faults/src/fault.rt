@@ -3,10 +3,12 @@
 ghost use Rattle.std.specs.Prelude.{◌≡◌, ◌≤◌};
 ghost use Rattle.signal_office_faults.specs.Lines.{status_of};
 
+use arrayvec::ArrayString;
 use office_files::{BadRow, CsvFault};
 use office_http_framing::ends::WriteFailed;
 use office_http_framing::engine::ServeFault;
 use office_machine::refusal::Refusal;
+use office_spreadsheets::Hint;
 use signal_records::NoMemory;
 
 /// Why the program ends with a fault, or refuses its words.
@@ -45,11 +47,24 @@ pub enum Fault {
     /// The office refused a command.
     Refused(Refusal),
     /// The office refused a record of the CSV file, counted from 1.
-    Record { at: usize, refusal: Refusal },
+    Record {
+        at: usize,
+        refusal: Refusal,
+    },
     /// A record of the CSV file, counted from 1, has a later day than an import takes.
-    Late { at: usize },
+    Late {
+        at: usize,
+    },
     /// A record of the CSV file spells nothing; where two are compared, of the first.
     Csv(CsvFault),
+    /// The same of a record, with the line of the file on which it begins, and what is wrong there.
+    Explained {
+        bad: BadRow,
+        line: usize,
+        hint: Hint,
+    },
+    /// The office refused what only the owner of a draft may do, and this clerk owns it.
+    HeldBy(ArrayString<40>),
     /// A record of the second of two CSV files spells nothing.
     OtherCsv(BadRow),
     /// The words are not UTF-8.

@@ -4,18 +4,20 @@ ghost use Rattle.std.specs.Prelude.{◌≡◌, ◌≤◌, ◌+◌, ◌++◌, len
 ghost use Rattle.arrayvec.specs.ArrayString.{array_string_len};
 ghost use Rattle.office_files.specs.CsvFault.{bad_row_text, fault_text};
 ghost use Rattle.office_machine.specs.Refusal.{line_of};
+ghost use Rattle.office_spreadsheets.specs.Hints.{found_text};
 ghost use Rattle.signal_records.specs.RowFault.{fault_name};
-ghost use Rattle.signal_office_faults.specs.Lines.{line_text};
+ghost use Rattle.signal_office_faults.specs.Lines.{hint_line, line_text};
 
 use crate::fault::Fault;
 use arrayvec::ArrayString;
 use itoa::Buffer;
 use office_files::{BadRow, CsvFault};
 use office_machine::refusal::Refusal;
+use office_spreadsheets::Hint;
 use signal_records::RowFault;
 
-/// The bytes of the longest line, and more.
-const ROOM: usize = 256;
+/// The bytes of the longest lines, and more.
+const ROOM: usize = 512;
 
 /// The name of a refusal.
 #[tactic(auto, using(crate::proofs::Short::short_refusal))]
@@ -37,7 +39,7 @@ fn fault_name(fault: RowFault) -> &'static str
 
 /// Writes a number behind the line.
 fn push_number(line: &mut ArrayString<ROOM>, number: usize)
-    requires { array_string_len line.old ≤ 200 }
+    requires { array_string_len line.old ≤ 300 }
     ensures bytes { line.new.bytes ≡ line.old.bytes ++ decimal number }
     ensures len { array_string_len line.new ≤ array_string_len line.old + 40 }
 {
@@ -59,6 +61,46 @@ fn push_bad_row(line: &mut ArrayString<ROOM>, bad: &BadRow)
         line.push_str(" ");
         push_number(line, field.into());
     }
+}
+
+/// Writes how many fields there are behind the line, where their number is wrong.
+fn push_found(line: &mut ArrayString<ROOM>, found: Option<usize>)
+    requires { array_string_len line.old ≤ 300 }
+    ensures bytes { line.new.bytes ≡ line.old.bytes ++ found_text found }
+    ensures len { array_string_len line.new ≤ array_string_len line.old + 50 }
+{
+    if let Some(found) = found {
+        push_number(line, found);
+        line.push_str(", not ");
+    }
+}
+
+/// Writes the second line of a bad record.
+fn push_hint(line: &mut ArrayString<ROOM>, at: usize, hint: Hint)
+    requires { array_string_len line.old ≤ 200 }
+    ensures bytes { line.new.bytes ≡ line.old.bytes ++ hint_line at hint }
+    ensures len { array_string_len line.new ≤ 480 }
+{
+    line.push_str("\nline ");
+    push_number(line, at);
+    line.push_str(", ");
+    line.push_str(hint.name());
+    line.push_str(": ");
+    push_found(line, hint.found());
+    line.push_str(hint.values());
+    line.push_str(hint.ending());
+}
+
+/// Writes a bad record with its second line.
+fn push_explained(line: &mut ArrayString<ROOM>, bad: &BadRow, at: usize, hint: Hint)
+    requires { array_string_len line.old ≡ 0 }
+    ensures bytes { line.new.bytes ≡ line.old.bytes ++ codes "fault: " ++ bad_row_text bad.now
+        ++ hint_line at hint }
+    ensures len { array_string_len line.new ≤ 480 }
+{
+    line.push_str("fault: ");
+    push_bad_row(line, bad);
+    push_hint(line, at, hint);
 }
 
 /// Writes what is wrong with a CSV file behind the line.
@@ -102,7 +144,7 @@ fn push_late(line: &mut ArrayString<ROOM>, at: usize)
 fn push_fault(line: &mut ArrayString<ROOM>, fault: Fault)
     requires { array_string_len line.old ≡ 0 }
     ensures bytes { line.new.bytes ≡ line.old.bytes ++ line_text fault }
-    ensures len { array_string_len line.new ≤ 200 }
+    ensures len { array_string_len line.new ≤ 480 }
 {
     match fault {
         Fault::Read => line.push_str("fault: read"),
@@ -129,6 +171,15 @@ fn push_fault(line: &mut ArrayString<ROOM>, fault: Fault)
         Fault::Csv(fault) => {
             line.push_str("fault: ");
             push_csv_fault(line, &fault);
+        }
+        Fault::Explained {
+            bad,
+            line: at,
+            hint,
+        } => push_explained(line, &bad, at, hint),
+        Fault::HeldBy(clerk) => {
+            line.push_str("fault: NotOwner\nheld by ");
+            line.push_str(clerk.as_str());
         }
         Fault::OtherCsv(bad) => {
             line.push_str("fault: other ");

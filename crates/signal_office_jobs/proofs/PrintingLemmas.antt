@@ -1,15 +1,22 @@
 -- What is printed, from what came of words, of files of the system, and of the file of an office.
-use Rattle.std.proofs.Common.{◌≡◌, ℕ, List, Option, Some, None, Ok, Err, ap, refl, subst, sym}
+use Rattle.std.proofs.Common.{◌≡◌, ◌≢◌, ℕ, inl, inr, List, Option, Some, None, Ok, Err, ap, refl, subst, sym}
 use Rattle.clap.specs.Walk.{Text}
 use Rattle.std.specs.Prelude.{IsErrAnd, Result}
 use Rattle.office_http_framing.specs.Ends.{Told}
 use Rattle.office_http_framing.specs.Serve.{Ends}
 use Rattle.office_tables_shelf.specs.Content.{Content}
+use Rattle.office_files.specs.Changes.{changes_of}
+use Rattle.office_files.specs.declared.fault.CsvFault.{CsvFault}
+use Rattle.office_files.specs.declared.fault.CsvFault.TheVariants as unread
 use Rattle.signal_office_faults.specs.declared.fault.Fault.{Fault}
+use Rattle.signal_office_faults.specs.declared.fault.Fault.TheVariants as fault
 use Rattle.signal_office_in_file.specs.Ended.{EndsOver, FileView, IsBegun, task_work}
 use Rattle.signal_office_in_file.specs.declared.Ended.{Ended}
 use Rattle.signal_office_in_file.specs.declared.Ended.TheVariants.{Unopened, Refused, Closed, Unclosed}
-use Rattle.signal_office_jobs.specs.Printing.{IsPartRead, TellsNothing}
+use Rattle.signal_office_jobs.specs.Printing.{IsPartRead}
+use Rattle.signal_office_tasks.specs.Output.{TellsNothing}
+use Rattle.signal_office_jobs.specs.Printed.{IsNoPlan}
+use Rattle.signal_office_tasks.specs.Explained.{IsFileExplained, explained_file}
 use Rattle.signal_office_jobs.specs.Reading.{Course, ReadingAnyPlan}
 use Rattle.signal_office_line.specs.declared.job.CsvFile.{CsvFile}
 
@@ -39,7 +46,7 @@ handed why (Ok status) is = absurd is
 handed why (Err it) is = ap Err is
 
 -- a file that may be left out is known by its variant
-pub any_plan_so : (file is : Option (CsvFile Text)) (next : List ℕ → Course) (start end : Ends) (err said : Told) (result : Result ℕ Fault)
+pub any_plan_so : (file is : Option (CsvFile Text)) (next : (plan lines : List ℕ) → Course) (start end : Ends) (err said : Told) (result : Result ℕ Fault)
     → file ≡ is → ReadingAnyPlan is next start end err said result → ReadingAnyPlan file next start end err said result
 any_plan_so file is next start end err said result same it =
     subst (λ (f : Option (CsvFile Text)). ReadingAnyPlan f next start end err said result) (sym same) it
@@ -48,3 +55,10 @@ any_plan_so file is next start end err said result same it =
 pub part_is : (word part : Option (List ℕ)) → IsPartRead word (Ok part) → part ≡ word
 part_is None part read = read
 part_is (Some code) part read = read.1
+
+-- why a plan is not read, as it is told with its line
+pub file_told : (csv lines : List ℕ) (cause : CsvFault) (told : Fault) → IsFileExplained csv lines (fault.Csv cause) told
+    → (cause ≢ unread.NoMemory → changes_of csv ≡ Err cause) → told ≢ fault.Memory
+    → (why : Fault) × IsNoPlan csv why × (told ≡ explained_file csv lines why)
+file_told csv lines cause told (inl is) reads other = (fault.Csv cause, (cause, refl, reads), is)
+file_told csv lines cause told (inr memory) reads other = absurd (other memory)

@@ -1,13 +1,6 @@
-pub mod Done
-pub mod Filed
-pub mod Filled
 pub mod Memory
 pub mod Backup
 pub mod Printed
 pub mod Printing
 pub mod Reading
 pub mod Runs
-pub mod Serving
-pub mod Shown
-pub mod Tasks
-pub mod Stopped

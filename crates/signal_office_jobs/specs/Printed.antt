@@ -33,13 +33,16 @@ use Rattle.signal_reasons.specs.Texts.{explained_text_of}
 use Rattle.signal_reasons.specs.declared.reason.Explained.{Explained}
 use Rattle.signal_rules.specs.declared.violation.Violation.{Violation}
 use Rattle.signal_office_jobs.specs.Backup.{BacksUpFile}
-use Rattle.signal_office_jobs.specs.Done.{checked_status, compared_status, compared_text, explained_status, status_of, text_of}
+use Rattle.signal_office_tasks.specs.Done.{checked_status, compared_status, compared_text, explained_status, status_of, text_of}
 use Rattle.signal_office_jobs.specs.Memory.{ServesInMemory, new_office}
-use Rattle.signal_office_jobs.specs.Printing.{InFoundFile, InNewFile, InTime, Made, MigratesFile, Naming, OfPart, OnDay, Output, PrintsDone, abandoning, adding, editing, importing, looking, serving}
+use Rattle.signal_office_jobs.specs.Printing.{InFoundFile, InNewFile, InTime, Made, MigratesFile, Naming, OfPart, OnAnyDay, OnDay, abandoning, adding, editing, looking, serving, trying_or_importing}
+use Rattle.signal_office_tasks.specs.Explained.{explained_file}
+use Rattle.signal_office_tasks.specs.Output.{Output, PrintsDone}
 use Rattle.signal_office_jobs.specs.Reading.{Course, NamingFirst, OnAnyDayFirst, OnlyPrints, ReadingAnyPlan, ReadingCsv, ReadingPlan}
-use Rattle.signal_office_jobs.specs.Shown.{ShowsAs}
-use Rattle.signal_office_jobs.specs.Tasks.{ComparesAs, ComparesWith, FillsAs, TellsUsed, ServesAs}
-use Rattle.signal_office_jobs.specs.declared.done.Done.{Done}
+use Rattle.signal_office_tasks.specs.Shown.{ShowsAs}
+use Rattle.signal_office_tasks.specs.Tasks.{ComparesAs, ComparesWith, FillsAs, TellsUsed, ServesAs}
+use Rattle.signal_office_tasks.specs.declared.done.Done.{Done}
+use Rattle.signal_office_tasks.specs.declared.filed.FolderKind.TheVariants as folder
 use Rattle.signal_office_line.specs.declared.shows.Shown.{Shown}
 use Rattle.signal_office_line.specs.declared.shows.Shown.TheVariants as shown
 
@@ -110,18 +113,19 @@ Compares csv first second (Ok done) =
 Compares csv first second (Err why) = why ≢ fault.Memory → IsFirstBad first second why
 
 -- What is shown of it, or why it is not. Its violations, or those with their reasons, and the status that tells whether there are any.
-abbrev pub ShowsPlan : PlanShown → (csv : List ℕ) → Result Done Fault → Type 0
-ShowsPlan (plan.Violations false) csv (Ok done) =
+abbrev pub ShowsPlan : PlanShown → (csv lines : List ℕ) → Result Done Fault → Type 0
+ShowsPlan (plan.Violations false) csv lines (Ok done) =
     (found : List Violation) × AreOfPlan csv found × (text_of done ≡ violations_text found) × (status_of done ≡ checked_status found)
-ShowsPlan (plan.Violations true) csv (Ok done) =
+ShowsPlan (plan.Violations true) csv lines (Ok done) =
     (found : List Explained) × ExplainsPlan csv found × (text_of done ≡ explained_text_of found) × (status_of done ≡ explained_status found)
-ShowsPlan (plan.Violations explain) csv (Err why) = why ≢ fault.Memory → IsNoPlan csv why
+ShowsPlan (plan.Violations false) csv lines (Err why) = why ≢ fault.Memory → IsNoPlan csv why
+ShowsPlan (plan.Violations true) csv lines (Err why) = why ≢ fault.Memory → (unread : Fault) × IsNoPlan csv unread × (why ≡ explained_file csv lines unread)
 -- the picture of a pattern; or also that the plan lacks the pattern
-ShowsPlan (plan.Diagram pattern) csv (Ok done) = DrawsFile csv pattern (text_of done) × (status_of done ≡ 0)
-ShowsPlan (plan.Diagram pattern) csv (Err why) = why ≢ fault.Memory → DrawsNoFile csv pattern why
+ShowsPlan (plan.Diagram pattern) csv lines (Ok done) = DrawsFile csv pattern (text_of done) × (status_of done ≡ 0)
+ShowsPlan (plan.Diagram pattern) csv lines (Err why) = why ≢ fault.Memory → DrawsNoFile csv pattern why
 -- its page
-ShowsPlan plan.Page csv (Ok done) = IsPageOfFile csv (text_of done) × (status_of done ≡ 0)
-ShowsPlan plan.Page csv (Err why) = why ≢ fault.Memory → IsNoPlan csv why
+ShowsPlan plan.Page csv lines (Ok done) = IsPageOfFile csv (text_of done) × (status_of done ≡ 0)
+ShowsPlan plan.Page csv lines (Err why) = why ≢ fault.Memory → IsNoPlan csv why
 
 -- ---- the jobs
 
@@ -142,7 +146,9 @@ abbrev pub Printed : {Left : Type 0} → OfficeFiles Left → Asked → Output
 Printed files (job.Serve port count None) start end result = ServesNew port count start end result
 Printed files (job.Serve port count (Some db)) start end result = InNewFile files.view (serving port count) start end result
 Printed files (job.Show db it) start end result = Shows files.view it start end result
-Printed files (job.ExportAll db dir) start end result = InFoundFile files.view (looking FillsAs) start end result
+Printed files (job.ExportAll db dir) start end result = InFoundFile files.view (looking (FillsAs folder.Records None)) start end result
+Printed files (job.Pages db day dir) start end result =
+    OnAnyDay day (λ on. InFoundFile files.view (looking (FillsAs folder.Pages on))) start end result
 Printed files (job.Overdue db first csv day) start end result =
     OnDay day (λ on. Shows files.view (shown.Overdue on (unwrap_or first all_intersections) csv)) start end result
 Printed files (job.Used db part csv) start end result =
@@ -160,16 +166,16 @@ Printed files _ start end result = ⊥
 -- on a plan; the others only print
 abbrev pub JobDoes : {Left : Type 0} → OfficeFiles Left → Asked → Course
 JobDoes files (job.Batch db) start end err said result = (said ≡ err) × Batches files.view db start end result
-JobDoes files (job.Import db csv until) start end err said result =
-    OnAnyDayFirst until (λ day. ReadingCsv csv (λ records. OnlyPrints (InTime day records
-    (InFoundFile files.view (importing records))))) start end err said result
+JobDoes files (job.Import db csv until check) start end err said result =
+    OnAnyDayFirst until (λ day. ReadingCsv csv (λ records lines. OnlyPrints (InTime day records
+    (InFoundFile files.view (trying_or_importing check records lines))))) start end err said result
 JobDoes files (job.Edit e) start end err said result =
-    NamingFirst 40 e.clerk fault.Clerk (ReadingAnyPlan e.csv (λ plan. OnlyPrints (InFoundFile files.view
-    (editing plan e.id e.clerk (edit_mode e) e.explain)))) start end err said result
+    NamingFirst 40 e.clerk fault.Clerk (ReadingAnyPlan e.csv (λ plan lines. OnlyPrints (InFoundFile files.view
+    (editing plan lines e.id e.clerk (edit_mode e) e.explain)))) start end err said result
 JobDoes files (job.CompareRunning db id plan csv) start end err said result =
-    ReadingPlan false plan (λ other. OnlyPrints (InFoundFile files.view (looking (ComparesWith id other csv)))) start end err said result
+    ReadingPlan false plan (λ other _. OnlyPrints (InFoundFile files.view (looking (ComparesWith id other csv)))) start end err said result
 JobDoes files (job.CompareFiles first second csv) start end err said result =
-    ReadingPlan false first (λ plan. ReadingPlan true second (λ other. OnlyPrints (Made (Compares csv plan other)))) start end err said result
+    ReadingPlan false first (λ plan _. ReadingPlan true second (λ other _. OnlyPrints (Made (Compares csv plan other)))) start end err said result
 JobDoes files (job.ShowPlan csv it) start end err said result =
-    ReadingPlan false csv (λ plan. OnlyPrints (Made (ShowsPlan it plan))) start end err said result
+    ReadingPlan false csv (λ plan lines. OnlyPrints (Made (ShowsPlan it plan lines))) start end err said result
 JobDoes files other start end err said result = OnlyPrints (Printed files other) start end err said result

@@ -1,9 +1,8 @@
 -- What a command prints, as its outputs take it.
-use Rattle.std.specs.Prelude.{◌≡◌, ◌⊎◌, ℕ, Bool, true, false, List, Option, Some, None, ◌++◌, codes, decimal, Result, Ok, Err}
-use Rattle.std.specs.Io.KnownBytes.{Appends}
+use Rattle.std.specs.Prelude.{◌≡◌, ◌⊎◌, ℕ, Bool, true, false, List, Option, Some, None, Result, Ok, Err}
 use Rattle.cabinet_core.specs.Day.{SpellsDay}
 use Rattle.cabinet_core.specs.Part.{IsPartCode}
-use Rattle.office_http_framing.specs.Ends.{AppendsPart, FailsOrGivesNone, Told}
+use Rattle.office_http_framing.specs.Ends.{Told}
 use Rattle.office_tables_shelf.specs.Content.{Content}
 use Rattle.signal_office_checks.specs.Days.{AreInTime}
 use Rattle.signal_office_commands.specs.Stopping.{AfterAbandoning, AfterAdding, AfterImporting, AfterRevising}
@@ -13,36 +12,13 @@ use Rattle.signal_office_faults.specs.declared.fault.Fault.TheVariants as fault
 use Rattle.signal_office_in_file.specs.Ended.{EndsOver, FileView, IsBegun, IsCounted, task_work, told_by}
 use Rattle.signal_office_in_file.specs.Stopping.{SameOr}
 use Rattle.signal_office_in_file.specs.declared.Ended.{Ended}
-use Rattle.signal_office_jobs.specs.Done.{status_of, text_of}
-use Rattle.signal_office_jobs.specs.Stopped.{AfterServing, SaysPort, TaskLeaves, TaskSays}
-use Rattle.signal_office_jobs.specs.Tasks.{AbandonsAs, AddsAs, EditsBy, ImportsAs, ServesAs, TaskDoes, TellsOutcome}
-use Rattle.signal_office_jobs.specs.declared.done.Done.{Done}
-use Rattle.signal_office_jobs.specs.declared.task.Task.{Task}
+use Rattle.signal_office_tasks.specs.Done.{migrated_line}
+use Rattle.signal_office_tasks.specs.Output.{Output, PrintsDone, TellsNothing, joined}
+use Rattle.signal_office_tasks.specs.Stopped.{AfterServing, SaysPort, TaskLeaves, TaskSays}
+use Rattle.signal_office_tasks.specs.Tasks.{AbandonsAs, AddsAs, ChecksAs, EditsBy, ImportsAs, ServesAs, TaskDoes, TellsOutcome}
+use Rattle.signal_office_tasks.specs.declared.done.Done.{Done}
+use Rattle.signal_office_tasks.specs.declared.task.Task.{Task}
 use Rattle.signal_values.specs.Words.{AreWords}
-
--- what an output took from its start to its end, and the status that came of it, or the fault
-abbrev pub Output : Type 1
-Output = Told → Told → Result ℕ Fault → Type 0
-
--- nothing was printed, and the fault is told
-abbrev pub TellsNothing : Fault → Output
-TellsNothing why start end result = (end ≡ start) × (result ≡ Err why)
-
--- The text was printed, whole, and its status is given; or the output failed or took no byte, and holds the text up to some place.
-abbrev pub Prints : (text : List ℕ) → (status : ℕ) → Told → Told → Result ℕ Fault → Type 0
-Prints text status start end (Ok given) = Appends start.bytes end.bytes text × (given ≡ status)
-Prints text status start end (Err why) =
-    (why ≡ fault.Write) × AppendsPart start.bytes end.bytes text × FailsOrGivesNone start.counts end.counts
-
--- what a command came to is printed
-abbrev pub PrintsDone : Result Done Fault → Output
-PrintsDone (Ok done) = Prints (text_of done) (status_of done)
-PrintsDone (Err why) = TellsNothing why
-
--- what came of both steps: the first, of which the second is the result
-abbrev pub joined : {A : Type 0} → Result (Result A Fault) Fault → Result A Fault
-joined (Ok done) = done
-joined (Err why) = Err why
 
 -- something was made of it, and that is printed
 abbrev pub Made : (Result Done Fault → Type 0) → Output
@@ -79,6 +55,12 @@ IsAnyDayRead (Some word) (Ok (Some day)) = SpellsDay word day
 IsAnyDayRead (Some word) (Ok None) = ⊥
 IsAnyDayRead (Some word) (Err why) = IsDayRead word (Err why)
 IsAnyDayRead None result = result ≡ Ok None
+
+-- the day of a word that may be left out is read, and this is done on it; or the word spells none, and that is told
+abbrev pub OnAnyDay : (word : Option (List ℕ)) → (Option ℕ → Output) → Output
+OnAnyDay word next start end result =
+    ((day : Option ℕ) × IsAnyDayRead word (Ok day) × next day start end result)
+    ⊎ ((why : Fault) × IsAnyDayRead word (Err why) × TellsNothing why start end result)
 
 -- no record of the file is of a later day than one that is given, and this is done; or that is told
 abbrev pub InTime : (until : Option ℕ) → (csv : List ℕ) → Output → Output
@@ -135,8 +117,16 @@ adding id interval name = silent (AddsAs id interval name) (AfterAdding id inter
 abbrev pub importing : (records : List ℕ) → Effect
 importing records = silent (ImportsAs records) (AfterImporting records)
 
-abbrev pub editing : (plan : List ℕ) → (id : ℕ) → (clerk : List ℕ) → EditMode → (explain : Bool) → Effect
-editing plan id clerk mode explain = silent (EditsBy plan id clerk mode explain) (AfterRevising plan id clerk mode)
+abbrev pub checking : (records lines : List ℕ) → Effect
+checking records lines = looking (ChecksAs records lines)
+
+-- records that are tried, or imported
+abbrev pub trying_or_importing : (check : Bool) → (records lines : List ℕ) → Effect
+trying_or_importing true records lines = checking records lines
+trying_or_importing false records lines = importing records
+
+abbrev pub editing : (plan lines : List ℕ) → (id : ℕ) → (clerk : List ℕ) → EditMode → (explain : Bool) → Effect
+editing plan lines id clerk mode explain = silent (EditsBy plan lines id clerk mode explain) (AfterRevising plan id clerk mode)
 
 abbrev pub abandoning : (id : ℕ) → (clerk : List ℕ) → Effect
 abandoning id clerk = silent (AbandonsAs id clerk) (AfterAbandoning id clerk)
@@ -169,10 +159,6 @@ InNewFile view = InFile view true
 
 abbrev pub InFoundFile : {Left : Type 0} → FileView Left → Effect → Output
 InFoundFile view = InFile view false
-
--- the line that tells how many rows were written anew
-abbrev pub migrated_line : ℕ → List ℕ
-migrated_line rows = codes "migrated " ++ decimal rows ++ codes " rows\n"
 
 -- The tables of a file were brought to today's version, and the line tells how many rows were written anew, as they were counted; or they were not, and that is
 -- told.

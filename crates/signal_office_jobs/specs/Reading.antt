@@ -6,7 +6,8 @@ use Rattle.office_http_framing.specs.Serve.{Ends, ends_of}
 use Rattle.plan_notes.specs.Notes.{notes_in}
 use Rattle.signal_office_faults.specs.declared.fault.Fault.{Fault}
 use Rattle.signal_office_line.specs.declared.job.CsvFile.{CsvFile}
-use Rattle.signal_office_jobs.specs.Printing.{IsAnyDayRead, IsNameRead, Output}
+use Rattle.signal_office_jobs.specs.Printing.{IsAnyDayRead, IsNameRead}
+use Rattle.signal_office_tasks.specs.Output.{Output}
 use Rattle.signal_office_reading.specs.Reading.{GivesNoFile, IsCsvRead, SaysNotes, is_input}
 use Rattle.signal_values.specs.Words.{AreWords}
 
@@ -23,22 +24,23 @@ abbrev pub TellsNoFile : CsvFile Text → Course
 TellsNoFile file start end err said result =
     (why : Fault) × GivesNoFile (is_input file) why start.source end.source × (end.sink ≡ start.sink) × (said ≡ err) × (result ≡ Err why)
 
--- a CSV file was read, and this is done with its text; or it was not
-abbrev pub ReadingCsv : CsvFile Text → (List ℕ → Course) → Course
+-- a CSV file was read, and this is done with its text and the lines on which its records begin; or it was not
+abbrev pub ReadingCsv : CsvFile Text → ((text lines : List ℕ) → Course) → Course
 ReadingCsv file next start end err said result =
-    ((text : List ℕ) × (middle : Told) × IsCsvRead file text start.source middle × next text (ends_of middle start.sink) end err said result)
+    ((text : List ℕ) × (lines : List ℕ) × (middle : Told) × IsCsvRead file text lines start.source middle
+    × next text lines (ends_of middle start.sink) end err said result)
     ⊎ TellsNoFile file start end err said result
 
 -- the plan in a CSV file, or in the other one of two, was read and the notes on it were said, and this is done with it; or it was not
-abbrev pub ReadingPlan : (other : Bool) → CsvFile Text → (List ℕ → Course) → Course
+abbrev pub ReadingPlan : (other : Bool) → CsvFile Text → ((plan lines : List ℕ) → Course) → Course
 ReadingPlan other file next start end err said result =
-    ((plan : List ℕ) × (middle : Told) × (noted : Told) × IsCsvRead file plan start.source middle × SaysNotes (notes_in other plan) err noted
-    × next plan (ends_of middle start.sink) end noted said result)
+    ((plan : List ℕ) × (lines : List ℕ) × (middle : Told) × (noted : Told) × IsCsvRead file plan lines start.source middle
+    × SaysNotes (notes_in other plan) err noted × next plan lines (ends_of middle start.sink) end noted said result)
     ⊎ TellsNoFile file start end err said result
 
 -- the same of a file that may be left out, which has no record then
-abbrev pub ReadingAnyPlan : Option (CsvFile Text) → (List ℕ → Course) → Course
-ReadingAnyPlan None next = next []
+abbrev pub ReadingAnyPlan : Option (CsvFile Text) → ((plan lines : List ℕ) → Course) → Course
+ReadingAnyPlan None next = next [] []
 ReadingAnyPlan (Some file) next = ReadingPlan false file next
 
 -- the word is the text of a name, and this is done; or it is not taken, and that is told

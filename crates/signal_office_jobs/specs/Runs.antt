@@ -21,7 +21,7 @@ use Rattle.signal_office_line.specs.declared.job.Job.{Job}
 use Rattle.signal_office_line.specs.declared.job.JobFault.{JobFault}
 use Rattle.signal_office_line.specs.declared.job.JobFault.TheVariants.{Refused, NoMemory}
 use Rattle.signal_office_jobs.specs.Printed.{JobDoes, OfficeFiles}
-use Rattle.signal_office_jobs.specs.Printing.{Prints}
+use Rattle.signal_office_tasks.specs.Output.{Prints}
 
 -- what was found, as the words have it
 abbrev pub job_asked : Result (Job (Bor Text)) JobFault → Result Asked JobFault

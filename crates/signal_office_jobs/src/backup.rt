@@ -5,11 +5,11 @@ ghost use Rattle.signal_office_in_file.specs.Ended.{file_view};
 ghost use Rattle.signal_office_jobs.specs.Backup.{BacksUpFile, CopiesTo, FindsRoom, IsPut};
 ghost use Rattle.signal_office_jobs.specs.Backup.{leaves_room};
 
-use crate::done::{copied, joined, print_done};
 use office_http::{Sink, ToWrite};
 use signal_office_commands::Fault;
 use signal_office_faults::is_missing;
 use signal_office_in_file::OfficeInFile;
+use signal_office_tasks::{copied, joined, print_done};
 use std::alloc::{AllocError, Global};
 use std::fs::{File, OpenOptions};
 use std::os::unix::fs::{MetadataExt, OpenOptionsExt};

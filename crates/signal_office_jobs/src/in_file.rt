@@ -6,19 +6,17 @@ ghost use Rattle.signal_office_faults.specs.declared.fault.Fault.TheVariants as 
 ghost use Rattle.signal_office_jobs.specs.Printed.{Shows, all_intersections};
 ghost use Rattle.signal_office_jobs.specs.Printing.{InFile, InFoundFile, InNewFile, IsDayRead};
 ghost use Rattle.signal_office_jobs.specs.Printing.{InTime, IsAnyDayRead, IsNameRead, IsPartRead};
-ghost use Rattle.signal_office_jobs.specs.Printing.{MigratesFile, Naming, OfPart, OnDay};
+ghost use Rattle.signal_office_jobs.specs.Printing.{MigratesFile, Naming, OfPart, OnAnyDay, OnDay};
 ghost use Rattle.signal_office_jobs.specs.Printing.{abandoning, adding, editing};
-ghost use Rattle.signal_office_jobs.specs.Printing.{effect_of, importing, looking};
+ghost use Rattle.signal_office_jobs.specs.Printing.{effect_of, looking, trying_or_importing};
 ghost use Rattle.signal_office_jobs.specs.Printed.{edit_mode};
 ghost use Rattle.signal_office_jobs.specs.Reading.{NamingFirst, OnAnyDayFirst, OnlyPrints};
 ghost use Rattle.signal_office_jobs.specs.Reading.{ReadingAnyPlan, ReadingCsv};
-ghost use Rattle.signal_office_jobs.specs.Tasks.{ComparesWith, TellsUsed, makes_file};
+ghost use Rattle.signal_office_tasks.specs.Tasks.{ComparesWith, FillsAs, TellsUsed, makes_file};
 ghost use Rattle.signal_office_line.specs.Job.{file_asked};
 ghost use Rattle.office_http_framing.specs.Ends.{Told};
 ghost use Rattle.office_http_framing.specs.Serve.{ends_of};
 
-use crate::done::{Done, joined, migrated, print_done};
-use crate::task::Task;
 use cabinet_core::{Day, PartCode, read_day};
 use office_http::{Sink, Source};
 use signal_office_checks::check_days;
@@ -27,6 +25,7 @@ use signal_office_faults::is_missing;
 use signal_office_in_file::OfficeInFile;
 use signal_office_line::{CsvFile, Edit, Shown};
 use signal_office_reading::{read_csv, read_plan};
+use signal_office_tasks::{Done, FolderKind, Task, joined, migrated, print_done};
 use signal_records::{InterId, Interval, Words};
 use std::alloc::Global;
 
@@ -202,22 +201,89 @@ pub(crate) fn migrate<F: OfficeInFile, W: Sink>(
     print_done(migrated(alloc, joined(ended.told())), out)
 }
 
-/// Takes the records of a CSV text into the office of a file, which has to be there. Their days are
-/// looked at before it is opened.
+/// Fills a folder with the lists, plans and cabinets of the office of a file.
+pub(crate) fn fill_records<F: OfficeInFile, W: Sink>(
+    rt: &HostRuntime,
+    alloc: Global,
+    db: &str,
+    dir: &str,
+    out: &mut W,
+) -> Result<u8, Fault>
+    ensures { let view = file_view F.held F.is_clean F.keeps F.refused F.leaves in
+        InFoundFile view (looking (FillsAs FolderKind.Records None))
+        (W.told out.old) (W.told out.new) result }
+{
+    let task = Task::Fill {
+        dir,
+        kind: FolderKind::Records,
+        day: None,
+    };
+    in_file::<F, W>(rt, alloc, db, &task, out)
+}
+
+/// Fills a folder with the pages of the office of a file. The day of a word is read first, where one
+/// is given.
+pub(crate) fn fill_pages<F: OfficeInFile, W: Sink>(
+    rt: &HostRuntime,
+    alloc: Global,
+    db: &str,
+    day: &Option<&str>,
+    dir: &str,
+    out: &mut W,
+) -> Result<u8, Fault>
+    ensures { let view = file_view F.held F.is_clean F.keeps F.refused F.leaves in
+        OnAnyDay (option_map (λ word. word.now) day.now)
+        (λ day. InFoundFile view (looking (FillsAs FolderKind.Pages day)))
+        (W.told out.old) (W.told out.new) result }
+{
+    let day = any_day_of(day)?;
+    let task = Task::Fill {
+        dir,
+        kind: FolderKind::Pages,
+        day,
+    };
+    in_file::<F, W>(rt, alloc, db, &task, out)
+}
+
+/// Takes the records of a CSV text into the office of a file, which has to be there, or tries them.
+fn try_or_import<F: OfficeInFile, W: Sink>(
+    rt: &HostRuntime,
+    alloc: Global,
+    db: &str,
+    csv: &[u8],
+    lines: &[usize],
+    check: bool,
+    out: &mut W,
+) -> Result<u8, Fault>
+    ensures { let view = file_view F.held F.is_clean F.keeps F.refused F.leaves in
+        InFoundFile view (trying_or_importing check csv.now lines.now)
+        (W.told out.old) (W.told out.new) result }
+{
+    if check {
+        in_file::<F, W>(rt, alloc, db, &Task::Check { csv, lines }, out)
+    } else {
+        in_file::<F, W>(rt, alloc, db, &Task::Import { csv }, out)
+    }
+}
+
+/// The same, where none of the records has a later day than one that is given. Their days are
+/// looked at before the office is opened.
 fn import_text<F: OfficeInFile, W: Sink>(
     rt: &HostRuntime,
     alloc: Global,
     db: &str,
     csv: &[u8],
+    lines: &[usize],
     until: Option<Day>,
+    check: bool,
     out: &mut W,
 ) -> Result<u8, Fault>
     ensures { let view = file_view F.held F.is_clean F.keeps F.refused F.leaves in
-        InTime until csv.now (InFoundFile view (importing csv.now))
+        InTime until csv.now (InFoundFile view (trying_or_importing check csv.now lines.now))
         (W.told out.old) (W.told out.new) result }
 {
     check_days(alloc, csv, until)?;
-    in_file::<F, W>(rt, alloc, db, &Task::Import { csv }, out)
+    try_or_import::<F, W>(rt, alloc, db, csv, lines, check, out)
 }
 
 /// The same of a CSV file.
@@ -227,39 +293,41 @@ fn import_until<F: OfficeInFile, R: Source, W: Sink>(
     db: &str,
     csv: &CsvFile<&str>,
     until: Option<Day>,
+    check: bool,
     source: &mut R,
     out: &mut W,
 ) -> Result<u8, Fault>
     ensures { let view = file_view F.held F.is_clean F.keeps F.refused F.leaves in
-        (err : Told) → ReadingCsv (file_asked csv.now)
-        (λ records. OnlyPrints (InTime until records (InFoundFile view (importing records))))
+        (err : Told) → ReadingCsv (file_asked csv.now) (λ records lines. OnlyPrints
+        (InTime until records (InFoundFile view (trying_or_importing check records lines))))
         (ends_of (R.told source.old) (W.told out.old))
         (ends_of (R.told source.new) (W.told out.new)) err err result }
 {
-    let csv = &read_csv(rt, alloc, csv, source)?;
-    import_text::<F, W>(rt, alloc, db, csv, until, out)
+    let read = read_csv(rt, alloc, csv, source)?;
+    import_text::<F, W>(rt, alloc, db, &read.text, &read.lines, until, check, out)
 }
 
-/// Takes the records of a CSV file into the office of a file, which has to be there. The day of a
-/// word is read first, where one is given.
+/// Takes the records of a CSV file into the office of a file, which has to be there, or tries them.
+/// The day of a word is read first, where one is given.
 pub(crate) fn import<F: OfficeInFile, R: Source, W: Sink>(
     rt: &HostRuntime,
     alloc: Global,
     db: &str,
     csv: &CsvFile<&str>,
     until: &Option<&str>,
+    check: bool,
     source: &mut R,
     out: &mut W,
 ) -> Result<u8, Fault>
     ensures { let view = file_view F.held F.is_clean F.keeps F.refused F.leaves in
         (err : Told) → OnAnyDayFirst (option_map (λ word. word.now) until.now)
-        (λ day. ReadingCsv (file_asked csv.now)
-        (λ records. OnlyPrints (InTime day records (InFoundFile view (importing records)))))
+        (λ day. ReadingCsv (file_asked csv.now) (λ records lines. OnlyPrints
+        (InTime day records (InFoundFile view (trying_or_importing check records lines)))))
         (ends_of (R.told source.old) (W.told out.old))
         (ends_of (R.told source.new) (W.told out.new)) err err result }
 {
     let until = any_day_of(until)?;
-    import_until::<F, R, W>(rt, alloc, db, csv, until, source, out)
+    import_until::<F, R, W>(rt, alloc, db, csv, until, check, source, out)
 }
 
 /// Prints what a plan differs in from the committed timing set of an intersection.
@@ -296,11 +364,12 @@ fn edit_with<F: OfficeInFile, W: Sink>(
     edit: &Edit<&str>,
     clerk: &Words<40>,
     csv: &[u8],
+    lines: &[usize],
     out: &mut W,
 ) -> Result<u8, Fault>
     ensures { let view = file_view F.held F.is_clean F.keeps F.refused F.leaves in
         InFoundFile view
-        (editing csv.now edit.now.id clerk.now (edit_mode edit.now) edit.now.explain)
+        (editing csv.now lines.now edit.now.id clerk.now (edit_mode edit.now) edit.now.explain)
         (W.told out.old) (W.told out.new) result }
 {
     let (id, mode, explain) = (edit.id, mode_of(edit), edit.explain);
@@ -308,6 +377,7 @@ fn edit_with<F: OfficeInFile, W: Sink>(
         id,
         clerk,
         csv,
+        lines,
         mode,
         explain,
     };
@@ -326,17 +396,17 @@ fn edit_by<F: OfficeInFile, R: Source, W: Sink, E: Sink>(
     err: &mut E,
 ) -> Result<u8, Fault>
     ensures { let view = file_view F.held F.is_clean F.keeps F.refused F.leaves in
-        ReadingAnyPlan (option_map file_asked edit.now.csv) (λ plan. OnlyPrints (InFoundFile view
-        (editing plan edit.now.id clerk.now (edit_mode edit.now) edit.now.explain)))
+        ReadingAnyPlan (option_map file_asked edit.now.csv) (λ plan lines. OnlyPrints
+        (InFoundFile view (editing plan lines edit.now.id clerk.now (edit_mode edit.now) edit.now.explain)))
         (ends_of (R.told source.old) (W.told out.old))
         (ends_of (R.told source.new) (W.told out.new)) (E.told err.old) (E.told err.new) result }
 {
     match &edit.csv {
         Some(file) => {
             let plan = read_plan(rt, alloc, file, false, source, err)?;
-            edit_with::<F, W>(rt, alloc, edit, clerk, &plan, out)
+            edit_with::<F, W>(rt, alloc, edit, clerk, &plan.text, &plan.lines, out)
         }
-        None => edit_with::<F, W>(rt, alloc, edit, clerk, b"", out),
+        None => edit_with::<F, W>(rt, alloc, edit, clerk, b"", &[], out),
     }
 }
 
@@ -352,8 +422,8 @@ pub(crate) fn edit_plan<F: OfficeInFile, R: Source, W: Sink, E: Sink>(
     ensures { let view = file_view F.held F.is_clean F.keeps F.refused F.leaves in
         let clerk = edit.now.clerk.now in
         NamingFirst 40 clerk fault.Clerk (ReadingAnyPlan (option_map file_asked edit.now.csv)
-        (λ plan. OnlyPrints (InFoundFile view
-        (editing plan edit.now.id clerk (edit_mode edit.now) edit.now.explain))))
+        (λ plan lines. OnlyPrints (InFoundFile view
+        (editing plan lines edit.now.id clerk (edit_mode edit.now) edit.now.explain))))
         (ends_of (R.told source.old) (W.told out.old))
         (ends_of (R.told source.new) (W.told out.new)) (E.told err.old) (E.told err.new) result }
 {

@@ -8,22 +8,21 @@ ghost use Rattle.signal_office_jobs.specs.Printed.{Batches, JobDoes, Printed, Se
 ghost use Rattle.signal_office_jobs.specs.Printed.{office_files, status_over, stream_status};
 ghost use Rattle.signal_office_jobs.specs.Runs.{DoesFound, EndsWith, RunsWords, ShowsRefusal};
 ghost use Rattle.signal_office_jobs.specs.Runs.{job_asked};
-ghost use Rattle.signal_office_jobs.specs.Printing.{Prints};
+ghost use Rattle.signal_office_tasks.specs.Output.{Prints};
 
 use crate::backup::backup;
-use crate::done::print_done;
 use crate::in_file::{
-    abandon, add, compare_running, edit_plan, import, in_file, migrate, overdue, show_of, used,
+    abandon, add, compare_running, edit_plan, fill_pages, fill_records, import, in_file, migrate,
+    overdue, show_of, used,
 };
 use crate::memory::{open_in_memory, serve_new_office};
 use crate::plans::{compare_plans, show_plan};
-use crate::task;
-use crate::task::Task;
 use office_http::{ServeFault, Served, Sink, Source, write_all};
 use signal_office_commands::{Fault, report};
 use signal_office_in_file::OfficeInFile;
 use signal_office_line::{Job, JobFault, job_of};
 use signal_office_reading::read_plan;
+use signal_office_tasks::{Task, print_done};
 use std::alloc::Global;
 
 /// The most requests of one run of `batch`.
@@ -81,7 +80,7 @@ fn serve_in_memory<W: Sink>(
     ensures { ServesNew port count (W.told out.old) (W.told out.new) result }
 {
     let mut office = open_in_memory(alloc);
-    let done = task::serve(rt, alloc, &mut office, port, count, out);
+    let done = signal_office_tasks::serve(rt, alloc, &mut office, port, count, out);
     print_done(done, out)
 }
 
@@ -123,7 +122,8 @@ fn run_job<F: OfficeInFile, R: Source, W: Sink, E: Sink>(
         Job::Batch { db } => batch::<F, R, W>(rt, alloc, db, source, out),
         Job::Serve { port, count, db } => serve::<F, W>(rt, alloc, *port, *count, db, out),
         Job::Show { db, shown } => show_of::<F, W>(rt, alloc, db, *shown, out),
-        Job::ExportAll { db, dir } => in_file::<F, W>(rt, alloc, db, &Task::Fill { dir }, out),
+        Job::ExportAll { db, dir } => fill_records::<F, W>(rt, alloc, db, dir, out),
+        Job::Pages { db, day, dir } => fill_pages::<F, W>(rt, alloc, db, day, dir, out),
         Job::Overdue {
             db,
             first,
@@ -139,17 +139,20 @@ fn run_job<F: OfficeInFile, R: Source, W: Sink, E: Sink>(
         } => add::<F, W>(rt, alloc, db, *id, *interval, name, out),
         Job::Migrate { db } => migrate::<F, W>(rt, alloc, db, out),
         Job::Backup { db, to, force } => backup::<F, W>(rt, alloc, db, to, *force, out),
-        Job::Import { db, csv, until } => {
-            import::<F, R, W>(rt, alloc, db, csv, until, source, out)
-        }
+        Job::Import {
+            db,
+            csv,
+            until,
+            check,
+        } => import::<F, R, W>(rt, alloc, db, csv, until, *check, source, out),
         Job::Edit(edit) => edit_plan::<F, R, W, E>(rt, alloc, edit, source, out, err),
         Job::Abandon { db, clerk, id } => abandon::<F, W>(rt, alloc, db, clerk, *id, out),
         Job::CompareDraft { db, id, csv } => {
             in_file::<F, W>(rt, alloc, db, &Task::Compare { id: *id, csv: *csv }, out)
         }
         Job::CompareRunning { db, id, plan, csv } => {
-            let text = read_plan(rt, alloc, plan, false, source, err)?;
-            compare_running::<F, W>(rt, alloc, db, *id, &text, *csv, out)
+            let plan = read_plan(rt, alloc, plan, false, source, err)?;
+            compare_running::<F, W>(rt, alloc, db, *id, &plan.text, *csv, out)
         }
         Job::CompareFiles { first, second, csv } => {
             compare_plans(rt, alloc, first, second, *csv, source, out, err)

@@ -30,12 +30,13 @@ asked (job.Batch db) = job.Batch (option_map (λ (s : Bor Text). s.now) db)
 asked (job.Serve port count db) = job.Serve port count (option_map (λ (s : Bor Text). s.now) db)
 asked (job.Show db it) = job.Show db.now it
 asked (job.ExportAll db dir) = job.ExportAll db.now dir.now
+asked (job.Pages db day dir) = job.Pages db.now (option_map (λ (s : Bor Text). s.now) day) dir.now
 asked (job.Overdue db first csv day) = job.Overdue db.now first csv day.now
 asked (job.Used db part csv) = job.Used db.now (option_map (λ (s : Bor Text). s.now) part) csv
 asked (job.Add db id interval name) = job.Add db.now id interval name.now
 asked (job.Migrate db) = job.Migrate db.now
 asked (job.Backup db to force) = job.Backup db.now to.now force
-asked (job.Import db csv until) = job.Import db.now (file_asked csv) (option_map (λ (s : Bor Text). s.now) until)
+asked (job.Import db csv until check) = job.Import db.now (file_asked csv) (option_map (λ (s : Bor Text). s.now) until) check
 asked (job.Edit e) = job.Edit (record {
   db = e.db.now;
   clerk = e.clerk.now;
@@ -143,12 +144,12 @@ backup_at rows = do
   to ← first_of (codes "TO") rows
   Some (job.Backup db to (flag_at (codes "force") rows))
 
--- `import --db FILE [--until DAY] [--padded] CSV`
+-- `import --db FILE [--check] [--until DAY] [--padded] CSV`
 abbrev pub import_at : List Row → Option Asked
 import_at rows = do
   db ← first_of (codes "db") rows
   csv ← csv_at (codes "CSV") rows
-  Some (job.Import db csv (first_of (codes "until") rows))
+  Some (job.Import db csv (first_of (codes "until") rows) (flag_at (codes "check") rows))
 
 -- the file of an edit, which may be left out where a draft is committed as it is
 abbrev pub edited_file : Option (CsvFile Text) → (commit replace : Bool) → Option (Option (CsvFile Text))
@@ -217,7 +218,7 @@ diagram_at rows =
 abbrev pub showing_of : Option Text → Option (CsvFile Text) → Option Text → List Row → Option Asked
 showing_of (Some db) None (Some word) rows = do
   id ← number_at 9_999 (codes "ID") rows
-  Some (job.Show db (shown.Page id))
+  Some (job.Show db (shown.Page id false))
 showing_of None (Some file) None rows = Some (job.ShowPlan file plan.Page)
 showing_of _ _ _ rows = None
 
@@ -281,6 +282,13 @@ folder_of true false rows = do
 abbrev pub export_job_at : List Row → Option Asked
 export_job_at rows = folder_of (flag_at (codes "all") rows) (flag_at (codes "draft") rows || flag_at (codes "cabinet") rows) rows
 
+-- `pages --db FILE [--day DAY] DIR`
+abbrev pub pages_at : List Row → Option Asked
+pages_at rows = do
+  db ← first_of (codes "db") rows
+  dir ← first_of (codes "DIR") rows
+  Some (job.Pages db (first_of (codes "day") rows) dir)
+
 -- the other commands
 abbrev pub jobs : List (Text × (List Row → Option Asked))
 jobs =
@@ -289,7 +297,7 @@ jobs =
     ∷ (codes "migrate", migrate_at) ∷ (codes "backup", backup_at) ∷ (codes "import", import_at)
     ∷ (codes "export", export_job_at) ∷ (codes "edit", edit_at)
     ∷ (codes "abandon", abandon_at) ∷ (codes "compare", compare_at)
-    ∷ (codes "diagram", diagram_at) ∷ (codes "page", page_at) ∷ []
+    ∷ (codes "diagram", diagram_at) ∷ (codes "page", page_at) ∷ (codes "pages", pages_at) ∷ []
 
 -- what the command of a name asks for, where its values are there and its numbers in their ranges
 abbrev pub job_at : Text → List Row → Option Asked

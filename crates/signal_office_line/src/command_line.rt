@@ -148,6 +148,26 @@ const OFFICE_COMMANDS: &[Usage<'static>] = &[
         ],
         Ending::Statuses,
     ),
+    Usage(
+        "pages",
+        "Writes the pages of all intersections, and an index of them with the open orders and \
+         the stock, into a folder that a browser shows",
+        &[
+            Argument("db", Form::Needed("FILE"), FOUND_FILE),
+            Argument(
+                "day",
+                Form::Choice("DAY"),
+                "Mark the intersections that are overdue for inspection on this day, YYYY-MM-DD, \
+                 and put them first",
+            ),
+            Argument(
+                "DIR",
+                Form::Word,
+                "The folder, which is made if there is none",
+            ),
+        ],
+        Ending::Statuses,
+    ),
 ];
 
 /// Then those that read files, change plans, and draw.
@@ -194,6 +214,12 @@ const PLAN_COMMANDS: &[Usage<'static>] = &[
          are new",
         &[
             Argument("db", Form::Needed("FILE"), FOUND_FILE),
+            Argument(
+                "check",
+                Form::Flag,
+                "Take nothing; print each record that would be refused, with its line and what is \
+                 there. Status 1 if there is one",
+            ),
             Argument(
                 "until",
                 Form::Choice("DAY"),

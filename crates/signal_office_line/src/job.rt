@@ -98,12 +98,21 @@ pub enum Job<T> {
         to: T,
         force: bool,
     },
+    /// Fill a folder with the pages of all intersections and an index, which marks those that are
+    /// overdue on a day, if one is given.
+    Pages {
+        db: T,
+        day: Option<T>,
+        dir: T,
+    },
     /// Take the records of a CSV file in turn: all of them, or none. None is taken where one is of
-    /// a later day than one that is given.
+    /// a later day than one that is given, or where they are only tried: then those that would be
+    /// refused are told.
     Import {
         db: T,
         csv: CsvFile<T>,
         until: Option<T>,
+        check: bool,
     },
     /// Change a plan by a CSV file.
     Edit(Edit<T>),

@@ -6,7 +6,7 @@ ghost use Rattle.clap.specs.Walk.{rows_of};
 ghost use Rattle.signal_office_line.specs.Job.{abandon_at, add_at, asked, backup_at, batch_at, compare_at};
 ghost use Rattle.signal_office_line.specs.Job.{diagram_at, edit_at, import_at, job_at, migrate_at};
 ghost use Rattle.signal_office_line.specs.Job.{csv_at, edited_file, export_job_at, file_asked};
-ghost use Rattle.signal_office_line.specs.Job.{number_at, overdue_at, page_at, serve_at, show_at};
+ghost use Rattle.signal_office_line.specs.Job.{number_at, overdue_at, page_at, pages_at, serve_at, show_at};
 ghost use Rattle.signal_office_line.specs.Job.{used_at};
 ghost use Rattle.signal_office_line.specs.Job.{verify_file_at};
 
@@ -147,14 +147,20 @@ fn backup<'a>(matches: &ArgMatches<'a>) -> Option<Job<&'a str>>
     Some(Job::Backup { db, to, force })
 }
 
-/// `import --db FILE [--until DAY] [--padded] CSV`.
+/// `import --db FILE [--check] [--until DAY] [--padded] CSV`.
 fn import<'a>(matches: &ArgMatches<'a>) -> Option<Job<&'a str>>
     ensures { option_map asked result ≡ import_at (rows_of (found_of matches.entry.now)) }
 {
     let db = word(matches, "db")?;
     let csv = csv_file(matches, "CSV")?;
     let until = word(matches, "until");
-    Some(Job::Import { db, csv, until })
+    let check = flag(matches, "check");
+    Some(Job::Import {
+        db,
+        csv,
+        until,
+        check,
+    })
 }
 
 /// `edit --db FILE --clerk NAME [--replace] [--commit] [--explain] [--padded] ID CSV`, or
@@ -241,7 +247,7 @@ fn page<'a>(matches: &ArgMatches<'a>) -> Option<Job<&'a str>>
     match (db, file, word(matches, "ID")) {
         (Some(db), None, Some(_)) => {
             let id = intersection(matches, "ID")?;
-            let shown = Shown::Page { id };
+            let shown = Shown::Page { id, linked: false };
             Some(Job::Show { db, shown })
         }
         (None, Some(csv), None) => {
@@ -276,6 +282,16 @@ fn export<'a>(matches: &ArgMatches<'a>) -> Option<Job<&'a str>>
     Some(Job::ExportAll { db, dir })
 }
 
+/// `pages --db FILE [--day DAY] DIR`.
+fn pages<'a>(matches: &ArgMatches<'a>) -> Option<Job<&'a str>>
+    ensures { option_map asked result ≡ pages_at (rows_of (found_of matches.entry.now)) }
+{
+    let db = word(matches, "db")?;
+    let dir = word(matches, "DIR")?;
+    let day = word(matches, "day");
+    Some(Job::Pages { db, day, dir })
+}
+
 /// What the command of a name asks for, where its values are there and its numbers in their ranges.
 pub(crate) fn job_at<'a>(name: &str, matches: &ArgMatches<'a>) -> Option<Job<&'a str>>
     ensures { option_map asked result ≡ job_at name.now (rows_of (found_of matches.entry.now)) }
@@ -296,6 +312,7 @@ pub(crate) fn job_at<'a>(name: &str, matches: &ArgMatches<'a>) -> Option<Job<&'a
         "compare" => compare(matches),
         "diagram" => diagram(matches),
         "page" => page(matches),
+        "pages" => pages(matches),
         _ => show(name, matches),
     }
 }

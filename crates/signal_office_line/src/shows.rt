@@ -40,8 +40,10 @@ pub enum Shown {
     Export { id: InterId, view: View },
     /// A pattern of an intersection's committed timing set.
     Diagram { id: InterId, pattern: PatternNo },
-    /// The page of an intersection.
-    Page { id: InterId },
+    /// The page of an intersection, linked to the index of all or not.
+    Page { id: InterId, linked: bool },
+    /// The index page of all intersections, with those that are overdue on a day, if one is given.
+    Index { day: Option<Day> },
 }
 
 /// What is printed of the plan in a CSV file.

@@ -20,5 +20,5 @@ pub refused_after : (input : Bool) (bytes : List ℕ) (start end : Told) → Giv
 refused_after true bytes start end it = record { bytes = bytes; gives = it.gives; fails = inr refl }
 refused_after false bytes start end it = (it, inr refl)
 
-pub refused_text : (file : CsvFile Text) (text : List ℕ) (start end : Told) → IsCsvRead file text start end → GivesNoFile (is_input file) fault.Memory start end
-refused_text file text start end it = refused_after (is_input file) it.0 start end it.1
+pub refused_text : (file : CsvFile Text) (text lines : List ℕ) (start end : Told) → IsCsvRead file text lines start end → GivesNoFile (is_input file) fault.Memory start end
+refused_text file text lines start end it = refused_after (is_input file) it.0 start end it.1

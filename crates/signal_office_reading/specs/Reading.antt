@@ -5,6 +5,7 @@ use Rattle.std.specs.Str.{bytes_eq}
 use Rattle.clap.specs.Walk.{Text}
 use Rattle.office_http_framing.specs.Ends.{AppendsPart, FailsOrGivesNone, Rose, Told}
 use Rattle.office_spreadsheets.specs.Padded.{unpadded_text}
+use Rattle.office_spreadsheets.specs.RecordLines.{record_lines}
 use Rattle.signal_office_faults.specs.Lines.{IsUnreadFile}
 use Rattle.signal_office_faults.specs.declared.fault.Fault.{Fault}
 use Rattle.signal_office_faults.specs.declared.fault.Fault.TheVariants as fault
@@ -41,9 +42,10 @@ abbrev pub file_text : (padded : Bool) → (bytes : List ℕ) → List ℕ
 file_text true bytes = unpadded_text bytes
 file_text false bytes = bytes
 
--- a CSV file has this text
-abbrev pub IsCsvRead : CsvFile Text → (text : List ℕ) → (start end : Told) → Type 0
-IsCsvRead file text start end = (bytes : List ℕ) × GivesFile (is_input file) bytes start end × (text ≡ file_text file.padded bytes)
+-- a CSV file has this text, and its records begin on these lines
+abbrev pub IsCsvRead : CsvFile Text → (text lines : List ℕ) → (start end : Told) → Type 0
+IsCsvRead file text lines start end =
+    (bytes : List ℕ) × GivesFile (is_input file) bytes start end × (text ≡ file_text file.padded bytes) × (lines ≡ record_lines bytes)
 
 -- standard error took the notes, whole or as far as it takes them; where there are none it was not written to
 abbrev pub SaysNotes : (notes : List ℕ) → (err said : Told) → Type 0

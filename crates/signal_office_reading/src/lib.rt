@@ -4,4 +4,4 @@
 mod input;
 mod reading;
 
-pub use reading::{read_csv, read_plan};
+pub use reading::{CsvText, read_csv, read_plan};

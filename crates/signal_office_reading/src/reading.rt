@@ -9,7 +9,7 @@ ghost use Rattle.signal_office_reading.specs.Reading.{SaysNotes, file_text, is_i
 
 use crate::input::read_input;
 use office_http_framing::ends::{Sink, Source, write_all};
-use office_spreadsheets::unpadded_csv;
+use office_spreadsheets::{record_lines, unpadded_csv};
 use plan_notes::notes_in;
 use signal_office_faults::{Fault, read_file};
 use signal_office_line::CsvFile;
@@ -56,6 +56,13 @@ fn text_of(alloc: Global, bytes: Vec<u8>, padded: bool) -> Result<Vec<u8>, Fault
     }
 }
 
+/// The text of a CSV file, and the lines of the file on which its records begin, counted from 1.
+#[derive(Drop)]
+pub struct CsvText {
+    pub text: Vec<u8>,
+    pub lines: Vec<usize>,
+}
+
 /// The text of a CSV file, which is the input of the run where its path is `-`.
 #[tactic(auto, using(crate::proofs::InputLemmas::refused_after))]
 pub fn read_csv<R: Source>(
@@ -63,14 +70,16 @@ pub fn read_csv<R: Source>(
     alloc: Global,
     file: &CsvFile<&str>,
     source: &mut R,
-) -> Result<Vec<u8>, Fault>
-    ensures text { IfOk result (λ text. IsCsvRead (file_asked file.now) text.items
-        (R.told source.old) (R.told source.new)) }
+) -> Result<CsvText, Fault>
+    ensures text { IfOk result (λ csv. IsCsvRead (file_asked file.now) csv.text.items
+        csv.lines.items (R.told source.old) (R.told source.new)) }
     ensures fault { IfErr result (λ why. GivesNoFile (is_input (file_asked file.now)) why
         (R.told source.old) (R.told source.new)) }
 {
     let bytes = read_bytes(rt, alloc, file, source)?;
-    text_of(alloc, bytes, file.padded)
+    let lines = record_lines(alloc, &bytes)?;
+    let text = text_of(alloc, bytes, file.padded)?;
+    Ok(CsvText { text, lines })
 }
 
 /// Says notes on standard error, as far as that takes them; where there are none it is left.
@@ -103,14 +112,14 @@ pub fn read_plan<R: Source, E: Sink>(
     other: bool,
     source: &mut R,
     err: &mut E,
-) -> Result<Vec<u8>, Fault>
-    ensures plan { IfOk result (λ plan. IsCsvRead (file_asked file.now) plan.items
-        (R.told source.old) (R.told source.new)
-        × SaysNotes (notes_in other plan.items) (E.told err.old) (E.told err.new)) }
+) -> Result<CsvText, Fault>
+    ensures plan { IfOk result (λ plan. IsCsvRead (file_asked file.now) plan.text.items
+        plan.lines.items (R.told source.old) (R.told source.new)
+        × SaysNotes (notes_in other plan.text.items) (E.told err.old) (E.told err.new)) }
     ensures fault { IfErr result (λ why. GivesNoFile (is_input (file_asked file.now)) why
         (R.told source.old) (R.told source.new) × (E.told err.new ≡ E.told err.old)) }
 {
     let plan = read_csv(rt, alloc, file, source)?;
-    note(alloc, other, &plan, err)?;
+    note(alloc, other, &plan.text, err)?;
     Ok(plan)
 }

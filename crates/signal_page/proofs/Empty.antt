@@ -1,7 +1,6 @@
 -- A table of no row, told by the length of the text.
 use Rattle.std.proofs.Common.{◌≡◌, ◌∙◌, ℕ, suc, ◌+◌, eqb, true, false, List, [], ◌∷◌, ◌++◌, length, refl, ap, arith}
 use Rattle.std.proofs.{lemmas.Bool.ne_eqb, lemmas.Bool.eq-eqb, lemmas.List.append-nil, lemmas.List.length-append}
-use Rattle.std.specs.Prelude.{cond}
 use Rattle.office_files.specs.Cells.{when_empty}
 use Rattle.signal_page.specs.Tables.{none_row, none_since, rows_or_none}
 use Rattle.signal_page.proofs.Parts.{two}

@@ -2,7 +2,7 @@
 use Rattle.std.proofs.Common.{◌≡◌, ℕ, suc, ◌+◌, ◌≤◌, ◌⊎◌, inl, inr, arith, eqb, Bool, true, false, List, [], ◌∷◌, ◌++◌, map, flat_map}
 use Rattle.std.proofs.Common.{filter, length, max, codes, Option, Some, None, refl, sym, ap, ap₂, ◌∙◌}
 use Rattle.std.proofs.{lemmas.List.Elements.filter-append, lemmas.List.length-append}
-use Rattle.std.specs.Prelude.{cond, reverse, decimal, is_some, not, option_map}
+use Rattle.std.specs.{List.list_any, Prelude.cond, Prelude.reverse, Prelude.decimal, Prelude.is_some, Prelude.not, Prelude.option_map, Prelude.◌||◌}
 use Rattle.cabinet_core.specs.{Places.inspection_place, Places.order_place}
 use Rattle.cabinet_core.specs.{Orders.is_open, Overdue.greater, Overdue.latest_day, declared.record.CabinetView.CabinetView}
 use Rattle.cabinet_core.specs.{declared.record.Closing.Closing, declared.record.Inspection.Inspection, declared.record.Order.Order}
@@ -14,9 +14,9 @@ use Rattle.signal_page.specs.{declared.shown.IntersectionShown.IntersectionShown
 use Rattle.signal_page.specs.{Reading.is_markup, Reading.marks, Blank.blank_state, Blank.blank_inspection, Blank.blank_closing}
 use Rattle.signal_page.specs.{Blank.blank_order, Blank.blank_line, Blank.blank_view, Blank.blank, Cells.row_heading, Cells.text_cell}
 use Rattle.signal_page.specs.{State.fact, State.owner_text, State.last_text, State.due_text, State.draft_facts, State.cabinet_facts, Register.day_cell}
-use Rattle.signal_page.specs.Register.{part_used, part_of, parts_cell, order_cells, closing_cells, row_if_open, open_row, closed_by, closed_row}
+use Rattle.signal_page.specs.Register.{part_used, part_of, parts_cell, parts_or_none, order_cells, closing_cells, row_if_open, open_row, closed_by, closed_row}
 use Rattle.signal_page.specs.Register.{open_orders_part, closed_orders_part, inspection_row, inspections_part, due_note, next_note, register_part}
-use Rattle.office_files.specs.Cells.{when_empty}
+use Rattle.office_files.specs.{Cells.when_empty, Records.is_line_of}
 use Rattle.office_listings.specs.Next.{greatest_of, next_after, next_word}
 use Rattle.signal_page.specs.Tables.{none_row, rows_or_none}
 use Rattle.signal_page.proofs.Newest.{reversed_map}
@@ -27,26 +27,26 @@ use Rattle.signal_page.specs.Page.{header, plan_section, draft_section, cabinet_
 pub record Alike (a b : List ℕ) : Type 0 where
   pub marked : marks a ≡ marks b
 
-same : (a : List ℕ) → Alike a a
+pub same : (a : List ℕ) → Alike a a
 same a = record { marked = refl }
 
-equal : (a b : List ℕ) → a ≡ b → Alike a b
+pub equal : (a b : List ℕ) → a ≡ b → Alike a b
 equal a b e = record { marked = ap marks e }
 
-joined : {a b c d : List ℕ} → Alike a b → Alike c d → Alike (a ++ c) (b ++ d)
+pub joined : {a b c d : List ℕ} → Alike a b → Alike c d → Alike (a ++ c) (b ++ d)
 unfolding marks
 joined {a = a} {b = b} {c = c} {d = d} p q = record {
   marked = filter-append is_markup a c ∙ ap₂ (λ (xs ys : List ℕ). xs ++ ys) p.marked q.marked
       ∙ sym (filter-append is_markup b d);
 }
 
-after : (a : List ℕ) {c d : List ℕ} → Alike c d → Alike (a ++ c) (a ++ d)
+pub after : (a : List ℕ) {c d : List ℕ} → Alike c d → Alike (a ++ c) (a ++ d)
 after a p = joined (same a) p
 
-before : {a b : List ℕ} (c : List ℕ) → Alike a b → Alike (a ++ c) (b ++ c)
+pub before : {a b : List ℕ} (c : List ℕ) → Alike a b → Alike (a ++ c) (b ++ c)
 before c p = joined p (same c)
 
-each : {A : Type 0} (f g : A → List ℕ) (blanked : A → A)
+pub each : {A : Type 0} (f g : A → List ℕ) (blanked : A → A)
     → ((x : A) → Alike (f x) (g (blanked x)))
     → (xs : List A) → Alike (flat_map f xs) (flat_map g (map blanked xs))
 each f g blanked h [] = same []
@@ -116,21 +116,21 @@ byte_marks b =
     in_case (eqb b 34) (codes "&quot;") _ refl (λ quot.
     in_case (eqb b 39) (codes "&#39;") _ refl (λ apos. plain b lt gt quot apos)))))
 
-escaped_marks : (words : List ℕ) → marks (escaped words) ≡ []
+pub escaped_marks : (words : List ℕ) → marks (escaped words) ≡ []
 unfolding escaped marks
 escaped_marks [] = refl
 escaped_marks (b ∷ bs) =
     filter-append is_markup (escaped_byte b) (escaped bs)
     ∙ ap₂ (λ (xs ys : List ℕ). xs ++ ys) (byte_marks b) (escaped_marks bs)
 
-escaped_alike : (x y : List ℕ) → Alike (escaped x) (escaped y)
+pub escaped_alike : (x y : List ℕ) → Alike (escaped x) (escaped y)
 escaped_alike x y = record { marked = escaped_marks x ∙ sym (escaped_marks y) }
 
-isolated_alike : (x y : List ℕ) → Alike (isolated x) (isolated y)
+pub isolated_alike : (x y : List ℕ) → Alike (isolated x) (isolated y)
 unfolding isolated
 isolated_alike x y = before (codes "</bdi>") (after (codes "<bdi>") (escaped_alike x y))
 
-text_cell_alike : (x y : List ℕ) → Alike (text_cell x) (text_cell y)
+pub text_cell_alike : (x y : List ℕ) → Alike (text_cell x) (text_cell y)
 unfolding text_cell
 text_cell_alike x y = before (codes "</td>") (after (codes "<td class='w'>") (isolated_alike x y))
 
@@ -178,9 +178,9 @@ cabinet_facts_alike interval inspections orders =
 
 -- ---- above the plan
 
-header_alike : (shown : IntersectionShown) → Alike (header shown) (header (blank shown))
+header_alike : (linked : Bool) (shown : IntersectionShown) → Alike (header linked shown) (header linked (blank shown))
 unfolding header
-header_alike shown =
+header_alike linked shown =
     before _ (before _ (before _ (joined (joined (before _ (joined (before _ (before _ (after _ (escaped_alike shown.state.name []))))
     (isolated_alike shown.state.name [])))
     (cabinet_facts_alike shown.state.interval shown.cabinet.view.inspections shown.cabinet.view.orders))
@@ -197,12 +197,17 @@ part_alike order line = by_test (eqb line.order order) where
       (after (codes "<div>" ++ decimal line.line ++ codes ": " ++ decimal line.count ++ codes " &times; ") (isolated_alike line.part []))
   by_test false = same []
 
+lines_same : (order : ℕ) (lines : List UsedLine) → list_any (is_line_of order) (map blank_line lines) ≡ list_any (is_line_of order) lines
+lines_same order [] = refl
+lines_same order (line ∷ lines) = ap (λ (t : Bool). is_line_of order line || t) (lines_same order lines)
+
 parts_alike : (lines : List UsedLine) (order : ℕ) → Alike (parts_cell lines order) (parts_cell (map blank_line lines) order)
 unfolding parts_cell
 parts_alike lines order =
-    before (codes "</td>")
-    (after (codes "<td class='w'>")
-    (each (part_of order) (part_of order) blank_line (part_alike order) lines))
+    before (codes "</td>") (after (codes "<td class='w'>") (rw (lines_same order lines) (by_test (list_any (is_line_of order) lines)))) where
+      by_test : (t : Bool) → Alike (parts_or_none t (flat_map (part_of order) lines)) (parts_or_none t (flat_map (part_of order) (map blank_line lines)))
+      by_test true = each (part_of order) (part_of order) blank_line (part_alike order) lines
+      by_test false = same (codes "none")
 
 order_alike : (lines : List UsedLine) (order : Order) → Alike (order_cells lines order) (order_cells (map blank_line lines) (blank_order order))
 unfolding order_cells
@@ -307,14 +312,16 @@ cabinet_alike shown =
 
 -- ---- the page
 
-page_alike : (shown : IntersectionShown) (differences : List Difference) (reasons : List Explained) → Alike (page_text shown differences reasons) (page_text (blank shown) differences reasons)
+page_alike : (linked : Bool) (shown : IntersectionShown) (differences : List Difference) (reasons : List Explained)
+    → Alike (page_text linked shown differences reasons) (page_text linked (blank shown) differences reasons)
 unfolding page_text
-page_alike shown differences reasons =
+page_alike linked shown differences reasons =
     before page_end
     (joined
-    (before (draft_section shown.committed shown.draft differences reasons) (before (plan_section shown.committed) (header_alike shown)))
+    (before (draft_section shown.committed shown.draft differences reasons) (before (plan_section shown.committed) (header_alike linked shown)))
     (cabinet_alike shown))
 
 -- a page has the tags that it has with its names and texts empty
-pub own_markup : (shown : IntersectionShown) (differences : List Difference) (reasons : List Explained) (text : List ℕ) → text ≡ page_text shown differences reasons → marks text ≡ marks (page_text (blank shown) differences reasons)
-own_markup shown differences reasons text is = ap marks is ∙ (page_alike shown differences reasons).marked
+pub own_markup : (linked : Bool) (shown : IntersectionShown) (differences : List Difference) (reasons : List Explained) (text : List ℕ)
+    → text ≡ page_text linked shown differences reasons → marks text ≡ marks (page_text linked (blank shown) differences reasons)
+own_markup linked shown differences reasons text is = ap marks is ∙ (page_alike linked shown differences reasons).marked

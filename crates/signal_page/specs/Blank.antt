@@ -1,11 +1,10 @@
 -- An intersection with its names and texts empty.
-use Rattle.std.specs.Prelude.{ℕ, List, [], map, option_map}
+use Rattle.std.specs.Prelude.{[], map, option_map}
 use Rattle.cabinet_core.specs.declared.record.CabinetView.{CabinetView}
 use Rattle.cabinet_core.specs.declared.record.Closing.{Closing}
 use Rattle.cabinet_core.specs.declared.record.Inspection.{Inspection}
 use Rattle.cabinet_core.specs.declared.record.Order.{Order}
 use Rattle.cabinet_core.specs.declared.record.UsedLine.{UsedLine}
-use Rattle.office_machine.specs.declared.reply.CabinetShown.{CabinetShown}
 use Rattle.office_machine.specs.declared.reply.IntersectionState.{IntersectionState}
 use Rattle.signal_page.specs.declared.shown.IntersectionShown.{IntersectionShown}
 

@@ -1,6 +1,6 @@
 -- What a plan has beyond its rows: the need of a split and what it has to spare, and the coordinated
 -- phases of a pattern.
-use Rattle.std.specs.Prelude.{ℕ, ◌-◌, ◌*◌, ◌&&◌, nat_lt, Bool, if◌then◌else◌, List, ◌++◌, filter}
+use Rattle.std.specs.Prelude.{ℕ, ◌-◌, ◌&&◌, nat_lt, Bool, if◌then◌else◌, List, ◌++◌, filter}
 use Rattle.std.specs.Prelude.{codes, Option, Some, None, option_map, is_some}
 use Rattle.office_files.specs.Cells.{tenths}
 use Rattle.signal_records.specs.declared.record.Phase.{Phase}
@@ -11,7 +11,7 @@ use Rattle.signal_records.specs.Need.{need_of}
 use Rattle.signal_records.specs.TimingSet.{Rows}
 use Rattle.signal_rules.specs.Lookup.{phase_at, split_at, phase_numbers}
 use Rattle.signal_rules.specs.PatternRules.{is_coordinated}
-use Rattle.signal_page.specs.Cells.{tenths_cell, list_cell}
+use Rattle.signal_page.specs.Cells.{tenths_cell}
 
 -- the need of a phase in a split mode, in tenths of a second; one that is omitted needs no time
 abbrev pub need_in : SplitMode → Option Phase → Option ℕ

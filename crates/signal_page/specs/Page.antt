@@ -1,5 +1,5 @@
 -- The page of an intersection, and that of a plan alone.
-use Rattle.std.specs.Prelude.{◌≡◌, ℕ, List, [], ◌++◌, codes, decimal, Option, Some, None}
+use Rattle.std.specs.Prelude.{◌≡◌, ℕ, Bool, true, false, List, [], ◌++◌, codes, decimal, Option, Some, None}
 use Rattle.cabinet_core.specs.Overdue.{latest_day}
 use Rattle.signal_compare.specs.declared.difference.Difference.{Difference}
 use Rattle.signal_compare.specs.Difference.{AreTold}
@@ -42,20 +42,25 @@ abbrev pub draft_link : Option Rows → List ℕ
 draft_link None = []
 draft_link (Some draft) = codes "<li><a href='#draft'>The draft</a></li>\n"
 
-unfoldable pub links : Option Rows → List ℕ
-links draft =
-    codes "<nav aria-label='Parts of this page'>\n<ul>\n"
+-- the link to the index of all intersections, in the folder of the page, where that is wanted
+abbrev pub index_link : (linked : Bool) → List ℕ
+index_link true = codes "<li><a href='index.html'>All intersections</a></li>\n"
+index_link false = []
+
+unfoldable pub links : (linked : Bool) → Option Rows → List ℕ
+links linked draft =
+    codes "<nav aria-label='Parts of this page'>\n<ul>\n" ++ index_link linked
     ++ codes "<li><a href='#plan'>The plan that runs</a></li>\n"
     ++ draft_link draft ++ codes "<li><a href='#cabinet'>The cabinet</a></li>\n</ul>\n</nav>\n"
 
-unfoldable pub header : IntersectionShown → List ℕ
-header shown =
+unfoldable pub header : (linked : Bool) → IntersectionShown → List ℕ
+header linked shown =
     head_opening ++ title shown.state.id ++ escaped shown.state.name ++ head_end
     ++ title shown.state.id ++ isolated shown.state.name ++ codes "</h1>\n<dl>\n"
     ++ cabinet_facts shown.state.interval (latest_day shown.cabinet.view.inspections)
     shown.cabinet.view.orders
     ++ draft_facts shown.state
-    ++ codes "</dl>\n" ++ links shown.draft ++ codes "</header>\n<main id='main'>\n"
+    ++ codes "</dl>\n" ++ links linked shown.draft ++ codes "</header>\n<main id='main'>\n"
 
 unfoldable pub plan_section : Rows → List ℕ
 plan_section committed =
@@ -82,9 +87,9 @@ cabinet_section shown =
     ++ register_part shown.state.interval shown.cabinet.view ++ codes "</section>\n"
 
 -- the page, by what the draft changes, and by why it breaks rules
-unfoldable pub page_text : IntersectionShown → List Difference → List Explained → List ℕ
-page_text shown differences reasons =
-    header shown ++ plan_section shown.committed
+unfoldable pub page_text : (linked : Bool) → IntersectionShown → List Difference → List Explained → List ℕ
+page_text linked shown differences reasons =
+    header linked shown ++ plan_section shown.committed
     ++ draft_section shown.committed shown.draft differences reasons ++ cabinet_section shown
     ++ page_end
 
@@ -98,17 +103,17 @@ abbrev pub AreDraftReasons : Option Rows → List Explained → Type 0
 AreDraftReasons None reasons = reasons ≡ []
 AreDraftReasons (Some draft) reasons = AreReasons draft reasons
 
--- The text is the page of an intersection, with the changes of its draft and the reasons of the rules
+-- The text is the page of an intersection, linked to the index or not, with the changes of its draft and the reasons of the rules
 -- that it breaks. And whatever its names and texts hold, all characters of which tags and attributes
 -- are made are the page's own: with those names and texts empty, it has the same ones in the same
 -- order.
-pub record IsPage (shown : IntersectionShown) (text : List ℕ) : Type 0 where
+pub record IsPage (linked : Bool) (shown : IntersectionShown) (text : List ℕ) : Type 0 where
   pub differences : List Difference
   pub changes : AreChanges shown.committed shown.draft differences
   pub reasons : List Explained
   pub why : AreDraftReasons shown.draft reasons
-  pub text_is : text ≡ page_text shown differences reasons
-  pub markup : marks text ≡ marks (page_text (blank shown) differences reasons)
+  pub text_is : text ≡ page_text linked shown differences reasons
+  pub markup : marks text ≡ marks (page_text linked (blank shown) differences reasons)
 
 -- ---- the page of a plan
 

@@ -1,6 +1,6 @@
 -- A plan in the page: the pictures of its patterns, and its tables.
 use Rattle.std.specs.Prelude.{ℕ, ◌+◌, ◌==◌, ◌&&◌, nat_lt, Bool, if◌then◌else◌, List, [], ◌∷◌, ◌++◌}
-use Rattle.std.specs.Prelude.{flat_map, length, codes, decimal, Option, Some, None}
+use Rattle.std.specs.Prelude.{flat_map, length, codes, decimal, Option, Some}
 use Rattle.std.specs.FinMap.{values}
 use Rattle.signal_diagram.specs.Diagram.{figure_text}
 use Rattle.signal_records.specs.declared.record.Pattern.{Pattern}

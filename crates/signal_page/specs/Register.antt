@@ -1,6 +1,7 @@
 -- The register of a cabinet in the page: the due day, open orders first, then closed ones, and the
 -- inspections, each with the greatest numbers first.
-use Rattle.std.specs.Prelude.{ℕ, ◌+◌, if◌then◌else◌, List, [], ◌++◌, flat_map, codes, decimal}
+use Rattle.std.specs.List.{list_any}
+use Rattle.std.specs.Prelude.{ℕ, ◌+◌, Bool, true, false, if◌then◌else◌, List, [], ◌++◌, flat_map, codes, decimal}
 use Rattle.std.specs.Prelude.{Option, Some, None, reverse}
 use Rattle.cabinet_core.specs.Day.{day_text}
 use Rattle.cabinet_core.specs.Overdue.{latest_day}
@@ -29,9 +30,15 @@ part_used line =
 abbrev pub part_of : ℕ → UsedLine → List ℕ
 part_of order line = if is_line_of order line then part_used line else []
 
+-- an order without lines says so
+abbrev pub parts_or_none : (any : Bool) → List ℕ → List ℕ
+parts_or_none true parts = parts
+parts_or_none false parts = codes "none"
+
 unfoldable pub parts_cell : List UsedLine → ℕ → List ℕ
 parts_cell lines order =
-    codes "<td class='w'>" ++ flat_map (part_of order) lines ++ codes "</td>"
+    codes "<td class='w'>" ++ parts_or_none (list_any (is_line_of order) lines) (flat_map (part_of order) lines)
+    ++ codes "</td>"
 
 -- the cells of an order, open or closed
 unfoldable pub order_cells : List UsedLine → Order → List ℕ

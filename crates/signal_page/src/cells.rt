@@ -13,7 +13,7 @@ use std::fmt::Write;
 
 /// Appends the heading of a column of numbers.
 #[tactic(auto, unfolding(crate::specs::Cells::heading))]
-pub(crate) fn push_heading(text: &mut String, name: &str) -> Result<(), AllocError>
+pub fn push_heading(text: &mut String, name: &str) -> Result<(), AllocError>
     ensures { OnOk result (string_bytes text.new ≡ string_bytes text.old ++ heading name.now) }
 {
     write!(text, "<th scope='col'>{name}</th>")
@@ -21,7 +21,7 @@ pub(crate) fn push_heading(text: &mut String, name: &str) -> Result<(), AllocErr
 
 /// Appends the heading of a column of words.
 #[tactic(auto, unfolding(crate::specs::Cells::words_heading))]
-pub(crate) fn push_words_heading(text: &mut String, name: &str) -> Result<(), AllocError>
+pub fn push_words_heading(text: &mut String, name: &str) -> Result<(), AllocError>
     ensures { OnOk result (string_bytes text.new
         ≡ string_bytes text.old ++ words_heading name.now) }
 {
@@ -30,7 +30,7 @@ pub(crate) fn push_words_heading(text: &mut String, name: &str) -> Result<(), Al
 
 /// Appends the number that heads a row.
 #[tactic(auto, unfolding(crate::specs::Cells::row_heading))]
-pub(crate) fn push_row_heading(text: &mut String, n: u32) -> Result<(), AllocError>
+pub fn push_row_heading(text: &mut String, n: u32) -> Result<(), AllocError>
     ensures { OnOk result (string_bytes text.new ≡ string_bytes text.old ++ row_heading n) }
 {
     write!(text, "<th scope='row'>{n}</th>")
@@ -38,7 +38,7 @@ pub(crate) fn push_row_heading(text: &mut String, n: u32) -> Result<(), AllocErr
 
 /// Appends a number.
 #[tactic(auto, unfolding(crate::specs::Cells::number_cell))]
-pub(crate) fn push_number(text: &mut String, n: u32) -> Result<(), AllocError>
+pub fn push_number(text: &mut String, n: u32) -> Result<(), AllocError>
     ensures { OnOk result (string_bytes text.new ≡ string_bytes text.old ++ number_cell n) }
 {
     write!(text, "<td>{n}</td>")
@@ -91,14 +91,14 @@ pub(crate) fn push_list(text: &mut String, phases: &[PhaseNo]) -> Result<(), All
 
 /// Appends words of the page's own.
 #[tactic(auto, unfolding(crate::specs::Cells::words_cell))]
-pub(crate) fn push_words(text: &mut String, words: &str) -> Result<(), AllocError>
+pub fn push_words(text: &mut String, words: &str) -> Result<(), AllocError>
     ensures { OnOk result (string_bytes text.new ≡ string_bytes text.old ++ words_cell words.now) }
 {
     write!(text, "<td class='w'>{words}</td>")
 }
 
 /// Appends a name or text of others.
-pub(crate) fn push_text(text: &mut String, words: &str) -> Result<(), AllocError>
+pub fn push_text(text: &mut String, words: &str) -> Result<(), AllocError>
     ensures { OnOk result (string_bytes text.new ≡ string_bytes text.old ++ text_cell words.now) }
 {
     push_markup(text, "<td class='w'>")?;

@@ -4,6 +4,7 @@ ghost use Rattle.std.specs.Prelude.{◌≡◌, ◌++◌, ℕ, List, OnOk, IfOk, 
 ghost use Rattle.signal_page.specs.Words.{escaped};
 ghost use Rattle.signal_page.specs.Reading.{unescaped};
 ghost use Rattle.signal_page.specs.Page.{head_opening, head_end, page_end, title, draft_link};
+ghost use Rattle.signal_page.specs.Page.{index_link};
 ghost use Rattle.signal_page.specs.Page.{links, header, plan_section, open_draft_section};
 ghost use Rattle.signal_page.specs.Page.{draft_section, cabinet_section, page_text};
 ghost use Rattle.signal_page.specs.Page.{AreChanges, AreDraftReasons, IsPage, plan_page_text};
@@ -23,7 +24,7 @@ use std::alloc::{AllocError, Global};
 use std::fmt::Write;
 
 /// Opens the head of a page, up to its title.
-fn open_head(text: &mut String) -> Result<(), AllocError>
+pub fn open_head(text: &mut String) -> Result<(), AllocError>
     ensures { OnOk result (string_bytes text.new ≡ string_bytes text.old ++ head_opening) }
 {
     push_markup(
@@ -51,7 +52,7 @@ fn end_head(text: &mut String) -> Result<(), AllocError>
 
 /// Ends a page.
 #[tactic(auto, unfolding(crate::specs::Page::page_end))]
-fn end_page(text: &mut String) -> Result<(), AllocError>
+pub fn end_page(text: &mut String) -> Result<(), AllocError>
     ensures { OnOk result (string_bytes text.new ≡ string_bytes text.old ++ page_end) }
 {
     text.push_str("</main>\n</body>\n</html>\n")
@@ -76,11 +77,23 @@ fn push_draft_link(text: &mut String, draft: &Option<TimingSet>) -> Result<(), A
     }
 }
 
-/// Appends links to the parts of the page.
-fn push_links(text: &mut String, draft: &Option<TimingSet>) -> Result<(), AllocError>
-    ensures { OnOk result (string_bytes text.new ≡ string_bytes text.old ++ links draft.now) }
+/// Appends the link to the index of all intersections, where that is wanted.
+fn push_index_link(text: &mut String, linked: bool) -> Result<(), AllocError>
+    ensures { OnOk result (string_bytes text.new ≡ string_bytes text.old ++ index_link linked) }
+{
+    match linked {
+        true => text.push_str("<li><a href='index.html'>All intersections</a></li>\n"),
+        false => Ok(()),
+    }
+}
+
+/// Appends links to the index, where that is wanted, and to the parts of the page.
+fn push_links(text: &mut String, linked: bool, draft: &Option<TimingSet>) -> Result<(), AllocError>
+    ensures { OnOk result (string_bytes text.new
+        ≡ string_bytes text.old ++ links linked draft.now) }
 {
     push_markup(text, "<nav aria-label='Parts of this page'>\n<ul>\n")?;
+    push_index_link(text, linked)?;
     push_markup(text, "<li><a href='#plan'>The plan that runs</a></li>\n")?;
     push_draft_link(text, draft)?;
     push_markup(
@@ -90,8 +103,9 @@ fn push_links(text: &mut String, draft: &Option<TimingSet>) -> Result<(), AllocE
 }
 
 /// Appends the head and what stands above the plan.
-fn push_header(text: &mut String, shown: &IntersectionShown) -> Result<(), AllocError>
-    ensures { OnOk result (string_bytes text.new ≡ string_bytes text.old ++ header shown.now) }
+fn push_header(text: &mut String, linked: bool, shown: &IntersectionShown) -> Result<(), AllocError>
+    ensures { OnOk result (string_bytes text.new
+        ≡ string_bytes text.old ++ header linked shown.now) }
 {
     let name = shown.state.name.as_str();
     let inspections = shown.cabinet.view.inspections.as_slice();
@@ -106,7 +120,7 @@ fn push_header(text: &mut String, shown: &IntersectionShown) -> Result<(), Alloc
     push_cabinet_facts(text, shown.state.interval, inspections, orders)?;
     push_draft_facts(text, &shown.state)?;
     push_markup(text, "</dl>\n")?;
-    push_links(text, &shown.draft)?;
+    push_links(text, linked, &shown.draft)?;
     push_markup(text, "</header>\n<main id='main'>\n")
 }
 
@@ -210,14 +224,16 @@ fn draft_reasons(alloc: Global, draft: &Option<TimingSet>) -> Result<Vec<Explain
 /// The page by the changes of the draft, and by why it breaks rules.
 fn whole_page(
     alloc: Global,
+    linked: bool,
     shown: &IntersectionShown,
     differences: &[Difference],
     reasons: &[Explained],
 ) -> Result<Vec<u8>, NoMemory>
-    ensures { IfOk result (λ text. text.items ≡ page_text shown.now differences.now reasons.now) }
+    ensures { IfOk result (λ text.
+        text.items ≡ page_text linked shown.now differences.now reasons.now) }
 {
     let mut text = String::new(alloc);
-    push_header(&mut text, shown)?;
+    push_header(&mut text, linked, shown)?;
     push_plan_section(alloc, &mut text, &shown.committed)?;
     push_draft_section(
         alloc,
@@ -234,16 +250,21 @@ fn whole_page(
 
 /// The page of an intersection: how it stands, the pictures and tables of the plan that runs, its
 /// draft with what it changes and the rules that it breaks, each with its reason below its row, and
-/// the register of its cabinet, open orders first. It is one HTML text, which needs nothing else.
-pub fn intersection_page(alloc: Global, shown: &IntersectionShown) -> Result<Vec<u8>, NoMemory>
+/// the register of its cabinet, open orders first. It is one HTML text, which needs nothing else, and
+/// has a link to `index.html` beside it where that is wanted.
+pub fn intersection_page(
+    alloc: Global,
+    linked: bool,
+    shown: &IntersectionShown,
+) -> Result<Vec<u8>, NoMemory>
     // It is that of its definition, and whatever names and texts hold, its tags are its own.
-    ensures page { IfOk result (λ text. IsPage shown.now text.items) }
+    ensures page { IfOk result (λ text. IsPage linked shown.now text.items) }
     // A reader takes each name and text back as it was.
     ensures read { (words : List ℕ) → unescaped (escaped words) ≡ words }
 {
     let differences = changes_of(alloc, &shown.committed, &shown.draft)?;
     let reasons = draft_reasons(alloc, &shown.draft)?;
-    whole_page(alloc, shown, &differences, &reasons)
+    whole_page(alloc, linked, shown, &differences, &reasons)
 }
 
 /// The page of a plan alone, by why it breaks rules.

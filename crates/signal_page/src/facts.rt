@@ -100,7 +100,12 @@ pub(crate) fn push_due_day(
     push_date(text, due(latest, interval))
 }
 
-fn push_due(text: &mut String, interval: Interval, latest: Option<Day>) -> Result<(), AllocError>
+/// Appends the day on which the next inspection falls due, by the latest one.
+pub fn push_due(
+    text: &mut String,
+    interval: Interval,
+    latest: Option<Day>,
+) -> Result<(), AllocError>
     ensures { OnOk result (string_bytes text.new
         ≡ string_bytes text.old ++ due_text interval latest) }
 {
@@ -110,7 +115,8 @@ fn push_due(text: &mut String, interval: Interval, latest: Option<Day>) -> Resul
     }
 }
 
-fn push_last(text: &mut String, latest: Option<Day>) -> Result<(), AllocError>
+/// Appends the day of the latest inspection, or `none`.
+pub fn push_last(text: &mut String, latest: Option<Day>) -> Result<(), AllocError>
     ensures { OnOk result (string_bytes text.new ≡ string_bytes text.old ++ last_text latest) }
 {
     match latest {

@@ -18,5 +18,13 @@ mod style;
 mod tables;
 mod words;
 
-pub use document::{intersection_page, plan_page};
+pub use cells::{
+    push_heading, push_number, push_row_heading, push_text, push_words, push_words_heading,
+};
+pub use document::{end_page, intersection_page, open_head, plan_page};
+pub use facts::{push_due, push_last};
+pub use register::push_day;
 pub use shown::IntersectionShown;
+pub use style::STYLE;
+pub use tables::{begin_rows, end_table, open_table, push_none_since};
+pub use words::{push_escaped, push_isolated, push_markup};

@@ -2,7 +2,10 @@
 //! then closed ones, and the inspections.
 
 ghost use Rattle.std.specs.Prelude.{◌≡◌, ◌+◌, ◌++◌, OnOk, flat_map, reverse, string_bytes};
+ghost use Rattle.std.specs.List.{list_any};
+ghost use Rattle.office_files.specs.Records.{is_line_of};
 ghost use Rattle.signal_page.specs.Register.{day_cell, part_used, part_of, parts_cell, order_cells};
+ghost use Rattle.signal_page.specs.Register.{parts_or_none};
 ghost use Rattle.signal_page.specs.Register.{closing_cells, open_row, closed_row, order_headings};
 ghost use Rattle.signal_page.specs.Register.{open_orders_part, closed_orders_part, inspection_row};
 ghost use Rattle.signal_page.specs.Register.{inspection_headings, inspections_part, due_words};
@@ -20,7 +23,7 @@ use std::alloc::{AllocError, Global};
 use std::fmt::Write;
 
 /// Appends a day.
-fn push_day(alloc: Global, text: &mut String, day: Day) -> Result<(), NoMemory>
+pub fn push_day(alloc: Global, text: &mut String, day: Day) -> Result<(), NoMemory>
     ensures { OnOk result (string_bytes text.new ≡ string_bytes text.old ++ day_cell day) }
 {
     let spelling = write_day(alloc, day)?;
@@ -61,13 +64,41 @@ fn push_each_part(text: &mut String, order: RecordNo, lines: &[UsedLine]) -> Res
     Ok(())
 }
 
+/// Whether an order has lines.
+fn has_lines(order: RecordNo, lines: &[UsedLine]) -> bool
+    ensures { result ≡ list_any (is_line_of order) lines.now }
+{
+    for line in lines {
+        if line.order.get() == order.get() {
+            return true;
+        }
+    }
+    false
+}
+
+/// Appends the parts that were used for an order, or that there are none.
+fn push_parts_or_none(
+    text: &mut String,
+    lines: &[UsedLine],
+    order: RecordNo,
+) -> Result<(), AllocError>
+    ensures { OnOk result (string_bytes text.new ≡ string_bytes text.old
+        ++ parts_or_none (list_any (is_line_of order) lines.now)
+        (flat_map (part_of order) lines.now)) }
+{
+    match has_lines(order, lines) {
+        true => push_each_part(text, order, lines),
+        false => text.push_str("none"),
+    }
+}
+
 /// Appends the parts that were used for an order.
 fn push_parts(text: &mut String, lines: &[UsedLine], order: RecordNo) -> Result<(), AllocError>
     ensures { OnOk result (string_bytes text.new
         ≡ string_bytes text.old ++ parts_cell lines.now order) }
 {
     push_markup(text, "<td class='w'>")?;
-    push_each_part(text, order, lines)?;
+    push_parts_or_none(text, lines, order)?;
     push_markup(text, "</td>")
 }
 

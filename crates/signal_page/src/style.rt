@@ -1,7 +1,7 @@
 //! How a page looks.
 
 /// The style of a page, in light and dark, on narrow and wide screens and on paper.
-pub(crate) const STYLE: &str = "\
+pub const STYLE: &str = "\
 :root {
   color-scheme: light dark;
   --ground: #f6f7f9; --card: #ffffff; --ink: #1b2430; --quiet: #556070; --line: #d9dee6;

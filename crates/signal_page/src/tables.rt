@@ -104,7 +104,7 @@ pub(crate) fn push_headings(text: &mut String, kind: Kind) -> Result<(), AllocEr
 
 /// Opens a table up to its headings, by its name and what it is of, in a box that scrolls where the
 /// page is narrow.
-pub(crate) fn open_table(text: &mut String, name: &str, whose: &str) -> Result<(), AllocError>
+pub fn open_table(text: &mut String, name: &str, whose: &str) -> Result<(), AllocError>
     ensures { OnOk result (string_bytes text.new
         ≡ string_bytes text.old ++ table_opening name.now whose.now) }
 {
@@ -117,18 +117,14 @@ pub(crate) fn open_table(text: &mut String, name: &str, whose: &str) -> Result<(
 
 /// Goes from the headings of a table to its rows.
 #[tactic(auto, unfolding(crate::specs::Tables::table_body))]
-pub(crate) fn begin_rows(text: &mut String) -> Result<(), AllocError>
+pub fn begin_rows(text: &mut String) -> Result<(), AllocError>
     ensures { OnOk result (string_bytes text.new ≡ string_bytes text.old ++ table_body) }
 {
     text.push_str("</tr></thead>\n<tbody>")
 }
 
 /// Appends that a table has no row, where none was appended since the text had a length.
-pub(crate) fn push_none_since(
-    text: &mut String,
-    before: usize,
-    columns: u32,
-) -> Result<(), AllocError>
+pub fn push_none_since(text: &mut String, before: usize, columns: u32) -> Result<(), AllocError>
     ensures { OnOk result (string_bytes text.new ≡ string_bytes text.old
         ++ none_since (length (string_bytes text.old)) before columns) }
 {
@@ -152,7 +148,7 @@ fn push_none(text: &mut String, columns: u32) -> Result<(), AllocError>
 
 /// Ends a table.
 #[tactic(auto, unfolding(crate::specs::Tables::table_end))]
-pub(crate) fn end_table(text: &mut String) -> Result<(), AllocError>
+pub fn end_table(text: &mut String) -> Result<(), AllocError>
     ensures { OnOk result (string_bytes text.new ≡ string_bytes text.old ++ table_end) }
 {
     text.push_str("</tbody>\n</table>\n</div>\n")

@@ -21,14 +21,14 @@ fn push_character(text: &mut String, c: char) -> Result<(), AllocError>
 }
 
 /// Appends markup of the page's own.
-pub(crate) fn push_markup(text: &mut String, part: &str) -> Result<(), AllocError>
+pub fn push_markup(text: &mut String, part: &str) -> Result<(), AllocError>
     ensures { OnOk result (string_bytes text.new ≡ string_bytes text.old ++ part.now) }
 {
     text.push_str(part)
 }
 
 /// Appends a name or text of others so that no character of it is markup.
-pub(crate) fn push_escaped(text: &mut String, words: &str) -> Result<(), AllocError>
+pub fn push_escaped(text: &mut String, words: &str) -> Result<(), AllocError>
     ensures { OnOk result (string_bytes text.new ≡ string_bytes text.old ++ escaped words.now) }
 {
     for c in words.chars() {
@@ -39,7 +39,7 @@ pub(crate) fn push_escaped(text: &mut String, words: &str) -> Result<(), AllocEr
 
 /// Appends a name or text of others, whose direction stays within it.
 #[tactic(auto, unfolding(crate::specs::Words::isolated))]
-pub(crate) fn push_isolated(text: &mut String, words: &str) -> Result<(), AllocError>
+pub fn push_isolated(text: &mut String, words: &str) -> Result<(), AllocError>
     ensures { OnOk result (string_bytes text.new ≡ string_bytes text.old ++ isolated words.now) }
 {
     text.push_str("<bdi>")?;

@@ -1,11 +1,15 @@
 use Rattle.std.proofs.Common.{◌∙◌, Bool, Ok, inl, inr, [], append-nil, sym, ap, refl}
+use Rattle.cabinet_core.specs.Step.{line_at}
 use Rattle.office_tables_shelf.specs.Shelf.{IsTold}
 use Rattle.office_desk_cabinet.specs.Registers.{line_told, rows_told}
 use Rattle.office_desk_cabinet.proofs.Opened.{handed_told}
 use Rattle.office_desk.proofs.Imports.{added_whole, decided_now, few_more, leaves_more, unwritten_whole, record_added}
 use Rattle.office_desk.proofs.Recorded.{about_known, refused_named, tells_about, unknown_named}
 use Rattle.office_desk.proofs.FoundAgain.{not_told, told_there}
+use Rattle.office_desk.specs.Importing.{taken_by}
 use Rattle.office_desk.specs.Named.{number_of}
+use Rattle.office_desk.specs.declared.importing.Taken.TheVariants as taken
+use Rattle.office_machine.specs.declared.refusal.Refusal.{Refusal}
 use Rattle.office_machine.specs.Step.{cabinet_of}
 use Rattle.office_desk.proofs.importing.take_record.Goals as goal
 
@@ -15,6 +19,11 @@ pub returns-then-not-branch-clause-whole : goal.returns-then-not-branch-clause-w
 returns-then-not-branch-clause-whole g c = λ honest.
     unwritten_whole _ c.args.pending c.args.command.now (rw c.cabinet_of.ensures at (c.in_ok-is_found.ensures.whole honest))
     (inl (tells_about (g.S.Shelf.content c.args.shelf.now) _ _ _ _ c.cabinet_of.ensures c.if-not-branch.true (c.in_ok-is_found.ensures.tells honest)))
+
+pub returns-then-not-branch-clause-told : goal.returns-then-not-branch-clause-told
+returns-then-not-branch-clause-told g c = λ honest office stands r register.
+    ap (λ (known : Bool). taken_by known (line_at r c.args.command.now))
+    (about_known _ _ _ _ _ c.cabinet_of.ensures c.if-not-branch.true (c.in_ok-is_found.ensures.known honest) office stands)
 
 pub returns-then-not-branch-clause-named : goal.returns-then-not-branch-clause-named
 returns-then-not-branch-clause-named g c =
@@ -46,6 +55,14 @@ returns-in_err-is_found-clause-open g c =
     }
 
 -- ---- it is new
+
+pub returns-in_ok-next-in-Added-clause-told : goal.returns-in_ok-next-in-Added-clause-told
+returns-in_ok-next-in-Added-clause-told g c = λ honest office stands r register.
+    let first = c.decide_record.ensures.kept.honest_before honest in
+    let decides = decided_now c.in_ok-rows.ensures.decides (c.is_found.ensures.kept.same_content first) c.in-Added.is in
+    let known = about_known _ _ _ _ _ c.cabinet_of.ensures c.if-not-branch.false (c.in_ok-is_found.ensures.known first) office stands in
+    let line = (decides.step honest r register).line in
+    λ k. taken_by (known k) (line k)
 
 pub returns-in_ok-next-in-Added-clause-step : goal.returns-in_ok-next-in-Added-clause-step
 returns-in_ok-next-in-Added-clause-step g c = λ honest office stands r register.
@@ -82,6 +99,14 @@ returns-in_ok-next-in-Added-clause-line g c = λ honest.
 
 -- ---- an equal record is there
 
+pub returns-in-Same-clause-told : goal.returns-in-Same-clause-told
+returns-in-Same-clause-told g c = λ honest office stands r register.
+    let first = c.decide_record.ensures.kept.honest_before honest in
+    let decides = decided_now c.in_ok-rows.ensures.decides (c.is_found.ensures.kept.same_content first) c.in-Same.is in
+    let known = about_known _ _ _ _ _ c.cabinet_of.ensures c.if-not-branch.false (c.in_ok-is_found.ensures.known first) office stands in
+    let line = (decides.step honest r register).line in
+    λ k. taken_by (known k) (line k)
+
 pub returns-in-Same-clause-whole : goal.returns-in-Same-clause-whole
 returns-in-Same-clause-whole g c = λ honest.
     let first = c.decide_record.ensures.kept.honest_before honest in
@@ -99,6 +124,14 @@ returns-in-Same-clause-line g c = λ honest.
     ([], (there, decides.line honest), sym (append-nil c.args.pending))
 
 -- ---- it is refused
+
+pub returns-in-Refused-clause-told : goal.returns-in-Refused-clause-told
+returns-in-Refused-clause-told g c = λ honest office stands r register.
+    let first = c.decide_record.ensures.kept.honest_before honest in
+    let decides = decided_now c.in_ok-rows.ensures.decides (c.is_found.ensures.kept.same_content first) c.in-Refused.is in
+    let known = about_known _ _ _ _ _ c.cabinet_of.ensures c.if-not-branch.false (c.in_ok-is_found.ensures.known first) office stands in
+    let line = (decides.step honest r register).line in
+    ap (λ (why : Refusal). taken.Refused why) c.refused.ensures ∙ (λ k. taken_by (known k) (line k))
 
 pub returns-in-Refused-clause-whole : goal.returns-in-Refused-clause-whole
 returns-in-Refused-clause-whole g c = λ honest.

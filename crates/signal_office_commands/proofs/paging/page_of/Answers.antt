@@ -5,7 +5,7 @@ use Rattle.signal_office_commands.proofs.paging.page_of.Goals as goal
 
 pub returns-clause-page : goal.returns-clause-page
 returns-clause-page g c = λ clean tables held before stands.
-    page_shown tables before c.args.id c.in_ok-shown.shown c.in_ok-intersection_page.field-0.items (c.in_ok-shown.ensures.shown clean tables held) stands c.in_ok-intersection_page.ensures.page
+    page_shown c.args.linked tables before c.args.id c.in_ok-shown.shown c.in_ok-intersection_page.field-0.items (c.in_ok-shown.ensures.shown clean tables held) stands c.in_ok-intersection_page.ensures.page
 
 pub returns-clause-whole : goal.returns-clause-whole
 returns-clause-whole g c = λ clean tables held.

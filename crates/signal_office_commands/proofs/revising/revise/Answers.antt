@@ -1,5 +1,5 @@
 use Rattle.std.proofs.Common.{Ok, ap, inl, refl, rules, subst, sym, true, false, ◌∙◌}
-use Rattle.signal_office_commands.proofs.RevisedLemmas.{ends_so, err_is}
+use Rattle.signal_office_commands.proofs.RevisedLemmas.{ends_so}
 use Rattle.signal_office_commands.proofs.StopLemmas.{stop_by, stop_none}
 use Rattle.signal_office_commands.proofs.revising.revise.Goals as goal
 use Rattle.signal_office_commands.specs.Revising.{WouldBe}

@@ -1,5 +1,5 @@
 use Rattle.std.proofs.Common.{inl, inr}
-use Rattle.signal_office_commands.proofs.AskingLemmas.{◌then◌, still_held}
+use Rattle.signal_office_commands.proofs.AskingLemmas.{still_held}
 use Rattle.signal_office_commands.proofs.FaultLemmas.{on_fault}
 use Rattle.signal_office_commands.proofs.standing.standing_in.Goals as goal
 

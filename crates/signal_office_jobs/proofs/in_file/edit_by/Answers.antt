@@ -1,4 +1,4 @@
-use Rattle.std.proofs.Common.{ap, inl, inr, option_map, refl, subst}
+use Rattle.std.proofs.Common.{List, ℕ, ap, inl, inr, option_map, refl, subst₂}
 use Rattle.signal_office_in_file.specs.Ended.{file_view}
 use Rattle.signal_office_jobs.proofs.PrintingLemmas.{any_plan_so, handed}
 use Rattle.signal_office_jobs.proofs.in_file.edit_by.Goals as goal
@@ -21,7 +21,8 @@ returns-in_ok-plan-in-Some g c =
     let read = c.in_ok-plan-in-Some.ensures.plan in
     any_plan_so _ _ _ _ _ _ _ _ (ap (option_map file_asked) c.in-Some.is)
     (inl (
-      c.in_ok-plan-in-Some.plan.items,
+      c.in_ok-plan-in-Some.plan.text.items,
+      c.in_ok-plan-in-Some.plan.lines.items,
       _,
       _,
       read.0,
@@ -29,7 +30,7 @@ returns-in_ok-plan-in-Some g c =
       (
         refl,
         refl,
-        subst (λ plan. InFoundFile view (editing plan edit.id c.args.clerk.now (edit_mode edit) edit.explain) (told c.args.out.now) (told c.edit_with.new.out) c.edit_with.result)
-            c.deref.ensures.value c.edit_with.ensures,
+        subst₂ (λ (plan lines : List ℕ). InFoundFile view (editing plan lines edit.id c.args.clerk.now (edit_mode edit) edit.explain) (told c.args.out.now) (told c.edit_with.new.out) c.edit_with.result)
+            c.deref.ensures.value c.deref-in-Some.ensures.value c.edit_with.ensures,
       ),
     ))

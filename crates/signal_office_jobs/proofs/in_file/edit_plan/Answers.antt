@@ -22,7 +22,7 @@ returns g c =
     let edit = c.args.edit.now in
     inl (
       c.in_ok-clerk.ensures.0,
-      subst (λ clerk. ReadingAnyPlan (option_map file_asked edit.csv) (λ plan. OnlyPrints (InFoundFile view (editing plan edit.id clerk (edit_mode edit) edit.explain)))
+      subst (λ clerk. ReadingAnyPlan (option_map file_asked edit.csv) (λ plan lines. OnlyPrints (InFoundFile view (editing plan lines edit.id clerk (edit_mode edit) edit.explain)))
           (ends_of (source c.args.source.now) (out c.args.out.now)) (ends_of (source c.edit_by.new.source) (out c.edit_by.new.out))
           (err c.args.err.now) (err c.edit_by.new.err) c.edit_by.result) c.in_ok-clerk.ensures.1 c.edit_by.ensures,
     )

@@ -9,5 +9,5 @@ returns g c =
     let view = file_view f.held f.is_clean f.keeps f.refused f.leaves in
     let told = g.W.Sink.told in
     let edit = c.args.edit.now in
-    subst (λ mode. InFoundFile view (editing c.args.csv.now edit.id c.args.clerk.now mode edit.explain) (told c.args.out.now) (told c.in_file.new.out) c.in_file.result)
+    subst (λ mode. InFoundFile view (editing c.args.csv.now c.args.lines.now edit.id c.args.clerk.now mode edit.explain) (told c.args.out.now) (told c.in_file.new.out) c.in_file.result)
     c.mode_of-mode.ensures c.in_file.ensures

@@ -6,4 +6,4 @@ pub returns-in_err-check_days : goal.returns-in_err-check_days
 returns-in_err-check_days g c = inr (_, c.in_err-check_days.ensures, fails _ _ c.from_residual.result c.from_residual.ensures.1)
 
 pub returns : goal.returns
-returns g c = inl (c.in_ok-check_days.ensures, c.in_file.ensures)
+returns g c = inl (c.in_ok-check_days.ensures, c.try_or_import.ensures)

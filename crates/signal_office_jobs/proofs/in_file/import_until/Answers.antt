@@ -1,11 +1,11 @@
-use Rattle.std.proofs.Common.{inl, inr, refl, subst}
+use Rattle.std.proofs.Common.{List, ℕ, inl, inr, refl, subst₂}
 use Rattle.signal_office_in_file.specs.Ended.{file_view}
 use Rattle.signal_office_jobs.proofs.PrintingLemmas.{handed}
 use Rattle.signal_office_jobs.proofs.in_file.import_until.Goals as goal
-use Rattle.signal_office_jobs.specs.Printing.{InFoundFile, InTime, importing}
+use Rattle.signal_office_jobs.specs.Printing.{InFoundFile, InTime, trying_or_importing}
 
-pub returns-in_err-csv : goal.returns-in_err-csv
-returns-in_err-csv g c err = inr (_, c.in_err-csv.ensures.fault, refl, refl, handed _ c.from_residual.result c.from_residual.ensures.1)
+pub returns-in_err-read : goal.returns-in_err-read
+returns-in_err-read g c err = inr (_, c.in_err-read.ensures.fault, refl, refl, handed _ c.from_residual.result c.from_residual.ensures.1)
 
 pub returns : goal.returns
 returns g c err =
@@ -13,13 +13,14 @@ returns g c err =
     let view = file_view f.held f.is_clean f.keeps f.refused f.leaves in
     let told = g.W.Sink.told in
     inl (
+      c.in_ok-read.read.text.items,
+      c.in_ok-read.read.lines.items,
       _,
-      _,
-      c.in_ok-csv.ensures.text,
+      c.in_ok-read.ensures.text,
       (
         refl,
         refl,
-        subst (λ records. InTime c.args.until records (InFoundFile view (importing records)) (told c.args.out.now) (told c.import_text.new.out) c.import_text.result)
-            c.deref.ensures.value c.import_text.ensures,
+        subst₂ (λ (records lines : List ℕ). InTime c.args.until records (InFoundFile view (trying_or_importing c.args.check records lines)) (told c.args.out.now) (told c.import_text.new.out) c.import_text.result)
+            c.deref.ensures.value c.deref-2.ensures.value c.import_text.ensures,
       ),
     )

@@ -2,9 +2,9 @@ use Rattle.std.proofs.Common.{◌≡◌, inl, ap, subst, ◌∙◌}
 use Rattle.signal_office_in_file.specs.Ended.{file_view}
 use Rattle.signal_office_jobs.proofs.PrintingLemmas.{begun_quietly, ends_quietly}
 use Rattle.signal_office_jobs.proofs.in_file.in_file.Goals as goal
-use Rattle.signal_office_jobs.specs.Printing.{PrintsDone, joined}
-use Rattle.signal_office_jobs.specs.Stopped.{TaskLeaves, TaskSays}
-use Rattle.signal_office_jobs.specs.Tasks.{TaskDoes}
+use Rattle.signal_office_tasks.specs.Output.{PrintsDone, joined}
+use Rattle.signal_office_tasks.specs.Stopped.{TaskLeaves, TaskSays}
+use Rattle.signal_office_tasks.specs.Tasks.{TaskDoes}
 
 pub returns : goal.returns
 returns g c =

@@ -5,7 +5,7 @@ use Rattle.signal_office_in_file.specs.Ended.{file_view}
 use Rattle.signal_office_jobs.proofs.PrintingLemmas.{fails, part_is}
 use Rattle.signal_office_jobs.proofs.in_file.used.Goals as goal
 use Rattle.signal_office_jobs.specs.Printing.{InFoundFile, IsPartRead, looking}
-use Rattle.signal_office_jobs.specs.Tasks.{TellsUsed}
+use Rattle.signal_office_tasks.specs.Tasks.{TellsUsed}
 
 pub returns-in_err-part : goal.returns-in_err-part
 returns-in_err-part g c = inr (_, c.in_err-part.ensures, fails _ _ c.from_residual.result c.from_residual.ensures.1)

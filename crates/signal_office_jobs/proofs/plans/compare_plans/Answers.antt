@@ -14,7 +14,8 @@ returns-in_err-other g c =
     let read = c.in_ok-plan.ensures.plan in
     let why = c.in_err-other.ensures.fault in
     inl (
-      c.in_ok-plan.plan.items,
+      c.in_ok-plan.plan.text.items,
+      c.in_ok-plan.plan.lines.items,
       _,
       _,
       read.0,
@@ -28,13 +29,15 @@ returns g c =
     let first = c.in_ok-plan.ensures.plan in
     let second = c.in_ok-other.ensures.plan in
     inl (
-      c.in_ok-plan.plan.items,
+      c.in_ok-plan.plan.text.items,
+      c.in_ok-plan.plan.lines.items,
       _,
       _,
       first.0,
       first.1,
       inl (
-        c.in_ok-other.other.items,
+        c.in_ok-other.other.text.items,
+        c.in_ok-other.other.lines.items,
         _,
         _,
         second.0,
@@ -42,7 +45,7 @@ returns g c =
         (
           refl,
           refl,
-          subst (λ plan. Made (Compares c.args.csv plan c.in_ok-other.other.items) (told c.args.out.now) (told c.print_done.new.out) c.print_done.result)
+          subst (λ plan. Made (Compares c.args.csv plan c.in_ok-other.other.text.items) (told c.args.out.now) (told c.print_done.new.out) c.print_done.result)
               c.deref.ensures.value
               (subst (λ other. Made (Compares c.args.csv c.deref.result.now other) (told c.args.out.now) (told c.print_done.new.out) c.print_done.result)
               c.deref-2.ensures.value (c.compared.result, c.compared.ensures, c.print_done.ensures)),

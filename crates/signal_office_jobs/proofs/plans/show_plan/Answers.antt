@@ -1,4 +1,4 @@
-use Rattle.std.proofs.Common.{inl, inr, refl, subst}
+use Rattle.std.proofs.Common.{List, ℕ, inl, inr, refl, subst₂}
 use Rattle.signal_office_jobs.proofs.PrintingLemmas.{handed}
 use Rattle.signal_office_jobs.proofs.plans.show_plan.Goals as goal
 use Rattle.signal_office_jobs.specs.Printed.{ShowsPlan}
@@ -14,7 +14,8 @@ returns g c =
     let told = g.W.Sink.told in
     let read = c.in_ok-plan.ensures.plan in
     inl (
-      c.in_ok-plan.plan.items,
+      c.in_ok-plan.plan.text.items,
+      c.in_ok-plan.plan.lines.items,
       _,
       _,
       read.0,
@@ -22,7 +23,7 @@ returns g c =
       (
         refl,
         refl,
-        subst (λ plan. Made (ShowsPlan c.args.shown plan) (told c.args.out.now) (told c.print_done.new.out) c.print_done.result)
-            c.deref.ensures.value (c.shown_in.result, c.shown_in.ensures, c.print_done.ensures),
+        subst₂ (λ (plan lines : List ℕ). Made (ShowsPlan c.args.shown plan lines) (told c.args.out.now) (told c.print_done.new.out) c.print_done.result)
+            c.deref.ensures.value c.deref-2.ensures.value (c.shown_in.result, c.shown_in.ensures, c.print_done.ensures),
       ),
     )

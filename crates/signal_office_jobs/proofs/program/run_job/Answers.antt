@@ -4,7 +4,7 @@ use Rattle.signal_office_jobs.proofs.{PrintingLemmas.handed, RunLemmas.done_so}
 use Rattle.signal_office_jobs.proofs.program.run_job.Goals as goal
 use Rattle.signal_office_jobs.specs.Printed.{office_files}
 use Rattle.signal_office_jobs.specs.Printing.{InFoundFile, looking}
-use Rattle.signal_office_jobs.specs.Tasks.{ComparesWith}
+use Rattle.signal_office_tasks.specs.Tasks.{ComparesWith}
 use Rattle.signal_office_line.specs.Job.{asked}
 
 pub returns-in-Show : goal.returns-in-Show
@@ -28,8 +28,16 @@ returns-in-ExportAll g c =
     let f = g.F.OfficeInFile in
     let files = office_files f.held f.is_clean f.keeps f.refused f.leaves f.migrated f.alone in
     done_so files (asked c.args.job.now) _ (ends_of (g.R.Source.told c.args.source.now) (g.W.Sink.told c.args.out.now))
-    (ends_of (g.R.Source.told c.args.source.now) (g.W.Sink.told c.in_file.new.out)) (g.E.Sink.told c.args.err.now) (g.E.Sink.told c.args.err.now)
-    c.in_file.result (ap asked c.in-ExportAll.is) (refl, refl, c.in_file.ensures)
+    (ends_of (g.R.Source.told c.args.source.now) (g.W.Sink.told c.fill_records.new.out)) (g.E.Sink.told c.args.err.now) (g.E.Sink.told c.args.err.now)
+    c.fill_records.result (ap asked c.in-ExportAll.is) (refl, refl, c.fill_records.ensures)
+
+pub returns-in-Pages : goal.returns-in-Pages
+returns-in-Pages g c =
+    let f = g.F.OfficeInFile in
+    let files = office_files f.held f.is_clean f.keeps f.refused f.leaves f.migrated f.alone in
+    done_so files (asked c.args.job.now) _ (ends_of (g.R.Source.told c.args.source.now) (g.W.Sink.told c.args.out.now))
+    (ends_of (g.R.Source.told c.args.source.now) (g.W.Sink.told c.fill_pages.new.out)) (g.E.Sink.told c.args.err.now) (g.E.Sink.told c.args.err.now)
+    c.fill_pages.result (ap asked c.in-Pages.is) (refl, refl, c.fill_pages.ensures)
 
 pub returns-in-Add : goal.returns-in-Add
 returns-in-Add g c =
@@ -60,26 +68,27 @@ returns-in-CompareDraft g c =
     let f = g.F.OfficeInFile in
     let files = office_files f.held f.is_clean f.keeps f.refused f.leaves f.migrated f.alone in
     done_so files (asked c.args.job.now) _ (ends_of (g.R.Source.told c.args.source.now) (g.W.Sink.told c.args.out.now))
-    (ends_of (g.R.Source.told c.args.source.now) (g.W.Sink.told c.in_file-in-CompareDraft.new.out)) (g.E.Sink.told c.args.err.now) (g.E.Sink.told c.args.err.now)
-    c.in_file-in-CompareDraft.result (ap asked c.in-CompareDraft.is) (refl, refl, c.in_file-in-CompareDraft.ensures)
+    (ends_of (g.R.Source.told c.args.source.now) (g.W.Sink.told c.in_file.new.out)) (g.E.Sink.told c.args.err.now) (g.E.Sink.told c.args.err.now)
+    c.in_file.result (ap asked c.in-CompareDraft.is) (refl, refl, c.in_file.ensures)
 
-pub returns-in_err-text-in-CompareRunning : goal.returns-in_err-text-in-CompareRunning
-returns-in_err-text-in-CompareRunning g c =
+pub returns-in_err-plan-in-CompareRunning : goal.returns-in_err-plan-in-CompareRunning
+returns-in_err-plan-in-CompareRunning g c =
     let f = g.F.OfficeInFile in
     let files = office_files f.held f.is_clean f.keeps f.refused f.leaves f.migrated f.alone in
-    let why = c.in_err-text-in-CompareRunning.ensures.fault in
+    let why = c.in_err-plan-in-CompareRunning.ensures.fault in
     done_so files (asked c.args.job.now) _ _ _ _ _ _ (ap asked c.in-CompareRunning.is)
     (inr (_, why.0, refl, why.1, handed _ c.from_residual.result c.from_residual.ensures.1))
 
-pub returns-in_ok-text-in-CompareRunning : goal.returns-in_ok-text-in-CompareRunning
-returns-in_ok-text-in-CompareRunning g c =
+pub returns-in_ok-plan-in-CompareRunning : goal.returns-in_ok-plan-in-CompareRunning
+returns-in_ok-plan-in-CompareRunning g c =
     let f = g.F.OfficeInFile in
     let files = office_files f.held f.is_clean f.keeps f.refused f.leaves f.migrated f.alone in
     let told = g.W.Sink.told in
-    let read = c.in_ok-text-in-CompareRunning.ensures.plan in
+    let read = c.in_ok-plan-in-CompareRunning.ensures.plan in
     done_so files (asked c.args.job.now) _ _ _ _ _ _ (ap asked c.in-CompareRunning.is)
     (inl (
-      c.in_ok-text-in-CompareRunning.text.items,
+      c.in_ok-plan-in-CompareRunning.plan.text.items,
+      c.in_ok-plan-in-CompareRunning.plan.lines.items,
       _,
       _,
       read.0,

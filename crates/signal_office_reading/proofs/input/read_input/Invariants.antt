@@ -1,4 +1,4 @@
-use Rattle.std.proofs.Common.{◌≡◌, ℕ, ◌-◌, ◌^◌, vec_len}
+use Rattle.std.proofs.Common.{◌-◌, ◌^◌, vec_len}
 use Rattle.std.specs.Io.KnownBytes.{Consumes}
 use Rattle.office_http_framing.specs.Ends.{Grows}
 use Rattle.signal_office_reading.proofs.input.read_input.Given as goal

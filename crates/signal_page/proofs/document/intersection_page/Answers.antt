@@ -8,14 +8,14 @@ use Rattle.signal_page.proofs.document.intersection_page.Goals as goal
 
 pub returns-clause-page : goal.returns-clause-page
 returns-clause-page c =
-    let same = ap₂ (λ (found : List Difference) (why : List Explained). page_text c.args.shown.now found why) c.deref.ensures.value c.deref-2.ensures.value in
+    let same = ap₂ (λ (found : List Difference) (why : List Explained). page_text c.args.linked c.args.shown.now found why) c.deref.ensures.value c.deref-2.ensures.value in
     IfOk-weaker c.whole_page.result _ _ (λ text is. record {
       differences = c.in_ok-differences.differences.items;
       changes = c.in_ok-differences.ensures;
       reasons = c.in_ok-reasons.reasons.items;
       why = c.in_ok-reasons.ensures;
       text_is = is ∙ same;
-      markup = own_markup _ _ _ _ (is ∙ same);
+      markup = own_markup _ _ _ _ _ (is ∙ same);
     }) c.whole_page.ensures
 
 pub returns-clause-read : goal.returns-clause-read

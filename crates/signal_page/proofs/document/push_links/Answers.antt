@@ -7,6 +7,7 @@ pub returns : goal.returns
 unfolding links
 returns c =
     let to1 = c.in_ok-push_markup.ensures in
-    let to2 = two (string_bytes c.args.text.now) _ _ _ _ to1 c.in_ok-push_markup-2.ensures in
-    let to3 = two (string_bytes c.args.text.now) _ _ _ _ to2 c.in_ok-push_draft_link.ensures in
-    on_ok_weaker c.push_markup-3.result (λ last. two (string_bytes c.args.text.now) _ _ _ _ to3 last) c.push_markup-3.ensures
+    let to2 = two (string_bytes c.args.text.now) _ _ _ _ to1 c.in_ok-push_index_link.ensures in
+    let to3 = two (string_bytes c.args.text.now) _ _ _ _ to2 c.in_ok-push_markup-2.ensures in
+    let to4 = two (string_bytes c.args.text.now) _ _ _ _ to3 c.in_ok-push_draft_link.ensures in
+    on_ok_weaker c.push_markup-3.result (λ last. two (string_bytes c.args.text.now) _ _ _ _ to4 last) c.push_markup-3.ensures

@@ -7,5 +7,5 @@ pub returns : goal.returns
 unfolding parts_cell
 returns c =
     let to1 = c.in_ok-push_markup.ensures in
-    let to2 = two (string_bytes c.args.text.now) _ _ _ _ to1 c.in_ok-push_each_part.ensures in
+    let to2 = two (string_bytes c.args.text.now) _ _ _ _ to1 c.in_ok-push_parts_or_none.ensures in
     on_ok_weaker c.push_markup-2.result (λ last. two (string_bytes c.args.text.now) _ _ _ _ to2 last) c.push_markup-2.ensures

@@ -1,0 +1,114 @@
+-- Records that are tried in turn and not taken: what would come of each, and what is there where one is refused.
+use Rattle.std.specs.Prelude.{◌≡◌, ◌⊎◌, List, [], ◌∷◌, Option, Some, None}
+use Rattle.std.specs.FinMap.{get}
+use Rattle.cabinet_core.specs.Cabinet.{on_hand}
+use Rattle.cabinet_core.specs.Register.{Register}
+use Rattle.cabinet_core.specs.Step.{line_at}
+use Rattle.cabinet_core.specs.Stock.{hand_of}
+use Rattle.cabinet_core.specs.declared.command.RecordCommand.{RecordCommand}
+use Rattle.cabinet_core.specs.declared.command.RecordCommand.TheVariants as asks
+use Rattle.cabinet_core.specs.declared.refusal.CabinetRefusal.{CabinetRefusal}
+use Rattle.cabinet_core.specs.declared.refusal.CabinetRefusal.TheVariants as refusal
+use Rattle.office_desk.specs.Importing.{register_with, taken_by}
+use Rattle.office_desk.specs.Recording.{HasDamagedAbout}
+use Rattle.office_desk.specs.declared.checking.Checked.{Checked}
+use Rattle.office_desk.specs.declared.checking.Checked.TheVariants as checked
+use Rattle.office_desk.specs.declared.importing.Taken.{Taken}
+use Rattle.office_desk.specs.declared.importing.Taken.TheVariants as taken
+use Rattle.office_desk.specs.declared.there.There.{There}
+use Rattle.office_desk.specs.declared.there.There.TheVariants as there
+use Rattle.office_desk.specs.StandFor.{StandForSound}
+use Rattle.office_desk_cabinet.specs.Puts.{StandsAt}
+use Rattle.office_desk_decisions.specs.RegisterDamage.{MeetsRecordDamage}
+use Rattle.office_machine.specs.Office.{Office}
+use Rattle.office_machine.specs.Step.{cabinet_of, is_known}
+use Rattle.office_machine.specs.declared.refusal.Refusal.{Refusal}
+use Rattle.office_machine.specs.declared.refusal.Refusal.TheVariants.{Cabinet as OfRegister}
+use Rattle.office_tables_shelf.specs.Change.{changed_by}
+use Rattle.office_tables_shelf.specs.Content.{Content}
+use Rattle.office_tables_shelf.specs.Places as place
+use Rattle.office_tables_shelf.specs.Places.{Place, RecordAt}
+use Rattle.office_tables_shelf.specs.RegisterStands.{RegisterStandsSound}
+use Rattle.office_tables_shelf.specs.declared.rows.RowChange.{RowChange}
+
+-- ---- what is there
+
+-- where that stands which a refused record is told with: the record of its own key; but the order of a part that is used or of a closing, or what is on hand
+abbrev pub place_told : RecordCommand → CabinetRefusal → Place
+place_told (asks.Inspect id asked) why = place.Inspection id asked.number
+place_told (asks.OpenOrder id asked) why = place.Order id asked.number
+place_told (asks.UsePart id asked) refusal.LineDiffers = place.Line id asked.order asked.line
+place_told (asks.UsePart id asked) refusal.NoStock = place.Part asked.part
+place_told (asks.UsePart id asked) why = place.Order id asked.order
+place_told (asks.CloseOrder id number asked) why = place.Order id number
+place_told (asks.Receive asked) refusal.DeliveryDiffers = place.Delivery asked.part asked.number
+place_told (asks.Receive asked) why = place.Part asked.part
+
+-- what a register has there
+abbrev pub held_in : Register → (at : Place) → Option (RecordAt at)
+held_in r (place.Inspection id n) = get r.inspections (id, n)
+held_in r (place.Order id n) = get r.orders (id, n)
+held_in r (place.Line id order line) = get r.lines (id, (order, line))
+held_in r (place.Part code) = hand_of r code
+held_in r (place.Delivery code n) = get r.deliveries (code, n)
+
+-- how it is told: nothing, or the record; or how many of a part are on hand
+abbrev pub told_there : (at : Place) → Option (RecordAt at) → There
+told_there (place.Inspection id n) None = there.Nothing
+told_there (place.Inspection id n) (Some it) = there.Inspection it
+told_there (place.Order id n) None = there.Nothing
+told_there (place.Order id n) (Some it) = there.Order it
+told_there (place.Line id order line) None = there.Nothing
+told_there (place.Line id order line) (Some it) = there.UsedLine it
+told_there (place.Part code) hand = there.OnHand code (on_hand hand)
+told_there (place.Delivery code n) None = there.Nothing
+told_there (place.Delivery code n) (Some it) = there.Delivery it
+
+-- what is there where a record is refused: nothing where its intersection is not there
+abbrev pub there_in : Register → RecordCommand → Refusal → There
+there_in r c (OfRegister why) = told_there (place_told c why) (held_in r (place_told c why))
+there_in r c why = there.Nothing
+
+-- what is read there, on the stored rows once those that are pending are written
+abbrev pub ReadsThere : Content → List RowChange → (at : Place) → There → Type 0
+ReadsThere stored pending at it = (found : Option (RecordAt at)) × StandsAt (changed_by stored pending) at found × (it ≡ told_there at found)
+
+-- what is told of it, whichever register the tables stand for then
+abbrev pub TellsThere : Content → List RowChange → RecordCommand → Refusal → There → Type 0
+TellsThere stored pending c why it = (r : Register) → RegisterStandsSound (changed_by stored pending) r → it ≡ there_in r c why
+
+-- ---- records in turn
+
+-- what would come of a record, and the office after it: one that is refused leaves it
+abbrev pub checked_by : Register → RecordCommand → Taken → Checked
+checked_by r c taken.Added = checked.Added
+checked_by r c taken.Same = checked.Same
+checked_by r c (taken.Refused why) = checked.Refused why (there_in r c why)
+
+abbrev pub taken_in : Office → RecordCommand → Taken
+taken_in office c = taken_by (is_known office (cabinet_of c)) (line_at office.register c)
+
+abbrev pub office_with : Taken → Office → RecordCommand → Office
+office_with t office c = record office { register = register_with t office.register c }
+
+-- each after those before it that would be taken
+abbrev pub checked_from : Office → List RecordCommand → List Checked
+checked_from office [] = []
+checked_from office (c ∷ cs) =
+    checked_by office.register c (taken_in office c) ∷ checked_from (office_with (taken_in office c) office c) cs
+
+-- whichever sound office the tables stand for
+abbrev pub Checks : Content → List RecordCommand → List Checked → Type 0
+Checks tables records list = (office : Office) → StandForSound tables office → list ≡ checked_from office records
+
+-- the same of one record, after rows that are pending
+abbrev pub ChecksRecord : Content → (before : List RowChange) → RecordCommand → Checked → (after : List RowChange) → Type 0
+ChecksRecord stored before c it after =
+    (office : Office) → StandForSound stored office → (r : Register) → RegisterStandsSound (changed_by stored before) r
+    → let t = taken_by (is_known office (cabinet_of c)) (line_at r c) in
+    (it ≡ checked_by r c t) × RegisterStandsSound (changed_by stored after) (register_with t r c)
+
+-- a row of the intersection of some record, or of the register under its keys, is no record
+abbrev pub MeetsCheckDamage : Content → List RecordCommand → Type 0
+MeetsCheckDamage tables [] = ⊥
+MeetsCheckDamage tables (c ∷ cs) = (HasDamagedAbout tables (cabinet_of c) ⊎ MeetsRecordDamage tables c) ⊎ MeetsCheckDamage tables cs

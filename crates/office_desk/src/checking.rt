@@ -1,0 +1,112 @@
+//! Records of the register that are tried in turn and not taken.
+ghost use Rattle.std.specs.Prelude.{◌≡◌, ◌⊎◌, ◌++◌, [], ◌∷◌, IfOk, OnOk, Err};
+ghost use Rattle.office_tables_shelf.specs.Keeps.{KeepsShelf};
+ghost use Rattle.office_desk.specs.Checking.{Checks, ChecksRecord, MeetsCheckDamage, there_in};
+ghost use Rattle.office_desk.specs.Checking.{TellsThere};
+ghost use Rattle.office_desk.specs.Recording.{AreFound, HasDamagedAbout};
+ghost use Rattle.office_desk_decisions.specs.RegisterDamage.{MeetsRecordDamage};
+ghost use Rattle.office_machine.specs.Step.{cabinet_of as about_of};
+
+use crate::importing::{Taken, take_record};
+use crate::there::{There, what_is_there};
+use cabinet_core::RecordCommand;
+use office_desk_cabinet::Pending;
+use office_machine::refusal::Refusal;
+use office_tables_shelf::shelf::{Shelf, ShelfFault};
+use signal_records::{InterId, NoMemory};
+use std::alloc::Global;
+use std::collections::BTreeSet;
+
+/// What would come of a record.
+#[derive(Drop)]
+pub enum Checked {
+    /// It is new.
+    Added,
+    /// An equal record is there.
+    Same,
+    /// It is refused, where this is there.
+    Refused { refusal: Refusal, there: There },
+}
+
+/// What is there where a record is refused.
+fn there_of<S: Shelf>(
+    shelf: &mut S,
+    alloc: Global,
+    pending: &Pending,
+    command: &RecordCommand,
+    refusal: Refusal,
+) -> Result<There, ShelfFault>
+    ensures told { IfOk result (λ there. S.is_honest shelf.new →
+        TellsThere (S.content shelf.old) pending.now command.now refusal there) }
+    ensures damaged { result ≡ Err ShelfFault.Damaged → S.is_honest shelf.new →
+        MeetsRecordDamage (S.content shelf.old) command.now }
+    ensures clean { S.is_clean shelf.new → S.is_clean shelf.old }
+    ensures kept { KeepsShelf S.Shelf shelf.old shelf.new }
+{
+    match refusal {
+        Refusal::Cabinet(why) => what_is_there(shelf, alloc, pending, command, why),
+        _ => Ok(There::Nothing),
+    }
+}
+
+/// Tries a record after those whose rows are pending, and gives these back with its own.
+fn check_record<S: Shelf>(
+    shelf: &mut S,
+    alloc: Global,
+    found: &mut BTreeSet<InterId>,
+    pending: Pending,
+    command: &RecordCommand,
+) -> Result<(Checked, Pending), ShelfFault>
+    requires { S.is_honest shelf.old → AreFound (S.content shelf.old) found.old }
+    ensures found { IfOk result (λ _. S.is_honest shelf.new →
+        AreFound (S.content shelf.old) found.new) }
+    ensures checks { IfOk result (λ checked. S.is_honest shelf.new →
+        ChecksRecord (S.content shelf.old) pending command.now checked.0 checked.1) }
+    ensures damaged { result ≡ Err ShelfFault.Damaged → S.is_honest shelf.new →
+        HasDamagedAbout (S.content shelf.old) (about_of command.now)
+        ⊎ MeetsRecordDamage (S.content shelf.old) command.now }
+    ensures clean { S.is_clean shelf.new → S.is_clean shelf.old }
+    ensures kept { KeepsShelf S.Shelf shelf.old shelf.new }
+{
+    let (taken, next) = take_record(shelf, alloc, found, pending, command)?;
+    match taken {
+        Taken::Added => Ok((Checked::Added, next)),
+        Taken::Same => Ok((Checked::Same, next)),
+        Taken::Refused(refusal) => {
+            let there = there_of(shelf, alloc, &next, command, refusal)?;
+            Ok((Checked::Refused { refusal, there }, next))
+        }
+    }
+}
+
+/// Keeps what would come of a record, behind that of those before it.
+fn keep(checked: &mut Vec<Checked>, one: Checked) -> Result<(), NoMemory>
+    ensures { OnOk result (checked.new.items ≡ checked.old.items ++ one ∷ []) }
+{
+    checked.push(one)?;
+    Ok(())
+}
+
+/// Tries records in turn, each after those before it that would be taken, and takes none.
+pub(crate) fn check_records<S: Shelf>(
+    shelf: &mut S,
+    alloc: Global,
+    records: &[RecordCommand],
+) -> Result<Vec<Checked>, ShelfFault>
+    ensures checks { IfOk result (λ checked. S.is_honest shelf.new →
+        Checks (S.content shelf.old) records.now checked.items) }
+    ensures damaged { result ≡ Err ShelfFault.Damaged → S.is_honest shelf.new →
+        MeetsCheckDamage (S.content shelf.old) records.now }
+    ensures clean { S.is_clean shelf.new → S.is_clean shelf.old }
+    ensures kept { KeepsShelf S.Shelf shelf.old shelf.new }
+{
+    let mut found = BTreeSet::new(alloc);
+    let mut pending = Pending::new(alloc);
+    let mut checked = Vec::new(alloc);
+    for command in records {
+        let (one, next) = check_record(shelf, alloc, &mut found, pending, command)?;
+        pending = next;
+        keep(&mut checked, one)?;
+    }
+    Ok(checked)
+}

@@ -1,0 +1,3 @@
+pub mod LateLemmas
+mod OrderedRows
+pub mod OwnTags

@@ -1,0 +1,13 @@
+use Rattle.std.proofs.{Common.string_bytes, lemmas.Result.on_ok_weaker}
+use Rattle.signal_index.specs.Index.{index_head}
+use Rattle.signal_page.proofs.Parts.{two}
+use Rattle.signal_index.proofs.document.push_head.Goals as goal
+
+pub returns : goal.returns
+unfolding index_head
+returns c =
+    let to1 = c.in_ok-open_head.ensures in
+    let to2 = two (string_bytes c.args.text.now) _ _ _ _ to1 c.in_ok-push_markup.ensures in
+    let to3 = two (string_bytes c.args.text.now) _ _ _ _ to2 c.in_ok-push_markup-2.ensures in
+    let to4 = two (string_bytes c.args.text.now) _ _ _ _ to3 c.in_ok-push_markup-3.ensures in
+    on_ok_weaker c.push_markup-4.result (λ last. two (string_bytes c.args.text.now) _ _ _ _ to4 last) c.push_markup-4.ensures

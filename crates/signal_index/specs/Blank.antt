@@ -1,0 +1,31 @@
+-- What the index shows, with its names and texts empty.
+use Rattle.std.specs.Prelude.{ℕ, List, [], map, option_map}
+use Rattle.draft_state.specs.declared.state.Holder.{Holder}
+use Rattle.office_listings.specs.declared.orders.NamedOrder.{NamedOrder}
+use Rattle.signal_page.specs.Blank.{blank_order}
+use Rattle.signal_index.specs.declared.shown.IndexEntry.{IndexEntry}
+use Rattle.signal_index.specs.declared.shown.IndexShown.{IndexShown}
+
+abbrev pub blank_holder : Holder → Holder
+blank_holder holder = record holder { owner = [] }
+
+abbrev pub blank_entry : IndexEntry → IndexEntry
+blank_entry entry = record entry {
+  listed = record entry.listed { name = []; holder = option_map blank_holder entry.listed.holder };
+}
+
+abbrev pub blank_named : NamedOrder → NamedOrder
+blank_named named = record {
+  name = [];
+  listed = record { id = named.listed.id; order = blank_order named.listed.order };
+}
+
+abbrev pub blank_part : List ℕ × ℕ → List ℕ × ℕ
+blank_part part = ([], part.1)
+
+abbrev pub blank_index : IndexShown → IndexShown
+blank_index shown = record {
+  entries = map blank_entry shown.entries;
+  orders = map blank_named shown.orders;
+  stock = map blank_part shown.stock;
+}

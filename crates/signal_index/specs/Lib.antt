@@ -1,0 +1,5 @@
+pub mod Shown
+pub mod Overdue
+pub mod Rows
+pub mod Blank
+pub mod Index

@@ -1,0 +1,7 @@
+//! The index page of any office.
+#![tactic(auto)]
+
+mod gathering;
+mod indexing;
+
+pub use indexing::index_of;

@@ -1,0 +1,6 @@
+pub mod FillLemmas
+pub mod RevisedLemmas
+pub mod ShownLemmas
+pub mod StopLemmas
+pub mod TaskLemmas
+mod ExplainedLemmas

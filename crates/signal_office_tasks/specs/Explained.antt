@@ -1,0 +1,54 @@
+-- A fault as `--explain` tells it: of a bad record also its line and what is wrong there, and of a draft that another clerk owns also that clerk.
+use Rattle.std.specs.Prelude.{◌≡◌, ◌⊎◌, ℕ, Bool, true, false, List, Option, Some, None, Ok, Err}
+use Rattle.arrayvec.specs.declared.array_string.ArrayString.{ArrayString}
+use Rattle.draft_core.specs.declared.refusal.DraftRefusal.TheVariants as draft
+use Rattle.office_files.specs.declared.fault.BadRow.{BadRow}
+use Rattle.office_files.specs.declared.fault.CsvFault.TheVariants as file
+use Rattle.office_machine.specs.declared.refusal.Refusal.TheVariants as refusal
+use Rattle.office_machine.specs.declared.reply.IntersectionState.{IntersectionState}
+use Rattle.office_spreadsheets.specs.Hints.{hint_of, line_of_record}
+use Rattle.office_spreadsheets.specs.declared.hints.Hint.{Hint}
+use Rattle.office_tables_shelf.specs.Content.{Content}
+use Rattle.signal_office_commands.specs.Showing.{ShowsState}
+use Rattle.signal_office_faults.specs.declared.fault.Fault.{Fault}
+use Rattle.signal_office_faults.specs.declared.fault.Fault.TheVariants as fault
+
+-- ---- the record of a plan's CSV file that spells nothing
+
+abbrev pub with_hint : BadRow → (line : ℕ) → Option Hint → Fault
+with_hint bad line (Some hint) = fault.Explained bad line hint
+with_hint bad line None = fault.Csv (file.Row bad)
+
+-- a bad record is told with its line, and what is wrong there; each other fault as it is
+abbrev pub explained_file : (csv lines : List ℕ) → Fault → Fault
+explained_file csv lines (fault.Csv (file.Row bad)) = with_hint bad (line_of_record lines bad.at) (hint_of csv bad)
+explained_file csv lines why = why
+
+-- the same, unless memory for it is refused
+abbrev pub IsFileExplained : (csv lines : List ℕ) → (why told : Fault) → Type 0
+IsFileExplained csv lines why told = (told ≡ explained_file csv lines why) ⊎ (told ≡ fault.Memory)
+
+-- ---- who owns a draft
+
+abbrev pub not_owner : Fault
+not_owner = fault.Refused (refusal.Draft draft.NotOwner)
+
+abbrev pub TellsOwner : (owner : Option (List ℕ)) → Fault → Type 0
+TellsOwner (Some owner) told = (clerk : ArrayString 40) × (clerk.bytes ≡ owner) × (told ≡ fault.HeldBy clerk)
+TellsOwner None told = told ≡ not_owner
+
+-- who owns the draft of an intersection is told, as the office shows it; or why it is not shown
+abbrev pub IsOwnerTold : Content → (id : ℕ) → Fault → Type 0
+IsOwnerTold tables id told =
+    ((state : IntersectionState) × ShowsState tables id (Ok state) × TellsOwner state.owner told) ⊎ ShowsState tables id (Err told)
+
+-- ---- an edit that is refused
+
+abbrev pub IsEditExplained : (csv lines : List ℕ) → (id : ℕ) → Content → (why told : Fault) → Type 0
+IsEditExplained csv lines id tables (fault.Refused (refusal.Draft draft.NotOwner)) told = IsOwnerTold tables id told
+IsEditExplained csv lines id tables why told = IsFileExplained csv lines why told
+
+-- it is told with more where that is asked
+abbrev pub IsEditRefused : (explain : Bool) → (csv lines : List ℕ) → (id : ℕ) → Content → (why told : Fault) → Type 0
+IsEditRefused true csv lines id tables why told = IsEditExplained csv lines id tables why told
+IsEditRefused false csv lines id tables why told = told ≡ why

@@ -1,0 +1,145 @@
+//! Folders that are filled with what an office shows.
+
+ghost use Rattle.std.specs.Prelude.{◌≡◌, ◌≢◌, Ok, Err, IfErr, MatchResult};
+ghost use Rattle.office_tables_shelf.specs.Keeps.{KeepsShelf};
+ghost use Rattle.signal_office_tasks.specs.Filled.{ChecksFiles, FillsWith, IsUnshownLate, ListsOffice};
+ghost use Rattle.signal_office_tasks.specs.Filled.{PutsFile, PutsFiles, told_late};
+ghost use Rattle.signal_office_tasks.specs.Shown.{IsShown};
+
+use crate::filed::{FileOf, FolderKind, files_in};
+use crate::task::shown_of;
+use cabinet_core::Day;
+use office_desk::office::Office;
+use office_machine::intersections::ListedIntersection;
+use office_tables_shelf::shelf::Shelf;
+use signal_office_commands::{Fault, fault_of};
+use signal_office_folder::Folder;
+use signal_office_line::Shown;
+use std::alloc::Global;
+
+/// The intersections of an office, by their numbers.
+fn listed_in<S: Shelf>(
+    alloc: Global,
+    office: &mut Office<S>,
+) -> Result<Vec<ListedIntersection>, Fault>
+    ensures kept { KeepsShelf S.Shelf office.old office.new }
+    ensures clean { S.is_clean office.new → S.is_clean office.old }
+    ensures lists { S.is_honest office.new → MatchResult result
+        (λ found. ListsOffice (S.content office.old) (Ok found.items))
+        (λ why. ListsOffice (S.content office.old) (Err why)) }
+{
+    match office.intersections(alloc) {
+        Ok(found) => Ok(found),
+        Err(refusal) => Err(fault_of(refusal)),
+    }
+}
+
+/// Makes the text of each file, and lets it go: so each is known to be one before one is put.
+fn check_each<S: Shelf>(
+    alloc: Global,
+    office: &mut Office<S>,
+    day: &Option<Day>,
+    files: &[FileOf],
+) -> Result<(), Fault>
+    ensures kept { KeepsShelf S.Shelf office.old office.new }
+    ensures clean { S.is_clean office.new → S.is_clean office.old }
+    ensures checks { S.is_honest office.new →
+        ChecksFiles day.now (S.content office.old) files.now result }
+{
+    for file in files {
+        let text = shown_of(alloc, office, file.shown(*day))?;
+        drop(text);
+    }
+    Ok(())
+}
+
+/// A row that was a record when all texts were made, and is none now, is told as a fault of the
+/// database.
+fn told_late(fault: Fault) -> Fault
+    ensures value { result ≡ told_late fault }
+    ensures undamaged { result ≢ Fault.Damaged }
+{
+    match fault {
+        Fault::Damaged => Fault::Store,
+        fault => fault,
+    }
+}
+
+/// What is shown in a file, whose text was made before.
+fn text_of<S: Shelf>(alloc: Global, office: &mut Office<S>, shown: Shown) -> Result<Vec<u8>, Fault>
+    ensures kept { KeepsShelf S.Shelf office.old office.new }
+    ensures clean { S.is_clean office.new → S.is_clean office.old }
+    ensures shown { S.is_honest office.new → MatchResult result
+        (λ text. IsShown shown (S.content office.old) (Ok text.items))
+        (λ why. IsUnshownLate shown (S.content office.old) why) }
+    ensures undamaged { IfErr result (λ why. why ≢ Fault.Damaged) }
+{
+    match shown_of(alloc, office, shown) {
+        Ok(text) => Ok(text),
+        Err(fault) => Err(told_late(fault)),
+    }
+}
+
+/// Puts a file.
+fn put_file<S: Shelf, D: Folder>(
+    alloc: Global,
+    office: &mut Office<S>,
+    day: &Option<Day>,
+    file: &FileOf,
+    folder: &mut D,
+) -> Result<(), Fault>
+    ensures kept { KeepsShelf S.Shelf office.old office.new }
+    ensures clean { S.is_clean office.new → S.is_clean office.old }
+    ensures puts { S.is_honest office.new → PutsFile day.now (S.content office.old) file.now
+        (D.files folder.old) (D.files folder.new) result }
+    ensures undamaged { IfErr result (λ why. why ≢ Fault.Damaged) }
+{
+    let text = text_of(alloc, office, file.shown(*day))?;
+    let name = file.name(alloc)?;
+    folder.put(name.as_str(), &text)
+}
+
+/// Puts the files in their order.
+fn put_each<S: Shelf, D: Folder>(
+    alloc: Global,
+    office: &mut Office<S>,
+    day: &Option<Day>,
+    files: &[FileOf],
+    folder: &mut D,
+) -> Result<(), Fault>
+    ensures kept { KeepsShelf S.Shelf office.old office.new }
+    ensures clean { S.is_clean office.new → S.is_clean office.old }
+    ensures puts { S.is_honest office.new → PutsFiles day.now (S.content office.old) files.now
+        (D.files folder.old) (D.files folder.new) result }
+    ensures undamaged { IfErr result (λ why. why ≢ Fault.Damaged) }
+{
+    for file in files {
+        put_file(alloc, office, day, file, folder)?;
+    }
+    Ok(())
+}
+
+/// Fills a folder with the files of an office of a kind. None is put where a row that one of them shows is no
+/// record; where one is not put, those before it are. The office is as it was.
+pub fn fill<S: Shelf, D: Folder>(
+    alloc: Global,
+    office: &mut Office<S>,
+    kind: FolderKind,
+    day: &Option<Day>,
+    folder: &mut D,
+) -> Result<(), Fault>
+    // It changes nothing.
+    ensures kept { KeepsShelf S.Shelf office.old office.new }
+    ensures clean { S.is_clean office.new → S.is_clean office.old }
+    // The files that were put are those of the office, each with what it shows; or the first of
+    // them, and this is why not all.
+    ensures fills { S.is_honest office.new → FillsWith day.now kind (S.content office.old)
+        (D.files folder.old) (D.files folder.new) result }
+    // Where a row is no record, nothing was put.
+    ensures whole { result ≡ Err Fault.Damaged → D.files folder.new ≡ D.files folder.old }
+{
+    let listed = listed_in(alloc, office)?;
+    let files = files_in(alloc, kind, &listed)?;
+    check_each(alloc, office, day, &files)?;
+    put_each(alloc, office, day, &files, folder)
+}
