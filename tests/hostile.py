@@ -328,9 +328,10 @@ def little_memory(folder):
                 status, out, err = run(words, STATE, preexec_fn=lambda: keep_to(limit))
             except OSError:
                 continue
-            if status == 1 and err in refusals[: 1 + ("--db" in words)]:
+            said = [it for it in err.splitlines(True) if not it.startswith(b"note: ")]
+            if status == 1 and said and b"".join(said) in refusals[: 1 + ("--db" in words)]:
                 told += 1
-            elif status in (0, 3, 4) and all(it.startswith(b"note: ") for it in err.splitlines()):
+            elif status in (0, 3, 4) and not said:
                 done += 1
             elif told or done:
                 other.append((limit, status, out[:40], err))
