@@ -9,7 +9,8 @@ browser's own document that each name and text is text, that nothing but a table
 own box is wider than the screen, that each element is displayed as the browser computes its style,
 and has letters of 11 pixels or more, each section, broken rule and change among them, on both
 screens and on paper; and puts pictures at 1280 and at 390 pixels of width, light and dark, and one
-page as it is printed, into FOLDER, or into a folder of its own. It prints `ok` at the end.
+page as it is printed, into FOLDER, or into a folder of its own. So it looks at a folder of pages,
+and follows each of its links. It prints `ok` at the end.
 """
 import html.parser
 import json
@@ -155,6 +156,13 @@ class Browser:
         copy.write_text(text.replace("</body>", f"{script}</body>"))
         return json.loads(self.document(copy, f"--window-size={screen},2600").names[0])
 
+    def clicking(self, page, turn):
+        """A copy of a page, beside it, on which one of its links is clicked."""
+        copy = page.with_name(f"clicking-{page.name}")
+        script = f"<script>document.links[{turn}].click();</script></body>"
+        copy.write_text(page.read_text().replace("</body>", script))
+        return copy
+
     def picture(self, page, target, screen, *words):
         self.run(page, f"--screenshot={target}", f"--window-size={screen}", *words)
 
@@ -186,6 +194,9 @@ def make(program, folder):
         pages[number].write_bytes(run("page", "--db", office, number))
     pages["plan"] = folder / "page-plan.html"
     pages["plan"].write_bytes(run("page", "--file", folder / "plan.csv"))
+    run("pages", "--db", office, "--day", "2026-06-30", folder / "city")
+    for name in ("index", "12"):
+        pages[f"city-{name}"] = folder / "city" / f"{name}.html"
     return pages
 
 
@@ -206,6 +217,21 @@ def check(browser, pages):
         for screen in SCREENS:
             look_at(browser, page, screen)
         look_at(browser, page, 1280, paper=True)
+
+
+def follow(browser, folder):
+    """Each link of the index leads to the page of its intersection, and from there back."""
+    index = folder / "index.html"
+    links = [it for it in index.read_text().split("<a href='")[1:]]
+    for turn, name in enumerate(it.partition("'")[0] for it in links):
+        there = browser.document(browser.clicking(index, turn), "--virtual-time-budget=3000")
+        if not there.names[0].startswith(f"Intersection {name.removesuffix('.html')}: "):
+            fail(f"the link to {name} leads to {there.names[:1]}")
+        back = browser.document(browser.clicking(folder / name, 1), "--virtual-time-budget=3000")
+        if back.names[0] != "Intersections":
+            fail(f"the link of {name} leads back to {back.names[:1]}")
+    if len(links) != 3:
+        fail(f"the index has {len(links)} links")
 
 
 def look_at(browser, page, screen, paper=False):
@@ -249,6 +275,7 @@ def main():
         browser = Browser(folder)
         pages = make(program.resolve(), folder)
         check(browser, pages)
+        follow(browser, folder / "city")
         draw(browser, pages, target.resolve())
     print("ok")
 
