@@ -1,5 +1,5 @@
 -- What running commands promises, of the shelf before and after them.
-use Rattle.std.specs.Prelude.{◌≡◌, ◌≢◌, ◌⊎◌, ℕ, List, [], ◌∷◌}
+use Rattle.std.specs.Prelude.{◌≡◌, ◌≢◌, ◌⊎◌, ℕ, List, [], ◌∷◌, Result, IfErr}
 use Rattle.office_tables_shelf.specs.Content.{Content}
 use Rattle.office_tables_shelf.specs.declared.shelf.Shelf.{Ghosts}
 use Rattle.office_desk.specs.Answers.{AnswersAny, EndsIn, StandsAfterStep}
@@ -14,6 +14,7 @@ use Rattle.office_machine.specs.Timing.{running}
 use Rattle.office_machine.specs.RegisterRuns.{RegisterRuns}
 use Rattle.office_machine.specs.Repeats.{Repeats}
 use Rattle.office_machine.specs.declared.command.Command.{Command}
+use Rattle.office_machine.specs.declared.refusal.Refusal.{Refusal}
 use Rattle.office_machine.specs.declared.refusal.Refusal.TheVariants.{Damaged, Unavailable}
 use Rattle.office_machine.specs.declared.reply.Reply.{Reply}
 use Rattle.office_machine.specs.declared.reply.Reply.TheVariants.{Refused}
@@ -31,6 +32,10 @@ TellsTables g old new Says = g.is_clean new → (tables : Content) → HoldsTabl
 -- the same of what was made of them, which an open database holds then
 abbrev pub MakesTables : {S : Type 0} → Ghosts S → (old new : S) → (Content → Content → Type 0) → Type 0
 MakesTables g old new Makes = TellsTables g old new (λ tables. EndsIn (g.is_honest new) (g.content new) (Makes tables))
+
+-- what only reads is refused for want of memory or by the shelf, or for a row that is no record
+abbrev pub RefusesRead : {A : Type 0} → Result A Refusal → Type 0
+RefusesRead result = IfErr result (λ why. (why ≡ Unavailable) ⊎ (why ≡ Damaged))
 
 -- nothing was done, and the tables of an open database are as they were
 abbrev pub WasIdle : Type 0 → (old new : Content) → Command → Reply → Type 0

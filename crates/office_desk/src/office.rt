@@ -1,17 +1,21 @@
 //! The office over a shelf.
-ghost use Rattle.std.specs.Prelude.{◌≡◌, ◌≢◌, ◌<◌, ◌≤◌, ◌+◌, ◌⊎◌, [], ◌∷◌, ◌++◌, map, take};
-ghost use Rattle.std.specs.Prelude.{Err, IfErr, IfOk, OnOk, OnErr, vec_len, vec_capacity};
+ghost use Rattle.std.specs.Prelude.{◌≡◌, ◌≢◌, ℕ, ◌<◌, ◌≤◌, ◌+◌, ◌⊎◌, [], ◌∷◌, ◌++◌, filter, map};
+ghost use Rattle.std.specs.Prelude.{take, Err, IfOk, OnOk, OnErr, vec_len, vec_capacity};
+ghost use Rattle.cabinet_core.specs.Orders.{is_open};
 ghost use Rattle.cabinet_core.specs.Overdue.{listed_of};
+ghost use Rattle.cabinet_core.specs.Register.{records_at};
+ghost use Rattle.office_tables_shelf.specs.CabinetReads.{HasAnyDamagedOrder};
 ghost use Rattle.office_tables_shelf.specs.Content.{Content};
 ghost use Rattle.office_tables_shelf.specs.Change.{changed_by};
 ghost use Rattle.office_tables_shelf.specs.Counts.{counts_after};
 ghost use Rattle.office_tables_shelf.specs.Damage.{HasAnyDamagedIntersection};
 ghost use Rattle.office_tables_shelf.specs.Keeps.{KeepsShelf};
+ghost use Rattle.office_tables_shelf.specs.OpenOrders.{orders_in};
 ghost use Rattle.office_desk.specs.Checking.{Checks, MeetsCheckDamage};
 ghost use Rattle.office_desk.specs.Damage.{MeetsDamage};
 ghost use Rattle.office_desk.specs.Deciding.{DecidesIdly, IsAnswered};
 ghost use Rattle.office_machine.specs.Office.{Office as OfficeState};
-ghost use Rattle.office_desk.specs.Running.{AreRun, IsRun, MakesTables, RunsAny};
+ghost use Rattle.office_desk.specs.Running.{AreRun, IsRun, MakesTables, RefusesRead, RunsAny};
 ghost use Rattle.office_desk.specs.StandFor.{StandForSound};
 ghost use Rattle.office_desk_timing.specs.Listing.{ListsEachIntersection};
 ghost use Rattle.office_machine.specs.Listed.{intersections_of};
@@ -19,7 +23,7 @@ ghost use Rattle.office_machine.specs.Step.{overdue_on};
 
 use crate::checking::{Checked, check_records};
 use crate::deciding::{refused, try_decide};
-use cabinet_core::{Day, OverdueRow, RecordCommand};
+use cabinet_core::{Day, Order, OverdueRow, RecordCommand};
 use office_desk_decisions::decided::Decided;
 use office_desk_timing::list_intersections;
 use office_machine::command::Command;
@@ -28,8 +32,9 @@ use office_machine::refusal::Refusal;
 use office_machine::reply::Reply;
 use office_tables_shelf::rows::RowChange;
 use office_tables_shelf::shelf::{Shelf, ShelfFault};
-use signal_records::NoMemory;
+use signal_records::{InterId, NoMemory};
 use std::alloc::Global;
+use std::collections::BTreeMap;
 use std::marker::Model;
 
 /// Adds a reply where there is room for it.
@@ -100,15 +105,19 @@ impl<S: Shelf> Office<S> {
         ensures honest { S.is_honest self.new → S.is_honest self.old }
         ensures open { S.is_clean self.new →
             OnOk result (changes.now ≢ [] → S.is_honest self.new) }
-        ensures ok { OnOk result (S.is_honest self.new → S.content self.new ≡ changed_by (S.content self.old) changes.now) }
-        ensures err { OnErr result (S.is_honest self.new → S.content self.new ≡ S.content self.old) }
+        ensures ok { OnOk result (S.is_honest self.new →
+            S.content self.new ≡ changed_by (S.content self.old) changes.now) }
+        ensures err { OnErr result (S.is_honest self.new →
+            S.content self.new ≡ S.content self.old) }
         ensures undamaged { result ≢ Err ShelfFault.Damaged }
-        ensures written_ok { OnOk result (S.written self.new ≡ counts_after (S.written self.old) changes.now) }
+        ensures written_ok { OnOk result
+            (S.written self.new ≡ counts_after (S.written self.old) changes.now) }
         ensures written_err { OnErr result (S.written self.new ≡ S.written self.old) }
         // A crash leaves what it could before, or the whole result; and that alone once changes
         // were made.
         ensures crash { (tables : Content) → S.may_leave self.new tables →
-            S.may_leave self.old tables ⊎ (S.is_honest self.old × (tables ≡ changed_by (S.content self.old) changes.now)) }
+            S.may_leave self.old tables
+            ⊎ (S.is_honest self.old × (tables ≡ changed_by (S.content self.old) changes.now)) }
         ensures settled { OnOk result (changes.now ≢ [] →
             (tables : Content) → S.may_leave self.new tables → tables ≡ S.content self.new) }
         ensures idle { changes.now ≡ [] → (self.new ≡ self.old) × (result ≡ Ok tt) }
@@ -149,10 +158,10 @@ impl<S: Shelf> Office<S> {
         Ok(replies)
     }
 
-    /// What would come of records that are taken in turn, each after those before it that would be;
-    /// one that would be refused leaves the office to those after it. Nothing is taken. Where memory
-    /// or the shelf refuses, the error is Unavailable; where a stored row that it reads is no record,
-    /// Damaged.
+    /// What would come of records that are taken in turn, each after those before it that would
+    /// be; one that would be refused leaves the office to those after it. Nothing is taken. Where
+    /// memory or the shelf refuses, the error is Unavailable; where a stored row that it reads is
+    /// no record, Damaged.
     pub fn check(
         &mut self,
         alloc: Global,
@@ -160,7 +169,7 @@ impl<S: Shelf> Office<S> {
     ) -> Result<Vec<Checked>, Refusal>
         ensures checks { IfOk result (λ checked. S.is_honest self.new →
             Checks (S.content self.old) records.now checked.items) }
-        ensures refused { IfErr result (λ why. (why ≡ Refusal.Unavailable) ⊎ (why ≡ Refusal.Damaged)) }
+        ensures refused { RefusesRead result }
         ensures damaged { result ≡ Err Refusal.Damaged → S.is_honest self.new →
             MeetsCheckDamage (S.content self.old) records.now }
         ensures clean { S.is_clean self.new → S.is_clean self.old }
@@ -182,11 +191,14 @@ impl<S: Shelf> Office<S> {
         day: Day,
         most: usize,
     ) -> Result<Vec<OverdueRow>, Refusal>
-        ensures rows { IfOk result (λ found. S.is_honest self.new → (office : OfficeState) → StandForSound (S.content self.old) office → map listed_of found.items ≡ take most (overdue_on office day)) }
+        ensures rows { IfOk result (λ found. S.is_honest self.new → (office : OfficeState) →
+            StandForSound (S.content self.old) office →
+            map listed_of found.items ≡ take most (overdue_on office day)) }
         ensures whole { IfOk result (λ found. S.is_honest self.new → vec_len found < most →
             ¬ MeetsDamage (S.content self.old) (Command.Overdue day)) }
-        ensures refused { IfErr result (λ why. (why ≡ Refusal.Unavailable) ⊎ (why ≡ Refusal.Damaged)) }
-        ensures damaged { result ≡ Err Refusal.Damaged → S.is_honest self.new → MeetsDamage (S.content self.old) (Command.Overdue day) }
+        ensures refused { RefusesRead result }
+        ensures damaged { result ≡ Err Refusal.Damaged → S.is_honest self.new →
+            MeetsDamage (S.content self.old) (Command.Overdue day) }
         ensures clean { S.is_clean self.new → S.is_clean self.old }
         ensures shut { S.is_clean self.new →
             S.is_honest self.new ⊎ (result ≡ Err Refusal.Unavailable) }
@@ -209,8 +221,7 @@ impl<S: Shelf> Office<S> {
             ListsEachIntersection (S.content self.old) found.items) }
         ensures whole { IfOk result (λ _. S.is_honest self.new →
             ¬ HasAnyDamagedIntersection (S.content self.old)) }
-        ensures refused { IfErr result (λ why.
-            (why ≡ Refusal.Unavailable) ⊎ (why ≡ Refusal.Damaged)) }
+        ensures refused { RefusesRead result }
         ensures damaged { result ≡ Err Refusal.Damaged → S.is_honest self.new →
             HasAnyDamagedIntersection (S.content self.old) }
         ensures clean { S.is_clean self.new → S.is_clean self.old }
@@ -219,6 +230,29 @@ impl<S: Shelf> Office<S> {
         ensures kept { KeepsShelf S.Shelf self.old self.new }
     {
         match list_intersections(&mut self.shelf, alloc) {
+            Ok(found) => return Ok(found),
+            Err(fault) => return Err(refused(fault)),
+        }
+    }
+
+    /// The open orders on each intersection that has any, in the order of their numbers. It is one
+    /// walk over all orders. Where memory or the shelf refuses, the error is Unavailable; where the
+    /// row of an order is no record, Damaged.
+    pub fn open_orders(&mut self, alloc: Global) -> Result<BTreeMap<InterId, Vec<Order>>, Refusal>
+        ensures orders { IfOk result (λ found. S.is_honest self.new → (office : OfficeState) →
+            StandForSound (S.content self.old) office → (id : ℕ) →
+            orders_in found.entries id ≡ filter is_open (records_at id office.register.orders)) }
+        ensures whole { IfOk result (λ _. S.is_honest self.new →
+            ¬ HasAnyDamagedOrder (S.content self.old)) }
+        ensures refused { RefusesRead result }
+        ensures damaged { result ≡ Err Refusal.Damaged → S.is_honest self.new →
+            HasAnyDamagedOrder (S.content self.old) }
+        ensures clean { S.is_clean self.new → S.is_clean self.old }
+        ensures shut { S.is_clean self.new →
+            S.is_honest self.new ⊎ (result ≡ Err Refusal.Unavailable) }
+        ensures kept { KeepsShelf S.Shelf self.old self.new }
+    {
+        match self.shelf.open_orders(alloc) {
             Ok(found) => return Ok(found),
             Err(fault) => return Err(refused(fault)),
         }

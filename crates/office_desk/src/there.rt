@@ -176,7 +176,8 @@ fn used_there<S: Shelf>(
     why: CabinetRefusal,
 ) -> Result<There, ShelfFault>
     ensures reads { IfOk result (λ there. S.is_honest shelf.new → ReadsThere
-        (S.content shelf.old) pending.now (place_told (RecordCommand.UsePart id line.now) why) there) }
+        (S.content shelf.old) pending.now
+        (place_told (RecordCommand.UsePart id line.now) why) there) }
     ensures damaged { result ≡ Err ShelfFault.Damaged → S.is_honest shelf.new →
         DamagedAt (S.content shelf.old) (place_told (RecordCommand.UsePart id line.now) why) }
     ensures clean { S.is_clean shelf.new → S.is_clean shelf.old }
@@ -198,7 +199,8 @@ fn received_there<S: Shelf>(
     why: CabinetRefusal,
 ) -> Result<There, ShelfFault>
     ensures reads { IfOk result (λ there. S.is_honest shelf.new → ReadsThere
-        (S.content shelf.old) pending.now (place_told (RecordCommand.Receive delivery.now) why) there) }
+        (S.content shelf.old) pending.now
+        (place_told (RecordCommand.Receive delivery.now) why) there) }
     ensures damaged { result ≡ Err ShelfFault.Damaged → S.is_honest shelf.new →
         DamagedAt (S.content shelf.old) (place_told (RecordCommand.Receive delivery.now) why) }
     ensures clean { S.is_clean shelf.new → S.is_clean shelf.old }

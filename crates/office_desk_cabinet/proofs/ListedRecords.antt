@@ -1,15 +1,16 @@
 -- A list that was read from tables that stand for a sound register is that of the register.
-use Rattle.std.proofs.Common.{◌≡◌, ℕ, pos, true, false, ◌==◌, List, [], ◌∷◌, map, cond, Ordering, refl, sym, ap, ◌∙◌, map-id}
+use Rattle.std.proofs.Common.{◌≡◌, ℕ, pos, true, false, ◌==◌, List, [], ◌∷◌, map, filter, cond, Ordering, refl, sym, ap, ◌∙◌, map-id}
 use Rattle.std.proofs.lemmas.Cmp.{nat_list_cmp_total}
 use Rattle.std.specs.{Cmp.IsTotalOrder, FinMap.FinMap, FinMap.entries, FinMap.get, FinMap.Entries.where_key, Prelude.IfSome}
 use Rattle.cabinet_core.specs.{Register.Register, Register.records_at, Sound.IsInspectionAt, Sound.IsOrderAt, Sound.IsLineAt}
+use Rattle.cabinet_core.specs.Orders.{is_open}
 use Rattle.cabinet_core.specs.Stock.{stock_by_code, stock_of}
 use Rattle.cabinet_core.specs.declared.{record.Inspection.Inspection, record.Order.Order, record.UsedLine.UsedLine}
 use Rattle.cabinet_core.proofs.{EntryLemmas.entries_stand, EntryLemmas.kept, KeyOrders.record_total, KeyOrders.line_total}
 use Rattle.office_tables_shelf.specs.CabinetReads.{ListsInspections, ListsOrders, ListsUsed, ListsParts}
 use Rattle.office_tables_shelf.specs.CabinetRows.{inspection_key, inspection_columns, order_key, order_columns, used_key, used_columns, part_key, part_columns}
 use Rattle.office_tables_shelf.specs.Cells.{Cell, TableRows, number, cells_cmp, tree_rows}
-use Rattle.office_tables_shelf.specs.{Content.Content, Shelf.is_of, Shelf.rows_of}
+use Rattle.office_tables_shelf.specs.{Content.Content, OpenOrders.ReadsOpen, Shelf.is_of, Shelf.rows_of}
 use Rattle.office_tables_shelf.proofs.{CabinetLemmas.of_number, CabinetLemmas.part_order, KeyCells.record_order, KeyCells.line_order}
 use Rattle.office_tables_shelf.proofs.StoredMaps.{stored_entries}
 use Rattle.office_desk_decisions.proofs.RowsTell.{told_by_rows, rows_tell}
@@ -56,6 +57,14 @@ orders_listed tables r id found stands lists =
     listed_records record_total order_cells order_columns record_order (λ of k. of_number of k.0 (number (pos k.1) ∷ [])) IsOrderAt id (λ x. order_key id x.number)
     (λ x e at keys same. let alike : x.number ≡ e.0.1 = cc in orders_tell x e.1 (alike ∙ sym at.number) same)
     tables.work_order r.orders stands.stand.work_order stands.sound.orders found lists
+
+-- and the open ones of them
+pub open_read : (tables : Content) (r : Register) (id : ℕ) (found : List Order)
+    → RegisterStandsSound tables r → ReadsOpen tables id found
+    → found ≡ filter is_open (records_at id r.orders)
+open_read tables r id found stands reads =
+    reads.open_ones
+    ∙ ap (filter is_open) (orders_listed tables r id reads.orders stands reads.lists)
 
 pub lines_listed : (tables : Content) (r : Register) (id : ℕ) (found : List UsedLine) → RegisterStandsSound tables r → ListsUsed tables id found → found ≡ records_at id r.lines
 lines_listed tables r id found stands lists =

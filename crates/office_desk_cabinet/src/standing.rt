@@ -22,7 +22,8 @@ pub fn inspection_at<S: Shelf>(
     number: RecordNo,
 ) -> Result<Option<Inspection>, ShelfFault>
     ensures stands { IfOk result (λ there. S.is_honest shelf.new →
-        StandsAt (changed_by (S.content shelf.old) pending.now) (place.Inspection id number) there) }
+        StandsAt (changed_by (S.content shelf.old) pending.now)
+        (place.Inspection id number) there) }
     ensures damaged { result ≡ Err ShelfFault.Damaged → S.is_honest shelf.new →
         DamagedAt (S.content shelf.old) (place.Inspection id number) }
     ensures kept { KeepsShelf S.Shelf shelf.old shelf.new }
@@ -115,7 +116,8 @@ pub fn delivery_at<S: Shelf>(
     number: RecordNo,
 ) -> Result<Option<Delivery>, ShelfFault>
     ensures stands { IfOk result (λ there. S.is_honest shelf.new →
-        StandsAt (changed_by (S.content shelf.old) pending.now) (place.Delivery part.now number) there) }
+        StandsAt (changed_by (S.content shelf.old) pending.now)
+        (place.Delivery part.now number) there) }
     ensures damaged { result ≡ Err ShelfFault.Damaged → S.is_honest shelf.new →
         DamagedAt (S.content shelf.old) (place.Delivery part.now number) }
     ensures kept { KeepsShelf S.Shelf shelf.old shelf.new }

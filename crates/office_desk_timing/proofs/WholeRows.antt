@@ -46,11 +46,17 @@ row_after tables id Later row rest (inr later) = rest later.1
 
 -- ---- rows that are listed
 
-pub timing_whole : (tables : Content) (id : ℕ) (rows : List Row) → ListsTiming tables id rows → AreRowsWithin rows → ¬ HasDamagedTiming tables id
-timing_whole = listed_whole table.Timing (IsRowWithin current_limits) (λ id row. timing_key id (key_of row)) timing_columns
+pub timing_whole : (tables : Content) (id : ℕ) (rows : List Row) → ListsTiming tables id rows
+    → AreRowsWithin rows → ¬ HasDamagedTiming tables id
+timing_whole tables id =
+    listed_whole table.Timing (IsRowWithin current_limits) (λ row. timing_key id (key_of row))
+    timing_columns tables (Some id)
 
-pub draft_whole : (tables : Content) (id : ℕ) (changes : List Change) → ListsDraft tables id changes → AreChangesWithin changes → ¬ HasDamagedDraft tables id
-draft_whole = listed_whole table.Draft (IsChangeWithin current_limits) draft_key draft_columns
+pub draft_whole : (tables : Content) (id : ℕ) (changes : List Change)
+    → ListsDraft tables id changes → AreChangesWithin changes → ¬ HasDamagedDraft tables id
+draft_whole tables id =
+    listed_whole table.Draft (IsChangeWithin current_limits) (draft_key id) draft_columns tables
+    (Some id)
 
 -- what was read of the plan
 pub plan_whole : (reach : Reach) (tables : Content) (id : ℕ) (rows : List Row)

@@ -20,7 +20,8 @@ pub fn transact<S: Shelf>(
     clerk: &Words<40>,
     step: &Step,
 ) -> Result<Decided, ShelfFault>
-    ensures decides { Decides (S.is_honest shelf.new) (S.content shelf.old) (asking_command id clerk.now step.now) result }
+    ensures decides { Decides (S.is_honest shelf.new) (S.content shelf.old)
+        (asking_command id clerk.now step.now) result }
     ensures kept { KeepsShelf S.Shelf shelf.old shelf.new }
     ensures open { AnswersShelf S.Shelf result shelf.old shelf.new }
 {

@@ -25,7 +25,8 @@ pub(crate) trait CsvRow: Sized + Drop {
 /// What the records of a file spell, or the first that spells nothing.
 pub(crate) fn read_rows<T: CsvRow>(alloc: Global, text: &[u8]) -> Result<Vec<T>, CsvFault>
     ensures rows { IfOk result (λ rows. csv_rows T.reading (csv_records text.now) ≡ Ok rows.items) }
-    ensures fault { IfErr result (λ fault. fault ≢ CsvFault.NoMemory → csv_rows T.reading (csv_records text.now) ≡ Err fault) }
+    ensures fault { IfErr result (λ fault. fault ≢ CsvFault.NoMemory →
+        csv_rows T.reading (csv_records text.now) ≡ Err fault) }
     ensures named { IfErr result NamesFault }
 {
     let records = read_records(alloc, text)?;

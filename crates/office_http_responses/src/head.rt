@@ -45,7 +45,8 @@ fn put_number(answer: &mut Vec<u8>, n: usize) -> Result<(), AllocError>
 
 // The status line, without its end.
 fn put_status(answer: &mut Vec<u8>, status: StatusCode) -> Result<(), AllocError>
-    ensures { OnOk result (PutsBytes answer.old.items answer.new.items (codes "HTTP/1.1 " ++ status_text status)) }
+    ensures { OnOk result (PutsBytes answer.old.items answer.new.items
+        (codes "HTTP/1.1 " ++ status_text status)) }
 {
     put(answer, b"HTTP/1.1 ")?;
     put_number(answer, usize::from(status.as_u16()))?;

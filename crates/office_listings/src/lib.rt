@@ -16,8 +16,8 @@ pub use cabinet::cabinet_text;
 pub use intersections::{intersections_csv, intersections_text};
 pub use next_numbers::push_next_numbers;
 pub use orders::{
-    NamedOrder, OpenOrder, add_named_orders, add_open_orders, named_orders_text, orders_csv,
-    orders_text,
+    NamedOrder, OpenOrder, add_named, add_named_orders, add_open_orders, named_orders_text,
+    orders_csv, orders_text,
 };
 pub use overdue::overdue_csv;
 pub use stock::{stock_csv, stock_text};

@@ -67,8 +67,8 @@ fn order_named(name: &Words<120>, id: InterId, order: &Order) -> Result<NamedOrd
     })
 }
 
-/// Appends those of some orders that are open, with the name of their intersection.
-fn add_named(
+/// Appends those of some orders on an intersection that are open, with its name.
+pub fn add_named(
     found: &mut Vec<NamedOrder>,
     name: &Words<120>,
     id: InterId,

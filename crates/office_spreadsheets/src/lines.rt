@@ -2,7 +2,8 @@
 
 ghost use Rattle.std.specs.Prelude.{◌≡◌, ◌<◌, ◌-◌, ◌^◌, IfOk};
 ghost use Rattle.office_spreadsheets.specs.RecordLines.{after_byte, after_plain, begins_line};
-ghost use Rattle.office_spreadsheets.specs.RecordLines.{begins_record, is_mark, line_with, record_lines};
+ghost use Rattle.office_spreadsheets.specs.RecordLines.{begins_record, is_mark, line_with};
+ghost use Rattle.office_spreadsheets.specs.RecordLines.{record_lines};
 ghost use Rattle.office_spreadsheets.specs.RecordLines.{unmarked};
 
 use signal_records::NoMemory;

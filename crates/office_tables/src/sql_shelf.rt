@@ -28,10 +28,11 @@ use office_tables_open::open::{Left, OpenFault, claim, has_only_ours, prepared};
 use office_tables_shelf::counts::WriteCounts;
 use office_tables_shelf::rows::{IntersectionRow, RowChange, Table};
 use office_tables_shelf::shelf::{Shelf, ShelfFault};
-use office_tables_sql::{each_row, inspection, intersection, part, stored_row, timing};
+use office_tables_sql::{each_row, inspection, intersection, order, part, stored_row, timing};
 use signal_records::{Change, InterId, LineNo, RecordNo, Row};
 use sqlite::{Alter, Connection, MemStore, params};
 use std::alloc::Global;
+use std::collections::BTreeMap;
 use std::marker::Model;
 
 /// The tables of the office in a database of SQL.
@@ -305,8 +306,8 @@ impl<S: Alter> Shelf for SqlShelf<S> {
         each_row::list(alloc, &mut self.conn, id)
     }
 
-    fn last_inspection(&mut self, alloc: Global, id: InterId) -> Result<Option<Day>, ShelfFault> {
-        inspection::last_day(alloc, &mut self.conn, id)
+    fn last_inspections(&mut self, alloc: Global) -> Result<BTreeMap<InterId, Day>, ShelfFault> {
+        inspection::last_days(alloc, &mut self.conn)
     }
 
     fn order(
@@ -320,6 +321,10 @@ impl<S: Alter> Shelf for SqlShelf<S> {
 
     fn orders(&mut self, alloc: Global, id: InterId) -> Result<Vec<Order>, ShelfFault> {
         each_row::list(alloc, &mut self.conn, id)
+    }
+
+    fn open_orders(&mut self, alloc: Global) -> Result<BTreeMap<InterId, Vec<Order>>, ShelfFault> {
+        order::open_orders(alloc, &mut self.conn)
     }
 
     fn used_line(

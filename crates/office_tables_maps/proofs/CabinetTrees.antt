@@ -1,9 +1,9 @@
 -- Trees of the cabinet's records: how their places compare, and that each stays under its own key.
-use Rattle.std.proofs.Common.{◌≡◌, ℕ, List, Option, Some, None, option_map, Ordering, refl, ap, ◌∙◌}
+use Rattle.std.proofs.Common.{◌≡◌, ℕ, List, Option, option_map, Ordering, refl, ap, ◌∙◌}
 use Rattle.std.proofs.lemmas.Option.{IfSome_then}
 use Rattle.std.specs.{FinMap.get, List.AllByRecursion}
 use Rattle.std.specs.{Ordering.is_eq, Ordering.ordering_then, Prelude.IfSome, declared.cmp.Ordering.TheVariants.Equal}
-use Rattle.cabinet_core.specs.{Overdue.greater, Within.IsInspectionWithin, Within.IsOrderWithin, Within.IsUsedLineWithin, Within.IsDeliveryWithin}
+use Rattle.cabinet_core.specs.{Within.IsInspectionWithin, Within.IsOrderWithin, Within.IsUsedLineWithin, Within.IsDeliveryWithin}
 use Rattle.cabinet_core.specs.{declared.record.Inspection.Inspection, declared.record.Order.Order, declared.record.UsedLine.UsedLine}
 use Rattle.cabinet_core.specs.declared.record.Delivery.{Delivery}
 use Rattle.office_tables_shelf.specs.{Cells.Cell, Cells.TableRows, Cells.cells_cmp, Cells.tree_rows}
@@ -88,14 +88,14 @@ pub reads_inspection : (es : List (RecordPlace × Inspection)) (place : RecordPl
     → ReadsAt (with_inspections es) (at.Inspection place.inter place.number) found × IfSome found IsInspectionWithin
 reads_inspection es place found =
     reads_tree record_cmp record_exact IsInspectionAt inspection_place_key inspection_columns inspection_order table.Inspection (with_inspections es) _ IsInspectionWithin es place found refl
-    (λ x is. (ap (inspection_key place.inter) is.0, is.1))
+    (λ x is. (ap (inspection_key place.inter) is.0, is.1.1))
 
 -- an order
 pub reads_order : (es : List (RecordPlace × Order)) (place : RecordPlace) (found : Option Order) → AreOrdersPlaced es → entry_at record_cmp order_place_key order_columns es place ≡ found
     → ReadsAt (with_orders es) (at.Order place.inter place.number) found × IfSome found IsOrderWithin
 reads_order es place found =
     reads_tree record_cmp record_exact IsOrderAt order_place_key order_columns order_order table.WorkOrder (with_orders es) _ IsOrderWithin es place found refl
-    (λ x is. (ap (order_key place.inter) is.0, is.1))
+    (λ x is. (ap (order_key place.inter) is.0, is.1.1))
 
 -- a used part, under an intersection, an order and a line
 pub reads_used : (es : List (LinePlace × UsedLine)) (place : LinePlace) (found : Option UsedLine) → AreUsedPlaced es → entry_at line_cmp line_place_key used_columns es place ≡ found
@@ -118,14 +118,3 @@ record_inter place = place.inter
 
 abbrev pub line_inter : LinePlace → ℕ
 line_inter place = place.inter
-
--- ---- the latest day
-
--- the latest day of inspections, and another day
-abbrev pub latest_with : Option ℕ → Option ℕ → Option ℕ
-latest_with None last = last
-latest_with (Some day) last = Some (greater day last)
-
-pub latest_with_none : (last : Option ℕ) → latest_with last None ≡ last
-latest_with_none None = refl
-latest_with_none (Some day) = refl

@@ -1,5 +1,6 @@
 -- The cabinet's tables that records in memory stand for.
 use Rattle.std.specs.Prelude.{◌≡◌, ℕ, List}
+use Rattle.std.specs.Int.{IsInRange}
 use Rattle.std.specs.List.{AllByRecursion}
 use Rattle.cabinet_core.specs.Within.{IsInspectionWithin, IsOrderWithin, IsUsedLineWithin, IsDeliveryWithin}
 use Rattle.cabinet_core.specs.declared.record.Inspection.{Inspection}
@@ -63,12 +64,16 @@ with_deliveries es = record no_content { delivery = delivery_rows es }
 
 -- ---- each record stands under its own key, within its limits
 
+-- a record within its limits stands under its own number and that of an intersection
+abbrev pub IsRecordAt : {X : Type 0} → (X → Type 0) → (X → ℕ) → RecordPlace → X → Type 0
+IsRecordAt IsWithin number place x =
+    (number x ≡ place.number) × (IsInRange 1 9999 place.inter × IsWithin x)
+
 abbrev pub IsInspectionAt : RecordPlace → Inspection → Type 0
-IsInspectionAt place inspection =
-    (inspection.number ≡ place.number) × IsInspectionWithin inspection
+IsInspectionAt = IsRecordAt IsInspectionWithin (λ inspection. inspection.number)
 
 abbrev pub IsOrderAt : RecordPlace → Order → Type 0
-IsOrderAt place order = (order.number ≡ place.number) × IsOrderWithin order
+IsOrderAt = IsRecordAt IsOrderWithin (λ order. order.number)
 
 abbrev pub IsUsedAt : LinePlace → UsedLine → Type 0
 IsUsedAt place used =

@@ -2,6 +2,7 @@
 #![tactic(auto)]
 
 mod map_cabinet;
+mod map_open_orders;
 mod map_overdue;
 mod map_rows;
 pub mod map_shelf;

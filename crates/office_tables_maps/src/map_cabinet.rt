@@ -38,10 +38,13 @@ pub(crate) fn put_inspection(
     inter: InterId,
     inspection: Inspection,
 ) -> Result<(), NoMemory>
-    ensures rows { OnOk result (inspection_rows rows.new.entries ≡ finite.insert (inspection_rows rows.old.entries) (inspection_key inter inspection.number) (inspection_columns inspection)) }
+    ensures rows { OnOk result (inspection_rows rows.new.entries
+        ≡ finite.insert (inspection_rows rows.old.entries)
+        (inspection_key inter inspection.number) (inspection_columns inspection)) }
     ensures placed { AreInspectionsPlaced rows.old.entries → AreInspectionsPlaced rows.new.entries }
 {
     inspection_is_within(&inspection);
+    let _inter = inter.get();
     let number = inspection.number;
     rows.insert(RecordPlace { inter, number }, inspection)?;
     Ok(())
@@ -86,10 +89,13 @@ pub(crate) fn put_order(
     inter: InterId,
     order: Order,
 ) -> Result<(), NoMemory>
-    ensures rows { OnOk result (order_rows rows.new.entries ≡ finite.insert (order_rows rows.old.entries) (order_key inter order.number) (order_columns order)) }
+    ensures rows { OnOk result (order_rows rows.new.entries
+        ≡ finite.insert (order_rows rows.old.entries)
+        (order_key inter order.number) (order_columns order)) }
     ensures placed { AreOrdersPlaced rows.old.entries → AreOrdersPlaced rows.new.entries }
 {
     order_is_within(&order);
+    let _inter = inter.get();
     let number = order.number;
     rows.insert(RecordPlace { inter, number }, order)?;
     Ok(())
@@ -134,7 +140,9 @@ pub(crate) fn put_line(
     inter: InterId,
     used: UsedLine,
 ) -> Result<(), NoMemory>
-    ensures rows { OnOk result (used_rows rows.new.entries ≡ finite.insert (used_rows rows.old.entries) (used_key inter used.order used.line) (used_columns used)) }
+    ensures rows { OnOk result (used_rows rows.new.entries
+        ≡ finite.insert (used_rows rows.old.entries)
+        (used_key inter used.order used.line) (used_columns used)) }
     ensures placed { AreUsedPlaced rows.old.entries → AreUsedPlaced rows.new.entries }
 {
     used_line_is_within(&used);
@@ -230,7 +238,9 @@ pub(crate) fn put_delivery(
     rows: &mut BTreeMap<DeliveryPlace, Delivery>,
     delivery: Delivery,
 ) -> Result<(), NoMemory>
-    ensures rows { OnOk result (delivery_rows rows.new.entries ≡ finite.insert (delivery_rows rows.old.entries) (delivery_key delivery.part delivery.number) (delivery_columns delivery)) }
+    ensures rows { OnOk result (delivery_rows rows.new.entries
+        ≡ finite.insert (delivery_rows rows.old.entries)
+        (delivery_key delivery.part delivery.number) (delivery_columns delivery)) }
     ensures placed { AreDeliveriesPlaced rows.old.entries → AreDeliveriesPlaced rows.new.entries }
 {
     delivery_is_within(&delivery);

@@ -90,7 +90,9 @@ pub(crate) fn put_timing(
     inter: InterId,
     row: Row,
 ) -> Result<(), NoMemory>
-    ensures rows { OnOk result (timing_rows rows.new.entries ≡ finite.insert (timing_rows rows.old.entries) (timing_key inter (key_of row)) (timing_columns row)) }
+    ensures rows { OnOk result (timing_rows rows.new.entries
+        ≡ finite.insert (timing_rows rows.old.entries)
+        (timing_key inter (key_of row)) (timing_columns row)) }
     ensures placed { AreRowsPlaced rows.old.entries → AreRowsPlaced rows.new.entries }
 {
     row_is_within(&row);
@@ -102,7 +104,8 @@ pub(crate) fn put_timing(
 
 /// Removes the committed row under a key, if there is one.
 pub(crate) fn remove_timing(rows: &mut BTreeMap<Place, Row>, inter: InterId, key: Key)
-    ensures rows { timing_rows rows.new.entries ≡ finite.remove (timing_rows rows.old.entries) (timing_key inter key) }
+    ensures rows { timing_rows rows.new.entries
+        ≡ finite.remove (timing_rows rows.old.entries) (timing_key inter key) }
     ensures placed { AreRowsPlaced rows.old.entries → AreRowsPlaced rows.new.entries }
 {
     rows.remove(&Place { inter, key });
@@ -168,7 +171,9 @@ pub(crate) fn put_draft(
     inter: InterId,
     change: &Change,
 ) -> Result<(), NoMemory>
-    ensures rows { OnOk result (draft_rows rows.new.entries ≡ finite.insert (draft_rows rows.old.entries) (draft_key inter change.now) (draft_columns change.now)) }
+    ensures rows { OnOk result (draft_rows rows.new.entries
+        ≡ finite.insert (draft_rows rows.old.entries)
+        (draft_key inter change.now) (draft_columns change.now)) }
     ensures placed { AreLeftPlaced rows.old.entries → AreLeftPlaced rows.new.entries }
 {
     key_is_within(key_of_change(change));
@@ -180,7 +185,8 @@ pub(crate) fn put_draft(
 
 /// Removes the draft row under a key, if there is one.
 pub(crate) fn remove_draft(rows: &mut BTreeMap<Place, Option<Row>>, inter: InterId, key: Key)
-    ensures rows { draft_rows rows.new.entries ≡ finite.remove (draft_rows rows.old.entries) (timing_key inter key) }
+    ensures rows { draft_rows rows.new.entries
+        ≡ finite.remove (draft_rows rows.old.entries) (timing_key inter key) }
     ensures placed { AreLeftPlaced rows.old.entries → AreLeftPlaced rows.new.entries }
 {
     rows.remove(&Place { inter, key });

@@ -4,15 +4,17 @@ ghost use Rattle.office_tables_shelf.specs.Content.{no_content};
 ghost use Rattle.office_tables_shelf.specs.Counts.{no_writes};
 
 use crate::map_cabinet::{all_parts, inspections_of, lines_of, orders_of};
-use crate::map_overdue::{last_of, overdue_of};
+use crate::map_open_orders::open_orders_of;
+use crate::map_overdue::last_days;
 use crate::map_rows::{all_intersections, count_of, draft_of, intersection_at, timing_of};
 use crate::maps::Maps;
-use cabinet_core::{Day, Delivery, Hand, Inspection, Order, OverdueRow, PartCode, UsedLine};
+use cabinet_core::{Day, Delivery, Hand, Inspection, Order, PartCode, UsedLine};
 use office_tables_shelf::counts::WriteCounts;
 use office_tables_shelf::rows::{IntersectionRow, RowChange, Table};
 use office_tables_shelf::shelf::{Shelf, ShelfFault};
 use signal_records::{Change, InterId, LineNo, NoMemory, RecordNo, Row};
 use std::alloc::Global;
+use std::collections::BTreeMap;
 use std::marker::Model;
 use std::mem;
 
@@ -66,7 +68,7 @@ impl MapShelf {
 }
 
 impl Shelf for MapShelf {
-    ghost use Rattle.std.specs.Prelude.{◌≡◌, ◌<◌, OnOk, OnErr, IfOk, IfSome, vec_len};
+    ghost use Rattle.std.specs.Prelude.{◌≡◌, ℕ, OnOk, OnErr, IfOk, IfSome};
     ghost use Rattle.std.specs.List.{AllByRecursion};
     ghost use Rattle.cabinet_core.specs.Within.{IsInspectionWithin, IsOrderWithin};
     ghost use Rattle.cabinet_core.specs.Within.{IsUsedLineWithin, IsDeliveryWithin};
@@ -77,11 +79,15 @@ impl Shelf for MapShelf {
     ghost use Rattle.office_tables_shelf.specs.CabinetReads.{ListsInspections, ListsOrders};
     ghost use Rattle.office_tables_shelf.specs.CabinetReads.{ListsUsed, ListsParts};
     ghost use Rattle.office_tables_shelf.specs.CabinetReads.{IsHand, IsPartWithin};
+    ghost use Rattle.office_tables_shelf.specs.CabinetReads.{HasAnyDamagedInspection};
+    ghost use Rattle.office_tables_shelf.specs.CabinetReads.{HasAnyDamagedOrder};
     ghost use Rattle.office_tables_shelf.specs.Places as place;
-    ghost use Rattle.office_tables_shelf.specs.Places.{ReadsAt};
-    ghost use Rattle.office_tables_shelf.specs.Shelf.{ReadsIntersection, ListsIntersections, ListsTiming, CountsTiming, ListsDraft};
+    ghost use Rattle.office_tables_shelf.specs.Places.{FindsAt};
+    ghost use Rattle.office_tables_shelf.specs.Shelf.{ReadsIntersection, ListsIntersections};
+    ghost use Rattle.office_tables_shelf.specs.Shelf.{ListsTiming, CountsTiming, ListsDraft};
     ghost use Rattle.office_tables_shelf.specs.Shelf.{IsIntersectionWithin};
-    ghost use Rattle.office_tables_shelf.specs.Overdue.{ReadsLast, ListsOverdue, HasOverdueDamage};
+    ghost use Rattle.office_tables_shelf.specs.Overdue.{last_day_in, ReadsLast};
+    ghost use Rattle.office_tables_shelf.specs.OpenOrders.{orders_in, ReadsOpen};
     ghost use Rattle.office_tables_maps.specs.MapShelf.{IsFreeOfStore};
 
     ghost content = { λ s. s.tables };
@@ -151,7 +157,7 @@ impl Shelf for MapShelf {
         id: InterId,
         number: RecordNo,
     ) -> Result<Option<Inspection>, ShelfFault>
-        ensures row { IfOk result (λ found. ReadsAt self.old.tables (place.Inspection id number) found) }
+        ensures row { FindsAt self.old.tables (place.Inspection id number) result }
         ensures within { IfOk result (λ found. IfSome found IsInspectionWithin) }
         ensures unchanged { self.new ≡ self.old }
         ensures sound { IsFreeOfStore result }
@@ -168,27 +174,14 @@ impl Shelf for MapShelf {
         Ok(inspections_of(alloc, &self.now.inspection, id)?)
     }
 
-    fn last_inspection(&mut self, _alloc: Global, id: InterId) -> Result<Option<Day>, ShelfFault>
-        ensures day { IfOk result (λ last. ReadsLast self.old.tables id last) }
+    fn last_inspections(&mut self, alloc: Global) -> Result<BTreeMap<InterId, Day>, ShelfFault>
+        ensures days { IfOk result (λ days.
+            (id : ℕ) → ReadsLast self.old.tables id (last_day_in days.entries id)) }
+        ensures whole { IfOk result (λ _. ¬ HasAnyDamagedInspection self.old.tables) }
         ensures unchanged { self.new ≡ self.old }
         ensures sound { IsFreeOfStore result }
     {
-        Ok(last_of(&self.now.inspection, id))
-    }
-
-    fn overdue_rows(
-        &mut self,
-        alloc: Global,
-        day: Day,
-        most: usize,
-    ) -> Result<Vec<OverdueRow>, ShelfFault>
-        ensures rows { IfOk result (λ found. ListsOverdue self.old.tables day most found.items) }
-        ensures whole { IfOk result (λ found.
-            vec_len found < most → ¬ HasOverdueDamage self.old.tables) }
-        ensures unchanged { self.new ≡ self.old }
-        ensures sound { IsFreeOfStore result }
-    {
-        Ok(overdue_of(alloc, &self.now, day, most)?)
+        Ok(last_days(alloc, &self.now.inspection)?)
     }
 
     fn order(
@@ -197,7 +190,7 @@ impl Shelf for MapShelf {
         id: InterId,
         number: RecordNo,
     ) -> Result<Option<Order>, ShelfFault>
-        ensures row { IfOk result (λ found. ReadsAt self.old.tables (place.Order id number) found) }
+        ensures row { FindsAt self.old.tables (place.Order id number) result }
         ensures within { IfOk result (λ found. IfSome found IsOrderWithin) }
         ensures unchanged { self.new ≡ self.old }
         ensures sound { IsFreeOfStore result }
@@ -214,6 +207,16 @@ impl Shelf for MapShelf {
         Ok(orders_of(alloc, &self.now.work_order, id)?)
     }
 
+    fn open_orders(&mut self, alloc: Global) -> Result<BTreeMap<InterId, Vec<Order>>, ShelfFault>
+        ensures orders { IfOk result (λ orders.
+            (id : ℕ) → ReadsOpen self.old.tables id (orders_in orders.entries id)) }
+        ensures whole { IfOk result (λ _. ¬ HasAnyDamagedOrder self.old.tables) }
+        ensures unchanged { self.new ≡ self.old }
+        ensures sound { IsFreeOfStore result }
+    {
+        Ok(open_orders_of(alloc, &self.now.work_order)?)
+    }
+
     fn used_line(
         &mut self,
         _alloc: Global,
@@ -221,7 +224,7 @@ impl Shelf for MapShelf {
         order: RecordNo,
         line: LineNo,
     ) -> Result<Option<UsedLine>, ShelfFault>
-        ensures row { IfOk result (λ found. ReadsAt self.old.tables (place.Line id order line) found) }
+        ensures row { FindsAt self.old.tables (place.Line id order line) result }
         ensures within { IfOk result (λ found. IfSome found IsUsedLineWithin) }
         ensures unchanged { self.new ≡ self.old }
         ensures sound { IsFreeOfStore result }
@@ -244,7 +247,7 @@ impl Shelf for MapShelf {
         part: &PartCode,
         number: RecordNo,
     ) -> Result<Option<Delivery>, ShelfFault>
-        ensures row { IfOk result (λ found. ReadsAt self.old.tables (place.Delivery part.now number) found) }
+        ensures row { FindsAt self.old.tables (place.Delivery part.now number) result }
         ensures within { IfOk result (λ found. IfSome found IsDeliveryWithin) }
         ensures unchanged { self.new ≡ self.old }
         ensures sound { IsFreeOfStore result }
@@ -253,7 +256,7 @@ impl Shelf for MapShelf {
     }
 
     fn hand(&mut self, _alloc: Global, part: &PartCode) -> Result<Option<Hand>, ShelfFault>
-        ensures row { IfOk result (λ found. ReadsAt self.old.tables (place.Part part.now) found) }
+        ensures row { FindsAt self.old.tables (place.Part part.now) result }
         ensures within { IfOk result (λ found. IfSome found IsHand) }
         ensures unchanged { self.new ≡ self.old }
         ensures sound { IsFreeOfStore result }

@@ -51,7 +51,7 @@ impl Maps {
     ghost use Rattle.cabinet_core.specs.Within.{IsUsedLineWithin, IsDeliveryWithin};
     ghost use Rattle.office_tables_shelf.specs.CabinetReads.{IsHand};
     ghost use Rattle.office_tables_shelf.specs.Places as place;
-    ghost use Rattle.office_tables_shelf.specs.Places.{ReadsAt};
+    ghost use Rattle.office_tables_shelf.specs.Places.{FindsAt, ReadsAt};
     ghost use Rattle.office_tables_shelf.specs.Content.{no_content};
     ghost use Rattle.office_tables_shelf.specs.Change.{changed, changed_by};
 
@@ -145,7 +145,7 @@ impl Maps {
         id: InterId,
         number: RecordNo,
     ) -> Result<Option<Inspection>, NoMemory>
-        ensures row { IfOk result (λ found. ReadsAt self.now (place.Inspection id number) found) }
+        ensures row { FindsAt self.now (place.Inspection id number) result }
         ensures within { IfOk result (λ found. IfSome found IsInspectionWithin) }
     {
         inspection_at(&self.inspection, id, number)
@@ -153,7 +153,7 @@ impl Maps {
 
     /// The order on an intersection with a number, if there is one.
     pub fn order_at(&self, id: InterId, number: RecordNo) -> Result<Option<Order>, NoMemory>
-        ensures row { IfOk result (λ found. ReadsAt self.now (place.Order id number) found) }
+        ensures row { FindsAt self.now (place.Order id number) result }
         ensures within { IfOk result (λ found. IfSome found IsOrderWithin) }
     {
         order_at(&self.work_order, id, number)
@@ -166,7 +166,7 @@ impl Maps {
         order: RecordNo,
         line: LineNo,
     ) -> Result<Option<UsedLine>, NoMemory>
-        ensures row { IfOk result (λ found. ReadsAt self.now (place.Line id order line) found) }
+        ensures row { FindsAt self.now (place.Line id order line) result }
         ensures within { IfOk result (λ found. IfSome found IsUsedLineWithin) }
     {
         line_at(&self.used_part, id, order, line)
@@ -178,7 +178,7 @@ impl Maps {
         part: &PartCode,
         number: RecordNo,
     ) -> Result<Option<Delivery>, NoMemory>
-        ensures row { IfOk result (λ found. ReadsAt self.now (place.Delivery part.now number) found) }
+        ensures row { FindsAt self.now (place.Delivery part.now number) result }
         ensures within { IfOk result (λ found. IfSome found IsDeliveryWithin) }
     {
         delivery_at(&self.delivery, part, number)

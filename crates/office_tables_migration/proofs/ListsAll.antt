@@ -1,18 +1,17 @@
 -- The query of all rows of a table that is keyed as `timing` is, what it shows, and what the cells of a row tell.
-use Rattle.std.proofs.Common.{◌≡◌, ℕ, List, [], ◌++◌, true, map, length, Some, refl, sym, subst, ap, ◌∙◌, ◌∷◌, pos, Result, Ok, Err}
+use Rattle.std.proofs.Common.{◌≡◌, ℕ, List, [], ◌++◌, true, map, length, None, Some, refl, sym, subst, ap, ◌∙◌, ◌∷◌, pos, Result, Ok, Err}
 use Rattle.std.specs.{FinMap.entries, FinMap.get, List.AllByRecursion, Prelude.IfOk}
-use Rattle.sqlite.specs.{declared.types.Value.TheVariants.Null, Effect.Database, Effect.IsDatabase, Program.overlay, Query.IsAnswer}
-use Rattle.sqlite.specs.Effect as effect
+use Rattle.sqlite.specs.{Effect.Database, Effect.IsDatabase}
 use Rattle.sqlite.specs.Order.{Row as SqlRow, column}
 use Rattle.sqlite_rules.specs.Lists.{Has}
 use Rattle.office_tables_shelf.specs.{Cells.Cell, Cells.null, Cells.number, Cells.text, declared.rows.Table.Table, Rows.body_in}
 use Rattle.office_tables_shelf.specs.Rows.{timing_key, draft_key, left_columns_in}
 use Rattle.office_tables_statements.specs.{Calls.AreOrdered, Calls.Reads, Listed.shown_key, Listed.shown_body, Stored.cells_at, Stored.content_of}
-use Rattle.office_tables_statements.specs.{Stored.cell_of, Tables.rows_at, Tables.layout_at, Tables.row_shown, Tables.listed_by}
+use Rattle.office_tables_statements.specs.{Stored.cell_of, Tables.rows_at, Tables.layout_at, Tables.row_shown}
 use Rattle.office_tables_statements.specs.Tables.{places_from}
 use Rattle.office_tables_schema.specs.Schema.{office_schema}
 use Rattle.office_tables_shelf.proofs.{ListLemmas.stands, ListLemmas.where_all, RowLemmas.same_row}
-use Rattle.office_tables_statements.proofs.{ListedLemmas.is_in, StoredLists.lists_where, StoredLists.width_where}
+use Rattle.office_tables_statements.proofs.{ListedLemmas.is_in, StoredLists.lists, StoredLists.width}
 use Rattle.office_tables_migration.specs.{Former.shown_cells, Listing.ListsAll}
 use Rattle.signal_records.specs.{Row.key_of, Within.IsRowWithin, Within.IsChangeWithin, Within.version_1_limits}
 use Rattle.signal_records.specs.{declared.record.Change.Change, declared.record.Change.TheVariants.Put}
@@ -42,11 +41,6 @@ one_more f g [] x y ys e = ap (λ z. z ∷ map g ys) e
 one_more f g (w ∷ xs) x y ys e = ap (λ zs. f w ∷ zs) (one_more f g xs x y ys e)
 
 module _ (t : Table) (db : Database) (is : db.schema ≡ office_schema) (sound : IsDatabase db) (ordered : AreOrdered db.trees) (sql : List ℕ) (means : ListsAll t sql) (shown : List SqlRow) (reads : Reads sql [] db shown) where
-  answer : IsAnswer (listed_by (layout_at t) []) (overlay db.trees []) [] shown
-  answer =
-      let got = subst (λ k. effect.Reads k db [] shown) means.is reads in
-      got.answer Null
-
   same_cells : (row : SqlRow) → row_shown t row ≡ shown_cells row
   same_cells row = λ i. (cells_at (places_from 0 (means.keys i)) row, cells_at (places_from (length (means.keys i)) (means.columns i)) row)
 
@@ -54,13 +48,12 @@ module _ (t : Table) (db : Database) (is : db.schema ≡ office_schema) (sound :
   pub all_shown : map shown_cells shown ≡ entries (rows_at (content_of db.trees) t)
   all_shown =
       sym (ap (λ (f : SqlRow → List Cell × List Cell). map f shown) (λ i row. same_cells row i))
-      ∙ lists_where t db is sound ordered [] [] (λ _. true) (λ row whole. refl) shown answer
-      ∙ where_all (entries (rows_at (content_of db.trees) t))
+      ∙ lists t db is sound ordered None sql means.text shown reads
 
   pub five_wide : AllByRecursion (λ row. length row ≡ 5) shown
   five_wide = subst (λ n. AllByRecursion (λ row. length row ≡ n) shown)
       (λ i. length (means.keys i ++ means.columns i))
-      (width_where t db is sound ordered [] [] (λ _. true) (λ row whole. refl) shown answer)
+      (width t db is sound ordered None sql means.text shown reads)
 
   -- what a shown row has stands in the table
   pub stored_at : (row : SqlRow) → Has shown row → get (rows_at (content_of db.trees) t) (shown_key row) ≡ Some (shown_body row)

@@ -1,7 +1,6 @@
 -- The queries of all rows of `timing` and of `draft`.
-use Rattle.std.specs.Prelude.{◌≡◌, ℕ, List, [], ◌∷◌, codes, refl, Vec, Result, IfOk, Err}
+use Rattle.std.specs.Prelude.{◌≡◌, ℕ, List, [], ◌∷◌, codes, None, refl, Vec, Result, IfOk, Err}
 use Rattle.std.specs.declared.alloc.Global.{Global}
-use Rattle.sqlite.specs.Command.TheVariants.{Select}
 use Rattle.sqlite.specs.Listing.{understood}
 use Rattle.sqlite.specs.State.{State}
 use Rattle.sqlite_tied.specs.Compute.{everything}
@@ -11,16 +10,14 @@ use Rattle.office_tables_shelf.specs.declared.rows.Table.{Table}
 use Rattle.office_tables_shelf.specs.declared.rows.Table.TheVariants.{Timing, Draft}
 use Rattle.office_tables_shelf.specs.declared.shelf.ShelfFault.{ShelfFault}
 use Rattle.office_tables_shelf.specs.declared.shelf.ShelfFault.TheVariants as fault
-use Rattle.office_tables_statements.specs.Calls.{IsHonest, IsQuery, command_of}
-use Rattle.office_tables_schema.specs.Schema.{office_schema}
-use Rattle.office_tables_statements.specs.Tables.{layout_at, listed_by}
+use Rattle.office_tables_statements.specs.Calls.{IsHonest}
+use Rattle.office_tables_statements.specs.Tables.{IsListText, layout_at}
 use Rattle.office_tables_migration.specs.Former.{AreKept, HasNoFormer}
 use Rattle.office_tables_migration.specs.declared.listing.TheConstants.{TIMING, DRAFT}
 
 -- the text lists all rows of a table that is keyed as `timing` is, in the order of their keys
 pub record ListsAll (t : Table) (sql : List ℕ) : Type 0 where
-  pub names : List (List ℕ)
-  pub is : command_of (understood office_schema sql) ≡ Select (record { lets = []; body = listed_by (layout_at t) [] }) names
+  pub text : IsListText t None sql
   pub keys : (layout_at t).keys ≡ 1 ∷ 2 ∷ 3 ∷ 4 ∷ []
   pub columns : (layout_at t).columns ≡ 5 ∷ []
 
@@ -39,18 +36,22 @@ ListsEach result new sql rows = IfOk result (λ kept. IsHonest new → (t : Tabl
 abbrev pub TellsNoFormerOfEach : Result (Vec (ℕ × Change) Global) ShelfFault → State → List ℕ → (Table → TableRows) → Type 0
 TellsNoFormerOfEach result new sql rows = result ≡ Err fault.Damaged → IsHonest new → (t : Table) → ListsAll t sql → HasNoFormer (rows t)
 
+-- the columns that both show
+abbrev shown : List (List ℕ)
+shown = codes "inter" ∷ codes "kind" ∷ codes "a" ∷ codes "b" ∷ codes "body" ∷ []
+
 pub lists_timing : ListsAll Timing TIMING.now
 unfolding understood everything
-lists_timing = record { names = codes "inter" ∷ codes "kind" ∷ codes "a" ∷ codes "b" ∷ codes "body" ∷ []; is = refl; keys = refl; columns = refl }
-
-pub queries_timing : IsQuery TIMING.now
-unfolding understood everything
-queries_timing = record { plain = (refl, refl); unlisted = refl }
+lists_timing = record {
+  text = record { names = shown; is = refl; query = record { plain = (refl, refl); unlisted = refl } };
+  keys = refl;
+  columns = refl;
+}
 
 pub lists_draft : ListsAll Draft DRAFT.now
 unfolding understood everything
-lists_draft = record { names = codes "inter" ∷ codes "kind" ∷ codes "a" ∷ codes "b" ∷ codes "body" ∷ []; is = refl; keys = refl; columns = refl }
-
-pub queries_draft : IsQuery DRAFT.now
-unfolding understood everything
-queries_draft = record { plain = (refl, refl); unlisted = refl }
+lists_draft = record {
+  text = record { names = shown; is = refl; query = record { plain = (refl, refl); unlisted = refl } };
+  keys = refl;
+  columns = refl;
+}

@@ -1,5 +1,6 @@
 pub mod CellLemmas
 pub mod TreeLemmas
+pub mod NumberedMaps
 pub mod ListLemmas
 pub mod CabinetLemmas
 pub mod KeyLemmas

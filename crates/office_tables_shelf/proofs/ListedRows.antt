@@ -52,17 +52,18 @@ module _ {X : Type 0} (key columns : X → List Cell) (Within : X → Type 0) wh
       ∙ stored)
 
 -- none of the rows of an intersection is damaged, where those that were listed are all within their limits
-module _ {X : Type 0} (t : Table) (Within : X → Type 0) (key : ℕ → X → List Cell) (columns : X → List Cell) where
-  pub listed_whole : (tables : Content) (id : ℕ) (xs : List X)
-      → map (entry (key id) columns Within) xs ≡ where_key cells_cmp (is_among t id) (entries (rows_at tables t))
-      → AllByRecursion Within xs → ¬ HasDamagedRow t Within key columns tables id
-  listed_whole tables id xs lists each damaged =
+module _ {X : Type 0} (t : Table) (Within : X → Type 0) (key columns : X → List Cell) where
+  pub listed_whole : (tables : Content) (whose : Option ℕ) (xs : List X)
+      → map (entry key columns Within) xs
+      ≡ where_key cells_cmp (is_among whose) (entries (rows_at tables t))
+      → AllByRecursion Within xs → ¬ HasDamagedRow t Within key columns tables whose
+  listed_whole tables whose xs lists each damaged =
       let q = damaged.key in
       let rows = rows_at tables t in
-      let is = found_row (key id) columns Within xs q damaged.columns each (
+      let is = found_row key columns Within xs q damaged.columns each (
       ap (finite.find cells_cmp q) lists
-      ∙ find-where_key cells_cmp (is_among t id) q
-      (λ other tie. ap (is_among t id) (sym (cells_exact q other tie))) (entries rows)
+      ∙ find-where_key cells_cmp (is_among whose) q
+      (λ other tie. ap (is_among whose) (sym (cells_exact q other tie))) (entries rows)
       ∙ ap (λ b. cond b (finite.find cells_cmp q (entries rows)) None) damaged.of
       ∙ sym (get-entries rows q) ∙ damaged.stored) in
       damaged.no_row is.0 is.1 is.2 is.3
@@ -70,16 +71,21 @@ module _ {X : Type 0} (t : Table) (Within : X → Type 0) (key : ℕ → X → L
 pub inspections_whole : (tables : Content) (id : ℕ) (list : List Inspection)
     → ListsInspections tables id list → AllByRecursion IsInspectionWithin list
     → ¬ HasDamagedInspection tables id
-inspections_whole = listed_whole table.Inspection IsInspectionWithin
-    (λ id x. inspection_key id x.number) inspection_columns
+inspections_whole tables id =
+    listed_whole table.Inspection IsInspectionWithin (λ x. inspection_key id x.number)
+    inspection_columns tables (Some id)
 
 pub orders_whole : (tables : Content) (id : ℕ) (list : List Order) → ListsOrders tables id list
     → AllByRecursion IsOrderWithin list → ¬ HasDamagedOrder tables id
-orders_whole = listed_whole table.WorkOrder IsOrderWithin (λ id x. order_key id x.number) order_columns
+orders_whole tables id =
+    listed_whole table.WorkOrder IsOrderWithin (λ x. order_key id x.number) order_columns tables
+    (Some id)
 
 pub lines_whole : (tables : Content) (id : ℕ) (list : List UsedLine) → ListsUsed tables id list
     → AllByRecursion IsUsedLineWithin list → ¬ HasDamagedUsed tables id
-lines_whole = listed_whole table.UsedPart IsUsedLineWithin (λ id x. used_key id x.order x.line) used_columns
+lines_whole tables id =
+    listed_whole table.UsedPart IsUsedLineWithin (λ x. used_key id x.order x.line) used_columns
+    tables (Some id)
 
 pub parts_whole : (tables : Content) (list : List (List ℕ × ℕ)) → ListsParts tables list
     → AllByRecursion IsPartWithin list → ¬ HasDamagedPart tables

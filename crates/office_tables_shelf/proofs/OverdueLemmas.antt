@@ -6,7 +6,7 @@ use Rattle.std.specs.{FinMap.get, List.AllByRecursion, List.cons_option, Option.
 use Rattle.cabinet_core.specs.Overdue.{Listed, latest_day, listed_of, lateness, overdue_list}
 use Rattle.cabinet_core.specs.{declared.overdue_inspections.OverdueRow.OverdueRow, declared.overdue_inspections.Seen.Seen}
 use Rattle.office_tables_shelf.specs.{CabinetReads.HasDamagedInspection, CabinetReads.ListsInspections, Content.Content}
-use Rattle.office_tables_shelf.specs.Overdue.{HasOverdueDamage, ReadsLast, seen_row, AreSeenOf}
+use Rattle.office_tables_shelf.specs.Overdue.{HasOverdueDamage, ReadsLast, last_day_in, seen_on, seen_row, AreSeenOf}
 use Rattle.office_tables_shelf.specs.{Rows.intersection_columns, Rows.intersection_key, Shelf.IsIntersectionWithin}
 use Rattle.office_tables_shelf.specs.{Shelf.ListsIntersections, declared.rows.IntersectionRow.IntersectionRow}
 use Rattle.office_tables_shelf.proofs.ListLemmas.{all_more}
@@ -32,6 +32,26 @@ seen_at tables (f ∷ rows) (one ∷ seen) zero e last all low at reads =
     ap (λ day. seen_row e.0 e.1 day) reads.latest ∙ ap (λ (x : ℕ × IntersectionRow). seen_row x.0 x.1 (latest_day reads.inspections)) same
     ∙ sym (all.0 reads.inspections (subst (λ (x : ℕ × IntersectionRow). ListsInspections tables x.0 reads.inspections) same reads.lists))
 seen_at tables (f ∷ rows) (one ∷ seen) (suc i) e last all low at reads = seen_at tables rows seen i e last all.1 (omega arith) at reads
+
+-- what a list shows of its item at a place
+pub mapped_at : {X Y : Type 0} (f : X → Y) (xs : List X) (i : ℕ) (x : X) (none : Y) → i < length xs
+    → x ≡ get_or xs i x → f x ≡ get_or (map f xs) i none
+mapped_at f [] i x none low at = absurd (omega arith)
+mapped_at f (y ∷ xs) zero x none low at = ap f at
+mapped_at f (y ∷ xs) (suc i) x none low at = mapped_at f xs i x none (omega arith) at
+
+-- where the latest day of each intersection was read, that is what is seen
+pub seen_with : (tables : Content) (days : List (ℕ × ℕ)) (rows : List (ℕ × IntersectionRow))
+    (seen : List Seen) → ((id : ℕ) → ReadsLast tables id (last_day_in days id))
+    → AreSeenOf tables rows seen → map (seen_on days) rows ≡ seen
+seen_with tables days [] [] reads all = refl
+seen_with tables days [] (one ∷ seen) reads all = absurd all
+seen_with tables days (e ∷ rows) [] reads all = absurd all
+seen_with tables days (e ∷ rows) (one ∷ seen) reads all =
+    let last = reads e.0 in
+    let here : seen_on days e ≡ one =
+    ap (seen_row e.0 e.1) last.latest ∙ sym (all.0 last.inspections last.lists) in
+    λ i. here i ∷ seen_with tables days rows seen reads all.1 i
 
 -- ---- the list so far
 

@@ -1,5 +1,5 @@
 -- What the lists of the cabinet's tables give, and when one of their rows is no record.
-use Rattle.std.specs.Prelude.{◌≡◌, ℕ, List, map}
+use Rattle.std.specs.Prelude.{◌≡◌, ℕ, ◌==◌, cond, List, [], ◌∷◌, map, None, Some}
 use Rattle.std.specs.Int.{IsInRange}
 use Rattle.std.specs.FinMap.{entries}
 use Rattle.office_tables_shelf.specs.Content.{Content}
@@ -29,7 +29,9 @@ IsPartWithin part = IsPartCode part.0 × IsHand part.1
 
 -- cells stand in the table that are those of no code and count on hand
 abbrev pub HasDamagedPart : Content → Type 0
-HasDamagedPart tables = HasDamagedRow table.Part IsPartWithin (λ _ part. part_key part.0) (λ part. part_columns part.1) tables 0
+HasDamagedPart tables =
+    HasDamagedRow table.Part IsPartWithin (λ part. part_key part.0) (λ part. part_columns part.1)
+    tables None
 
 -- ---- the records of an intersection
 
@@ -39,18 +41,57 @@ ListsInspections tables id inspections = map (λ inspection. (inspection_key id 
 
 -- a row of it stands among them that is no inspection within its limits
 abbrev pub HasDamagedInspection : Content → ℕ → Type 0
-HasDamagedInspection = HasDamagedRow table.Inspection IsInspectionWithin (λ id inspection. inspection_key id inspection.number) inspection_columns
+HasDamagedInspection tables id =
+    HasDamagedRow table.Inspection IsInspectionWithin
+    (λ inspection. inspection_key id inspection.number) inspection_columns tables (Some id)
 
 -- its used parts, in the order of orders and lines
 abbrev pub ListsUsed : Content → ℕ → List UsedLine → Type 0
 ListsUsed tables id lines = map (λ used. (used_key id used.order used.line, used_columns used)) lines ≡ rows_of id tables.used_part
 
 abbrev pub HasDamagedUsed : Content → ℕ → Type 0
-HasDamagedUsed = HasDamagedRow table.UsedPart IsUsedLineWithin (λ id used. used_key id used.order used.line) used_columns
+HasDamagedUsed tables id =
+    HasDamagedRow table.UsedPart IsUsedLineWithin (λ used. used_key id used.order used.line)
+    used_columns tables (Some id)
 
 -- its orders, in the order of their numbers
 abbrev pub ListsOrders : Content → ℕ → List Order → Type 0
 ListsOrders tables id orders = map (λ order. (order_key id order.number, order_columns order)) orders ≡ rows_of id tables.work_order
 
 abbrev pub HasDamagedOrder : Content → ℕ → Type 0
-HasDamagedOrder = HasDamagedRow table.WorkOrder IsOrderWithin (λ id order. order_key id order.number) order_columns
+HasDamagedOrder tables id =
+    HasDamagedRow table.WorkOrder IsOrderWithin (λ order. order_key id order.number) order_columns
+    tables (Some id)
+
+-- ---- the records of all intersections
+
+-- a record beside the number of its intersection, both within their limits
+abbrev pub IsOfOne : {X : Type 0} → (X → Type 0) → ℕ × X → Type 0
+IsOfOne IsWithin e = IsInRange 1 9999 e.0 × IsWithin e.1
+
+-- those of one intersection, in their order
+abbrev pub of_one : {X : Type 0} → ℕ → List (ℕ × X) → List X
+of_one id [] = []
+of_one id (e ∷ es) = cond (e.0 == id) (e.1 ∷ of_one id es) (of_one id es)
+
+-- the inspections of all, in the order of the intersections and of their numbers
+abbrev pub ListsEachInspection : Content → List (ℕ × Inspection) → Type 0
+ListsEachInspection tables all =
+    map (λ e. (inspection_key e.0 e.1.number, inspection_columns e.1)) all
+    ≡ entries tables.inspection
+
+-- a row stands in the table that is no inspection of an intersection within its limits
+abbrev pub HasAnyDamagedInspection : Content → Type 0
+HasAnyDamagedInspection tables =
+    HasDamagedRow table.Inspection (IsOfOne IsInspectionWithin)
+    (λ e. inspection_key e.0 e.1.number) (λ e. inspection_columns e.1) tables None
+
+-- the orders on all
+abbrev pub ListsEachOrder : Content → List (ℕ × Order) → Type 0
+ListsEachOrder tables all =
+    map (λ e. (order_key e.0 e.1.number, order_columns e.1)) all ≡ entries tables.work_order
+
+abbrev pub HasAnyDamagedOrder : Content → Type 0
+HasAnyDamagedOrder tables =
+    HasDamagedRow table.WorkOrder (IsOfOne IsOrderWithin) (λ e. order_key e.0 e.1.number)
+    (λ e. order_columns e.1) tables None

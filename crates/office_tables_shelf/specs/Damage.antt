@@ -1,5 +1,5 @@
 -- When a stored row of an intersection or of its timing is no record.
-use Rattle.std.specs.Prelude.{◌≡◌, ◌≢◌, ℕ, List, Some}
+use Rattle.std.specs.Prelude.{◌≡◌, ◌≢◌, ℕ, List, None, Some}
 use Rattle.std.specs.FinMap.{get}
 use Rattle.signal_records.specs.Row.{key_of}
 use Rattle.signal_records.specs.Within.{IsRowWithin, IsChangeWithin, current_limits}
@@ -19,12 +19,18 @@ pub record HasDamagedIntersection (tables : Content) (id : ℕ) : Type 0 where
 
 -- cells stand in the table that are those of no intersection and row within their limits
 abbrev pub HasAnyDamagedIntersection : Content → Type 0
-HasAnyDamagedIntersection tables = HasDamagedRow table.Intersection IsIntersectionWithin (λ _ e. intersection_key e.0) (λ e. intersection_columns e.1) tables 0
+HasAnyDamagedIntersection tables =
+    HasDamagedRow table.Intersection IsIntersectionWithin (λ e. intersection_key e.0)
+    (λ e. intersection_columns e.1) tables None
 
 -- a row of the intersection stands in the table that is no timing row within its limits, or has another key
 abbrev pub HasDamagedTiming : Content → ℕ → Type 0
-HasDamagedTiming = HasDamagedRow table.Timing (IsRowWithin current_limits) (λ id row. timing_key id (key_of row)) timing_columns
+HasDamagedTiming tables id =
+    HasDamagedRow table.Timing (IsRowWithin current_limits) (λ row. timing_key id (key_of row))
+    timing_columns tables (Some id)
 
 -- a row of the intersection stands in the table that is no draft row within its limits, or has another key
 abbrev pub HasDamagedDraft : Content → ℕ → Type 0
-HasDamagedDraft = HasDamagedRow table.Draft (IsChangeWithin current_limits) draft_key draft_columns
+HasDamagedDraft tables id =
+    HasDamagedRow table.Draft (IsChangeWithin current_limits) (draft_key id) draft_columns tables
+    (Some id)

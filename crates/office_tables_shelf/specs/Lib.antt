@@ -11,4 +11,5 @@ pub mod Damage
 pub mod CabinetReads
 pub mod Places
 pub mod Overdue
+pub mod OpenOrders
 pub mod RegisterStands

@@ -1,6 +1,7 @@
 -- The intersections that are overdue on a day, as the tables hold them.
-use Rattle.std.specs.Prelude.{◌≡◌, ◌⊎◌, ℕ, List, [], ◌∷◌, map, take, Option}
+use Rattle.std.specs.Prelude.{◌≡◌, ◌⊎◌, ℕ, ◌==◌, List, [], ◌∷◌, map, take, Option}
 use Rattle.std.specs.List.{AllByRecursion}
+use Rattle.std.specs.Map.{lookup}
 use Rattle.cabinet_core.specs.Overdue.{latest_day, listed_of, overdue_list}
 use Rattle.cabinet_core.specs.Within.{IsInspectionWithin}
 use Rattle.cabinet_core.specs.declared.overdue_inspections.OverdueRow.{OverdueRow}
@@ -19,11 +20,19 @@ pub record ReadsLast (tables : Content) (id : ℕ) (last : Option ℕ) : Type 0 
   pub within : AllByRecursion IsInspectionWithin inspections
   pub latest : last ≡ latest_day inspections
 
+-- the day that a list has for an intersection
+abbrev pub last_day_in : List (ℕ × ℕ) → ℕ → Option ℕ
+last_day_in days id = lookup (λ n. n == id) days
+
 -- ---- what is seen
 
 -- what is known of an intersection with this row, that was last inspected on this day
 abbrev pub seen_row : ℕ → IntersectionRow → Option ℕ → Seen
 seen_row id row last = record { id = id; name = row.name; interval = row.interval; last = last }
+
+-- with the day that a list has for it
+abbrev pub seen_on : List (ℕ × ℕ) → ℕ × IntersectionRow → Seen
+seen_on days e = seen_row e.0 e.1 (last_day_in days e.0)
 
 -- and with the inspections that the tables hold of it, where all that they hold of them are inspections
 abbrev pub IsSeen : Content → ℕ × IntersectionRow → Seen → Type 0

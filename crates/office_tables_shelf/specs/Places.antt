@@ -1,5 +1,5 @@
 -- The places where a row of the register stands, and what is read there, of whichever kind it is.
-use Rattle.std.specs.Prelude.{ℕ, List, Option}
+use Rattle.std.specs.Prelude.{◌≡◌, ℕ, List, Option, Result, Err, IfOk}
 use Rattle.cabinet_core.specs.Within.{IsInspectionWithin, IsOrderWithin, IsUsedLineWithin, IsDeliveryWithin}
 use Rattle.cabinet_core.specs.declared.record.Inspection.{Inspection as InspectionRecord}
 use Rattle.cabinet_core.specs.declared.record.Order.{Order as OrderRecord}
@@ -11,6 +11,8 @@ use Rattle.office_tables_shelf.specs.Cells.{Cell}
 use Rattle.office_tables_shelf.specs.Content.{Content}
 use Rattle.office_tables_shelf.specs.Reads.{ReadsRow, HasDamagedUnder}
 use Rattle.office_tables_shelf.specs.declared.rows.Table.{Table}
+use Rattle.office_tables_shelf.specs.declared.shelf.ShelfFault.{ShelfFault}
+use Rattle.office_tables_shelf.specs.declared.shelf.ShelfFault.TheVariants.{Damaged}
 use Rattle.office_tables_shelf.specs.declared.rows.Table.TheVariants as table
 
 -- where a row of the register stands
@@ -72,3 +74,19 @@ ReadsAt tables place = ReadsRow (table_at place) (own_key place) (columns_at pla
 -- cells stand there that are those of no record within its limits
 abbrev pub DamagedAt : Content → Place → Type 0
 DamagedAt tables place = HasDamagedUnder (table_at place) (WithinAt place) (own_key place) (columns_at place) tables (key_cells place)
+
+-- ---- what a call of a shelf answers of a place
+
+-- it reads what stands there
+abbrev pub FindsAt : {E : Type 0} → Content → (place : Place) → Result (Option (RecordAt place)) E → Type 0
+FindsAt tables place result = IfOk result (λ found. ReadsAt tables place found)
+
+-- where the database is open
+abbrev pub GivesAt : Type 0 → Content → (place : Place) → Result (Option (RecordAt place)) ShelfFault → Type 0
+GivesAt is_honest tables place result =
+    IfOk result (λ found. is_honest → ReadsAt tables place found)
+
+-- it tells a damaged row where one stands there
+abbrev pub BlamesAt : {A : Type 0} → Type 0 → Content → Place → Result A ShelfFault → Type 0
+BlamesAt is_honest tables place result =
+    result ≡ Err Damaged → is_honest → DamagedAt tables place

@@ -1,26 +1,16 @@
 -- What is read of a table, and when a stored row is no record, of whichever kind its records are.
-use Rattle.std.specs.Prelude.{◌≡◌, ◌≢◌, ℕ, Bool, true, false, cond, List, Option, Some, IfSome}
+use Rattle.std.specs.Prelude.{◌≡◌, ◌≢◌, ℕ, Bool, true, List, Option, None, Some, IfSome}
 use Rattle.std.specs.Option.{option_map}
 use Rattle.std.specs.FinMap.{get}
 use Rattle.office_tables_shelf.specs.Cells.{Cell}
 use Rattle.office_tables_shelf.specs.Content.{Content, is_of, rows_at}
 use Rattle.office_tables_shelf.specs.declared.rows.Table.{Table}
-use Rattle.office_tables_shelf.specs.declared.rows.Table.TheVariants as table
 
--- ---- the rows of a list: those of an intersection, or all where a table is not parted by intersections
+-- ---- the rows of a list: those of an intersection, or all of a table
 
-abbrev pub is_parted : Table → Bool
-is_parted table.Intersection = false
-is_parted table.Timing = true
-is_parted table.Draft = true
-is_parted table.Inspection = true
-is_parted table.WorkOrder = true
-is_parted table.Part = false
-is_parted table.Delivery = false
-is_parted table.UsedPart = true
-
-abbrev pub is_among : Table → ℕ → List Cell → Bool
-is_among t id = cond (is_parted t) (is_of id) (λ _. true)
+abbrev pub is_among : Option ℕ → List Cell → Bool
+is_among None key = true
+is_among (Some id) key = is_of id key
 
 -- ---- records, by the cells of their keys, their other cells and their limits
 
@@ -40,9 +30,9 @@ pub record HasDamagedUnder {X : Type 0} (t : Table) (is_within : X → Type 0) (
   pub no_row : IsNoRow is_within key_of columns_of key columns
 
 -- one of the rows of a list is nothing within its limits
-pub record HasDamagedRow {X : Type 0} (t : Table) (is_within : X → Type 0) (key_of : ℕ → X → List Cell) (columns_of : X → List Cell) (tables : Content) (id : ℕ) : Type 0 where
+pub record HasDamagedRow {X : Type 0} (t : Table) (is_within : X → Type 0) (key_of columns_of : X → List Cell) (tables : Content) (whose : Option ℕ) : Type 0 where
   pub key : List Cell
   pub columns : List Cell
-  pub of : is_among t id key ≡ true
+  pub of : is_among whose key ≡ true
   pub stored : get (rows_at tables t) key ≡ Some columns
-  pub no_row : IsNoRow is_within (key_of id) columns_of key columns
+  pub no_row : IsNoRow is_within key_of columns_of key columns

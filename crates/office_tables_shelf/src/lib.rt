@@ -3,6 +3,7 @@
 
 pub mod bounds;
 pub mod counts;
+pub mod open_orders;
 pub mod overdue;
 pub mod rows;
 pub mod shelf;

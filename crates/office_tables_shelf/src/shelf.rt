@@ -1,5 +1,6 @@
 //! The tables of the office as a trait.
-ghost use Rattle.std.specs.Prelude.{◌≡◌, ◌≢◌, ◌<◌, ◌⊎◌, [], IfOk, IfSome, OnOk, OnErr, vec_len};
+ghost use Rattle.std.specs.Prelude.{◌≡◌, ◌≢◌, ◌<◌, ◌⊎◌, ℕ, [], IfOk, IfSome, OnOk, OnErr};
+ghost use Rattle.std.specs.Prelude.{vec_len};
 ghost use Rattle.std.specs.List.{AllByRecursion};
 ghost use Rattle.cabinet_core.specs.Within.{IsInspectionWithin, IsOrderWithin};
 ghost use Rattle.cabinet_core.specs.Within.{IsUsedLineWithin, IsDeliveryWithin};
@@ -17,20 +18,25 @@ ghost use Rattle.office_tables_shelf.specs.Damage.{HasAnyDamagedIntersection, Ha
 ghost use Rattle.office_tables_shelf.specs.Damage.{HasDamagedDraft};
 ghost use Rattle.office_tables_shelf.specs.CabinetReads.{ListsInspections, HasDamagedInspection};
 ghost use Rattle.office_tables_shelf.specs.CabinetReads.{ListsOrders, HasDamagedOrder};
+ghost use Rattle.office_tables_shelf.specs.CabinetReads.{HasAnyDamagedInspection};
+ghost use Rattle.office_tables_shelf.specs.CabinetReads.{HasAnyDamagedOrder};
 ghost use Rattle.office_tables_shelf.specs.CabinetReads.{ListsUsed, HasDamagedUsed, IsHand};
 ghost use Rattle.office_tables_shelf.specs.CabinetReads.{ListsParts, IsPartWithin, HasDamagedPart};
 ghost use Rattle.office_tables_shelf.specs.Places as place;
-ghost use Rattle.office_tables_shelf.specs.Places.{ReadsAt, DamagedAt};
-ghost use Rattle.office_tables_shelf.specs.Overdue.{ReadsLast, ListsOverdue, HasOverdueDamage};
+ghost use Rattle.office_tables_shelf.specs.Places.{GivesAt, BlamesAt};
+ghost use Rattle.office_tables_shelf.specs.Overdue.{last_day_in, ReadsLast, ListsOverdue};
+ghost use Rattle.office_tables_shelf.specs.Overdue.{HasOverdueDamage};
+ghost use Rattle.office_tables_shelf.specs.OpenOrders.{orders_in, ReadsOpen};
 ghost use Rattle.office_tables_shelf.specs.declared.counts.WriteCounts.{WriteCounts};
 
-use crate::overdue::add_overdue;
+use crate::overdue::{add_overdue, overdue_among};
 use crate::rows::{IntersectionRow, RowChange, Table};
 use cabinet_core::{
     Day, Delivery, Hand, Inspection, Order, OverdueRow, PartCode, UsedLine, latest,
 };
 use signal_records::{Change, InterId, LineNo, NoMemory, RecordNo, Row};
 use std::alloc::Global;
+use std::collections::BTreeMap;
 
 /// Why a call of a shelf failed.
 #[derive(Clone, Copy, Debug, PartialEq, Eq)]
@@ -80,9 +86,11 @@ pub trait Shelf {
         alloc: Global,
         id: InterId,
     ) -> Result<Option<IntersectionRow>, ShelfFault>
-        ensures row { IfOk result (λ row. is_honest self.new → ReadsIntersection (content self.old) id row) }
+        ensures row { IfOk result (λ row. is_honest self.new →
+            ReadsIntersection (content self.old) id row) }
         ensures within { IfOk result (λ row. IfSome row IsIntersectionRow) }
-        ensures damaged { result ≡ Err ShelfFault.Damaged → is_honest self.new → HasDamagedIntersection (content self.old) id }
+        ensures damaged { result ≡ Err ShelfFault.Damaged → is_honest self.new →
+            HasDamagedIntersection (content self.old) id }
         ensures kept { IsKept is_honest content written may_leave self.old self.new }
         ensures open { AnswersOpen is_clean is_honest result self.old self.new };
 
@@ -91,33 +99,40 @@ pub trait Shelf {
         &mut self,
         alloc: Global,
     ) -> Result<Vec<(InterId, IntersectionRow)>, ShelfFault>
-        ensures rows { IfOk result (λ rows. is_honest self.new → ListsIntersections (content self.old) rows.items) }
+        ensures rows { IfOk result (λ rows. is_honest self.new →
+            ListsIntersections (content self.old) rows.items) }
         ensures within { IfOk result (λ rows. is_honest self.new →
             AllByRecursion IsIntersectionWithin rows.items) }
-        ensures damaged { result ≡ Err ShelfFault.Damaged → is_honest self.new → HasAnyDamagedIntersection (content self.old) }
+        ensures damaged { result ≡ Err ShelfFault.Damaged → is_honest self.new →
+            HasAnyDamagedIntersection (content self.old) }
         ensures kept { IsKept is_honest content written may_leave self.old self.new }
         ensures open { AnswersOpen is_clean is_honest result self.old self.new };
 
     /// The committed rows of an intersection, in the order of their keys.
     fn timing_rows(&mut self, alloc: Global, id: InterId) -> Result<Vec<Row>, ShelfFault>
-        ensures rows { IfOk result (λ rows. is_honest self.new → ListsTiming (content self.old) id rows.items) }
+        ensures rows { IfOk result (λ rows. is_honest self.new →
+            ListsTiming (content self.old) id rows.items) }
         ensures within { IfOk result (λ rows. is_honest self.new →
             AllByRecursion (IsRowWithin current_limits) rows.items) }
-        ensures damaged { result ≡ Err ShelfFault.Damaged → is_honest self.new → HasDamagedTiming (content self.old) id }
+        ensures damaged { result ≡ Err ShelfFault.Damaged → is_honest self.new →
+            HasDamagedTiming (content self.old) id }
         ensures kept { IsKept is_honest content written may_leave self.old self.new }
         ensures open { AnswersOpen is_clean is_honest result self.old self.new };
 
     /// How many committed rows an intersection has, whether or not each of them is a record.
     fn committed_count(&mut self, alloc: Global, id: InterId) -> Result<usize, ShelfFault>
-        ensures count { IfOk result (λ count. is_honest self.new → CountsTiming (content self.old) id count) }
+        ensures count { IfOk result (λ count. is_honest self.new →
+            CountsTiming (content self.old) id count) }
         ensures undamaged { result ≢ Err ShelfFault.Damaged }
         ensures kept { IsKept is_honest content written may_leave self.old self.new }
         ensures open { AnswersOpen is_clean is_honest result self.old self.new };
 
     /// The draft rows of an intersection, in the order of their keys.
     fn draft_rows(&mut self, alloc: Global, id: InterId) -> Result<Vec<Change>, ShelfFault>
-        ensures rows { IfOk result (λ rows. is_honest self.new → ListsDraft (content self.old) id rows.items) }
-        ensures damaged { result ≡ Err ShelfFault.Damaged → is_honest self.new → HasDamagedDraft (content self.old) id }
+        ensures rows { IfOk result (λ rows. is_honest self.new →
+            ListsDraft (content self.old) id rows.items) }
+        ensures damaged { result ≡ Err ShelfFault.Damaged → is_honest self.new →
+            HasDamagedDraft (content self.old) id }
         ensures kept { IsKept is_honest content written may_leave self.old self.new }
         ensures open { AnswersOpen is_clean is_honest result self.old self.new };
 
@@ -128,25 +143,43 @@ pub trait Shelf {
         id: InterId,
         number: RecordNo,
     ) -> Result<Option<Inspection>, ShelfFault>
-        ensures row { IfOk result (λ found. is_honest self.new → ReadsAt (content self.old) (place.Inspection id number) found) }
+        ensures row { GivesAt (is_honest self.new) (content self.old)
+            (place.Inspection id number) result }
         ensures within { IfOk result (λ found. IfSome found IsInspectionWithin) }
-        ensures damaged { result ≡ Err ShelfFault.Damaged → is_honest self.new → DamagedAt (content self.old) (place.Inspection id number) }
+        ensures damaged { BlamesAt (is_honest self.new) (content self.old)
+            (place.Inspection id number) result }
         ensures kept { IsKept is_honest content written may_leave self.old self.new }
         ensures open { AnswersOpen is_clean is_honest result self.old self.new };
 
     /// The inspections of an intersection's cabinet, in the order of their numbers.
     fn inspections(&mut self, alloc: Global, id: InterId) -> Result<Vec<Inspection>, ShelfFault>
-        ensures rows { IfOk result (λ found. is_honest self.new → ListsInspections (content self.old) id found.items) }
+        ensures rows { IfOk result (λ found. is_honest self.new →
+            ListsInspections (content self.old) id found.items) }
         ensures within { IfOk result (λ found. is_honest self.new →
             AllByRecursion IsInspectionWithin found.items) }
-        ensures damaged { result ≡ Err ShelfFault.Damaged → is_honest self.new → HasDamagedInspection (content self.old) id }
+        ensures damaged { result ≡ Err ShelfFault.Damaged → is_honest self.new →
+            HasDamagedInspection (content self.old) id }
+        ensures kept { IsKept is_honest content written may_leave self.old self.new }
+        ensures open { AnswersOpen is_clean is_honest result self.old self.new };
+
+    /// The day of the latest inspection of each intersection that has one. It is one walk over all
+    /// inspections.
+    fn last_inspections(&mut self, alloc: Global) -> Result<BTreeMap<InterId, Day>, ShelfFault>
+        ensures days { IfOk result (λ days. is_honest self.new →
+            (id : ℕ) → ReadsLast (content self.old) id (last_day_in days.entries id)) }
+        ensures whole { IfOk result (λ _. is_honest self.new →
+            ¬ HasAnyDamagedInspection (content self.old)) }
+        ensures damaged { result ≡ Err ShelfFault.Damaged → is_honest self.new →
+            HasAnyDamagedInspection (content self.old) }
         ensures kept { IsKept is_honest content written may_leave self.old self.new }
         ensures open { AnswersOpen is_clean is_honest result self.old self.new };
 
     /// The day of an intersection's latest inspection, if there is one.
     fn last_inspection(&mut self, alloc: Global, id: InterId) -> Result<Option<Day>, ShelfFault>
-        ensures day { IfOk result (λ last. is_honest self.new → ReadsLast (content self.old) id last) }
-        ensures damaged { result ≡ Err ShelfFault.Damaged → is_honest self.new → HasDamagedInspection (content self.old) id }
+        ensures day { IfOk result (λ last. is_honest self.new →
+            ReadsLast (content self.old) id last) }
+        ensures damaged { result ≡ Err ShelfFault.Damaged → is_honest self.new →
+            HasDamagedInspection (content self.old) id }
         ensures kept { IsKept is_honest content written may_leave self.old self.new }
         ensures open { AnswersOpen is_clean is_honest result self.old self.new }
     {
@@ -155,14 +188,43 @@ pub trait Shelf {
     }
 
     /// The first `most` of the intersections that are overdue for an inspection on a day, in the
-    /// order of their numbers. Rows past those need not be read.
+    /// order of their numbers. The days are those of one walk over all inspections. Where one of
+    /// these is no record, which may be of no intersection, those of each intersection are read.
     fn overdue_rows(
         &mut self,
         alloc: Global,
         day: Day,
         most: usize,
     ) -> Result<Vec<OverdueRow>, ShelfFault>
-        ensures rows { IfOk result (λ found. is_honest self.new → ListsOverdue (content self.old) day most found.items) }
+        ensures rows { IfOk result (λ found. is_honest self.new →
+            ListsOverdue (content self.old) day most found.items) }
+        ensures whole { IfOk result (λ found. is_honest self.new →
+            vec_len found < most → ¬ HasOverdueDamage (content self.old)) }
+        ensures damaged { result ≡ Err ShelfFault.Damaged → is_honest self.new →
+            HasOverdueDamage (content self.old) }
+        ensures kept { IsKept is_honest content written may_leave self.old self.new }
+        ensures open { AnswersOpen is_clean is_honest result self.old self.new }
+    {
+        let days = match self.last_inspections(alloc) {
+            Ok(days) => days,
+            Err(ShelfFault::Damaged) => return self.overdue_of_each(alloc, day, most),
+            Err(fault) => return Err(fault),
+        };
+        let rows = self.intersections(alloc)?;
+        let found = overdue_among(alloc, rows.as_slice(), &days, day, most)?;
+        Ok(found)
+    }
+
+    /// The same, the inspections of one intersection after another. Those past the last that is
+    /// told are not read.
+    fn overdue_of_each(
+        &mut self,
+        alloc: Global,
+        day: Day,
+        most: usize,
+    ) -> Result<Vec<OverdueRow>, ShelfFault>
+        ensures rows { IfOk result (λ found. is_honest self.new →
+            ListsOverdue (content self.old) day most found.items) }
         ensures whole { IfOk result (λ found. is_honest self.new →
             vec_len found < most → ¬ HasOverdueDamage (content self.old)) }
         ensures damaged { result ≡ Err ShelfFault.Damaged → is_honest self.new →
@@ -189,18 +251,34 @@ pub trait Shelf {
         id: InterId,
         number: RecordNo,
     ) -> Result<Option<Order>, ShelfFault>
-        ensures row { IfOk result (λ found. is_honest self.new → ReadsAt (content self.old) (place.Order id number) found) }
+        ensures row { GivesAt (is_honest self.new) (content self.old)
+            (place.Order id number) result }
         ensures within { IfOk result (λ found. IfSome found IsOrderWithin) }
-        ensures damaged { result ≡ Err ShelfFault.Damaged → is_honest self.new → DamagedAt (content self.old) (place.Order id number) }
+        ensures damaged { BlamesAt (is_honest self.new) (content self.old)
+            (place.Order id number) result }
         ensures kept { IsKept is_honest content written may_leave self.old self.new }
         ensures open { AnswersOpen is_clean is_honest result self.old self.new };
 
     /// The orders on an intersection, in the order of their numbers.
     fn orders(&mut self, alloc: Global, id: InterId) -> Result<Vec<Order>, ShelfFault>
-        ensures rows { IfOk result (λ found. is_honest self.new → ListsOrders (content self.old) id found.items) }
+        ensures rows { IfOk result (λ found. is_honest self.new →
+            ListsOrders (content self.old) id found.items) }
         ensures within { IfOk result (λ found. is_honest self.new →
             AllByRecursion IsOrderWithin found.items) }
-        ensures damaged { result ≡ Err ShelfFault.Damaged → is_honest self.new → HasDamagedOrder (content self.old) id }
+        ensures damaged { result ≡ Err ShelfFault.Damaged → is_honest self.new →
+            HasDamagedOrder (content self.old) id }
+        ensures kept { IsKept is_honest content written may_leave self.old self.new }
+        ensures open { AnswersOpen is_clean is_honest result self.old self.new };
+
+    /// The open orders on each intersection that has any, in the order of their numbers. It is one
+    /// walk over all orders.
+    fn open_orders(&mut self, alloc: Global) -> Result<BTreeMap<InterId, Vec<Order>>, ShelfFault>
+        ensures orders { IfOk result (λ orders. is_honest self.new →
+            (id : ℕ) → ReadsOpen (content self.old) id (orders_in orders.entries id)) }
+        ensures whole { IfOk result (λ _. is_honest self.new →
+            ¬ HasAnyDamagedOrder (content self.old)) }
+        ensures damaged { result ≡ Err ShelfFault.Damaged → is_honest self.new →
+            HasAnyDamagedOrder (content self.old) }
         ensures kept { IsKept is_honest content written may_leave self.old self.new }
         ensures open { AnswersOpen is_clean is_honest result self.old self.new };
 
@@ -212,18 +290,22 @@ pub trait Shelf {
         order: RecordNo,
         line: LineNo,
     ) -> Result<Option<UsedLine>, ShelfFault>
-        ensures row { IfOk result (λ found. is_honest self.new → ReadsAt (content self.old) (place.Line id order line) found) }
+        ensures row { GivesAt (is_honest self.new) (content self.old)
+            (place.Line id order line) result }
         ensures within { IfOk result (λ found. IfSome found IsUsedLineWithin) }
-        ensures damaged { result ≡ Err ShelfFault.Damaged → is_honest self.new → DamagedAt (content self.old) (place.Line id order line) }
+        ensures damaged { BlamesAt (is_honest self.new) (content self.old)
+            (place.Line id order line) result }
         ensures kept { IsKept is_honest content written may_leave self.old self.new }
         ensures open { AnswersOpen is_clean is_honest result self.old self.new };
 
     /// The parts used for the orders on an intersection, in the order of orders and lines.
     fn used_lines(&mut self, alloc: Global, id: InterId) -> Result<Vec<UsedLine>, ShelfFault>
-        ensures rows { IfOk result (λ found. is_honest self.new → ListsUsed (content self.old) id found.items) }
+        ensures rows { IfOk result (λ found. is_honest self.new →
+            ListsUsed (content self.old) id found.items) }
         ensures within { IfOk result (λ found. is_honest self.new →
             AllByRecursion IsUsedLineWithin found.items) }
-        ensures damaged { result ≡ Err ShelfFault.Damaged → is_honest self.new → HasDamagedUsed (content self.old) id }
+        ensures damaged { result ≡ Err ShelfFault.Damaged → is_honest self.new →
+            HasDamagedUsed (content self.old) id }
         ensures kept { IsKept is_honest content written may_leave self.old self.new }
         ensures open { AnswersOpen is_clean is_honest result self.old self.new };
 
@@ -234,26 +316,32 @@ pub trait Shelf {
         part: &PartCode,
         number: RecordNo,
     ) -> Result<Option<Delivery>, ShelfFault>
-        ensures row { IfOk result (λ found. is_honest self.new → ReadsAt (content self.old) (place.Delivery part.now number) found) }
+        ensures row { GivesAt (is_honest self.new) (content self.old)
+            (place.Delivery part.now number) result }
         ensures within { IfOk result (λ found. IfSome found IsDeliveryWithin) }
-        ensures damaged { result ≡ Err ShelfFault.Damaged → is_honest self.new → DamagedAt (content self.old) (place.Delivery part.now number) }
+        ensures damaged { BlamesAt (is_honest self.new) (content self.old)
+            (place.Delivery part.now number) result }
         ensures kept { IsKept is_honest content written may_leave self.old self.new }
         ensures open { AnswersOpen is_clean is_honest result self.old self.new };
 
     /// How many of a part are on hand, if there ever was a delivery of it.
     fn hand(&mut self, alloc: Global, part: &PartCode) -> Result<Option<Hand>, ShelfFault>
-        ensures row { IfOk result (λ found. is_honest self.new → ReadsAt (content self.old) (place.Part part.now) found) }
+        ensures row { GivesAt (is_honest self.new) (content self.old)
+            (place.Part part.now) result }
         ensures within { IfOk result (λ found. IfSome found IsHand) }
-        ensures damaged { result ≡ Err ShelfFault.Damaged → is_honest self.new → DamagedAt (content self.old) (place.Part part.now) }
+        ensures damaged { BlamesAt (is_honest self.new) (content self.old)
+            (place.Part part.now) result }
         ensures kept { IsKept is_honest content written may_leave self.old self.new }
         ensures open { AnswersOpen is_clean is_honest result self.old self.new };
 
     /// The parts with how many are on hand, in the order of their codes.
     fn parts(&mut self, alloc: Global) -> Result<Vec<(PartCode, Hand)>, ShelfFault>
-        ensures rows { IfOk result (λ found. is_honest self.new → ListsParts (content self.old) found.items) }
+        ensures rows { IfOk result (λ found. is_honest self.new →
+            ListsParts (content self.old) found.items) }
         ensures within { IfOk result (λ found. is_honest self.new →
             AllByRecursion IsPartWithin found.items) }
-        ensures damaged { result ≡ Err ShelfFault.Damaged → is_honest self.new → HasDamagedPart (content self.old) }
+        ensures damaged { result ≡ Err ShelfFault.Damaged → is_honest self.new →
+            HasDamagedPart (content self.old) }
         ensures kept { IsKept is_honest content written may_leave self.old self.new }
         ensures open { AnswersOpen is_clean is_honest result self.old self.new };
 
@@ -262,16 +350,19 @@ pub trait Shelf {
         ensures clean { is_clean self.new → is_clean self.old }
         ensures honest { is_honest self.new → is_honest self.old }
         ensures open { is_clean self.new → OnOk result (changes.now ≢ [] → is_honest self.new) }
-        ensures ok { OnOk result (is_honest self.new → content self.new ≡ changed_by (content self.old) changes.now) }
+        ensures ok { OnOk result (is_honest self.new →
+            content self.new ≡ changed_by (content self.old) changes.now) }
         ensures err { OnErr result (is_honest self.new → content self.new ≡ content self.old) }
         ensures undamaged { result ≢ Err ShelfFault.Damaged }
-        ensures written_ok { OnOk result (written self.new ≡ counts_after (written self.old) changes.now) }
+        ensures written_ok { OnOk result
+            (written self.new ≡ counts_after (written self.old) changes.now) }
         ensures written_err { OnErr result (written self.new ≡ written self.old) }
 
         // A crash leaves what it could before, or the whole result; and that alone once changes
         // were made.
         ensures crash { (tables : Content) → may_leave self.new tables →
-            may_leave self.old tables ⊎ (is_honest self.old × (tables ≡ changed_by (content self.old) changes.now)) }
+            may_leave self.old tables
+            ⊎ (is_honest self.old × (tables ≡ changed_by (content self.old) changes.now)) }
         ensures settled { OnOk result (changes.now ≢ [] →
             (tables : Content) → may_leave self.new tables → tables ≡ content self.new) };
 

@@ -1,23 +1,38 @@
 -- What the statements on draft rows mean over the schema.
-use Rattle.std.specs.Prelude.{ℕ, [], ◌∷◌, codes, refl}
+use Rattle.std.specs.Prelude.{ℕ, List, [], ◌∷◌, Some, codes, refl}
 use Rattle.sqlite.specs.Listing.{understood}
 use Rattle.sqlite_tied.specs.Compute.{everything}
 use Rattle.signal_records.specs.declared.record.Change.{Change}
 use Rattle.signal_records.specs.declared.record.Change.TheVariants.{Put, Remove}
 use Rattle.office_tables_shelf.specs.Rows.{draft_key, draft_columns}
 use Rattle.office_tables_shelf.specs.declared.rows.Table.TheVariants.{Draft}
-use Rattle.office_tables_statements.specs.Tables.{IsDropText, IsRemoveText, Fits}
+use Rattle.office_tables_statements.specs.Tables.{IsListText, IsDropText, IsRemoveText, Fits}
 use Rattle.office_tables_sql.specs.Texts.{SqlTexts, AreTextsOf}
 use Rattle.office_tables_sql.specs.declared.draft.TheConstants.{LIST, FIND, UPDATE, INSERT, REMOVE, DROP}
 
 abbrev pub table_texts : SqlTexts
 table_texts = record { list = LIST.now; find = FIND.now; update = UPDATE.now; insert = INSERT.now }
 
+-- the columns that the queries show
+abbrev shown : List (List ℕ)
+shown = codes "inter" ∷ codes "kind" ∷ codes "a" ∷ codes "b" ∷ codes "body" ∷ []
+
+pub lists_rows : (id : ℕ) → IsListText Draft (Some id) LIST.now
+unfolding understood everything
+lists_rows id = record {
+  names = shown;
+  is = refl;
+  query = record { plain = (refl, refl); unlisted = refl };
+}
+
 pub means : AreTextsOf Draft table_texts
 unfolding understood everything
 means = record {
-  lists = record { names = codes "inter" ∷ codes "kind" ∷ codes "a" ∷ codes "b" ∷ codes "body" ∷ []; is = refl; query = record { plain = (refl, refl); unlisted = refl } };
-  finds = record { names = codes "inter" ∷ codes "kind" ∷ codes "a" ∷ codes "b" ∷ codes "body" ∷ []; is = refl; query = record { plain = (refl, refl); unlisted = refl } };
+  finds = record {
+    names = shown;
+    is = refl;
+    query = record { plain = (refl, refl); unlisted = refl };
+  };
   updates = record { is = refl; plain = (refl, refl) };
   inserts = record { is = refl; plain = (refl, refl) };
 }

@@ -1,5 +1,5 @@
 -- What was gathered of the rows of a list.
-use Rattle.std.specs.Prelude.{ℕ, List}
+use Rattle.std.specs.Prelude.{ℕ, List, Option}
 use Rattle.std.specs.List.{AllByRecursion}
 use Rattle.office_tables_shelf.specs.Cells.{Cell}
 use Rattle.office_tables_shelf.specs.Content.{Content}
@@ -9,9 +9,9 @@ use Rattle.office_tables_statements.specs.Tables.{ListsRows}
 -- the rows of the list in the table, in the order of their keys, are those of records, each within
 -- its limits, and it holds what is to be known of these
 pub record Gathers {X G : Type 0} (holds : G → List X → Type 0) (t : Table)
-    (IsWithin : X → Type 0) (key_of : ℕ → X → List Cell) (columns_of : X → List Cell)
-    (tables : Content) (id : ℕ) (found : G) : Type 0 where
+    (IsWithin : X → Type 0) (key_of columns_of : X → List Cell) (tables : Content)
+    (whose : Option ℕ) (found : G) : Type 0 where
   pub records : List X
   pub held : holds found records
   pub within : AllByRecursion IsWithin records
-  pub lists : ListsRows t key_of columns_of tables id records
+  pub lists : ListsRows t key_of columns_of tables whose records

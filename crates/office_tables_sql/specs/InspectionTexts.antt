@@ -1,25 +1,55 @@
 -- What the statements on inspections mean over the schema.
-use Rattle.std.specs.Prelude.{ℕ, [], ◌∷◌, codes, refl}
+use Rattle.std.specs.Prelude.{ℕ, List, [], ◌∷◌, None, Some, codes, refl}
 use Rattle.sqlite.specs.Listing.{understood}
 use Rattle.sqlite_tied.specs.Compute.{everything}
 use Rattle.cabinet_core.specs.declared.record.Inspection.{Inspection as Found}
 use Rattle.office_tables_shelf.specs.CabinetRows.{inspection_key, inspection_columns}
 use Rattle.office_tables_shelf.specs.declared.rows.Table.TheVariants.{Inspection}
-use Rattle.office_tables_statements.specs.Tables.{Fits}
+use Rattle.office_tables_statements.specs.Tables.{IsListText, Fits}
 use Rattle.office_tables_sql.specs.Texts.{SqlTexts, AreTextsOf}
-use Rattle.office_tables_sql.specs.declared.inspection.TheConstants.{LIST, FIND, UPDATE, INSERT}
+use Rattle.office_tables_sql.specs.declared.inspection.TheConstants.{LIST, WALK, FIND, UPDATE, INSERT}
 
 abbrev pub table_texts : SqlTexts
 table_texts = record { list = LIST.now; find = FIND.now; update = UPDATE.now; insert = INSERT.now }
 
+-- those of the list of all
+abbrev pub walk_texts : SqlTexts
+walk_texts = record table_texts { list = WALK.now }
+
+-- the columns that the queries show
+abbrev shown : List (List ℕ)
+shown = codes "inter" ∷ codes "number" ∷ codes "day" ∷ codes "clerk" ∷ codes "body" ∷ []
+
+pub lists_rows : (id : ℕ) → IsListText Inspection (Some id) LIST.now
+unfolding understood everything
+lists_rows id = record {
+  names = shown;
+  is = refl;
+  query = record { plain = (refl, refl); unlisted = refl };
+}
+
+pub walks : IsListText Inspection None WALK.now
+unfolding understood everything
+walks = record {
+  names = shown;
+  is = refl;
+  query = record { plain = (refl, refl); unlisted = refl };
+}
+
 pub means : AreTextsOf Inspection table_texts
 unfolding understood everything
 means = record {
-  lists = record { names = codes "inter" ∷ codes "number" ∷ codes "day" ∷ codes "clerk" ∷ codes "body" ∷ []; is = refl; query = record { plain = (refl, refl); unlisted = refl } };
-  finds = record { names = codes "inter" ∷ codes "number" ∷ codes "day" ∷ codes "clerk" ∷ codes "body" ∷ []; is = refl; query = record { plain = (refl, refl); unlisted = refl } };
+  finds = record {
+    names = shown;
+    is = refl;
+    query = record { plain = (refl, refl); unlisted = refl };
+  };
   updates = record { is = refl; plain = (refl, refl) };
   inserts = record { is = refl; plain = (refl, refl) };
 }
+
+pub walk_means : AreTextsOf Inspection walk_texts
+walk_means = record { finds = means.finds; updates = means.updates; inserts = means.inserts }
 
 pub fits : (id : ℕ) (found : Found) → Fits Inspection (inspection_key id found.number) (inspection_columns found)
 fits id found = record {

@@ -6,18 +6,33 @@ use Rattle.draft_state.specs.declared.state.Holder.{Holder}
 use Rattle.office_tables_shelf.specs.Cells.{number, text}
 use Rattle.office_tables_shelf.specs.Rows.{state_number, owner_cell, intersection_key}
 use Rattle.office_tables_shelf.specs.declared.rows.Table.TheVariants.{Intersection}
-use Rattle.office_tables_statements.specs.Tables.{Fits}
+use Rattle.office_tables_statements.specs.Tables.{IsListText, Fits}
 use Rattle.office_tables_sql.specs.Texts.{SqlTexts, AreTextsOf}
 use Rattle.office_tables_sql.specs.declared.intersection.TheConstants.{LIST, FIND, UPDATE, INSERT}
 
 abbrev pub table_texts : SqlTexts
 table_texts = record { list = LIST.now; find = FIND.now; update = UPDATE.now; insert = INSERT.now }
 
+-- the columns that the queries show
+abbrev shown : List (List ℕ)
+shown = codes "id" ∷ codes "name" ∷ codes "days" ∷ codes "revision" ∷ codes "state" ∷ codes "owner" ∷ []
+
+pub lists_rows : IsListText Intersection None LIST.now
+unfolding understood everything
+lists_rows = record {
+  names = shown;
+  is = refl;
+  query = record { plain = (refl, refl); unlisted = refl };
+}
+
 pub means : AreTextsOf Intersection table_texts
 unfolding understood everything
 means = record {
-  lists = record { names = codes "id" ∷ codes "name" ∷ codes "days" ∷ codes "revision" ∷ codes "state" ∷ codes "owner" ∷ []; is = refl; query = record { plain = (refl, refl); unlisted = refl } };
-  finds = record { names = codes "id" ∷ codes "name" ∷ codes "days" ∷ codes "revision" ∷ codes "state" ∷ codes "owner" ∷ []; is = refl; query = record { plain = (refl, refl); unlisted = refl } };
+  finds = record {
+    names = shown;
+    is = refl;
+    query = record { plain = (refl, refl); unlisted = refl };
+  };
   updates = record { is = refl; plain = (refl, refl) };
   inserts = record { is = refl; plain = (refl, refl) };
 }

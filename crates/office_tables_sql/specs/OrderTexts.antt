@@ -6,21 +6,51 @@ use Rattle.cabinet_core.specs.declared.record.Closing.{Closing}
 use Rattle.office_tables_shelf.specs.Cells.{number, text}
 use Rattle.office_tables_shelf.specs.CabinetRows.{order_key, closed_cell, closer_cell}
 use Rattle.office_tables_shelf.specs.declared.rows.Table.TheVariants.{WorkOrder}
-use Rattle.office_tables_statements.specs.Tables.{Fits}
+use Rattle.office_tables_statements.specs.Tables.{IsListText, Fits}
 use Rattle.office_tables_sql.specs.Texts.{SqlTexts, AreTextsOf}
-use Rattle.office_tables_sql.specs.declared.order.TheConstants.{LIST, FIND, UPDATE, INSERT}
+use Rattle.office_tables_sql.specs.declared.order.TheConstants.{LIST, WALK, FIND, UPDATE, INSERT}
 
 abbrev pub table_texts : SqlTexts
 table_texts = record { list = LIST.now; find = FIND.now; update = UPDATE.now; insert = INSERT.now }
 
+-- those of the list of all
+abbrev pub walk_texts : SqlTexts
+walk_texts = record table_texts { list = WALK.now }
+
+-- the columns that the queries show
+abbrev shown : List (List ℕ)
+shown = codes "inter" ∷ codes "number" ∷ codes "opened" ∷ codes "clerk" ∷ codes "body" ∷ codes "closed" ∷ codes "closer" ∷ []
+
+pub lists_rows : (id : ℕ) → IsListText WorkOrder (Some id) LIST.now
+unfolding understood everything
+lists_rows id = record {
+  names = shown;
+  is = refl;
+  query = record { plain = (refl, refl); unlisted = refl };
+}
+
+pub walks : IsListText WorkOrder None WALK.now
+unfolding understood everything
+walks = record {
+  names = shown;
+  is = refl;
+  query = record { plain = (refl, refl); unlisted = refl };
+}
+
 pub means : AreTextsOf WorkOrder table_texts
 unfolding understood everything
 means = record {
-  lists = record { names = codes "inter" ∷ codes "number" ∷ codes "opened" ∷ codes "clerk" ∷ codes "body" ∷ codes "closed" ∷ codes "closer" ∷ []; is = refl; query = record { plain = (refl, refl); unlisted = refl } };
-  finds = record { names = codes "inter" ∷ codes "number" ∷ codes "opened" ∷ codes "clerk" ∷ codes "body" ∷ codes "closed" ∷ codes "closer" ∷ []; is = refl; query = record { plain = (refl, refl); unlisted = refl } };
+  finds = record {
+    names = shown;
+    is = refl;
+    query = record { plain = (refl, refl); unlisted = refl };
+  };
   updates = record { is = refl; plain = (refl, refl) };
   inserts = record { is = refl; plain = (refl, refl) };
 }
+
+pub walk_means : AreTextsOf WorkOrder walk_texts
+walk_means = record { finds = means.finds; updates = means.updates; inserts = means.inserts }
 
 pub fits : (id n opened : ℕ) (clerk body : List ℕ) (closing : Option Closing) → Fits WorkOrder (order_key id n) (number (pos opened) ∷ text clerk ∷ text body ∷ closed_cell closing ∷ closer_cell closing ∷ [])
 fits id n opened clerk body None = record {

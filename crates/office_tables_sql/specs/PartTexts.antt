@@ -1,21 +1,36 @@
 -- What the statements on parts mean over the schema.
-use Rattle.std.specs.Prelude.{ℕ, List, [], ◌∷◌, codes, refl}
+use Rattle.std.specs.Prelude.{ℕ, List, [], ◌∷◌, None, codes, refl}
 use Rattle.sqlite.specs.Listing.{understood}
 use Rattle.sqlite_tied.specs.Compute.{everything}
 use Rattle.office_tables_shelf.specs.CabinetRows.{part_key, part_columns}
 use Rattle.office_tables_shelf.specs.declared.rows.Table.TheVariants.{Part}
-use Rattle.office_tables_statements.specs.Tables.{Fits}
+use Rattle.office_tables_statements.specs.Tables.{IsListText, Fits}
 use Rattle.office_tables_sql.specs.Texts.{SqlTexts, AreTextsOf}
 use Rattle.office_tables_sql.specs.declared.part.TheConstants.{LIST, FIND, UPDATE, INSERT}
 
 abbrev pub table_texts : SqlTexts
 table_texts = record { list = LIST.now; find = FIND.now; update = UPDATE.now; insert = INSERT.now }
 
+-- the columns that the queries show
+abbrev shown : List (List ℕ)
+shown = codes "code" ∷ codes "hand" ∷ []
+
+pub lists_rows : IsListText Part None LIST.now
+unfolding understood everything
+lists_rows = record {
+  names = shown;
+  is = refl;
+  query = record { plain = (refl, refl); unlisted = refl };
+}
+
 pub means : AreTextsOf Part table_texts
 unfolding understood everything
 means = record {
-  lists = record { names = codes "code" ∷ codes "hand" ∷ []; is = refl; query = record { plain = (refl, refl); unlisted = refl } };
-  finds = record { names = codes "code" ∷ codes "hand" ∷ []; is = refl; query = record { plain = (refl, refl); unlisted = refl } };
+  finds = record {
+    names = shown;
+    is = refl;
+    query = record { plain = (refl, refl); unlisted = refl };
+  };
   updates = record { is = refl; plain = (refl, refl) };
   inserts = record { is = refl; plain = (refl, refl) };
 }

@@ -1,7 +1,7 @@
--- The texts of the statements on one table, and what they mean over the schema.
+-- The texts of the statements on one table, and what those on one row mean over the schema.
 use Rattle.std.specs.Prelude.{ℕ, List}
 use Rattle.office_tables_shelf.specs.declared.rows.Table.{Table}
-use Rattle.office_tables_statements.specs.Tables.{IsListText, IsFindText, IsUpdateText, IsInsertText}
+use Rattle.office_tables_statements.specs.Tables.{IsFindText, IsUpdateText, IsInsertText}
 
 pub record SqlTexts : Type 0 where
   pub list : List ℕ
@@ -10,7 +10,6 @@ pub record SqlTexts : Type 0 where
   pub insert : List ℕ
 
 pub record AreTextsOf (t : Table) (texts : SqlTexts) : Type 0 where
-  pub lists : IsListText t texts.list
   pub finds : IsFindText t texts.find
   pub updates : IsUpdateText t texts.update
   pub inserts : IsInsertText t texts.insert

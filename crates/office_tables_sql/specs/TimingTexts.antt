@@ -1,23 +1,38 @@
 -- What the statements on timing rows mean over the schema.
-use Rattle.std.specs.Prelude.{ℕ, [], ◌∷◌, codes, refl}
+use Rattle.std.specs.Prelude.{ℕ, List, [], ◌∷◌, Some, codes, refl}
 use Rattle.sqlite.specs.Listing.{understood}
 use Rattle.sqlite_tied.specs.Compute.{everything}
 use Rattle.signal_records.specs.Row.{key_of}
 use Rattle.signal_records.specs.declared.record.Row.{Row}
 use Rattle.office_tables_shelf.specs.Rows.{timing_key, timing_columns}
 use Rattle.office_tables_shelf.specs.declared.rows.Table.TheVariants.{Timing}
-use Rattle.office_tables_statements.specs.Tables.{IsCountText, IsRemoveText, Fits}
+use Rattle.office_tables_statements.specs.Tables.{IsListText, IsCountText, IsRemoveText, Fits}
 use Rattle.office_tables_sql.specs.Texts.{SqlTexts, AreTextsOf}
 use Rattle.office_tables_sql.specs.declared.timing.TheConstants.{LIST, FIND, UPDATE, INSERT, COUNT, REMOVE}
 
 abbrev pub table_texts : SqlTexts
 table_texts = record { list = LIST.now; find = FIND.now; update = UPDATE.now; insert = INSERT.now }
 
+-- the columns that the queries show
+abbrev shown : List (List ℕ)
+shown = codes "inter" ∷ codes "kind" ∷ codes "a" ∷ codes "b" ∷ codes "body" ∷ []
+
+pub lists_rows : (id : ℕ) → IsListText Timing (Some id) LIST.now
+unfolding understood everything
+lists_rows id = record {
+  names = shown;
+  is = refl;
+  query = record { plain = (refl, refl); unlisted = refl };
+}
+
 pub means : AreTextsOf Timing table_texts
 unfolding understood everything
 means = record {
-  lists = record { names = codes "inter" ∷ codes "kind" ∷ codes "a" ∷ codes "b" ∷ codes "body" ∷ []; is = refl; query = record { plain = (refl, refl); unlisted = refl } };
-  finds = record { names = codes "inter" ∷ codes "kind" ∷ codes "a" ∷ codes "b" ∷ codes "body" ∷ []; is = refl; query = record { plain = (refl, refl); unlisted = refl } };
+  finds = record {
+    names = shown;
+    is = refl;
+    query = record { plain = (refl, refl); unlisted = refl };
+  };
   updates = record { is = refl; plain = (refl, refl) };
   inserts = record { is = refl; plain = (refl, refl) };
 }

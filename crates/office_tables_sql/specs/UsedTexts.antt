@@ -1,22 +1,37 @@
 -- What the statements on used parts mean over the schema.
-use Rattle.std.specs.Prelude.{ℕ, [], ◌∷◌, codes, refl}
+use Rattle.std.specs.Prelude.{ℕ, List, [], ◌∷◌, Some, codes, refl}
 use Rattle.sqlite.specs.Listing.{understood}
 use Rattle.sqlite_tied.specs.Compute.{everything}
 use Rattle.cabinet_core.specs.declared.record.UsedLine.{UsedLine}
 use Rattle.office_tables_shelf.specs.CabinetRows.{used_key, used_columns}
 use Rattle.office_tables_shelf.specs.declared.rows.Table.TheVariants.{UsedPart}
-use Rattle.office_tables_statements.specs.Tables.{Fits}
+use Rattle.office_tables_statements.specs.Tables.{IsListText, Fits}
 use Rattle.office_tables_sql.specs.Texts.{SqlTexts, AreTextsOf}
 use Rattle.office_tables_sql.specs.declared.used.TheConstants.{LIST, FIND, UPDATE, INSERT}
 
 abbrev pub table_texts : SqlTexts
 table_texts = record { list = LIST.now; find = FIND.now; update = UPDATE.now; insert = INSERT.now }
 
+-- the columns that the queries show
+abbrev shown : List (List ℕ)
+shown = codes "inter" ∷ codes "ord" ∷ codes "line" ∷ codes "part" ∷ codes "amount" ∷ []
+
+pub lists_rows : (id : ℕ) → IsListText UsedPart (Some id) LIST.now
+unfolding understood everything
+lists_rows id = record {
+  names = shown;
+  is = refl;
+  query = record { plain = (refl, refl); unlisted = refl };
+}
+
 pub means : AreTextsOf UsedPart table_texts
 unfolding understood everything
 means = record {
-  lists = record { names = codes "inter" ∷ codes "ord" ∷ codes "line" ∷ codes "part" ∷ codes "amount" ∷ []; is = refl; query = record { plain = (refl, refl); unlisted = refl } };
-  finds = record { names = codes "inter" ∷ codes "ord" ∷ codes "line" ∷ codes "part" ∷ codes "amount" ∷ []; is = refl; query = record { plain = (refl, refl); unlisted = refl } };
+  finds = record {
+    names = shown;
+    is = refl;
+    query = record { plain = (refl, refl); unlisted = refl };
+  };
   updates = record { is = refl; plain = (refl, refl) };
   inserts = record { is = refl; plain = (refl, refl) };
 }

@@ -1,5 +1,7 @@
 //! The table `delivery`: what was delivered of each part.
 
+ghost use Rattle.std.specs.Prelude.{None};
+
 use crate::stored_row::{StoredRow, Texts};
 use cabinet_core::Delivery;
 use office_tables_shelf::shelf::ShelfFault;
@@ -25,7 +27,7 @@ impl StoredRow for Delivery {
 
     type Of = ();
 
-    ghost number = { λ _. 0 };
+    ghost whose = { λ _. None };
 
     ghost table = { table.Delivery };
 
@@ -36,6 +38,8 @@ impl StoredRow for Delivery {
     ghost is_within = { IsDeliveryWithin };
 
     ghost texts = { facts.table_texts };
+
+    ghost lists = { λ _. facts.lists_rows };
 
     ghost means = { facts.means };
 

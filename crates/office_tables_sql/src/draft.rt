@@ -1,6 +1,6 @@
 //! The table `draft`: the changes that a draft keeps.
 
-ghost use Rattle.std.specs.Prelude.{◌≡◌, [], ◌∷◌, IfOk, OnOk};
+ghost use Rattle.std.specs.Prelude.{◌≡◌, [], ◌∷◌, Some, IfOk, OnOk};
 ghost use Rattle.sqlite.specs.Held.{state};
 ghost use Rattle.sqlite.specs.State.{HasCleanDisk, Survives};
 ghost use Rattle.sqlite.specs.Values.{bound_value};
@@ -53,7 +53,8 @@ fn left_body<'a>(
     change: &Change,
     text: &'a mut String,
 ) -> Result<ValueRef<'a>, NoMemory>
-    ensures { IfOk result (λ body. bound_value (owned body) ∷ [] ≡ values_of (draft_columns change.now)) }
+    ensures { IfOk result (λ body.
+        bound_value (owned body) ∷ [] ≡ values_of (draft_columns change.now)) }
 {
     match change {
         Change::Put(row) => {
@@ -72,7 +73,7 @@ impl StoredRow for Change {
 
     type Of = InterId;
 
-    ghost number = { λ id. id };
+    ghost whose = { Some };
 
     ghost table = { table.Draft };
 
@@ -83,6 +84,8 @@ impl StoredRow for Change {
     ghost is_within = { IsChangeWithin current_limits };
 
     ghost texts = { facts.table_texts };
+
+    ghost lists = { facts.lists_rows };
 
     ghost means = { facts.means };
 

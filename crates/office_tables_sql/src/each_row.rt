@@ -1,11 +1,11 @@
 //! Rows of a table, read one at a time.
 
-ghost use Rattle.std.specs.Prelude.{◌≡◌, ◌≢◌, List, [], ◌∷◌, ◌++◌, pos, IfOk, OnOk, IsTrue};
+ghost use Rattle.std.specs.Prelude.{◌≡◌, ◌≢◌, List, [], ◌∷◌, ◌++◌, Some, None};
+ghost use Rattle.std.specs.Prelude.{IfOk, OnOk, IsTrue};
 ghost use Rattle.std.specs.List.{AllByRecursion};
 ghost use Rattle.sqlite.specs.State.{HasCleanDisk, Survives};
 ghost use Rattle.sqlite.specs.Held.{state};
 ghost use Rattle.sqlite.specs.Values.{bound};
-ghost use Rattle.sqlite.specs.declared.types.Value.TheVariants.{Int};
 ghost use Rattle.office_tables_statements.specs.Stored.{content_now};
 ghost use Rattle.office_tables_statements.specs.Calls.{IsHonest, IsOffice, IsQuery, Keeps};
 ghost use Rattle.office_tables_statements.specs.Calls.{TellsOpen};
@@ -26,7 +26,7 @@ pub(crate) trait Gather<T>: Sized + Drop {
     ghost holds: { Self → List T → Type 0 };
 
     /// Gathers one more record. It refuses where a growth is refused.
-    fn take(&mut self, next: T) -> Result<(), NoMemory>
+    fn take(&mut self, alloc: Global, next: T) -> Result<(), NoMemory>
         ensures { OnOk result ((records : List T) → holds self.old records →
             holds self.new (records ++ next ∷ [])) };
 }
@@ -34,7 +34,7 @@ pub(crate) trait Gather<T>: Sized + Drop {
 impl<T: Drop> Gather<T> for Vec<T> {
     ghost holds = { λ found records. found.items ≡ records };
 
-    fn take(&mut self, next: T) -> Result<(), NoMemory> {
+    fn take(&mut self, _alloc: Global, next: T) -> Result<(), NoMemory> {
         self.push(next)?;
         Ok(())
     }
@@ -52,7 +52,8 @@ fn prepared<S: Alter>(conn: &mut Connection<S>, sql: &str) -> Result<Statement, 
     requires office { IsOffice (state S.Store conn.old) }
     requires query { IsQuery sql.now }
     ensures text { HasCleanDisk (state S.Store conn.new) → IfOk result (λ s. s.text ≡ sql.now) }
-    ensures opened { HasCleanDisk (state S.Store conn.new) → OnOk result (IsTrue (state S.Store conn.new).is_open) }
+    ensures opened { HasCleanDisk (state S.Store conn.new) →
+        OnOk result (IsTrue (state S.Store conn.new).is_open) }
     ensures kept { Keeps (state S.Store conn.old) (state S.Store conn.new) }
     ensures crash { Survives (state S.Store conn.old) (state S.Store conn.new) (λ _. ⊥) }
 {
@@ -67,11 +68,15 @@ pub fn list<T: StoredRow<Of = InterId>, S: Alter>(
     id: InterId,
 ) -> Result<Vec<T>, ShelfFault>
     requires office { IsOffice (state S.Store conn.old) }
-    requires params { params_of T.table (T.number id) ≡ Int (pos id) ∷ [] }
-    ensures rows { IfOk result (λ found. IsHonest (state S.Store conn.new) → ListsRows T.table T.key T.columns (content_now (state S.Store conn.old)) (T.number id) found.items) }
+    requires whose { T.whose id ≡ Some id }
+    ensures rows { IfOk result (λ found. IsHonest (state S.Store conn.new) →
+        ListsRows T.table (T.key id) T.columns (content_now (state S.Store conn.old)) (T.whose id)
+        found.items) }
     ensures within { IfOk result (λ found. IsHonest (state S.Store conn.new) →
         AllByRecursion T.is_within found.items) }
-    ensures damaged { result ≡ Err ShelfFault.Damaged → IsHonest (state S.Store conn.new) → HasDamagedRow T.table T.is_within T.key T.columns (content_now (state S.Store conn.old)) (T.number id) }
+    ensures damaged { result ≡ Err ShelfFault.Damaged → IsHonest (state S.Store conn.new) →
+        HasDamagedRow T.table T.is_within (T.key id) T.columns
+        (content_now (state S.Store conn.old)) (T.whose id) }
     ensures kept { Keeps (state S.Store conn.old) (state S.Store conn.new) }
     ensures crash { Survives (state S.Store conn.old) (state S.Store conn.new) (λ _. ⊥) }
     ensures open { TellsOpen result (state S.Store conn.new) }
@@ -79,17 +84,21 @@ pub fn list<T: StoredRow<Of = InterId>, S: Alter>(
     gathered::<T, Vec<T>, S>(alloc, conn, id, params![id.get()], Vec::new(alloc))
 }
 
-/// All rows of a table that is not parted by intersections, in the order of their keys.
+/// All rows of a table, in the order of their keys.
 pub fn list_all<T: StoredRow<Of = ()>, S: Alter>(
     alloc: Global,
     conn: &mut Connection<S>,
 ) -> Result<Vec<T>, ShelfFault>
     requires office { IsOffice (state S.Store conn.old) }
-    requires params { params_of T.table (T.number tt) ≡ [] }
-    ensures rows { IfOk result (λ found. IsHonest (state S.Store conn.new) → ListsRows T.table T.key T.columns (content_now (state S.Store conn.old)) (T.number tt) found.items) }
+    requires whose { T.whose tt ≡ None }
+    ensures rows { IfOk result (λ found. IsHonest (state S.Store conn.new) →
+        ListsRows T.table (T.key tt) T.columns (content_now (state S.Store conn.old)) (T.whose tt)
+        found.items) }
     ensures within { IfOk result (λ found. IsHonest (state S.Store conn.new) →
         AllByRecursion T.is_within found.items) }
-    ensures damaged { result ≡ Err ShelfFault.Damaged → IsHonest (state S.Store conn.new) → HasDamagedRow T.table T.is_within T.key T.columns (content_now (state S.Store conn.old)) (T.number tt) }
+    ensures damaged { result ≡ Err ShelfFault.Damaged → IsHonest (state S.Store conn.new) →
+        HasDamagedRow T.table T.is_within (T.key tt) T.columns
+        (content_now (state S.Store conn.old)) (T.whose tt) }
     ensures kept { Keeps (state S.Store conn.old) (state S.Store conn.new) }
     ensures crash { Survives (state S.Store conn.old) (state S.Store conn.new) (λ _. ⊥) }
     ensures open { TellsOpen result (state S.Store conn.new) }
@@ -106,15 +115,15 @@ pub(crate) fn gathered<T: StoredRow, G: Gather<T>, S: Alter>(
     params: &[ValueRef<'_>],
     begun: G,
 ) -> Result<G, ShelfFault>
-    requires params { bound params.now ≡ params_of T.table (T.number of) }
+    requires params { bound params.now ≡ params_of (T.whose of) }
     requires office { IsOffice (state S.Store conn.old) }
     requires begun { G.holds begun [] }
     ensures rows { IfOk result (λ found. IsHonest (state S.Store conn.new) →
-        Gathers G.holds T.table T.is_within T.key T.columns (content_now (state S.Store conn.old))
-        (T.number of) found) }
+        Gathers G.holds T.table T.is_within (T.key of) T.columns
+        (content_now (state S.Store conn.old)) (T.whose of) found) }
     ensures damaged { result ≡ Err ShelfFault.Damaged → IsHonest (state S.Store conn.new) →
-        HasDamagedRow T.table T.is_within T.key T.columns (content_now (state S.Store conn.old))
-        (T.number of) }
+        HasDamagedRow T.table T.is_within (T.key of) T.columns
+        (content_now (state S.Store conn.old)) (T.whose of) }
     ensures kept { Keeps (state S.Store conn.old) (state S.Store conn.new) }
     ensures crash { Survives (state S.Store conn.old) (state S.Store conn.new) (λ _. ⊥) }
     ensures open { TellsOpen result (state S.Store conn.new) }
@@ -133,14 +142,17 @@ fn gather_each<T: StoredRow, G: Gather<T>, S: Alter>(
     begun: G,
 ) -> Result<G, ShelfFault>
     requires text { HasCleanDisk (state S.Store conn.old) → statement.now.text ≡ T.texts.list }
-    requires params { bound params.now ≡ params_of T.table (T.number of) }
+    requires params { bound params.now ≡ params_of (T.whose of) }
     requires office { IsOffice (state S.Store conn.old) }
-    requires opened { HasCleanDisk (state S.Store conn.old) → IsTrue (state S.Store conn.old).is_open }
+    requires opened { HasCleanDisk (state S.Store conn.old) →
+        IsTrue (state S.Store conn.old).is_open }
     requires begun { G.holds begun [] }
     ensures rows { IfOk result (λ found. IsHonest (state S.Store conn.new) →
-        Gathers G.holds T.table T.is_within T.key T.columns (content_now (state S.Store conn.old))
-        (T.number of) found) }
-    ensures damaged { result ≡ Err ShelfFault.Damaged → IsHonest (state S.Store conn.new) → HasDamagedRow T.table T.is_within T.key T.columns (content_now (state S.Store conn.old)) (T.number of) }
+        Gathers G.holds T.table T.is_within (T.key of) T.columns
+        (content_now (state S.Store conn.old)) (T.whose of) found) }
+    ensures damaged { result ≡ Err ShelfFault.Damaged → IsHonest (state S.Store conn.new) →
+        HasDamagedRow T.table T.is_within (T.key of) T.columns
+        (content_now (state S.Store conn.old)) (T.whose of) }
     ensures kept { Keeps (state S.Store conn.old) (state S.Store conn.new) }
     ensures crash { Survives (state S.Store conn.old) (state S.Store conn.new) (λ _. ⊥) }
     ensures open { TellsOpen result (state S.Store conn.new) }
@@ -158,7 +170,7 @@ fn gather_each<T: StoredRow, G: Gather<T>, S: Alter>(
             return Ok(found);
         };
         let record = T::read(alloc, of, row)?;
-        found.take(record)?;
+        found.take(alloc, record)?;
     }
     Err(ShelfFault::Store)
 }

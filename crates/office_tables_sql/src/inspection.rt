@@ -1,19 +1,20 @@
 //! The table `inspection`: the inspections of each cabinet.
 
-ghost use Rattle.std.specs.Prelude.{◌≡◌, IfOk};
+ghost use Rattle.std.specs.Prelude.{◌≡◌, ℕ, Some, None, IfOk};
 ghost use Rattle.sqlite.specs.State.{Survives};
 ghost use Rattle.sqlite.specs.Held.{state};
 ghost use Rattle.cabinet_core.specs.Overdue.{latest_day};
-ghost use Rattle.office_tables_shelf.specs.CabinetReads.{HasDamagedInspection};
+ghost use Rattle.office_tables_shelf.specs.CabinetReads.{of_one, HasAnyDamagedInspection};
 ghost use Rattle.office_tables_shelf.specs.CabinetRows.{inspection_key, inspection_columns};
-ghost use Rattle.office_tables_shelf.specs.Overdue.{ReadsLast};
+ghost use Rattle.office_tables_shelf.specs.Overdue.{last_day_in, ReadsLast};
 ghost use Rattle.office_tables_statements.specs.Stored.{content_now};
 ghost use Rattle.office_tables_statements.specs.Calls.{IsHonest, IsOffice, Keeps};
 ghost use Rattle.office_tables_statements.specs.Calls.{TellsOpen};
 
 use crate::each_row::{Gather, gathered};
 use crate::stored_row::{StoredRow, Texts};
-use cabinet_core::{Day, Inspection, later};
+use cabinet_core::{Day, Inspection};
+use office_tables_shelf::overdue::add_day;
 use office_tables_shelf::shelf::ShelfFault;
 use office_tables_statements::listed::check_number;
 use office_tables_statements::value::{day_at, ranged_at, words_at};
@@ -21,9 +22,12 @@ use signal_records::{InterId, NoMemory};
 use sqlite::types::{ToSql, ValueRef};
 use sqlite::{Alter, Connection, Row, params};
 use std::alloc::Global;
+use std::collections::BTreeMap;
 
 const LIST: &str =
     "SELECT inter, number, day, clerk, body FROM inspection WHERE inter = ?1 ORDER BY inter, number";
+
+const WALK: &str = "SELECT inter, number, day, clerk, body FROM inspection ORDER BY inter, number";
 
 const FIND: &str =
     "SELECT inter, number, day, clerk, body FROM inspection WHERE inter = ?1 AND number = ?2";
@@ -41,7 +45,7 @@ impl StoredRow for Inspection {
 
     type Of = InterId;
 
-    ghost number = { λ id. id };
+    ghost whose = { Some };
 
     ghost table = { table.Inspection };
 
@@ -52,6 +56,8 @@ impl StoredRow for Inspection {
     ghost is_within = { IsInspectionWithin };
 
     ghost texts = { facts.table_texts };
+
+    ghost lists = { facts.lists_rows };
 
     ghost means = { facts.means };
 
@@ -95,39 +101,91 @@ impl StoredRow for Inspection {
     }
 }
 
-/// The latest day of the inspections that were gathered, if there is one.
-#[derive(Drop)]
-struct LatestDay {
-    day: Option<Day>,
-}
+/// An inspection beside the number of its intersection: a list has those of all.
+impl StoredRow for (InterId, Inspection) {
+    ghost use Rattle.cabinet_core.specs.Within.{IsInspectionWithin};
+    ghost use Rattle.office_tables_shelf.specs.CabinetReads.{IsOfOne};
+    ghost use Rattle.office_tables_shelf.specs.declared.rows.Table.TheVariants as table;
+    ghost use Rattle.office_tables_sql.specs.InspectionTexts as facts;
 
-impl Gather<Inspection> for LatestDay {
-    ghost holds = { λ latest inspections. latest.day ≡ latest_day inspections };
+    type Of = ();
 
-    fn take(&mut self, next: Inspection) -> Result<(), NoMemory> {
-        self.day = Some(later(next.day, self.day));
-        Ok(())
+    ghost whose = { λ _. None };
+
+    ghost table = { table.Inspection };
+
+    ghost key = { λ _ e. inspection_key e.0 e.1.number };
+
+    ghost columns = { λ e. inspection_columns e.1 };
+
+    ghost is_within = { IsOfOne IsInspectionWithin };
+
+    ghost texts = { facts.walk_texts };
+
+    ghost lists = { λ _. facts.walks };
+
+    ghost means = { facts.walk_means };
+
+    ghost fits = { λ _ e. facts.fits e.0 e.1 };
+
+    fn texts() -> Texts {
+        Texts {
+            list: WALK,
+            find: FIND,
+            update: UPDATE,
+            insert: INSERT,
+        }
+    }
+
+    fn read(alloc: Global, _of: (), row: &Row) -> Result<(InterId, Inspection), ShelfFault> {
+        let id = ranged_at(row, 0)?;
+        let found = Inspection::read(alloc, id, row)?;
+        Ok((id, found))
+    }
+
+    fn bind<'a>(
+        &'a self,
+        alloc: Global,
+        _of: (),
+        text: &'a mut String,
+    ) -> Result<Vec<ValueRef<'a>>, NoMemory> {
+        self.1.bind(alloc, self.0, text)
     }
 }
 
-/// The day of the latest inspection of an intersection, if there is one. It refuses with Damaged
-/// where one of its inspections is no record, and with Store or NoMemory. No inspection is kept
-/// after it is read.
-pub fn last_day<S: Alter>(
+impl Gather<(InterId, Inspection)> for BTreeMap<InterId, Day> {
+    ghost holds = { λ days found. (id : ℕ) →
+        last_day_in days.entries id ≡ latest_day (of_one id found) };
+
+    fn take(&mut self, _alloc: Global, next: (InterId, Inspection)) -> Result<(), NoMemory> {
+        let (id, found) = next;
+        add_day(self, id, found.day)
+    }
+}
+
+/// The day of the latest inspection of each intersection that has one. It refuses with Damaged
+/// where an inspection is no record, and with Store or NoMemory. No inspection is kept after it is
+/// read.
+pub fn last_days<S: Alter>(
     alloc: Global,
     conn: &mut Connection<S>,
-    id: InterId,
-) -> Result<Option<Day>, ShelfFault>
+) -> Result<BTreeMap<InterId, Day>, ShelfFault>
     requires { IsOffice (state S.Store conn.old) }
-    ensures day { IfOk result (λ last. IsHonest (state S.Store conn.new) →
-        ReadsLast (content_now (state S.Store conn.old)) id last) }
+    ensures days { IfOk result (λ days. IsHonest (state S.Store conn.new) → (id : ℕ) →
+        ReadsLast (content_now (state S.Store conn.old)) id (last_day_in days.entries id)) }
+    ensures whole { IfOk result (λ _. IsHonest (state S.Store conn.new) →
+        ¬ HasAnyDamagedInspection (content_now (state S.Store conn.old))) }
     ensures damaged { result ≡ Err ShelfFault.Damaged → IsHonest (state S.Store conn.new) →
-        HasDamagedInspection (content_now (state S.Store conn.old)) id }
+        HasAnyDamagedInspection (content_now (state S.Store conn.old)) }
     ensures kept { Keeps (state S.Store conn.old) (state S.Store conn.new) }
     ensures crash { Survives (state S.Store conn.old) (state S.Store conn.new) (λ _. ⊥) }
     ensures open { TellsOpen result (state S.Store conn.new) }
 {
-    let begun = LatestDay { day: None };
-    let latest = gathered::<Inspection, LatestDay, S>(alloc, conn, id, params![id.get()], begun)?;
-    Ok(latest.day)
+    gathered::<(InterId, Inspection), BTreeMap<InterId, Day>, S>(
+        alloc,
+        conn,
+        (),
+        params![],
+        BTreeMap::new(alloc),
+    )
 }

@@ -1,6 +1,6 @@
 //! The table `intersection`, whose key is the rowid.
 
-ghost use Rattle.std.specs.Prelude.{◌≡◌, ◌≢◌, pos, [], length, Option, IfOk, IfSome, OnOk};
+ghost use Rattle.std.specs.Prelude.{◌≡◌, ◌≢◌, pos, [], length, Option, None, IfOk, IfSome, OnOk};
 ghost use Rattle.sqlite.specs.Order.{column};
 ghost use Rattle.sqlite.specs.State.{HasCleanDisk, Survives};
 ghost use Rattle.sqlite.specs.Held.{state};
@@ -55,7 +55,7 @@ impl StoredRow for (InterId, IntersectionRow) {
 
     type Of = ();
 
-    ghost number = { λ _. 0 };
+    ghost whose = { λ _. None };
 
     ghost table = { table.Intersection };
 
@@ -67,9 +67,12 @@ impl StoredRow for (InterId, IntersectionRow) {
 
     ghost texts = { facts.table_texts };
 
+    ghost lists = { λ _. facts.lists_rows };
+
     ghost means = { facts.means };
 
-    ghost fits = { λ _ found. facts.fits found.0 found.1.name found.1.interval found.1.revision found.1.holder };
+    ghost fits = { λ _ found.
+        facts.fits found.0 found.1.name found.1.interval found.1.revision found.1.holder };
 
     fn texts() -> Texts {
         Texts {
@@ -120,9 +123,11 @@ pub fn read<S: Alter>(
     id: InterId,
 ) -> Result<Option<IntersectionRow>, ShelfFault>
     requires { IsOffice (state S.Store conn.old) }
-    ensures row { IfOk result (λ row. IsHonest (state S.Store conn.new) → ReadsIntersection (content_now (state S.Store conn.old)) id row) }
+    ensures row { IfOk result (λ row. IsHonest (state S.Store conn.new) →
+        ReadsIntersection (content_now (state S.Store conn.old)) id row) }
     ensures within { IfOk result (λ row. IfSome row IsIntersectionRow) }
-    ensures damaged { result ≡ Err ShelfFault.Damaged → IsHonest (state S.Store conn.new) → HasDamagedIntersection (content_now (state S.Store conn.old)) id }
+    ensures damaged { result ≡ Err ShelfFault.Damaged → IsHonest (state S.Store conn.new) →
+        HasDamagedIntersection (content_now (state S.Store conn.old)) id }
     ensures kept { Keeps (state S.Store conn.old) (state S.Store conn.new) }
     ensures crash { Survives (state S.Store conn.old) (state S.Store conn.new) (λ _. ⊥) }
     ensures open { TellsOpen result (state S.Store conn.new) }
@@ -142,11 +147,14 @@ pub fn read<S: Alter>(
 /// The state, and the owner in the next column: one stands beside each state but Normal, and beside
 /// that none.
 fn holder_at(alloc: Global, row: &Row) -> Result<Option<Holder>, ShelfFault>
-    ensures state { IfOk result (λ holder. cell_of (column row.now 4) ≡ number (pos (state_number holder))) }
+    ensures state { IfOk result (λ holder.
+        cell_of (column row.now 4) ≡ number (pos (state_number holder))) }
     ensures owner { IfOk result (λ holder. cell_of (column row.now 5) ≡ owner_cell holder) }
     ensures within { IfOk result (λ holder. IfSome holder (λ h. AreWords 40 h.owner)) }
-    ensures damaged { result ≡ Err ShelfFault.Damaged → length row.now ≡ 6 → (holder : Option Holder) → IfSome holder (λ h. AreWords 40 h.owner)
-        → cell_of (column row.now 4) ≡ number (pos (state_number holder)) → cell_of (column row.now 5) ≢ owner_cell holder }
+    ensures damaged { result ≡ Err ShelfFault.Damaged → length row.now ≡ 6 →
+        (holder : Option Holder) → IfSome holder (λ h. AreWords 40 h.owner) →
+        cell_of (column row.now 4) ≡ number (pos (state_number holder)) →
+        cell_of (column row.now 5) ≢ owner_cell holder }
 {
     let state = number_at(row, 4)?;
     let owner: Option<Words<40>> = words_or_null_at(alloc, row, 5)?;
@@ -194,9 +202,11 @@ pub fn put<S: Alter>(
         (put_in (content_now (state S.Store tx.old.conn.now)) table.Intersection
         (intersection_key id) (intersection_columns row.now))
         (state S.Store tx.old.conn.now) (state S.Store tx.new.conn.now) }
-    ensures honest { HasCleanDisk (state S.Store tx.new.conn.now) → OnOk result (IsHonest (state S.Store tx.old.conn.now)) }
+    ensures honest { HasCleanDisk (state S.Store tx.new.conn.now) →
+        OnOk result (IsHonest (state S.Store tx.old.conn.now)) }
     ensures stands { StandsOn (state S.Store tx.old.conn.now) (state S.Store tx.new.conn.now) }
-    ensures crash { Survives (state S.Store tx.old.conn.now) (state S.Store tx.new.conn.now) (λ _. ⊥) }
+    ensures crash { Survives (state S.Store tx.old.conn.now) (state S.Store tx.new.conn.now)
+        (λ _. ⊥) }
 {
     let found = (id, copy_of(row)?);
     stored_row::put(alloc, tx, (), &found)

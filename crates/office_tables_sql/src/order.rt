@@ -1,27 +1,42 @@
 //! The table `work_order`: the orders on each cabinet.
 
-ghost use Rattle.std.specs.Prelude.{◌≡◌, ◌≢◌, length, Option, IfOk, IfSome};
+ghost use Rattle.std.specs.Prelude.{◌≡◌, ◌≢◌, ℕ, filter, length, Option, Some, None};
+ghost use Rattle.std.specs.Prelude.{IfOk, IfSome};
+ghost use Rattle.sqlite.specs.State.{Survives};
+ghost use Rattle.sqlite.specs.Held.{state};
 ghost use Rattle.sqlite.specs.Order.{column};
 ghost use Rattle.sqlite.specs.Values.{bound_value};
 ghost use Rattle.sqlite_value.specs.Value.{owned};
+ghost use Rattle.cabinet_core.specs.Orders.{is_open};
 ghost use Rattle.cabinet_core.specs.Within.{IsClosingWithin};
 ghost use Rattle.cabinet_core.specs.declared.record.Closing.{Closing};
-ghost use Rattle.office_tables_shelf.specs.CabinetRows.{order_key, order_columns, closed_cell, closer_cell};
-ghost use Rattle.office_tables_statements.specs.Stored.{cell_of};
+ghost use Rattle.office_tables_shelf.specs.CabinetRows.{order_key, order_columns};
+ghost use Rattle.office_tables_shelf.specs.CabinetRows.{closed_cell, closer_cell};
+ghost use Rattle.office_tables_shelf.specs.CabinetReads.{of_one, HasAnyDamagedOrder};
+ghost use Rattle.office_tables_shelf.specs.OpenOrders.{orders_in, ReadsOpen};
+ghost use Rattle.office_tables_statements.specs.Calls.{IsHonest, IsOffice, Keeps};
+ghost use Rattle.office_tables_statements.specs.Calls.{TellsOpen};
+ghost use Rattle.office_tables_statements.specs.Stored.{cell_of, content_now};
 ghost use Rattle.office_tables_statements.specs.Tables.{value_of};
 
+use crate::each_row::{Gather, gathered};
 use crate::stored_row::{StoredRow, Texts};
 use cabinet_core::{Closing, Order};
+use office_tables_shelf::open_orders::add_open;
 use office_tables_shelf::shelf::ShelfFault;
 use office_tables_statements::listed::check_number;
 use office_tables_statements::value::{check_null, day_at, ranged_at, words_at, words_or_null_at};
 use signal_records::{InterId, NoMemory, Words};
-use sqlite::Row;
 use sqlite::types::{ToSql, ValueRef};
+use sqlite::{Alter, Connection, Row, params};
 use std::alloc::Global;
+use std::collections::BTreeMap;
 
 const LIST: &str =
     "SELECT inter, number, opened, clerk, body, closed, closer FROM work_order WHERE inter = ?1 ORDER BY inter, number";
+
+const WALK: &str = "SELECT inter, number, opened, clerk, body, closed, closer \
+    FROM work_order ORDER BY inter, number";
 
 const FIND: &str =
     "SELECT inter, number, opened, clerk, body, closed, closer FROM work_order WHERE inter = ?1 AND number = ?2";
@@ -39,7 +54,7 @@ impl StoredRow for Order {
 
     type Of = InterId;
 
-    ghost number = { λ id. id };
+    ghost whose = { Some };
 
     ghost table = { table.WorkOrder };
 
@@ -51,9 +66,12 @@ impl StoredRow for Order {
 
     ghost texts = { facts.table_texts };
 
+    ghost lists = { facts.lists_rows };
+
     ghost means = { facts.means };
 
-    ghost fits = { λ id order. facts.fits id order.number order.opened order.clerk order.text order.closing };
+    ghost fits = { λ id order.
+        facts.fits id order.number order.opened order.clerk order.text order.closing };
 
     fn texts() -> Texts {
         Texts {
@@ -97,13 +115,104 @@ impl StoredRow for Order {
     }
 }
 
+/// An order beside the number of its intersection: a list has those on all.
+impl StoredRow for (InterId, Order) {
+    ghost use Rattle.cabinet_core.specs.Within.{IsOrderWithin};
+    ghost use Rattle.office_tables_shelf.specs.CabinetReads.{IsOfOne};
+    ghost use Rattle.office_tables_shelf.specs.declared.rows.Table.TheVariants as table;
+    ghost use Rattle.office_tables_sql.specs.OrderTexts as facts;
+
+    type Of = ();
+
+    ghost whose = { λ _. None };
+
+    ghost table = { table.WorkOrder };
+
+    ghost key = { λ _ e. order_key e.0 e.1.number };
+
+    ghost columns = { λ e. order_columns e.1 };
+
+    ghost is_within = { IsOfOne IsOrderWithin };
+
+    ghost texts = { facts.walk_texts };
+
+    ghost lists = { λ _. facts.walks };
+
+    ghost means = { facts.walk_means };
+
+    ghost fits = { λ _ e. facts.fits e.0 e.1.number e.1.opened e.1.clerk e.1.text e.1.closing };
+
+    fn texts() -> Texts {
+        Texts {
+            list: WALK,
+            find: FIND,
+            update: UPDATE,
+            insert: INSERT,
+        }
+    }
+
+    fn read(alloc: Global, _of: (), row: &Row) -> Result<(InterId, Order), ShelfFault> {
+        let id = ranged_at(row, 0)?;
+        let found = Order::read(alloc, id, row)?;
+        Ok((id, found))
+    }
+
+    fn bind<'a>(
+        &'a self,
+        alloc: Global,
+        _of: (),
+        text: &'a mut String,
+    ) -> Result<Vec<ValueRef<'a>>, NoMemory> {
+        self.1.bind(alloc, self.0, text)
+    }
+}
+
+impl Gather<(InterId, Order)> for BTreeMap<InterId, Vec<Order>> {
+    ghost holds = { λ orders found. (id : ℕ) →
+        orders_in orders.entries id ≡ filter is_open (of_one id found) };
+
+    fn take(&mut self, alloc: Global, next: (InterId, Order)) -> Result<(), NoMemory> {
+        let (id, order) = next;
+        add_open(alloc, self, id, order)
+    }
+}
+
+/// The open orders on each intersection that has any, in the order of their numbers. It refuses
+/// with Damaged where an order is no record, and with Store or NoMemory. No closed order is kept
+/// after it is read.
+pub fn open_orders<S: Alter>(
+    alloc: Global,
+    conn: &mut Connection<S>,
+) -> Result<BTreeMap<InterId, Vec<Order>>, ShelfFault>
+    requires { IsOffice (state S.Store conn.old) }
+    ensures orders { IfOk result (λ orders. IsHonest (state S.Store conn.new) → (id : ℕ) →
+        ReadsOpen (content_now (state S.Store conn.old)) id (orders_in orders.entries id)) }
+    ensures whole { IfOk result (λ _. IsHonest (state S.Store conn.new) →
+        ¬ HasAnyDamagedOrder (content_now (state S.Store conn.old))) }
+    ensures damaged { result ≡ Err ShelfFault.Damaged → IsHonest (state S.Store conn.new) →
+        HasAnyDamagedOrder (content_now (state S.Store conn.old)) }
+    ensures kept { Keeps (state S.Store conn.old) (state S.Store conn.new) }
+    ensures crash { Survives (state S.Store conn.old) (state S.Store conn.new) (λ _. ⊥) }
+    ensures open { TellsOpen result (state S.Store conn.new) }
+{
+    gathered::<(InterId, Order), BTreeMap<InterId, Vec<Order>>, S>(
+        alloc,
+        conn,
+        (),
+        params![],
+        BTreeMap::new(alloc),
+    )
+}
+
 /// The closing in the last two columns, which are both NULL while the order is open.
 fn closing_at(alloc: Global, row: &Row) -> Result<Option<Closing>, ShelfFault>
     ensures day { IfOk result (λ closing. cell_of (column row.now 5) ≡ closed_cell closing) }
     ensures closer { IfOk result (λ closing. cell_of (column row.now 6) ≡ closer_cell closing) }
     ensures within { IfOk result (λ closing. IfSome closing IsClosingWithin) }
-    ensures damaged { result ≡ Err ShelfFault.Damaged → length row.now ≡ 7 → (closing : Option Closing) → IfSome closing IsClosingWithin
-        → cell_of (column row.now 5) ≡ closed_cell closing → cell_of (column row.now 6) ≢ closer_cell closing }
+    ensures damaged { result ≡ Err ShelfFault.Damaged → length row.now ≡ 7 →
+        (closing : Option Closing) → IfSome closing IsClosingWithin →
+        cell_of (column row.now 5) ≡ closed_cell closing →
+        cell_of (column row.now 6) ≢ closer_cell closing }
 {
     let closer: Option<Words<40>> = words_or_null_at(alloc, row, 6)?;
     let Some(closer) = closer else {

@@ -1,13 +1,13 @@
 //! The table `part`: how many of each part are on hand.
 
-ghost use Rattle.std.specs.Prelude.{◌≡◌, IfOk, IfSome, OnOk};
+ghost use Rattle.std.specs.Prelude.{◌≡◌, None, IfOk, IfSome, OnOk};
 ghost use Rattle.std.specs.FinMap.{insert};
 ghost use Rattle.sqlite.specs.State.{HasCleanDisk, Survives};
 ghost use Rattle.sqlite.specs.Held.{state};
 ghost use Rattle.office_tables_shelf.specs.CabinetReads.{IsHand};
 ghost use Rattle.office_tables_shelf.specs.CabinetRows.{part_key, part_columns};
 ghost use Rattle.office_tables_shelf.specs.Places as place;
-ghost use Rattle.office_tables_shelf.specs.Places.{ReadsAt, DamagedAt};
+ghost use Rattle.office_tables_shelf.specs.Places.{GivesAt, BlamesAt};
 ghost use Rattle.office_tables_statements.specs.Stored.{content_now};
 ghost use Rattle.office_tables_statements.specs.Calls.{IsHonest, IsOffice, Keeps, TurnsTo};
 ghost use Rattle.office_tables_statements.specs.Calls.{StandsOn};
@@ -39,7 +39,7 @@ impl StoredRow for (PartCode, Hand) {
 
     type Of = ();
 
-    ghost number = { λ _. 0 };
+    ghost whose = { λ _. None };
 
     ghost table = { table.Part };
 
@@ -50,6 +50,8 @@ impl StoredRow for (PartCode, Hand) {
     ghost is_within = { IsPartWithin };
 
     ghost texts = { facts.table_texts };
+
+    ghost lists = { λ _. facts.lists_rows };
 
     ghost means = { facts.means };
 
@@ -89,9 +91,11 @@ pub fn hand<S: Alter>(
     code: &PartCode,
 ) -> Result<Option<Hand>, ShelfFault>
     requires { IsOffice (state S.Store conn.old) }
-    ensures row { IfOk result (λ hand. IsHonest (state S.Store conn.new) → ReadsAt (content_now (state S.Store conn.old)) (place.Part code.now) hand) }
+    ensures row { GivesAt (IsHonest (state S.Store conn.new))
+        (content_now (state S.Store conn.old)) (place.Part code.now) result }
     ensures within { IfOk result (λ hand. IfSome hand IsHand) }
-    ensures damaged { result ≡ Err ShelfFault.Damaged → IsHonest (state S.Store conn.new) → DamagedAt (content_now (state S.Store conn.old)) (place.Part code.now) }
+    ensures damaged { BlamesAt (IsHonest (state S.Store conn.new))
+        (content_now (state S.Store conn.old)) (place.Part code.now) result }
     ensures kept { Keeps (state S.Store conn.old) (state S.Store conn.new) }
     ensures crash { Survives (state S.Store conn.old) (state S.Store conn.new) (λ _. ⊥) }
     ensures open { TellsOpen result (state S.Store conn.new) }
@@ -123,11 +127,14 @@ pub fn put<S: Alter>(
 ) -> Result<(), SqlFault>
     ensures same_reference { tx.new.conn.ghost_name ≡ tx.old.conn.ghost_name }
     ensures put { TurnsTo result (record (content_now (state S.Store tx.old.conn.now)) {
-      part = insert (content_now (state S.Store tx.old.conn.now)).part (part_key code.now) (part_columns hand);
+      part = insert (content_now (state S.Store tx.old.conn.now)).part (part_key code.now)
+          (part_columns hand);
     }) (state S.Store tx.old.conn.now) (state S.Store tx.new.conn.now) }
-    ensures honest { HasCleanDisk (state S.Store tx.new.conn.now) → OnOk result (IsHonest (state S.Store tx.old.conn.now)) }
+    ensures honest { HasCleanDisk (state S.Store tx.new.conn.now) →
+        OnOk result (IsHonest (state S.Store tx.old.conn.now)) }
     ensures stands { StandsOn (state S.Store tx.old.conn.now) (state S.Store tx.new.conn.now) }
-    ensures crash { Survives (state S.Store tx.old.conn.now) (state S.Store tx.new.conn.now) (λ _. ⊥) }
+    ensures crash { Survives (state S.Store tx.old.conn.now) (state S.Store tx.new.conn.now)
+        (λ _. ⊥) }
 {
     let part = (copy_of(code)?, hand);
     stored_row::put(alloc, tx, (), &part)

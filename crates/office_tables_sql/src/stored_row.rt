@@ -1,6 +1,6 @@
 //! Rows that a table of the office keeps, found and put by one text each.
 
-ghost use Rattle.std.specs.Prelude.{◌≡◌, ◌++◌, ℕ, List, length, IfOk, IfSome, OnOk};
+ghost use Rattle.std.specs.Prelude.{◌≡◌, ◌++◌, ℕ, List, length, Option, IfOk, IfSome, OnOk};
 ghost use Rattle.sqlite.specs.State.{HasCleanDisk, Survives};
 ghost use Rattle.sqlite.specs.Held.{state};
 ghost use Rattle.sqlite.specs.Values.{bound};
@@ -16,7 +16,7 @@ ghost use Rattle.office_tables_statements.specs.Tables.{put_in, remove_in, key_v
 ghost use Rattle.office_tables_statements.specs.Tables.{columns_shown, width_of, key_given};
 ghost use Rattle.office_tables_statements.specs.Tables.{IsKeyOf, IsUnder, ReadsRow};
 ghost use Rattle.office_tables_statements.specs.Tables.{HasDamagedUnder, IsNoRow};
-ghost use Rattle.office_tables_statements.specs.Tables.{IsRemoveText, Fits, values_of};
+ghost use Rattle.office_tables_statements.specs.Tables.{IsListText, IsRemoveText, Fits, values_of};
 ghost use Rattle.office_tables_sql.specs.Texts.{SqlTexts, AreTextsOf};
 
 use office_tables_shelf::shelf::ShelfFault;
@@ -29,7 +29,7 @@ use std::alloc::Global;
 /// The statements on one table, each one fixed text.
 #[derive(Clone, Copy)]
 pub struct Texts {
-    /// The query of the rows that are kept of one, in the order of their keys.
+    /// The query of the rows of a list, in the order of their keys.
     pub list: &'static str,
     /// The query of the row under a whole key.
     pub find: &'static str,
@@ -41,14 +41,14 @@ pub struct Texts {
 
 /// A row in one table.
 pub trait StoredRow: Sized + Drop {
-    /// What a row is kept of: an intersection, or the whole office.
+    /// What a row is kept of, and a list has the rows of: an intersection, or the whole office.
     type Of: Copy;
-    /// The number of the intersection.
-    ghost number: { Self.Of → ℕ };
+    /// The number of the intersection, none for the whole office.
+    ghost whose: { Self.Of → Option ℕ };
     /// The table that keeps it.
     ghost table: { Table };
     /// The cells of its key, which begin with the intersection where it is kept of one.
-    ghost key: { ℕ → Self → List Cell };
+    ghost key: { Self.Of → Self → List Cell };
     /// Its other cells.
     ghost columns: { Self → List Cell };
     /// It is within its limits.
@@ -64,10 +64,12 @@ pub trait StoredRow: Sized + Drop {
 
     /// What a row of the list stands for.
     fn read(alloc: Global, of: Self::Of, row: &Row) -> Result<Self, ShelfFault>
-        ensures key { IfOk result (λ x. key (number of) x ≡ key_shown table row.now) }
+        ensures key { IfOk result (λ x. key of x ≡ key_shown table row.now) }
         ensures columns { IfOk result (λ x. columns x ≡ columns_shown table row.now) }
         ensures within { IfOk result is_within }
-        ensures damaged { result ≡ Err ShelfFault.Damaged → length row.now ≡ width_of table → IsNoRow is_within (key (number of)) columns (key_shown table row.now) (columns_shown table row.now) };
+        ensures damaged { result ≡ Err ShelfFault.Damaged → length row.now ≡ width_of table →
+            IsNoRow is_within (key of) columns (key_shown table row.now)
+            (columns_shown table row.now) };
 
     /// The parameters of the statements that put it; `text` is room for a text that is made for it.
     fn bind<'a>(
@@ -76,11 +78,14 @@ pub trait StoredRow: Sized + Drop {
         of: Self::Of,
         text: &'a mut String,
     ) -> Result<Vec<ValueRef<'a>>, NoMemory>
-        ensures { IfOk result (λ values. bound values.items ≡ values_of (key (number of) self.now ++ columns self.now)) };
+        ensures { IfOk result (λ values.
+            bound values.items ≡ values_of (key of self.now ++ columns self.now)) };
+
+    ghost lists: { (of : Self.Of) → IsListText table (whose of) texts.list };
 
     ghost means: { AreTextsOf table texts };
 
-    ghost fits: { (id : ℕ) (x : Self) → Fits table (key id x) (columns x) };
+    ghost fits: { (of : Self.Of) (x : Self) → Fits table (key of x) (columns x) };
 }
 
 /// A row under a key of timing, which may be removed.
@@ -89,7 +94,8 @@ pub trait TimingKeyed: StoredRow {
     fn remove_text() -> &'static str
         ensures { IsRemoveText Self.table result.now };
 
-    ghost keyed: { (id : ℕ) (key : Key) → (IsKeyOf Self.table (key_values id key)) × (key_given Self.table (key_values id key) ≡ timing_key id key) };
+    ghost keyed: { (id : ℕ) (key : Key) → (IsKeyOf Self.table (key_values id key))
+        × (key_given Self.table (key_values id key) ≡ timing_key id key) };
 }
 
 /// The row under a key, if there is one.
@@ -101,9 +107,13 @@ pub fn find<T: StoredRow, S: Alter>(
 ) -> Result<Option<T>, ShelfFault>
     requires office { IsOffice (state S.Store conn.old) }
     requires key { IsKeyOf T.table (bound key.now) }
-    ensures row { IfOk result (λ found. IsHonest (state S.Store conn.new) → ReadsRow T.table (T.key (T.number of)) T.columns (content_now (state S.Store conn.old)) (key_given T.table (bound key.now)) found) }
+    ensures row { IfOk result (λ found. IsHonest (state S.Store conn.new) →
+        ReadsRow T.table (T.key of) T.columns (content_now (state S.Store conn.old))
+        (key_given T.table (bound key.now)) found) }
     ensures within { IfOk result (λ found. IfSome found T.is_within) }
-    ensures damaged { result ≡ Err ShelfFault.Damaged → IsHonest (state S.Store conn.new) → HasDamagedUnder T.table T.is_within (T.key (T.number of)) T.columns (content_now (state S.Store conn.old)) (key_given T.table (bound key.now)) }
+    ensures damaged { result ≡ Err ShelfFault.Damaged → IsHonest (state S.Store conn.new) →
+        HasDamagedUnder T.table T.is_within (T.key of) T.columns
+        (content_now (state S.Store conn.old)) (key_given T.table (bound key.now)) }
     ensures kept { Keeps (state S.Store conn.old) (state S.Store conn.new) }
     ensures crash { Survives (state S.Store conn.old) (state S.Store conn.new) (λ _. ⊥) }
     ensures open { TellsOpen result (state S.Store conn.new) }
@@ -121,7 +131,9 @@ fn under<T: StoredRow, S: Alter>(
 ) -> Result<Option<Row>, SqlFault>
     requires office { IsOffice (state S.Store conn.old) }
     requires key { IsKeyOf T.table (bound key.now) }
-    ensures found { IsHonest (state S.Store conn.new) → IfOk result (IsUnder T.table (content_now (state S.Store conn.old)) (key_given T.table (bound key.now))) }
+    ensures found { IsHonest (state S.Store conn.new) →
+        IfOk result (IsUnder T.table (content_now (state S.Store conn.old))
+        (key_given T.table (bound key.now))) }
     ensures kept { Keeps (state S.Store conn.old) (state S.Store conn.new) }
     ensures crash { Survives (state S.Store conn.old) (state S.Store conn.new) (λ _. ⊥) }
     ensures open { StaysOpen result (state S.Store conn.new) }
@@ -139,11 +151,13 @@ pub fn put<T: StoredRow, S: Alter>(
     ensures same_reference { tx.new.conn.ghost_name ≡ tx.old.conn.ghost_name }
     ensures put { TurnsTo result
         (put_in (content_now (state S.Store tx.old.conn.now)) T.table
-        (T.key (T.number of) row.now) (T.columns row.now))
+        (T.key of row.now) (T.columns row.now))
         (state S.Store tx.old.conn.now) (state S.Store tx.new.conn.now) }
-    ensures honest { HasCleanDisk (state S.Store tx.new.conn.now) → OnOk result (IsHonest (state S.Store tx.old.conn.now)) }
+    ensures honest { HasCleanDisk (state S.Store tx.new.conn.now) →
+        OnOk result (IsHonest (state S.Store tx.old.conn.now)) }
     ensures stands { StandsOn (state S.Store tx.old.conn.now) (state S.Store tx.new.conn.now) }
-    ensures crash { Survives (state S.Store tx.old.conn.now) (state S.Store tx.new.conn.now) (λ _. ⊥) }
+    ensures crash { Survives (state S.Store tx.old.conn.now) (state S.Store tx.new.conn.now)
+        (λ _. ⊥) }
 {
     let mut text = String::new(alloc);
     let Ok(values) = row.bind(alloc, of, &mut text) else {
@@ -167,7 +181,7 @@ pub fn add<T: StoredRow, S: Alter>(
     ensures same_reference { tx.new.conn.ghost_name ≡ tx.old.conn.ghost_name }
     ensures added { TurnsTo result
         (put_in (content_now (state S.Store tx.old.conn.now)) T.table
-        (T.key (T.number of) row.now) (T.columns row.now))
+        (T.key of row.now) (T.columns row.now))
         (state S.Store tx.old.conn.now) (state S.Store tx.new.conn.now) }
     ensures honest { HasCleanDisk (state S.Store tx.new.conn.now) →
         OnOk result (IsHonest (state S.Store tx.old.conn.now)) }
@@ -194,9 +208,11 @@ pub fn remove<T: TimingKeyed, S: Alter>(
         (remove_in (content_now (state S.Store tx.old.conn.now)) T.table
         (timing_key id key.now))
         (state S.Store tx.old.conn.now) (state S.Store tx.new.conn.now) }
-    ensures honest { HasCleanDisk (state S.Store tx.new.conn.now) → OnOk result (IsHonest (state S.Store tx.old.conn.now)) }
+    ensures honest { HasCleanDisk (state S.Store tx.new.conn.now) →
+        OnOk result (IsHonest (state S.Store tx.old.conn.now)) }
     ensures stands { StandsOn (state S.Store tx.old.conn.now) (state S.Store tx.new.conn.now) }
-    ensures crash { Survives (state S.Store tx.old.conn.now) (state S.Store tx.new.conn.now) (λ _. ⊥) }
+    ensures crash { Survives (state S.Store tx.old.conn.now) (state S.Store tx.new.conn.now)
+        (λ _. ⊥) }
 {
     let kind = key.kind();
     let first = key.first();

@@ -1,6 +1,6 @@
 //! The table `timing`: the rows of the committed sets.
 
-ghost use Rattle.std.specs.Prelude.{◌≡◌, length, IfOk};
+ghost use Rattle.std.specs.Prelude.{◌≡◌, length, Some, IfOk};
 ghost use Rattle.sqlite.specs.State.{Survives};
 ghost use Rattle.sqlite.specs.Held.{state};
 ghost use Rattle.office_tables_shelf.specs.Shelf.{rows_of};
@@ -37,7 +37,8 @@ const REMOVE: &str = "DELETE FROM timing WHERE inter = ?1 AND kind = ?2 AND a = 
 /// How many rows the intersection's set has, whether or not each of them is a record.
 pub fn count<S: Alter>(conn: &mut Connection<S>, id: InterId) -> Result<usize, SqlFault>
     requires { IsOffice (state S.Store conn.old) }
-    ensures count { IfOk result (λ count. IsHonest (state S.Store conn.new) → count ≡ length (rows_of id (content_now (state S.Store conn.old)).timing)) }
+    ensures count { IfOk result (λ count. IsHonest (state S.Store conn.new) →
+        count ≡ length (rows_of id (content_now (state S.Store conn.old)).timing)) }
     ensures kept { Keeps (state S.Store conn.old) (state S.Store conn.new) }
     ensures crash { Survives (state S.Store conn.old) (state S.Store conn.new) (λ _. ⊥) }
     ensures open { StaysOpen result (state S.Store conn.new) }
@@ -60,7 +61,7 @@ impl StoredRow for Row {
 
     type Of = InterId;
 
-    ghost number = { λ id. id };
+    ghost whose = { Some };
 
     ghost table = { table.Timing };
 
@@ -71,6 +72,8 @@ impl StoredRow for Row {
     ghost is_within = { IsRowWithin current_limits };
 
     ghost texts = { facts.table_texts };
+
+    ghost lists = { facts.lists_rows };
 
     ghost means = { facts.means };
 

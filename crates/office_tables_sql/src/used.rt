@@ -1,5 +1,6 @@
 //! The table `used_part`: the parts that were used for each order.
 
+ghost use Rattle.std.specs.Prelude.{Some};
 ghost use Rattle.office_tables_shelf.specs.CabinetRows.{used_key, used_columns};
 
 use crate::stored_row::{StoredRow, Texts};
@@ -31,7 +32,7 @@ impl StoredRow for UsedLine {
 
     type Of = InterId;
 
-    ghost number = { λ id. id };
+    ghost whose = { Some };
 
     ghost table = { table.UsedPart };
 
@@ -42,6 +43,8 @@ impl StoredRow for UsedLine {
     ghost is_within = { IsUsedLineWithin };
 
     ghost texts = { facts.table_texts };
+
+    ghost lists = { facts.lists_rows };
 
     ghost means = { facts.means };
 

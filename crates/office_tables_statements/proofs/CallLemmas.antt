@@ -242,10 +242,10 @@ module _ (sql : List ℕ) (params : Row) (old mid new : State) (inside : old.in_
 
 -- what was gathered is of the records that the rows given so far show
 abbrev pub HasGathered : {X G : Type 0} → (G → List X → Type 0) → Table → (X → Type 0)
-    → (ℕ → X → List Cell) → (X → List Cell) → ℕ → List Row → G → Type 0
-HasGathered {X} holds t within key columns id given found =
+    → (key columns : X → List Cell) → List Row → G → Type 0
+HasGathered {X} holds t within key columns given found =
     (records : List X) × holds found records × AllByRecursion within records
-    × (map (stored_for key columns id) records ≡ map (row_shown t) given)
+    × (map (stored_for key columns) records ≡ map (row_shown t) given)
 
 same_self : (s : State) → IsTrue s.is_open → IsUnchanged s s
 same_self s opened = (record { was_open = opened; is_open = opened; now_is = refl; committed_is = refl; mode = refl }, record { changes = refl; last_rowid = refl }, refl)
@@ -308,8 +308,8 @@ module _ (sql text : List ℕ) (params : Row) (query : IsQuery sql) (old : State
         queried_reads sql text old mid query office survives mode (λ clean. (is_text (omega (arith, clean, survives.clean)), same clean)) params new (survives_weaker mid new (λ _. ⊥) (CommitsShowing text params mid) (λ _ db none. absurd none) then) after rows shown honest
 
     -- the rows so far are the first of an answer
-    pub some_read : (t : Table) → IsListText t sql → IsHonest mid → (rows : List Row) → Begins text params mid rows → (tail : List Row) × Reads sql params old.now (rows ++ tail)
-    some_read t means honest rows begins =
+    pub some_read : (t : Table) (whose : Option ℕ) → IsListText t whose sql → IsHonest mid → (rows : List Row) → Begins text params mid rows → (tail : List Row) × Reads sql params old.now (rows ++ tail)
+    some_read t whose means honest rows begins =
         let now = (same honest.0).0.now_is in
         let kept = still_keeps sql query old office mid survives mode same in
         let has : mid.now.schema ≡ office_schema = kept.office.schema honest in

@@ -1,8 +1,8 @@
 -- What the queries on a table show: those of its rows, of how many they are, and of one row by its key.
-use Rattle.std.proofs.Common.{◌≡◌, inl, inr, ℕ, false, true, List, [], ◌∷◌, map, length, refl, sym, subst, ap, ◌∙◌, find, Option, Some, None, IfSome, option_map, ◌<◌, ◌^◌, min, Bool, filter, pos, arith}
+use Rattle.std.proofs.Common.{◌≡◌, inl, inr, ℕ, false, List, [], ◌∷◌, map, length, refl, sym, subst, ap, ◌∙◌, find, Option, Some, None, IfSome, option_map, ◌<◌, ◌^◌, min, Bool, filter, pos, arith}
 use Rattle.std.specs.{FinMap.entries, FinMap.get, FinMap.Entries.where_key, Option.option_to_list, List.IsDistinct, List.AllByRecursion}
 use Rattle.std.specs.{List.list_all, List.AllZip, List.Sorted.IsPermutation, Ordering.is_eq, Ordering.eq_by_cmp}
-use Rattle.sqlite.specs.{declared.types.Value.TheVariants.Null, Effect.Database, Effect.IsDatabase, Order.Row, Order.column}
+use Rattle.sqlite.specs.{declared.types.Value.TheVariants.Null, declared.types.Value.TheVariants.Int, Effect.Database, Effect.IsDatabase, Order.Row, Order.column}
 use Rattle.sqlite.specs.{Program.overlay, Term.Term, Term.holds, Term.Env, Query.IsAnswer, Query.inner, Query.end, Query.matches}
 use Rattle.sqlite.specs.{Query.output, Query.Output, View.IsShaped}
 use Rattle.sqlite.specs.Effect as effect
@@ -11,16 +11,16 @@ use Rattle.sqlite_rules.proofs.ListLemmas.{all_from, all_has, has_found}
 use Rattle.sqlite_rules.specs.Lists.{Has}
 use Rattle.sqlite_schema.specs.Rules.{Obeys, clashes}
 use Rattle.sqlite_value.specs.Keys.{plain}
-use Rattle.office_tables_shelf.specs.{Cells.Cell, Cells.cells_cmp, Cells.number, Content.Content, declared.rows.Table.Table}
+use Rattle.office_tables_shelf.specs.{Cells.Cell, Cells.cells_cmp, Cells.number, Content.Content, Shelf.is_of, Shelf.rows_of, declared.rows.Table.Table}
 use Rattle.office_tables_statements.specs.{Calls.AreOrdered, Calls.Reads, Layout.values_at, Layout.has_key}
-use Rattle.office_tables_statements.specs.Stored.{are_sound, cells_at, rows_in, content_of, cells, cell_of}
-use Rattle.office_tables_statements.specs.Tables.{rows_at, layout_at, schema_at, key_shown, columns_shown, row_shown, width_of, filter_of, params_of, is_among, rows_among, listed_by, IsListText, IsNoRow, HasDamagedRow, places_of, key_given, IsKeyOf, IsUnder, IsFindText, counting, counted_by, IsCountText}
+use Rattle.office_tables_statements.specs.Stored.{cells_at, rows_in, content_of, cells, cell_of}
+use Rattle.office_tables_statements.specs.Tables.{rows_at, layout_at, schema_at, key_shown, columns_shown, row_shown, width_of, filter_of, of_first, params_of, is_among, rows_among, listed_by, IsListText, IsNoRow, HasDamagedRow, places_of, key_given, IsKeyOf, IsUnder, IsFindText, counting, counted_by, IsCountText}
 use Rattle.office_tables_schema.specs.Schema.{office_schema}
 use Rattle.office_tables_statements.specs.Layout as layout
 use Rattle.office_tables_statements.proofs.StoredLemmas.{HaveKeys, same_order, sound_rowids, agree_ties, get_columns}
 use Rattle.office_tables_statements.proofs.{SoundLemmas.sound_keys, ListedLemmas.distinct_keys, ListedLemmas.distinct_rising, ListedLemmas.is_in}
 use Rattle.office_tables_statements.proofs.ListedLemmas.{unique_by, listing, shown_width, counted, distinct_kept}
-use Rattle.office_tables_statements.proofs.TableLemmas.{same_tree, is_listed, is_low, OwnKey, facts, listing_of, rows_in_tree, in_tree}
+use Rattle.office_tables_statements.proofs.TableLemmas.{same_tree, is_listed, is_low, OwnKey, facts, passes, among, listing_of, rows_in_tree, in_tree}
 use Rattle.office_tables_statements.proofs.QueryLemmas.{Passes, found_by_key, has_width, matched}
 use Rattle.office_tables_shelf.proofs.{ListLemmas.stands, CellLemmas.cells_exact, CellLemmas.tied}
 use Rattle.std.proofs.lemmas.List.{length-map, Sorted.length_permutation}
@@ -93,12 +93,15 @@ module _ (t : Table) (db : Database) (is : db.schema ≡ office_schema) (sound :
   pub seen : overlay db.trees [] (layout_at t).tree ≡ db.trees (schema_at t).tree
   seen = is_low t db.trees ∙ ap db.trees (same_tree t)
 
-  -- a query in the order of the keys, whose filter is a test of the keys
-  module _ (filter : List Term) (params : Row) (test : List Cell → Bool)
-      (passes : (row : Row) → are_sound (layout_at t).keys row ≡ true
-      → list_all (holds (params ∷ row ∷ [])) filter ≡ test (cells_at (layout_at t).keys row))
-      (shown : List Row)
-      (answer : IsAnswer (listed_by (layout_at t) filter) (overlay db.trees []) params shown) where
+  -- the query of a list
+  module _ (whose : Option ℕ) (sql : List ℕ) (means : IsListText t whose sql) (shown : List Row)
+      (reads : Reads sql (params_of whose) db shown) where
+    answer : IsAnswer (listed_by (layout_at t) (filter_of t whose)) (overlay db.trees [])
+        (params_of whose) shown
+    answer =
+        let got = subst (λ k. effect.Reads k db (params_of whose) shown) means.is reads in
+        got.answer Null
+
     keys_there : HaveKeys (layout_at t) (overlay db.trees [] (layout_at t).tree)
     keys_there = subst (HaveKeys (layout_at t)) (sym seen) own_keys
 
@@ -107,58 +110,47 @@ module _ (t : Table) (db : Database) (is : db.schema ≡ office_schema) (sound :
     distinct_there = subst (λ rows. IsDistinct (eq_by_cmp cells_cmp)
         (map (cells_at (layout_at t).keys) rows)) (sym seen) distinct
 
-    -- it shows those rows
-    pub lists_where : map (row_shown t) shown
-        ≡ where_key cells_cmp test (entries (rows_at (content_of db.trees) t))
-    lists_where =
-        listing (layout_at t) filter (key_shown t) (columns_shown t) (listing_of filter t) params
-        test (overlay db.trees []) keys_there distinct_there
-        (λ row there. passes row (keys_there row there)) shown answer
+    -- it shows its rows
+    pub lists : map (row_shown t) shown ≡ rows_among whose (rows_at (content_of db.trees) t)
+    lists =
+        let test = is_among whose in
+        listing (layout_at t) (filter_of t whose) (key_shown t) (columns_shown t)
+        (listing_of (filter_of t whose) t) (params_of whose) test (overlay db.trees []) keys_there
+        distinct_there (λ row there. passes t whose row (keys_there row there)) shown answer
         ∙ ap (λ rows. where_key cells_cmp test (entries (rows_in (layout_at t) rows)))
         (is_low t db.trees)
         ∙ ap (λ rows. where_key cells_cmp test (entries rows)) (sym (rows_in_tree t db.trees))
+        ∙ among whose (rows_at (content_of db.trees) t)
 
     -- with all columns
-    pub width_where : AllByRecursion (λ row. length row ≡ width_of t) shown
-    width_where = all_from (λ (row : Row). length row ≡ width_of t) shown
-        (shown_width (layout_at t) filter (key_shown t) (columns_shown t) (listing_of filter t)
-        params test (overlay db.trees []) keys_there distinct_there
-        (λ row there. passes row (keys_there row there)) shown answer)
-
-  module _ (sql : List ℕ) (means : IsListText t sql) (id : ℕ) (shown : List Row) (reads : Reads sql (params_of t id) db shown) where
-    answer : IsAnswer (listed_by (layout_at t) (filter_of t)) (overlay db.trees []) (params_of t id) shown
-    answer =
-        let got = subst (λ k. effect.Reads k db (params_of t id) shown) means.is reads in
-        got.answer Null
-
-    -- the query of a list shows its rows
-    pub lists : map (row_shown t) shown ≡ rows_among t id (rows_at (content_of db.trees) t)
-    lists = lists_where (filter_of t) (params_of t id) (is_among t id) ((facts t).first id) shown answer
-
     pub width : AllByRecursion (λ row. length row ≡ width_of t) shown
-    width = width_where (filter_of t) (params_of t id) (is_among t id) ((facts t).first id) shown answer
+    width = all_from (λ (row : Row). length row ≡ width_of t) shown
+        (shown_width (layout_at t) (filter_of t whose) (key_shown t) (columns_shown t)
+        (listing_of (filter_of t whose) t) (params_of whose) (is_among whose)
+        (overlay db.trees []) keys_there distinct_there
+        (λ row there. passes t whose row (keys_there row there)) shown answer)
 
-  -- ---- how many there are
+  -- ---- how many there are of an intersection
 
   module _ (sql : List ℕ) (means : IsCountText t sql) (id : ℕ) where
     abbrev params : Row
-    params = params_of t id
+    params = Int (pos id) ∷ []
 
     abbrev of : Row → Bool
-    of row = is_among t id (cells_at (layout_at t).keys row)
+    of row = is_of id (cells_at (layout_at t).keys row)
 
-    count_shown : (low : List Row) (row : Option Row) → overlay db.trees [] (layout_at t).tree ≡ low → IsAnswer (counted_by (layout_at t) (filter_of t)) (overlay db.trees []) params (option_to_list row)
-        → (order : List Env) × (length order ≡ length (matches (λ _. low) (filter_of t) (inner (layout_at t).tree end) (params ∷ []))) × (option_to_list row ≡ (count (length order) ∷ []) ∷ [])
+    count_shown : (low : List Row) (row : Option Row) → overlay db.trees [] (layout_at t).tree ≡ low → IsAnswer (counted_by (layout_at t) (of_first t)) (overlay db.trees []) params (option_to_list row)
+        → (order : List Env) × (length order ≡ length (matches (λ _. low) (of_first t) (inner (layout_at t).tree end) (params ∷ []))) × (option_to_list row ≡ (count (length order) ∷ []) ∷ [])
     count_shown low row at a =
         let g = a.grouped in
         let order = g.grouping.0 in
         let rows_are = summary_is order g.rows (subst (λ groups. AllZip (IsSummary counting) groups g.rows) g.grouping.2 g.summaries) in
-        let one : a.kept ≡ ([], count (length order) ∷ []) ∷ [] = a.distinct ∙ ap (map (output (counted_by (layout_at t) (filter_of t)))) (g.having ∙ ap (λ (rs : List Row). filter (λ env. list_all (holds env) []) (map (λ (r : Row). params ∷ r ∷ []) rs)) rows_are) in
+        let one : a.kept ≡ ([], count (length order) ∷ []) ∷ [] = a.distinct ∙ ap (map (output (counted_by (layout_at t) (of_first t)))) (g.having ∙ ap (λ (rs : List Row). filter (λ env. list_all (holds env) []) (map (λ (r : Row). params ∷ r ∷ []) rs)) rows_are) in
         let alone = one_permutation ([], count (length order) ∷ []) a.ordered (subst (λ os. IsPermutation os a.ordered) one a.same) in
-        (order, length_permutation _ order g.grouping.1 ∙ ap (λ (rs : List Row). length (matches (λ _. rs) (filter_of t) (inner (layout_at t).tree end) (params ∷ []))) at, a.shown ∙ ap (map (λ (o : Output). o.1)) alone)
+        (order, length_permutation _ order g.grouping.1 ∙ ap (λ (rs : List Row). length (matches (λ _. rs) (of_first t) (inner (layout_at t).tree end) (params ∷ []))) at, a.shown ∙ ap (map (λ (o : Output). o.1)) alone)
 
     -- the number that is shown is that of the rows of the intersection
-    pub counts : (row : Row) → Reads sql params db (row ∷ []) → (n : ℕ) → n < 2 ^ 32 → cell_of (column row 0) ≡ number (pos n) → n ≡ length (rows_among t id (rows_at (content_of db.trees) t))
+    pub counts : (row : Row) → Reads sql params db (row ∷ []) → (n : ℕ) → n < 2 ^ 32 → cell_of (column row 0) ≡ number (pos n) → n ≡ length (rows_of id (rows_at (content_of db.trees) t))
     counts row reads n low is_n =
         let got = subst (λ k. effect.Reads k db params (row ∷ [])) means.is reads in
         let it = count_shown rows (Some row) seen (got.answer Null) in
@@ -166,10 +158,10 @@ module _ (t : Table) (db : Database) (is : db.schema ≡ office_schema) (sound :
         let here : cell_of (column row 0) ≡ number (pos (min (length it.0) 9223372036854775807)) = ap (λ (rs : List Row). first_cell rs) same in
         let number_is : number (pos (min (length it.0) 9223372036854775807)) ≡ number (pos n) = sym here ∙ is_n in
         let capped : min (length it.0) 9223372036854775807 ≡ n = cc in
-        let passes = λ (r : Row) (there : Has rows r). (facts t).first id r (own_keys r there) in
+        let passed = λ (r : Row) (there : Has rows r). (facts t).first id r (own_keys r there) in
         let apart = distinct_kept (eq_by_cmp cells_cmp) (cells_at (layout_at t).keys) of rows distinct in
-        small n (length it.0) low capped ∙ it.1 ∙ as_many (filter_of t) params (layout_at t).tree of rows passes
-        ∙ sym (counted (cells_at (layout_at t).keys) (cells_at (layout_at t).columns) (is_among t id) rows apart) ∙ ap (λ m. length (rows_among t id m)) (sym (in_tree t db.trees))
+        small n (length it.0) low capped ∙ it.1 ∙ as_many (of_first t) params (layout_at t).tree of rows passed
+        ∙ sym (counted (cells_at (layout_at t).keys) (cells_at (layout_at t).columns) (is_of id) rows apart) ∙ ap (λ m. length (rows_of id m)) (sym (in_tree t db.trees))
       where
         first_cell : List Row → Cell
         first_cell [] = number (pos 0)
@@ -204,9 +196,10 @@ module _ (t : Table) (db : Database) (is : db.schema ≡ office_schema) (sound :
         }
 
 -- a shown row that is no record
-module _ {X : Type 0} (t : Table) (is_within : X → Type 0) (key : ℕ → X → List Cell) (columns : X → List Cell) where
-  pub damaged_at : (tables : Content) (id : ℕ) (rows : List Row) → map (row_shown t) rows ≡ rows_among t id (rows_at tables t) → AllByRecursion (λ row. length row ≡ width_of t) rows
-      → (row : Row) → Has rows row → (length row ≡ width_of t → IsNoRow is_within (key id) columns (key_shown t row) (columns_shown t row)) → HasDamagedRow t is_within key columns tables id
-  damaged_at tables id rows is width row there none =
-      let here = stands (key_shown t) (columns_shown t) (is_among t id) (rows_at tables t) rows is row (is_in rows row there) in
+module _ {X : Type 0} (t : Table) (is_within : X → Type 0) (key columns : X → List Cell) where
+  pub damaged_at : (tables : Content) (whose : Option ℕ) (rows : List Row) → map (row_shown t) rows ≡ rows_among whose (rows_at tables t) → AllByRecursion (λ row. length row ≡ width_of t) rows
+      → (row : Row) → Has rows row → (length row ≡ width_of t → IsNoRow is_within key columns (key_shown t row) (columns_shown t row)) → HasDamagedRow t is_within key columns tables whose
+  damaged_at tables whose rows is width row there none =
+      let all = is ∙ sym (among whose (rows_at tables t)) in
+      let here = stands (key_shown t) (columns_shown t) (is_among whose) (rows_at tables t) rows all row (is_in rows row there) in
       record { key = key_shown t row; columns = columns_shown t row; of = here.0; stored = here.1; no_row = none (all_has (λ (r : Row). length r ≡ width_of t) rows row width there) }

@@ -1,17 +1,17 @@
 -- The statements that put and remove rows, and what they make of the tables.
-use Rattle.std.proofs.Common.{◌≡◌, ◌≢◌, ℕ, List, [], ◌∷◌, ◌++◌, map, filter, length, not, refl, sym, ap, subst, ◌∙◌}
-use Rattle.std.specs.{FinMap.insert, FinMap.remove, FinMap.retain_keys, Cmp.eq_by_cmp_equiv}
+use Rattle.std.proofs.Common.{◌≡◌, ◌≢◌, ℕ, List, [], ◌∷◌, ◌++◌, map, filter, length, pos, refl, sym, ap, subst, ◌∙◌}
+use Rattle.std.specs.{FinMap.insert, FinMap.remove, Cmp.eq_by_cmp_equiv}
 use Rattle.std.specs.{List.AllByRecursion, List.IsDistinct, List.Sorted.IsPermutation, Ordering.eq_by_cmp}
-use Rattle.sqlite.specs.{declared.types.Value.TheVariants.Null, Cast.cast_row, Edit.with_rowid, Rowids.TheVariants.Chosen, Order.Row}
+use Rattle.sqlite.specs.{declared.types.Value.TheVariants.Null, declared.types.Value.TheVariants.Int, Cast.cast_row, Edit.with_rowid, Rowids.TheVariants.Chosen, Order.Row}
 use Rattle.sqlite.specs.{Program.overlay, Query.IsAnswer, Rows.Written, State.State, Term.col, Term.eval_all}
 use Rattle.sqlite.specs.Kind.TheVariants as kind
 use Rattle.sqlite_rules.specs.Lists.{Has}
-use Rattle.office_tables_shelf.specs.{Cells.Cell, Cells.TableRows, Cells.cells_cmp, Cells.null, Content.Content, declared.rows.Table.Table}
+use Rattle.office_tables_shelf.specs.{Cells.Cell, Cells.TableRows, Cells.cells_cmp, Cells.null, Content.Content, Content.rows_but, Shelf.is_of, declared.rows.Table.Table}
 use Rattle.office_tables_shelf.proofs.CellLemmas.{cells_total}
 use Rattle.office_tables_statements.specs.{Calls.IsReady, Calls.IsTurned, Calls.Ran, Layout.has_key, Layout.values_at}
 use Rattle.office_tables_statements.specs.Stored.{cells_at, content_now, rows_in}
 use Rattle.office_tables_statements.specs.Tables.{beside_rowid, id_given, row_given, source_at, rows_at, with_rows, layout_at, schema_at, place_at, renewed_at, put_in, remove_in, key_given, values_of, IsKeyOf, IsUpdateText, IsInsertText, IsRemoveText, Fits}
-use Rattle.office_tables_statements.specs.Tables.{filter_of, is_among, params_of, picked_where, IsDropText}
+use Rattle.office_tables_statements.specs.Tables.{of_first, drop_in, picked_where, IsDropText}
 use Rattle.office_tables_schema.specs.Schema.{office_schema}
 use Rattle.office_tables_statements.proofs.{Casts.cast_one, Casts.cast_suited, ContentLemmas.put_at, ContentLemmas.put_apart, WriteLemmas.Added}
 use Rattle.office_tables_statements.proofs.{WriteLemmas.adds, WriteLemmas.went_on, WriteLemmas.same_value, WriteLemmas.wrote, QueryLemmas.picked}
@@ -109,28 +109,28 @@ removes t sql means key given old new count ready did =
     turned old new t _ it.0 it.1.others (it.1.at ∙ ap (λ rows. remove rows (key_given t key)) (sym (in_tree t old.now.trees)))
 
 pub drops : (t : Table) (sql : List ℕ) (means : IsDropText t sql) (id : ℕ) (old new : State)
-    (count : ℕ) → IsReady old → Ran sql (params_of t id) old new count
-    → IsTurned (with_rows (content_now old) t
-    (retain_keys (rows_at (content_now old) t) (λ key. not (is_among t id key)))) old new
+    (count : ℕ) → IsReady old → Ran sql (Int (pos id) ∷ []) old new count
+    → IsTurned (drop_in (content_now old) t id) old new
 drops t sql means id old new count ready did =
     let db = old.now.trees in
     let rows = db (schema_at t).tree in
-    let test = λ (r : Row). is_among t id (cells_at (layout_at t).keys r) in
+    let params : Row = Int (pos id) ∷ [] in
+    let test = λ (r : Row). is_of id (cells_at (layout_at t).keys r) in
     let whole = shaped t old.now ready.schema ready.sound ready.ordered in
     let keys = own_keys t old.now ready.schema ready.sound ready.ordered in
     let low = seen t old.now ready.schema ready.sound ready.ordered in
     let shows = λ (found : List Row)
-    (answer : IsAnswer (picked_where (layout_at t) (filter_of t) (col 1 0 ∷ [])) (overlay db [])
-    (params_of t id) found).
+    (answer : IsAnswer (picked_where (layout_at t) (of_first t) (col 1 0 ∷ [])) (overlay db [])
+    params found).
     subst (λ all. IsPermutation (map (values_at (0 ∷ [])) (filter test all)) found) low
-    (where_picked (layout_at t) (filter_of t) (col 1 0 ∷ []) (params_of t id) test
+    (where_picked (layout_at t) (of_first t) (col 1 0 ∷ []) params test
     (values_at (0 ∷ [])) (λ row. refl) (overlay db []) found
     (λ row there. (facts t).first id row (keys row (subst (λ all. Has all row) low there)))
     answer) in
     let it = loses (schema_at t) (place_at t) (is_placed t) (is_idle t) sql
-    (picked_where (layout_at t) (filter_of t) (col 1 0 ∷ []))
-    (record { is = means.is; plain = means.plain }) (params_of t id) old new count test shows whole
+    (picked_where (layout_at t) (of_first t) (col 1 0 ∷ []))
+    (record { is = means.is; plain = means.plain }) params old new count test shows whole
     ready did in
-    let left = dropped_rows (layout_at t) rows (is_among t id) it.1.found it.1.hits whole in
+    let left = dropped_rows (layout_at t) rows (is_of id) it.1.found it.1.hits whole in
     turned old new t _ it.0 it.1.others (ap (rows_in (layout_at t)) it.1.left ∙ left
-    ∙ ap (λ all. retain_keys all (λ key. not (is_among t id key))) (sym (in_tree t db)))
+    ∙ ap (rows_but id) (sym (in_tree t db)))

@@ -1,35 +1,34 @@
 -- What is known of each table by computation on the schema.
-use Rattle.std.proofs.Common.{◌≡◌, ◌≢◌, ◌⊎◌, inl, inr, ℕ, ◌+◌, ◌/◌, true, false, true≢false, cond, List, [], ◌∷◌, slice_get, unwrap_or, None, Some, refl, sym, ap, subst, ◌∙◌, eq-eqb, pos}
+use Rattle.std.proofs.Common.{◌≡◌, ◌≢◌, ◌⊎◌, inl, inr, ℕ, ◌+◌, ◌/◌, true, false, true≢false, cond, List, [], ◌∷◌, slice_get, unwrap_or, Option, None, Some, refl, sym, ap, subst, ◌∙◌, eq-eqb, pos}
 use Rattle.std.proofs.lemmas.Bool.{cases_Bool, eqb-true, and_parts, and_from}
-use Rattle.std.specs.{List.AllByRecursion, List.list_all, Cmp.eq_by_cmp_equiv, Ordering.is_eq}
+use Rattle.std.specs.{FinMap.entries, FinMap.Entries.where_key, List.AllByRecursion, List.list_all, Cmp.eq_by_cmp_equiv, Ordering.is_eq}
 use Rattle.sqlite.specs.{Order.Row, Order.column, Term.Term, Term.holds, Tree.Trees, Program.overlay, declared.types.Value.TheVariants.Int}
 use Rattle.sqlite_rules.specs.Lists.{Has}
 use Rattle.sqlite_rules.proofs.ListLemmas.{all_has}
 use Rattle.sqlite_schema.specs.{Rules.guards, declared.schema.Index.Index}
 use Rattle.sqlite_value.specs.Keys.{plain, first_key}
-use Rattle.office_tables_shelf.specs.{Cells.TableRows, Cells.number, Cells.cell_cmp, Shelf.is_of, Content.Content, Content.is_same_table}
+use Rattle.office_tables_shelf.specs.{Cells.TableRows, Cells.number, Cells.cell_cmp, Cells.cells_cmp, Shelf.is_of, Content.Content, Content.is_same_table}
 use Rattle.office_tables_shelf.specs.declared.rows.Table.{Table}
 use Rattle.office_tables_shelf.specs.declared.rows.Table.TheVariants as table
 use Rattle.office_tables_schema.specs.Schema.{office_schema}
 use Rattle.office_tables_statements.specs.Layout.{office_version}
 use Rattle.office_tables_statements.specs.Stored.{cells_at, rows_in, content_of, are_sound, cell_of}
-use Rattle.office_tables_statements.specs.Tables.{rows_at, with_rows, layout_at, schema_at, place_at, key_shown, columns_shown, filter_of, params_of, is_among, of_key}
+use Rattle.office_tables_statements.specs.Tables.{rows_at, with_rows, layout_at, schema_at, place_at, key_shown, columns_shown, filter_of, of_first, params_of, rows_among, is_among, of_key}
 use Rattle.office_tables_statements.proofs.{ListedLemmas.IsListing, QueryLemmas.ArePaired, SoundLemmas.has_key_at, WriteLemmas.IsIdle}
 use Rattle.office_tables_statements.proofs.StoredLemmas.{agree_ties}
 use Rattle.sqlite_value.proofs.OrderLemmas.{then-Equal}
-use Rattle.office_tables_shelf.proofs.CellLemmas.{cell_total}
+use Rattle.office_tables_shelf.proofs.{CellLemmas.cell_total, ListLemmas.where_all}
 
-abbrev pub of_first : List Term
-of_first = of_key (1 ∷ []) (0 ∷ [])
-
--- it is where its cell is that number
-pub first_is : (id : ℕ) (rest : List ℕ) (row : Row) → are_sound (1 ∷ rest) row ≡ true → list_all (holds ((Int (pos id) ∷ []) ∷ row ∷ [])) of_first ≡ is_of id (cells_at (1 ∷ rest) row)
+-- the first key column is the parameter where its cell is that number
+first_is : (p id : ℕ) (rest : List ℕ) (row : Row) → are_sound (p ∷ rest) row ≡ true
+    → list_all (holds ((Int (pos id) ∷ []) ∷ row ∷ [])) (of_key (p ∷ []) (0 ∷ []))
+    ≡ is_of id (cells_at (p ∷ rest) row)
 unfolding first_key
-first_is id rest row sound =
+first_is p id rest row sound =
     let first = and_from _ _ (and_parts _ _ sound).0 refl in
-    agree_ties (1 ∷ []) (0 ∷ []) row (Int (pos id) ∷ []) first refl
-    ∙ ap is_eq (then-Equal (cell_cmp (cell_of (column row 1)) (number (pos id))))
-    ∙ (eq_by_cmp_equiv cell_total).symm (cell_of (column row 1)) (number (pos id))
+    agree_ties (p ∷ []) (0 ∷ []) row (Int (pos id) ∷ []) first refl
+    ∙ ap is_eq (then-Equal (cell_cmp (cell_of (column row p)) (number (pos id))))
+    ∙ (eq_by_cmp_equiv cell_total).symm (cell_of (column row p)) (number (pos id))
 
 -- what holds of each of the eight
 pub each : (P : Table → Type 0) → P table.Intersection → P table.Timing → P table.Draft
@@ -95,17 +94,34 @@ pub record Facts (t : Table) : Type 0 where
   -- the rowid is the key, or there is an index for it
   pub key : ((layout_at t).keys ≡ 0 ∷ []) ⊎ OwnKey t
   pub paired : ArePaired (layout_at t).keys (layout_at t).places
-  pub first : (id : ℕ) (row : Row) → are_sound (layout_at t).keys row ≡ true → list_all (holds (params_of t id ∷ row ∷ [])) (filter_of t) ≡ is_among t id (cells_at (layout_at t).keys row)
+  pub first : (id : ℕ) (row : Row) → are_sound (layout_at t).keys row ≡ true
+      → list_all (holds ((Int (pos id) ∷ []) ∷ row ∷ [])) (of_first t)
+      ≡ is_of id (cells_at (layout_at t).keys row)
 
 pub facts : (t : Table) → Facts t
-facts table.Intersection = record { key = inl refl; paired = tt; first = λ id row h. refl }
-facts table.Timing = record { key = inr (record { keyless = refl; sound = refl; index = _; has = inl refl; guard = refl; order = refl; columns = refl }); paired = tt; first = λ id. first_is id (2 ∷ 3 ∷ 4 ∷ []) }
-facts table.Draft = record { key = inr (record { keyless = refl; sound = refl; index = _; has = inr (inl refl); guard = refl; order = refl; columns = refl }); paired = tt; first = λ id. first_is id (2 ∷ 3 ∷ 4 ∷ []) }
-facts table.Inspection = record { key = inr (record { keyless = refl; sound = refl; index = _; has = inr (inr (inl refl)); guard = refl; order = refl; columns = refl }); paired = tt; first = λ id. first_is id (2 ∷ []) }
-facts table.WorkOrder = record { key = inr (record { keyless = refl; sound = refl; index = _; has = inr (inr (inr (inl refl))); guard = refl; order = refl; columns = refl }); paired = tt; first = λ id. first_is id (2 ∷ []) }
-facts table.Part = record { key = inr (record { keyless = refl; sound = refl; index = _; has = inr (inr (inr (inr (inl refl)))); guard = refl; order = refl; columns = refl }); paired = tt; first = λ id row h. refl }
-facts table.Delivery = record { key = inr (record { keyless = refl; sound = refl; index = _; has = inr (inr (inr (inr (inr (inl refl))))); guard = refl; order = refl; columns = refl }); paired = tt; first = λ id row h. refl }
-facts table.UsedPart = record { key = inr (record { keyless = refl; sound = refl; index = _; has = inr (inr (inr (inr (inr (inr (inl refl)))))); guard = refl; order = refl; columns = refl }); paired = tt; first = λ id. first_is id (2 ∷ 3 ∷ []) }
+facts table.Intersection = record { key = inl refl; paired = tt; first = λ id. first_is 0 id [] }
+facts table.Timing = record { key = inr (record { keyless = refl; sound = refl; index = _; has = inl refl; guard = refl; order = refl; columns = refl }); paired = tt; first = λ id. first_is 1 id (2 ∷ 3 ∷ 4 ∷ []) }
+facts table.Draft = record { key = inr (record { keyless = refl; sound = refl; index = _; has = inr (inl refl); guard = refl; order = refl; columns = refl }); paired = tt; first = λ id. first_is 1 id (2 ∷ 3 ∷ 4 ∷ []) }
+facts table.Inspection = record { key = inr (record { keyless = refl; sound = refl; index = _; has = inr (inr (inl refl)); guard = refl; order = refl; columns = refl }); paired = tt; first = λ id. first_is 1 id (2 ∷ []) }
+facts table.WorkOrder = record { key = inr (record { keyless = refl; sound = refl; index = _; has = inr (inr (inr (inl refl))); guard = refl; order = refl; columns = refl }); paired = tt; first = λ id. first_is 1 id (2 ∷ []) }
+facts table.Part = record { key = inr (record { keyless = refl; sound = refl; index = _; has = inr (inr (inr (inr (inl refl)))); guard = refl; order = refl; columns = refl }); paired = tt; first = λ id. first_is 1 id [] }
+facts table.Delivery = record { key = inr (record { keyless = refl; sound = refl; index = _; has = inr (inr (inr (inr (inr (inl refl))))); guard = refl; order = refl; columns = refl }); paired = tt; first = λ id. first_is 1 id (2 ∷ []) }
+facts table.UsedPart = record { key = inr (record { keyless = refl; sound = refl; index = _; has = inr (inr (inr (inr (inr (inr (inl refl)))))); guard = refl; order = refl; columns = refl }); paired = tt; first = λ id. first_is 1 id (2 ∷ 3 ∷ []) }
+
+-- ---- the rows of a list
+
+-- its filter tests the key
+pub passes : (t : Table) (whose : Option ℕ) (row : Row) → are_sound (layout_at t).keys row ≡ true
+    → list_all (holds (params_of whose ∷ row ∷ [])) (filter_of t whose)
+    ≡ is_among whose (cells_at (layout_at t).keys row)
+passes t None row sound = refl
+passes t (Some id) row sound = (facts t).first id row sound
+
+-- and shows the entries whose keys pass
+pub among : (whose : Option ℕ) (rows : TableRows)
+    → where_key cells_cmp (is_among whose) (entries rows) ≡ rows_among whose rows
+among None rows = where_all (entries rows)
+among (Some id) rows = refl
 
 -- ---- the table at a place
 

@@ -2,7 +2,6 @@
 use Rattle.std.specs.Prelude.{◌≡◌, ℕ, suc, ℤ, pos, negsuc, Bool, true, false, ◌&&◌, cond, List, [], ◌∷◌, ◌++◌, map, length, Option, Some, None, IfSome, Ok, slice_get, unwrap_or}
 use Rattle.std.specs.Option.{option_map}
 use Rattle.std.specs.FinMap.{get, entries}
-use Rattle.std.specs.FinMap.Entries.{where_key}
 use Rattle.sqlite.specs.Command.TheVariants.{Select, Insert, Update, Delete}
 use Rattle.sqlite.specs.Kind.{Kind}
 use Rattle.sqlite.specs.Kind.TheVariants as kind
@@ -28,11 +27,12 @@ use Rattle.sqlite_sql.specs.declared.ops.CompareOp.TheVariants.{Eq}
 use Rattle.sqlite_value.specs.Keys.{ascending}
 use Rattle.signal_records.specs.Key.{kind_of, first_of, second_of}
 use Rattle.signal_records.specs.declared.key.Key.{Key}
-use Rattle.office_tables_shelf.specs.Cells.{Cell, TableRows, cells_cmp, null, number, text, odd}
+use Rattle.office_tables_shelf.specs.Cells.{Cell, TableRows, null, number, text, odd}
 use Rattle.office_tables_shelf.specs.Content.{Content}
 pub use Rattle.office_tables_shelf.specs.Content.{rows_at, place_at, with_rows, put_in, remove_in}
 pub use Rattle.office_tables_shelf.specs.Content.{drop_in}
-pub use Rattle.office_tables_shelf.specs.Reads.{is_parted, is_among, IsNoRow, HasDamagedRow, ReadsRow, HasDamagedUnder}
+pub use Rattle.office_tables_shelf.specs.Reads.{is_among, IsNoRow, HasDamagedRow, ReadsRow, HasDamagedUnder}
+use Rattle.office_tables_shelf.specs.Shelf.{rows_of}
 use Rattle.office_tables_shelf.specs.declared.rows.Table.{Table}
 use Rattle.office_tables_shelf.specs.declared.rows.Table.TheVariants as table
 use Rattle.office_tables_statements.specs.Calls.{IsQuery, IsWriting, command_of}
@@ -75,20 +75,29 @@ is_keyed table.Part = true
 is_keyed table.Delivery = true
 is_keyed table.UsedPart = true
 
--- ---- the rows of a list: those of an intersection, or all where a table is not parted by intersections
+-- the rows whose key columns are the parameters
+abbrev pub of_key : List ℕ → List ℕ → List Term
+of_key [] at = []
+of_key (p ∷ ps) [] = []
+of_key (p ∷ ps) (q ∷ qs) = op2 (Compare Eq Binary) (col 1 p) (col 0 q) ∷ of_key ps qs
+
+-- ---- the rows of a list: those of an intersection, or all
 
 -- the rows whose first key column is the parameter
-abbrev pub of_parameter : List Term
-of_parameter = op2 (Compare Eq Binary) (col 1 1) (col 0 0) ∷ []
+abbrev pub of_first : Table → List Term
+of_first t = of_key (layout_at t).keys (0 ∷ [])
 
-abbrev pub filter_of : Table → List Term
-filter_of t = cond (is_parted t) of_parameter []
+abbrev pub filter_of : Table → Option ℕ → List Term
+filter_of t None = []
+filter_of t (Some id) = of_first t
 
-abbrev pub params_of : Table → ℕ → Row
-params_of t id = cond (is_parted t) (Int (pos id) ∷ []) []
+abbrev pub params_of : Option ℕ → Row
+params_of None = []
+params_of (Some id) = Int (pos id) ∷ []
 
-abbrev pub rows_among : Table → ℕ → TableRows → List (List Cell × List Cell)
-rows_among t id rows = where_key cells_cmp (is_among t id) (entries rows)
+abbrev pub rows_among : Option ℕ → TableRows → List (List Cell × List Cell)
+rows_among None rows = entries rows
+rows_among (Some id) rows = rows_of id rows
 
 -- ---- a row as a list shows it: the columns of the key, and then the others
 
@@ -114,12 +123,13 @@ row_shown t row = (key_shown t row, columns_shown t row)
 -- ---- what the contracts of a table's rows say
 
 -- what is stored for it
-abbrev pub stored_for : {X : Type 0} → (ℕ → X → List Cell) → (X → List Cell) → ℕ → X → List Cell × List Cell
-stored_for key columns id x = (key id x, columns x)
+abbrev pub stored_for : {X : Type 0} → (X → List Cell) → (X → List Cell) → X → List Cell × List Cell
+stored_for key columns x = (key x, columns x)
 
 -- the rows of the list in the table, in the order of their keys
-abbrev pub ListsRows : {X : Type 0} → Table → (ℕ → X → List Cell) → (X → List Cell) → Content → ℕ → List X → Type 0
-ListsRows t key columns tables id xs = map (stored_for key columns id) xs ≡ rows_among t id (rows_at tables t)
+abbrev pub ListsRows : {X : Type 0} → Table → (X → List Cell) → (X → List Cell) → Content → Option ℕ → List X → Type 0
+ListsRows t key columns tables whose xs =
+    map (stored_for key columns) xs ≡ rows_among whose (rows_at tables t)
 
 -- the row shows what stands under the key, if anything does
 pub record IsUnder (t : Table) (tables : Content) (key : List Cell) (found : Option Row) : Type 0 where
@@ -143,9 +153,10 @@ listed_by t filter = record {
 }
 
 -- the text lists the rows, in the order of their keys
-pub record IsListText (t : Table) (sql : List ℕ) : Type 0 where
+pub record IsListText (t : Table) (whose : Option ℕ) (sql : List ℕ) : Type 0 where
   pub names : List (List ℕ)
-  pub is : command_of (understood office_schema sql) ≡ Select (record { lets = []; body = listed_by (layout_at t) (filter_of t) }) names
+  pub is : command_of (understood office_schema sql)
+      ≡ Select (record { lets = []; body = listed_by (layout_at t) (filter_of t whose) }) names
   pub query : IsQuery sql
 
 -- how many rows pass
@@ -165,17 +176,12 @@ counted_by t filter = record {
   offset = lit (Int (pos 0));
 }
 
--- the text counts those rows
+-- the text counts the rows of an intersection
 pub record IsCountText (t : Table) (sql : List ℕ) : Type 0 where
   pub names : List (List ℕ)
-  pub is : command_of (understood office_schema sql) ≡ Select (record { lets = []; body = counted_by (layout_at t) (filter_of t) }) names
+  pub is : command_of (understood office_schema sql)
+      ≡ Select (record { lets = []; body = counted_by (layout_at t) (of_first t) }) names
   pub query : IsQuery sql
-
--- the rows whose key columns are the parameters
-abbrev pub of_key : List ℕ → List ℕ → List Term
-of_key [] at = []
-of_key (p ∷ ps) [] = []
-of_key (p ∷ ps) (q ∷ qs) = op2 (Compare Eq Binary) (col 1 p) (col 0 q) ∷ of_key ps qs
 
 -- these terms of the rows that pass the filter
 abbrev pub picked_where : Layout → List Term → List Term → Query
@@ -243,12 +249,12 @@ pub record IsRemoveText (t : Table) (sql : List ℕ) : Type 0 where
   pub is : command_of (understood office_schema sql) ≡ Delete (place_at t) (record { lets = []; body = found_by (layout_at t) (0 ∷ []) })
   pub plain : IsWriting sql
 
--- the text removes the rows of a list
+-- the text removes the rows of an intersection
 pub record IsDropText (t : Table) (sql : List ℕ) : Type 0 where
   pub is : command_of (understood office_schema sql)
       ≡ Delete (place_at t) (record {
         lets = [];
-        body = picked_where (layout_at t) (filter_of t) (col 1 0 ∷ []);
+        body = picked_where (layout_at t) (of_first t) (col 1 0 ∷ []);
       })
   pub plain : IsWriting sql
 

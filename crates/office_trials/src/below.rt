@@ -1,16 +1,18 @@
-//! Calls below the wire: a decision and its changes, and the first that is overdue.
+//! Calls below the wire: a decision and its changes, the first that is overdue, and open orders.
 
 use crate::running::{answers, asked, does};
 use crate::script::{Line, UNKNOWN, commands};
 use crate::talking::{told_answer, words};
-use cabinet_core::read_day;
+use cabinet_core::{Order, read_day};
 use office_desk::decided::Decided;
 use office_desk::office::Office;
 use office_http::{Asked, Form, answer_of};
 use office_machine::reply::Reply;
 use office_row_files::trouble::{Trouble, compare, holds};
 use office_tables_shelf::shelf::Shelf;
+use signal_records::InterId;
 use std::alloc::Global;
+use std::collections::BTreeMap;
 
 /// A reply is answered as its line tells.
 fn tells(alloc: Global, line: &Line, reply: &Reply, form: Form) -> Result<(), Trouble> {
@@ -62,8 +64,30 @@ fn ask_overdue<S: Shelf>(alloc: Global, office: &mut Office<S>) -> Result<(), Tr
     holds(is_first && is_none, "the first that is overdue")
 }
 
+/// The second order is open, on the only intersection that has an open one.
+fn is_second_open(orders: &BTreeMap<InterId, Vec<Order>>) -> bool {
+    let mut each = orders.values();
+    match (each.next(), each.next()) {
+        (Some(found), None) => matches!(found.as_slice(), [order] if order.number.get() == 2),
+        _ => false,
+    }
+}
+
+/// Two orders are opened, the first is closed, and those that are open are asked for.
+fn ask_orders<S: Shelf>(alloc: Global, office: &mut Office<S>) -> Result<(), Trouble> {
+    let [.., book, _, close, _, _] = commands();
+    does(alloc, office, book)?;
+    does(alloc, office, close)?;
+    let is_second = match office.open_orders(alloc) {
+        Ok(orders) => is_second_open(&orders),
+        Err(_) => false,
+    };
+    holds(is_second, "the open orders")
+}
+
 /// Asks a new office below the wire.
 pub fn ask_below<S: Shelf>(alloc: Global, office: &mut Office<S>) -> Result<(), Trouble> {
     decide_first(alloc, office)?;
-    ask_overdue(alloc, office)
+    ask_overdue(alloc, office)?;
+    ask_orders(alloc, office)
 }

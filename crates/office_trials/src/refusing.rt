@@ -5,7 +5,7 @@ ghost use Rattle.std.specs.Prelude.{◌≡◌, OnErr};
 use crate::script::{Line, commands};
 use crate::state::{is_unchanged, state_of};
 use crate::talking::is_done;
-use cabinet_core::{Delivery, Hand, Inspection, Order, PartCode, UsedLine};
+use cabinet_core::{Day, Delivery, Hand, Inspection, Order, PartCode, UsedLine};
 use office_desk::office::Office;
 use office_row_files::trouble::{Trouble, holds};
 use office_tables_maps::map_shelf::MapShelf;
@@ -14,6 +14,7 @@ use office_tables_shelf::shelf::{Shelf, ShelfFault};
 use signal_records::{Change, InterId, LineNo, RecordNo, Row};
 use std::alloc::Global;
 use std::cell::Cell;
+use std::collections::BTreeMap;
 
 /// How many calls come before one that is refused, if one is.
 type Left = Cell<Option<u32>>;
@@ -101,6 +102,11 @@ impl Shelf for Refusing<'_> {
         self.inner.inspections(alloc, id)
     }
 
+    fn last_inspections(&mut self, alloc: Global) -> Result<BTreeMap<InterId, Day>, ShelfFault> {
+        pass(self.left)?;
+        self.inner.last_inspections(alloc)
+    }
+
     fn order(
         &mut self,
         alloc: Global,
@@ -114,6 +120,11 @@ impl Shelf for Refusing<'_> {
     fn orders(&mut self, alloc: Global, id: InterId) -> Result<Vec<Order>, ShelfFault> {
         pass(self.left)?;
         self.inner.orders(alloc, id)
+    }
+
+    fn open_orders(&mut self, alloc: Global) -> Result<BTreeMap<InterId, Vec<Order>>, ShelfFault> {
+        pass(self.left)?;
+        self.inner.open_orders(alloc)
     }
 
     fn used_line(

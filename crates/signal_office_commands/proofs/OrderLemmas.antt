@@ -1,5 +1,7 @@
 -- The open orders of the intersections, one after the other.
-use Rattle.std.proofs.Common.{Option, ◌≡◌, ◌≢◌, ◌<◌, ◌+◌, ◌++◌, ◌⊎◌, inl, inr, ℕ, zero, suc, List, [], ◌∷◌, map, flat_map, length, get_or, take, Some, None, refl, ap, sym, subst, ◌∙◌, arith, append-nil}
+use Rattle.std.proofs.Common.{Option, ◌≡◌, ◌≢◌, ◌<◌, ◌+◌, ◌++◌, ◌⊎◌, inl, inr, ℕ, zero, suc, List, [], ◌∷◌, map, filter, flat_map, length, get_or, take, Some, None, refl, ap, sym, subst, ◌∙◌, arith, append-nil}
+use Rattle.std.specs.Prelude.{Bool, true, false, cond, Vec}
+use Rattle.cabinet_core.specs.{Orders.is_open, Register.records_at, declared.record.Order.Order}
 use Rattle.std.proofs.{lemmas.Grind.flat_map-append, lemmas.List.take_more}
 use Rattle.std.specs.{FinMap.entries, FinMap.get, List.AllByRecursion, Option.IsSome}
 use Rattle.office_tables_shelf.specs.{Cells.Cell, Content.Content, Damage.HasAnyDamagedIntersection, Rows.intersection_columns, Rows.intersection_key, declared.rows.IntersectionRow.IntersectionRow}
@@ -10,8 +12,8 @@ use Rattle.office_machine.specs.declared.command.Command.TheVariants as command
 use Rattle.office_machine.specs.{Listed.intersection_listed, Listed.intersections_of, Office.Office, Office.Intersection}
 use Rattle.office_machine.specs.declared.intersections.ListedIntersection.{ListedIntersection}
 use Rattle.office_desk.proofs.{IntersectionTable.Entry, ListedIntersections.each_there}
-use Rattle.office_listings.specs.declared.orders.NamedOrder.{NamedOrder}
-use Rattle.signal_office_commands.specs.{Fault.IsFaultOfQuery, Fault.TellsUnknown, Listing.MeetsOrdersDamage, Listing.named_in, Listing.named_on}
+use Rattle.office_listings.specs.{Orders.order_named, declared.orders.NamedOrder.NamedOrder}
+use Rattle.signal_office_commands.specs.{Fault.IsFaultOfQuery, Fault.TellsUnknown, Listing.AreOpenOf, Listing.MeetsCabinetsDamage, Listing.named_from, Listing.named_in, Listing.named_on}
 use Rattle.signal_office_faults.specs.declared.fault.Fault.{Fault}
 use Rattle.signal_office_faults.specs.declared.fault.Fault.TheVariants as told
 
@@ -35,6 +37,33 @@ over_entries office (e ∷ es) = ap (λ rest. named_on office e.0 e.1.name ++ re
 pub all_open : (office : Office) (list : List ListedIntersection) (found : List NamedOrder) → list ≡ intersections_of office
     → found ≡ named_of office list → found ≡ named_in office
 all_open office list found all is = is ∙ ap (λ xs. named_of office xs) all ∙ over_entries office (entries office.intersections)
+
+-- ---- open orders that a map has
+
+open_again : (orders : List Order) → filter is_open (filter is_open orders) ≡ filter is_open orders
+open_again [] = refl
+open_again (order ∷ orders) = go (is_open order) refl (filter is_open orders) (open_again orders)
+  where
+    go : (b : Bool) → is_open order ≡ b → (found : List Order) → filter is_open found ≡ found
+        → filter is_open (cond b (order ∷ found) found) ≡ cond b (order ∷ found) found
+    go true is found again =
+        ap (λ b. cond b (order ∷ filter is_open found) (filter is_open found)) is
+        ∙ ap (λ rest. order ∷ rest) again
+    go false is found again = again
+
+module _ {A : Type 0} (office : Office) (orders : List (ℕ × Vec Order A)) (have : AreOpenOf office orders) where
+  from_one : (listed : ListedIntersection)
+      → named_from orders listed ≡ named_on office listed.id listed.name
+  from_one listed =
+      ap (λ found. map (order_named listed.name listed.id) found)
+      (ap (filter is_open) (have listed.id) ∙ open_again (records_at listed.id office.register.orders))
+
+  -- those of all that are listed are all
+  pub all_from : (list : List ListedIntersection) (found : List NamedOrder)
+      → list ≡ intersections_of office → found ≡ flat_map (named_from orders) list
+      → found ≡ named_in office
+  all_from list found all is =
+      all_open office list found all (is ∙ (λ i. flat_map (λ listed. from_one listed i) list))
 
 -- ---- an intersection that is listed is there
 
@@ -99,7 +128,7 @@ there_at tables id (inr cabinet) = some_stored (get tables.intersection (interse
 
 -- where those of all that are listed were read, none is damaged
 pub all_whole : (tables : Content) (list : List ListedIntersection) → ListsEachIntersection tables list → ¬ HasAnyDamagedIntersection tables → AreWhole tables list
-    → ¬ MeetsOrdersDamage tables None
+    → ¬ MeetsCabinetsDamage tables
 all_whole tables list lists sound whole (inl damaged) = sound damaged
 all_whole tables list lists sound whole (inr damaged) =
     let id = damaged.0 in

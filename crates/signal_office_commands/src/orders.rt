@@ -1,60 +1,64 @@
 //! The open orders of an intersection, or of all.
 
-ghost use Rattle.std.specs.Prelude.{◌≡◌, ◌≢◌, ◌++◌, Err, None, Some, IfOk, IfErr, OnOk};
+ghost use Rattle.std.specs.Prelude.{◌≡◌, ◌≢◌, Err, None, Some, IfOk, IfErr, flat_map};
 ghost use Rattle.office_tables_shelf.specs.Keeps.{KeepsShelf};
+ghost use Rattle.office_tables_shelf.specs.OpenOrders.{orders_in};
 ghost use Rattle.office_desk.specs.Damage.{MeetsDamage};
 ghost use Rattle.office_listings.specs.Orders.{orders_listing};
 ghost use Rattle.office_machine.specs.declared.command.Command.TheVariants as command;
 ghost use Rattle.signal_office_commands.specs.Fault.{IsFaultOfQuery, TellsUnknown};
-ghost use Rattle.signal_office_commands.specs.Cabinet.{HasIntersection, MeetsRegisterDamage};
-ghost use Rattle.signal_office_commands.specs.Listing.{open_on, named_on, named_in, named_written};
+ghost use Rattle.signal_office_commands.specs.Cabinet.{MeetsRegisterDamage};
+ghost use Rattle.signal_office_commands.specs.Listing.{named_from, named_in, named_written};
 ghost use Rattle.signal_office_commands.specs.Listing.{IsOrdersListOf, MeetsOrdersDamage};
 ghost use Rattle.signal_office_commands.specs.Listing.{IsOrdersCsvOf, MeetsOrdersCsvDamage};
 ghost use Rattle.signal_office_commands.specs.Listing.{TellsOrders};
 ghost use Rattle.office_desk.specs.Running.{TellsTables};
 ghost use Rattle.signal_office_commands.specs.Asking.{TellsOffice};
 
-use crate::querying::{cabinet_asked, intersections_asked, state_asked};
+use crate::querying::{cabinet_asked, intersections_asked, open_orders_asked, state_asked};
+use cabinet_core::Order;
 use office_desk::office::Office;
 use office_listings::{
-    NamedOrder, add_named_orders, add_open_orders, named_orders_text, orders_csv, orders_text,
+    NamedOrder, add_named, add_named_orders, add_open_orders, named_orders_text, orders_csv,
+    orders_text,
 };
+use office_machine::intersections::ListedIntersection;
 use office_tables_shelf::shelf::Shelf;
 use signal_office_faults::Fault;
-use signal_records::{InterId, NoMemory, Words};
+use signal_records::{InterId, NoMemory};
 use std::alloc::Global;
+use std::collections::BTreeMap;
 
-/// Appends the open orders of an intersection, with its name.
-fn add_orders_on<S: Shelf>(
-    alloc: Global,
-    office: &mut Office<S>,
-    found: &mut Vec<NamedOrder>,
-    id: InterId,
-    name: &Words<120>,
-) -> Result<(), Fault>
-    ensures kept { KeepsShelf S.Shelf office.old office.new }
-    ensures clean { S.is_clean office.new → S.is_clean office.old }
-    ensures added { OnOk result (TellsOffice S.Shelf office.old office.new
-        (λ before. HasIntersection before id
-        × (found.new.items ≡ found.old.items ++ named_on before id name.now))) }
-    ensures whole { OnOk result (TellsTables S.Shelf office.old office.new
-        (λ tables. ¬ MeetsDamage tables (command.Cabinet id))) }
-    ensures refused { IfErr result IsFaultOfQuery }
-    ensures damaged { result ≡ Err Fault.Damaged → TellsTables S.Shelf office.old office.new
-        (λ tables. MeetsDamage tables (command.Cabinet id)) }
-    ensures fault { IfErr result (λ fault. TellsOffice S.Shelf office.old office.new
-        (λ before. TellsUnknown before id fault)) }
+/// The orders that a map has for an intersection, none where it has no entry.
+fn orders_on(orders: &BTreeMap<InterId, Vec<Order>>, id: InterId) -> &[Order]
+    ensures { result.now ≡ orders_in orders.now.entries id }
 {
-    let cabinet = cabinet_asked(alloc, office, id)?;
-    add_named_orders(found, name, &cabinet)?;
-    Ok(())
+    match orders.get(&id) {
+        Some(found) => found.as_slice(),
+        None => &[],
+    }
+}
+
+/// The open ones of the orders that a map has for these intersections, in their order, with their
+/// names.
+fn named_among(
+    alloc: Global,
+    list: &[ListedIntersection],
+    orders: &BTreeMap<InterId, Vec<Order>>,
+) -> Result<Vec<NamedOrder>, NoMemory>
+    ensures { IfOk result (λ found. found.items ≡
+        flat_map (named_from orders.now.entries) list.now) }
+{
+    let mut found = Vec::new(alloc);
+    for listed in list {
+        let theirs = orders_on(orders, listed.id);
+        add_named(&mut found, &listed.name, listed.id, theirs)?;
+    }
+    Ok(found)
 }
 
 /// The open orders of all intersections, by the numbers of these.
-pub(crate) fn all_orders<S: Shelf>(
-    alloc: Global,
-    office: &mut Office<S>,
-) -> Result<Vec<NamedOrder>, Fault>
+fn all_orders<S: Shelf>(alloc: Global, office: &mut Office<S>) -> Result<Vec<NamedOrder>, Fault>
     ensures kept { KeepsShelf S.Shelf office.old office.new }
     ensures clean { S.is_clean office.new → S.is_clean office.old }
     ensures open_ones { IfOk result (λ found. TellsOffice S.Shelf office.old office.new
@@ -68,11 +72,8 @@ pub(crate) fn all_orders<S: Shelf>(
         (λ before. TellsOrders before None fault)) }
 {
     let list = intersections_asked(alloc, office)?;
-    let mut found = Vec::new(alloc);
-    for listed in list.as_slice() {
-        add_orders_on(alloc, office, &mut found, listed.id, &listed.name)?;
-    }
-    Ok(found)
+    let orders = open_orders_asked(alloc, office)?;
+    Ok(named_among(alloc, list.as_slice(), &orders)?)
 }
 
 fn named_written(alloc: Global, csv: bool, orders: &[NamedOrder]) -> Result<Vec<u8>, NoMemory>

@@ -6,7 +6,7 @@ ghost use Rattle.office_desk.specs.Damage.{MeetsDamage};
 ghost use Rattle.office_machine.specs.declared.command.Command.TheVariants as command;
 ghost use Rattle.signal_office_commands.specs.Fault.{IsFaultOfQuery, TellsUnknown};
 ghost use Rattle.signal_office_commands.specs.Cabinet.{HasIntersection};
-ghost use Rattle.signal_office_commands.specs.Listing.{MeetsOrdersDamage, TellsOrders};
+ghost use Rattle.signal_office_commands.specs.Listing.{MeetsCabinetsDamage, TellsOrders};
 ghost use Rattle.signal_office_commands.specs.Using.{used_in_cabinet, used_of, used_written};
 ghost use Rattle.office_desk.specs.Running.{TellsTables};
 ghost use Rattle.signal_office_commands.specs.Asking.{TellsOffice};
@@ -57,10 +57,10 @@ fn all_used<S: Shelf>(
     ensures used { IfOk result (λ found. TellsOffice S.Shelf office.old office.new
         (λ before. found.items ≡ used_of part.now before)) }
     ensures whole { IfOk result (λ _. TellsTables S.Shelf office.old office.new
-        (λ tables. ¬ MeetsOrdersDamage tables None)) }
+        (λ tables. ¬ MeetsCabinetsDamage tables)) }
     ensures refused { IfErr result IsFaultOfQuery }
     ensures damaged { result ≡ Err Fault.Damaged → TellsTables S.Shelf office.old office.new
-        (λ tables. MeetsOrdersDamage tables None) }
+        MeetsCabinetsDamage }
     ensures fault { IfErr result (λ fault. TellsOffice S.Shelf office.old office.new
         (λ before. TellsOrders before None fault)) }
 {
@@ -98,12 +98,12 @@ pub fn used_of<S: Shelf>(
         (λ before. text.items ≡ used_written csv (used_of part.now before))) }
     // No row that is read and is no record is passed over.
     ensures whole { IfOk result (λ _. TellsTables S.Shelf office.old office.new
-        (λ tables. ¬ MeetsOrdersDamage tables None)) }
+        (λ tables. ¬ MeetsCabinetsDamage tables)) }
     // Where it fails, memory or the database refused, or a row that is read is no record: no
     // intersection is called unknown.
     ensures refused { IfErr result IsFaultOfQuery }
     ensures damaged { result ≡ Err Fault.Damaged → TellsTables S.Shelf office.old office.new
-        (λ tables. MeetsOrdersDamage tables None) }
+        MeetsCabinetsDamage }
     ensures fault { IfErr result (λ fault. TellsOffice S.Shelf office.old office.new
         (λ before. TellsOrders before None fault)) }
 {

@@ -15,7 +15,7 @@ use Rattle.signal_index.specs.Overdue.{number_of_entry, overdue_among}
 use Rattle.signal_index.specs.Shown.{index_entry}
 use Rattle.signal_index.specs.declared.shown.IndexEntry.{IndexEntry}
 use Rattle.signal_index.specs.declared.shown.IndexShown.{IndexShown}
-use Rattle.signal_office_commands.specs.Listing.{MeetsOrdersDamage, named_in}
+use Rattle.signal_office_commands.specs.Listing.{MeetsCabinetsDamage, named_in}
 
 -- what it shows of an intersection that is listed
 abbrev pub entry_listed : Office → ListedIntersection → IndexEntry
@@ -23,7 +23,8 @@ entry_listed office listed = index_entry listed (cabinet_shown office.register l
 
 -- of all, in the order of their numbers
 abbrev pub entries_in : Office → List IndexEntry
-entries_in office = map (λ e. entry_listed office (intersection_listed e)) (entries office.intersections)
+entries_in office =
+    map (λ e. entry_listed office (intersection_listed e)) (entries office.intersections)
 
 -- with the open orders of all, and the stock
 abbrev pub index_in : Office → IndexShown
@@ -46,4 +47,4 @@ pub record IsIndexOf (office : Office) (day : Option ℕ) (text : List ℕ) : Ty
 
 -- a row that is read for it is no record
 abbrev pub MeetsIndexDamage : Content → Type 0
-MeetsIndexDamage tables = MeetsOrdersDamage tables None ⊎ MeetsDamage tables command.Stock
+MeetsIndexDamage tables = MeetsCabinetsDamage tables ⊎ MeetsDamage tables command.Stock

@@ -8,7 +8,7 @@ ghost use Rattle.office_machine.specs.declared.command.Command.TheVariants as co
 ghost use Rattle.signal_office_commands.specs.Asking.{TellsOffice};
 ghost use Rattle.signal_office_commands.specs.Cabinet.{HasIntersection};
 ghost use Rattle.signal_office_commands.specs.Fault.{IsFaultOfQuery, TellsUnknown};
-ghost use Rattle.signal_office_commands.specs.Listing.{MeetsOrdersDamage, TellsOrders, named_in};
+ghost use Rattle.signal_office_commands.specs.Listing.{MeetsCabinetsDamage, TellsOrders, named_in};
 ghost use Rattle.signal_office_commands.specs.Listing.{named_on};
 ghost use Rattle.signal_office_index.specs.Indexing.{MeetsIndexDamage, entries_in, entry_listed};
 ghost use Rattle.signal_office_index.specs.Indexing.{index_in};
@@ -63,10 +63,10 @@ fn gathered<S: Shelf>(
     ensures open_ones { IfOk result (λ found. TellsOffice S.Shelf office.old office.new
         (λ before. found.1.items ≡ named_in before)) }
     ensures whole { IfOk result (λ _. TellsTables S.Shelf office.old office.new
-        (λ tables. ¬ MeetsOrdersDamage tables None)) }
+        (λ tables. ¬ MeetsCabinetsDamage tables)) }
     ensures refused { IfErr result IsFaultOfQuery }
     ensures damaged { result ≡ Err Fault.Damaged → TellsTables S.Shelf office.old office.new
-        (λ tables. MeetsOrdersDamage tables None) }
+        MeetsCabinetsDamage }
     ensures fault { IfErr result (λ fault. TellsOffice S.Shelf office.old office.new
         (λ before. TellsOrders before None fault)) }
 {

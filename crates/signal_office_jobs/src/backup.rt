@@ -25,8 +25,8 @@ struct Standing {
 }
 
 impl Standing {
-    /// Whether a copy may be put there. A log would bring another office back, so that of no file is
-    /// replaced.
+    /// Whether a copy may be put there. A log would bring another office back, so that of no file
+    /// is replaced.
     fn leaves_room(self, force: bool) -> bool
         ensures { result ≡ leaves_room force self }
     {

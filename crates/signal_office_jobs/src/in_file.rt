@@ -221,8 +221,8 @@ pub(crate) fn fill_records<F: OfficeInFile, W: Sink>(
     in_file::<F, W>(rt, alloc, db, &task, out)
 }
 
-/// Fills a folder with the pages of the office of a file. The day of a word is read first, where one
-/// is given.
+/// Fills a folder with the pages of the office of a file. The day of a word is read first, where
+/// one is given.
 pub(crate) fn fill_pages<F: OfficeInFile, W: Sink>(
     rt: &HostRuntime,
     alloc: Global,
@@ -397,7 +397,8 @@ fn edit_by<F: OfficeInFile, R: Source, W: Sink, E: Sink>(
 ) -> Result<u8, Fault>
     ensures { let view = file_view F.held F.is_clean F.keeps F.refused F.leaves in
         ReadingAnyPlan (option_map file_asked edit.now.csv) (λ plan lines. OnlyPrints
-        (InFoundFile view (editing plan lines edit.now.id clerk.now (edit_mode edit.now) edit.now.explain)))
+        (InFoundFile view (editing plan lines edit.now.id clerk.now (edit_mode edit.now)
+        edit.now.explain)))
         (ends_of (R.told source.old) (W.told out.old))
         (ends_of (R.told source.new) (W.told out.new)) (E.told err.old) (E.told err.new) result }
 {

@@ -42,8 +42,8 @@ pub struct Edit<T> {
 }
 
 /// What the words ask the program to do. A word `T` that names a file, a clerk, an intersection, a
-/// part or a day may name none: a job that reads such a word, or a file, before it opens the office's is a
-/// variant of its own, as is one that writes or tells by its status.
+/// part or a day may name none: a job that reads such a word, or a file, before it opens the
+/// office's is a variant of its own, as is one that writes or tells by its status.
 #[derive(Clone, Copy)]
 pub enum Job<T> {
     /// Answer the requests on standard input, over a file or memory.

@@ -3,10 +3,12 @@
 ghost use Rattle.std.specs.Prelude.{◌≡◌, option_map};
 ghost use Rattle.clap.specs.Matches.{found_of};
 ghost use Rattle.clap.specs.Walk.{rows_of};
-ghost use Rattle.signal_office_line.specs.Job.{abandon_at, add_at, asked, backup_at, batch_at, compare_at};
+ghost use Rattle.signal_office_line.specs.Job.{abandon_at, add_at, asked, backup_at, batch_at};
+ghost use Rattle.signal_office_line.specs.Job.{compare_at};
 ghost use Rattle.signal_office_line.specs.Job.{diagram_at, edit_at, import_at, job_at, migrate_at};
 ghost use Rattle.signal_office_line.specs.Job.{csv_at, edited_file, export_job_at, file_asked};
-ghost use Rattle.signal_office_line.specs.Job.{number_at, overdue_at, page_at, pages_at, serve_at, show_at};
+ghost use Rattle.signal_office_line.specs.Job.{number_at, overdue_at, page_at, pages_at};
+ghost use Rattle.signal_office_line.specs.Job.{serve_at, show_at};
 ghost use Rattle.signal_office_line.specs.Job.{used_at};
 ghost use Rattle.signal_office_line.specs.Job.{verify_file_at};
 

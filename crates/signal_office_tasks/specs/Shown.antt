@@ -13,7 +13,7 @@ use Rattle.signal_office_commands.specs.Drawing.{DrawsTiming, DrawsNoTiming}
 use Rattle.signal_office_commands.specs.Exporting.{ExportsTiming, ExportsDraft, ExportsCabinet}
 use Rattle.signal_office_commands.specs.Fault.{IsFaultOfQuery, IsUnshown, TellsUnknown}
 use Rattle.signal_office_commands.specs.Intersection.{IsRefusedShowing, IsWholePage}
-use Rattle.signal_office_commands.specs.Listing.{IsOrdersCsvOf, IsOrdersListOf, MeetsOrdersCsvDamage, MeetsOrdersDamage, TellsOrders, list_written, stock_written}
+use Rattle.signal_office_commands.specs.Listing.{IsOrdersCsvOf, IsOrdersListOf, MeetsCabinetsDamage, MeetsOrdersCsvDamage, MeetsOrdersDamage, TellsOrders, list_written, stock_written}
 use Rattle.signal_office_commands.specs.Overdue.{IsOverdueCsvOf, IsReportOf, IsWholeOverdueCsv, IsWholeReport}
 use Rattle.signal_office_commands.specs.Paging.{IsPageOf}
 use Rattle.signal_office_commands.specs.Sheet.{IsSheetOf}
@@ -92,7 +92,8 @@ IsShown (shown.Index day) tables result =
 -- what was used of all parts, or of one, as a text or as CSV, or why it is not shown
 abbrev pub IsUsedShown : (part : Option (List ℕ)) → (csv : Bool) → Content → Result (List ℕ) Fault → Type 0
 IsUsedShown part csv tables result =
-    OfOne (λ office text. text ≡ used_written csv (used_of part office)) (MeetsOrdersDamage tables None) (λ office why. TellsOrders office None why) tables result
+    OfOne (λ office text. text ≡ used_written csv (used_of part office)) (MeetsCabinetsDamage tables)
+    (λ office why. TellsOrders office None why) tables result
 
 -- what is shown is told with status 0, or why it is not
 abbrev pub ShowsAs : Shown → Content → Result Done Fault → Type 0

@@ -2,7 +2,8 @@
 
 ghost use Rattle.std.specs.Prelude.{◌≡◌, ◌≢◌, Ok, Err, IfErr, MatchResult};
 ghost use Rattle.office_tables_shelf.specs.Keeps.{KeepsShelf};
-ghost use Rattle.signal_office_tasks.specs.Filled.{ChecksFiles, FillsWith, IsUnshownLate, ListsOffice};
+ghost use Rattle.signal_office_tasks.specs.Filled.{ChecksFiles, FillsWith, IsUnshownLate};
+ghost use Rattle.signal_office_tasks.specs.Filled.{ListsOffice};
 ghost use Rattle.signal_office_tasks.specs.Filled.{PutsFile, PutsFiles, told_late};
 ghost use Rattle.signal_office_tasks.specs.Shown.{IsShown};
 
@@ -119,8 +120,8 @@ fn put_each<S: Shelf, D: Folder>(
     Ok(())
 }
 
-/// Fills a folder with the files of an office of a kind. None is put where a row that one of them shows is no
-/// record; where one is not put, those before it are. The office is as it was.
+/// Fills a folder with the files of an office of a kind. None is put where a row that one of them
+/// shows is no record; where one is not put, those before it are. The office is as it was.
 pub fn fill<S: Shelf, D: Folder>(
     alloc: Global,
     office: &mut Office<S>,

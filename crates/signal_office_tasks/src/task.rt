@@ -4,7 +4,8 @@ ghost use Rattle.std.specs.Prelude.{◌≡◌, ◌≢◌, ℕ, true, false, List
 ghost use Rattle.std.specs.Prelude.{MatchResult};
 ghost use Rattle.office_tables_shelf.specs.Keeps.{KeepsShelf};
 ghost use Rattle.signal_office_tasks.specs.Shown.{IsShown, ShowsAs};
-ghost use Rattle.signal_office_tasks.specs.Tasks.{AbandonsAs, AddsAs, ComparesAs, ComparesWith, EditsBy};
+ghost use Rattle.signal_office_tasks.specs.Tasks.{AbandonsAs, AddsAs, ComparesAs, ComparesWith};
+ghost use Rattle.signal_office_tasks.specs.Tasks.{EditsBy};
 ghost use Rattle.signal_office_tasks.specs.Tasks.{FillsAs};
 ghost use Rattle.signal_office_tasks.specs.Tasks.{ChecksAs, ImportsAs, IsBroken, ServesAs};
 ghost use Rattle.signal_office_tasks.specs.Tasks.{TaskDoes, TellsEdit};
@@ -52,8 +53,8 @@ pub enum Task<'a> {
     },
     /// What is printed of it.
     Show(Shown),
-    /// A folder that is filled with what it shows; an index shows who is overdue on a day, if one is
-    /// given.
+    /// A folder that is filled with what it shows; an index shows who is overdue on a day, if one
+    /// is given.
     Fill {
         dir: &'a str,
         kind: FolderKind,

@@ -4,3 +4,4 @@ pub mod Restored
 pub mod Parts
 pub mod Empty
 pub mod Newest
+pub mod Alike

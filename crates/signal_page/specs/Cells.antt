@@ -1,6 +1,5 @@
 -- The cells of the page's tables.
-use Rattle.std.specs.Prelude.{ℕ, Bool, if◌then◌else◌, List, ◌++◌, codes, decimal}
-use Rattle.office_files.specs.Cells.{tenths, numbers_text}
+use Rattle.std.specs.Prelude.{ℕ, List, ◌++◌, codes, decimal}
 use Rattle.signal_page.specs.Words.{isolated}
 
 -- the heading of a column of numbers, and of one of words
@@ -16,17 +15,6 @@ row_heading n = codes "<th scope='row'>" ++ decimal n ++ codes "</th>"
 
 unfoldable pub number_cell : ℕ → List ℕ
 number_cell n = codes "<td>" ++ decimal n ++ codes "</td>"
-
--- a number of tenths
-unfoldable pub tenths_cell : ℕ → List ℕ
-tenths_cell n = codes "<td>" ++ tenths n ++ codes "</td>"
-
-abbrev pub flag_cell : Bool → List ℕ
-flag_cell flag = if flag then codes "<td class='w'>yes</td>" else codes "<td class='w'>no</td>"
-
--- numbers, or a dash where there is none
-unfoldable pub list_cell : List ℕ → List ℕ
-list_cell numbers = codes "<td class='w'>" ++ numbers_text numbers ++ codes "</td>"
 
 -- words of the page's own, as the name of a mode
 unfoldable pub words_cell : List ℕ → List ℕ

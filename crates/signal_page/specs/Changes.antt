@@ -11,7 +11,7 @@ use Rattle.signal_page.specs.declared.changes.Mark.TheVariants.{Removed, Added, 
 use Rattle.signal_page.specs.declared.rows.Kind.{Kind}
 use Rattle.signal_page.specs.declared.rows.Kind.TheVariants.{Phases, Sequences, Splits, Patterns}
 use Rattle.signal_page.specs.Cells.{words_heading}
-use Rattle.signal_page.specs.Rows.{row_in, is_of_kind}
+use Rattle.signal_page.specs.Rows.{row_beside, is_of_kind}
 use Rattle.signal_page.specs.Tables.{name_of, headings, table_opening, table_body, table_end}
 
 -- how a row opens that was removed or added, or that was changed, as it was and as it is to be
@@ -21,16 +21,23 @@ row_opening Added = codes "<tr class='added'><td class='w'>added</td>"
 row_opening Before = codes "<tr class='before'><td class='w'>changed from</td>"
 row_opening After = codes "<tr class='after'><td class='w'>changed to</td>"
 
--- a row of a set
-abbrev pub marked_row : Kind → Mark → Rows → Row → List ℕ
-marked_row kind mark set row = row_in kind (row_opening mark) set [] row
+-- a row of a set beside a row of another set
+unfoldable pub whole_marked_row : Mark → Rows → Row → Rows → Row → List ℕ
+whole_marked_row mark set row other_set other =
+    row_opening mark ++ row_beside set row other_set other ++ codes "</tr>\n"
 
--- a difference of two sets in the table of a kind, each row as its own set has it
+-- it stands in the table of its kind, and in no other
+abbrev pub marked_row : Kind → Mark → Rows → Row → Rows → Row → List ℕ
+marked_row kind mark set row other_set other =
+    if is_of_kind kind row then whole_marked_row mark set row other_set other else []
+
+-- a difference of two sets in the table of a kind, each row as its own set has it; the two rows of
+-- a change stand beside each other, so that the cells that differ are marked in both
 abbrev pub change_rows : Kind → Rows → Rows → Difference → List ℕ
-change_rows kind runs draft (difference.Removed row) = marked_row kind Removed runs row
-change_rows kind runs draft (difference.Added row) = marked_row kind Added draft row
+change_rows kind runs draft (difference.Removed row) = marked_row kind Removed runs row runs row
+change_rows kind runs draft (difference.Added row) = marked_row kind Added draft row draft row
 change_rows kind runs draft (difference.Changed before after) =
-    marked_row kind Before runs before ++ marked_row kind After draft after
+    marked_row kind Before runs before draft after ++ marked_row kind After draft after runs before
 
 unfoldable pub whole_change_table : Kind → Rows → Rows → List Difference → List ℕ
 whole_change_table kind runs draft differences =

@@ -1,8 +1,7 @@
 -- What a plan has beyond its rows: the need of a split and what it has to spare, and the coordinated
 -- phases of a pattern.
-use Rattle.std.specs.Prelude.{ℕ, ◌-◌, ◌&&◌, nat_lt, Bool, if◌then◌else◌, List, ◌++◌, filter}
-use Rattle.std.specs.Prelude.{codes, Option, Some, None, option_map, is_some}
-use Rattle.office_files.specs.Cells.{tenths}
+use Rattle.std.specs.Prelude.{ℕ, ◌-◌, ◌&&◌, nat_lt, Bool, if◌then◌else◌, List, filter}
+use Rattle.std.specs.Prelude.{Option, Some, None, option_map, is_some}
 use Rattle.signal_records.specs.declared.record.Phase.{Phase}
 use Rattle.signal_records.specs.declared.record.Split.{Split}
 use Rattle.signal_records.specs.declared.record.SplitMode.{SplitMode}
@@ -11,7 +10,8 @@ use Rattle.signal_records.specs.Need.{need_of}
 use Rattle.signal_records.specs.TimingSet.{Rows}
 use Rattle.signal_rules.specs.Lookup.{phase_at, split_at, phase_numbers}
 use Rattle.signal_rules.specs.PatternRules.{is_coordinated}
-use Rattle.signal_page.specs.Cells.{tenths_cell}
+use Rattle.signal_page.specs.declared.values.CellValue.{CellValue}
+use Rattle.signal_page.specs.declared.values.CellValue.TheVariants.{Tenths, Below, Nothing}
 
 -- the need of a phase in a split mode, in tenths of a second; one that is omitted needs no time
 abbrev pub need_in : SplitMode → Option Phase → Option ℕ
@@ -22,18 +22,16 @@ need_in mode phase = option_map (λ p. need_of p mode) phase
 abbrev pub need_at : Rows → ℕ → Split → Option ℕ
 need_at set p split = need_in split.mode (phase_at set p)
 
--- the time of a split less its need, `-0.5` where it is shorter
-abbrev pub spare : ℕ → ℕ → List ℕ
-spare time need =
-    if nat_lt time need then codes "-" ++ tenths (need - time) else tenths (time - need)
+-- what their cells show: the need, and the time of the split less its need, both in tenths of a
+-- second; nothing where there is no need
+abbrev pub need_value : Option ℕ → CellValue
+need_value None = Nothing
+need_value (Some need) = Tenths need
 
-unfoldable pub spare_cell : ℕ → ℕ → List ℕ
-spare_cell time need = codes "<td>" ++ spare time need ++ codes "</td>"
-
--- need and spare of a split of some tenths of a second, or two empty cells
-abbrev pub need_cells : ℕ → Option ℕ → List ℕ
-need_cells time None = codes "<td></td><td></td>"
-need_cells time (Some need) = tenths_cell need ++ spare_cell time need
+abbrev pub spare_value : ℕ → Option ℕ → CellValue
+spare_value time None = Nothing
+spare_value time (Some need) =
+    if nat_lt time need then Below (need - time) else Tenths (time - need)
 
 -- splitCoordPhase marks a phase of the set in a split plan
 abbrev pub coordinates : Rows → ℕ → ℕ → Bool

@@ -3,11 +3,12 @@
 ghost use Rattle.std.specs.Prelude.{◌≡◌, ◌++◌, OnOk, codes, flat_map, string_bytes};
 ghost use Rattle.std.specs.List.{list_any};
 ghost use Rattle.office_files.specs.Cells.{when_empty};
-ghost use Rattle.signal_page.specs.Changes.{row_opening, marked_row, change_rows, change_table};
-ghost use Rattle.signal_page.specs.Changes.{whole_change_table, is_change_of, changes_part};
+ghost use Rattle.signal_page.specs.Changes.{row_opening, whole_marked_row, marked_row, change_rows};
+ghost use Rattle.signal_page.specs.Changes.{change_table, whole_change_table, is_change_of};
+ghost use Rattle.signal_page.specs.Changes.{changes_part};
 
 use crate::cells::push_words_heading;
-use crate::rows::{Kind, is_of, push_row_in};
+use crate::rows::{Kind, is_of, push_row_beside};
 use crate::tables::{begin_rows, end_table, name_of, open_table, push_headings};
 use crate::words::push_markup;
 use signal_compare::Difference;
@@ -37,7 +38,26 @@ fn opening_of(mark: Mark) -> &'static str
     }
 }
 
-/// Appends a row of a set.
+/// Appends a row of a set beside a row of another set.
+#[tactic(auto, unfolding(crate::specs::Changes::whole_marked_row))]
+fn push_whole_marked(
+    alloc: Global,
+    text: &mut String,
+    mark: Mark,
+    set: &TimingSet,
+    row: &Row,
+    other_set: &TimingSet,
+    other: &Row,
+) -> Result<(), NoMemory>
+    ensures { OnOk result (string_bytes text.new ≡ string_bytes text.old
+        ++ whole_marked_row mark set.now row.now other_set.now other.now) }
+{
+    push_markup(text, opening_of(mark))?;
+    push_row_beside(alloc, text, set, row, other_set, other)?;
+    push_markup(text, "</tr>\n")
+}
+
+/// Appends it in the table of its kind, and nothing in another.
 fn push_marked(
     alloc: Global,
     text: &mut String,
@@ -45,11 +65,17 @@ fn push_marked(
     mark: Mark,
     set: &TimingSet,
     row: &Row,
+    other_set: &TimingSet,
+    other: &Row,
 ) -> Result<(), NoMemory>
-    ensures { OnOk result (string_bytes text.new
-        ≡ string_bytes text.old ++ marked_row kind mark set.now row.now) }
+    ensures { OnOk result (string_bytes text.new ≡ string_bytes text.old
+        ++ marked_row kind mark set.now row.now other_set.now other.now) }
 {
-    push_row_in(alloc, text, kind, opening_of(mark), set, &[], row)
+    if is_of(kind, row) {
+        push_whole_marked(alloc, text, mark, set, row, other_set, other)
+    } else {
+        Ok(())
+    }
 }
 
 /// Appends a difference in the table of a kind, each row as its own set has it.
@@ -65,11 +91,15 @@ fn push_change(
         ≡ string_bytes text.old ++ change_rows kind runs.now draft.now difference.now) }
 {
     match difference {
-        Difference::Removed(row) => push_marked(alloc, text, kind, Mark::Removed, runs, row),
-        Difference::Added(row) => push_marked(alloc, text, kind, Mark::Added, draft, row),
+        Difference::Removed(row) => {
+            push_marked(alloc, text, kind, Mark::Removed, runs, row, runs, row)
+        }
+        Difference::Added(row) => {
+            push_marked(alloc, text, kind, Mark::Added, draft, row, draft, row)
+        }
         Difference::Changed { before, after } => {
-            push_marked(alloc, text, kind, Mark::Before, runs, before)?;
-            push_marked(alloc, text, kind, Mark::After, draft, after)
+            push_marked(alloc, text, kind, Mark::Before, runs, before, draft, after)?;
+            push_marked(alloc, text, kind, Mark::After, draft, after, runs, before)
         }
     }
 }

@@ -250,8 +250,8 @@ fn whole_page(
 
 /// The page of an intersection: how it stands, the pictures and tables of the plan that runs, its
 /// draft with what it changes and the rules that it breaks, each with its reason below its row, and
-/// the register of its cabinet, open orders first. It is one HTML text, which needs nothing else, and
-/// has a link to `index.html` beside it where that is wanted.
+/// the register of its cabinet, open orders first. It is one HTML text, which needs nothing else,
+/// and has a link to `index.html` beside it where that is wanted.
 pub fn intersection_page(
     alloc: Global,
     linked: bool,

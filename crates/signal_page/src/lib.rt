@@ -16,6 +16,7 @@ mod rules;
 mod shown;
 mod style;
 mod tables;
+mod values;
 mod words;
 
 pub use cells::{

@@ -1,20 +1,19 @@
 //! What a plan has beyond its rows: needs of splits, and the coordinated phases of a pattern.
 
-ghost use Rattle.std.specs.Prelude.{◌≡◌, ◌++◌, ◌*◌, OnOk, IfOk, string_bytes};
+ghost use Rattle.std.specs.Prelude.{◌≡◌, ◌++◌, OnOk, IfOk, string_bytes};
 ghost use Rattle.signal_rules.specs.PatternRules.{is_coordinated};
-ghost use Rattle.signal_page.specs.Needs.{need_at, spare_cell, need_cells, coordinates};
+ghost use Rattle.signal_page.specs.Needs.{need_at, need_value, spare_value, coordinates};
 ghost use Rattle.signal_page.specs.Needs.{coordinated};
-ghost use Rattle.signal_page.specs.Cells.{list_cell};
+ghost use Rattle.signal_page.specs.Values.{phases_beside};
 
-use crate::cells::{push_list, push_tenths};
+use crate::values::{CellValue, push_phases_beside};
 use signal_records::{NoMemory, PhaseNo, Split, SplitMode, SplitNo, TimingSet, need};
 use signal_rules::{phase_at, split_at};
-use std::alloc::{AllocError, Global};
-use std::fmt::Write;
+use std::alloc::Global;
 
 /// The need of the phase of a split, in tenths of a second. An omitted phase needs no time, and a
 /// phase that the plan does not have has no need.
-fn need_at(set: &TimingSet, p: PhaseNo, split: &Split) -> Option<u32>
+pub(crate) fn need_at(set: &TimingSet, p: PhaseNo, split: &Split) -> Option<u32>
     ensures { result ≡ need_at set.now p split.now }
 {
     match split.mode {
@@ -23,36 +22,24 @@ fn need_at(set: &TimingSet, p: PhaseNo, split: &Split) -> Option<u32>
     }
 }
 
-/// Appends the time of a split less its need, both in tenths of a second.
-#[tactic(auto, unfolding(crate::specs::Needs::spare_cell, crate::specs::Cells::tenths_cell))]
-fn push_spare(text: &mut String, time: u32, need: u32) -> Result<(), AllocError>
-    ensures { OnOk result (string_bytes text.new ≡ string_bytes text.old ++ spare_cell time need) }
+/// What the cell of a need shows, of one in tenths of a second.
+pub(crate) fn need_value(need: Option<u32>) -> CellValue
+    ensures { result ≡ need_value need }
 {
-    if time < need {
-        let whole = (need - time) / 10;
-        let tenth = (need - time) % 10;
-        write!(text, "<td>-{whole}.{tenth}</td>")
-    } else {
-        push_tenths(text, time - need)
+    match need {
+        None => CellValue::Nothing,
+        Some(need) => CellValue::Tenths(need),
     }
 }
 
-/// Appends need and spare of a split, or two empty cells.
-pub(crate) fn push_need(
-    text: &mut String,
-    set: &TimingSet,
-    p: PhaseNo,
-    split: &Split,
-) -> Result<(), AllocError>
-    ensures { OnOk result (string_bytes text.new
-        ≡ string_bytes text.old ++ need_cells (10 * split.now.time) (need_at set.now p split.now)) }
+/// What the cell of a split's spare time shows: its time less its need, in tenths of a second.
+pub(crate) fn spare_value(time: u32, need: Option<u32>) -> CellValue
+    ensures { result ≡ spare_value time need }
 {
-    match need_at(set, p, split) {
-        None => text.push_str("<td></td><td></td>"),
-        Some(need) => {
-            push_tenths(text, need)?;
-            push_spare(text, 10 * u32::from(split.time), need)
-        }
+    match need {
+        None => CellValue::Nothing,
+        Some(need) if time < need => CellValue::Below(need - time),
+        Some(need) => CellValue::Tenths(time - need),
     }
 }
 
@@ -85,16 +72,19 @@ fn coordinated(alloc: Global, set: &TimingSet, n: SplitNo) -> Result<Vec<PhaseNo
     Ok(found)
 }
 
-/// Appends the phases that a split plan coordinates.
-pub(crate) fn push_coordinated(
+/// Appends the phases that a split plan coordinates, beside those of another.
+pub(crate) fn push_coordinated_beside(
     alloc: Global,
     text: &mut String,
     set: &TimingSet,
     n: SplitNo,
+    other_set: &TimingSet,
+    other: SplitNo,
 ) -> Result<(), NoMemory>
-    ensures { OnOk result (string_bytes text.new
-        ≡ string_bytes text.old ++ list_cell (coordinated set.now n)) }
+    ensures { OnOk result (string_bytes text.new ≡ string_bytes text.old
+        ++ phases_beside (coordinated set.now n) (coordinated other_set.now other)) }
 {
     let found = coordinated(alloc, set, n)?;
-    push_list(text, &found)
+    let others = coordinated(alloc, other_set, other)?;
+    push_phases_beside(text, &found, &others)
 }

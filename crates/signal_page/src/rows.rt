@@ -1,17 +1,21 @@
 //! The rows of a timing set as rows of tables.
 
 ghost use Rattle.std.specs.Prelude.{◌≡◌, ◌++◌, OnOk, string_bytes};
-ghost use Rattle.signal_page.specs.Rows.{mode_words, crossing_cells, ped_cells, interval_cells};
-ghost use Rattle.signal_page.specs.Rows.{pattern_cells, row_cells, columns, is_of_kind, whole_row};
-ghost use Rattle.signal_page.specs.Rows.{row_in};
+ghost use Rattle.signal_page.specs.Rows.{interval_values, ped_values, split_values};
+ghost use Rattle.signal_page.specs.Rows.{pattern_values, phase_beside};
+ghost use Rattle.signal_page.specs.Rows.{sequence_beside, split_beside, pattern_beside};
+ghost use Rattle.signal_page.specs.Rows.{phase_or, sequence_or, split_or, pattern_or, row_beside};
+ghost use Rattle.signal_page.specs.Rows.{columns, is_of_kind, whole_row, row_in};
 
-use crate::cells::{push_flag, push_list, push_number, push_row_heading, push_tenths, push_words};
-use crate::needs::{push_coordinated, push_need};
+use crate::cells::push_row_heading;
+use crate::needs::{need_at, need_value, push_coordinated_beside, spare_value};
 use crate::rules::{push_reasons_below, subject_of};
+use crate::values::{CellValue, push_cells_beside, push_phases_beside};
 use crate::words::push_markup;
 use signal_reasons::Explained;
 use signal_records::{
-    NoMemory, Pattern, PatternNo, Ped, Phase, PhaseNo, Row, SplitMode, TimingSet,
+    NoMemory, Pattern, PatternNo, Ped, Phase, PhaseNo, RingNo, Row, SeqNo, SeqRow, Split, SplitNo,
+    TimingSet,
 };
 use std::alloc::{AllocError, Global};
 
@@ -24,101 +28,207 @@ pub(crate) enum Kind {
     Patterns,
 }
 
-/// What a split mode asks for.
-fn mode_words(mode: SplitMode) -> &'static str
-    ensures { result.now ≡ mode_words mode }
+/// What the cells of a phase show before its pedestrian part.
+fn interval_values(phase: &Phase) -> [CellValue; 6]
+    ensures { result ≡ interval_values phase.now }
 {
-    match mode {
-        SplitMode::NoRecall => "none",
-        SplitMode::MinimumVehicleRecall => "minimum vehicle recall",
-        SplitMode::MaximumVehicleRecall => "maximum vehicle recall",
-        SplitMode::PedestrianRecall => "pedestrian recall",
-        SplitMode::MaximumVehicleAndPedestrianRecall => "maximum vehicle and pedestrian recall",
-        SplitMode::PhaseOmitted => "phase omitted",
-    }
+    [
+        CellValue::Number(phase.ring.get()),
+        CellValue::Number(u32::from(phase.min_green)),
+        CellValue::Tenths(u32::from(phase.passage)),
+        CellValue::Number(u32::from(phase.max1)),
+        CellValue::Tenths(u32::from(phase.yellow)),
+        CellValue::Tenths(u32::from(phase.red)),
+    ]
 }
 
-/// Appends the cells of a pedestrian part.
-#[tactic(auto, unfolding(crate::specs::Rows::crossing_cells))]
-fn push_crossing(text: &mut String, ped: &Ped) -> Result<(), AllocError>
-    ensures { OnOk result (string_bytes text.new
-        ≡ string_bytes text.old ++ crossing_cells ped.now) }
-{
-    push_number(text, u32::from(ped.walk))?;
-    push_number(text, u32::from(ped.clear))?;
-    push_tenths(text, ped.width.get())?;
-    push_tenths(text, ped.setback.get())?;
-    push_flag(text, ped.short)?;
-    push_number(text, ped.lead.get())
-}
-
-/// Appends the cells of a pedestrian part that there may be.
-fn push_ped(text: &mut String, ped: &Option<Ped>) -> Result<(), AllocError>
-    ensures { OnOk result (string_bytes text.new ≡ string_bytes text.old ++ ped_cells ped.now) }
+/// What the cells of a pedestrian part show, or a dash in each.
+fn ped_values(ped: &Option<Ped>) -> [CellValue; 6]
+    ensures { result ≡ ped_values ped.now }
 {
     match ped {
-        None => text.push_str(
-            "<td>-</td><td>-</td><td>-</td><td>-</td><td class='w'>-</td><td>-</td>",
-        ),
-        Some(ped) => push_crossing(text, ped),
+        None => [
+            CellValue::NoNumber,
+            CellValue::NoNumber,
+            CellValue::NoNumber,
+            CellValue::NoNumber,
+            CellValue::NoWords,
+            CellValue::NoNumber,
+        ],
+        Some(ped) => [
+            CellValue::Number(u32::from(ped.walk)),
+            CellValue::Number(u32::from(ped.clear)),
+            CellValue::Tenths(ped.width.get()),
+            CellValue::Tenths(ped.setback.get()),
+            CellValue::Flag(ped.short),
+            CellValue::Number(ped.lead.get()),
+        ],
     }
 }
 
-/// Appends the cells of a phase before those of its pedestrian part.
-#[tactic(auto, unfolding(crate::specs::Rows::interval_cells))]
-fn push_intervals(text: &mut String, p: PhaseNo, phase: &Phase) -> Result<(), AllocError>
+/// What the cells of a split of a phase show.
+fn split_values(set: &TimingSet, p: PhaseNo, split: &Split) -> [CellValue; 5]
+    ensures { result ≡ split_values set.now p split.now }
+{
+    let need = need_at(set, p, split);
+    [
+        CellValue::Number(u32::from(split.time)),
+        need_value(need),
+        spare_value(10 * u32::from(split.time), need),
+        CellValue::Mode(split.mode),
+        CellValue::Flag(split.coord),
+    ]
+}
+
+/// What the cells of a pattern show before its coordinated phases.
+fn pattern_values(pattern: &Pattern) -> [CellValue; 4]
+    ensures { result ≡ pattern_values pattern.now }
+{
+    [
+        CellValue::Number(pattern.cycle.get()),
+        CellValue::Number(u32::from(pattern.offset)),
+        CellValue::Number(pattern.split.get()),
+        CellValue::Number(pattern.seq.get()),
+    ]
+}
+
+/// Appends the cells of a phase beside those of another.
+#[tactic(auto, unfolding(crate::specs::Rows::phase_beside))]
+fn push_phase_beside(
+    text: &mut String,
+    p: PhaseNo,
+    phase: &Phase,
+    other: &Phase,
+) -> Result<(), AllocError>
     ensures { OnOk result (string_bytes text.new
-        ≡ string_bytes text.old ++ interval_cells p phase.now) }
+        ≡ string_bytes text.old ++ phase_beside p phase.now other.now) }
 {
     push_row_heading(text, p.get())?;
-    push_number(text, phase.ring.get())?;
-    push_number(text, u32::from(phase.min_green))?;
-    push_tenths(text, u32::from(phase.passage))?;
-    push_number(text, u32::from(phase.max1))?;
-    push_tenths(text, u32::from(phase.yellow))?;
-    push_tenths(text, u32::from(phase.red))
+    push_cells_beside(text, &interval_values(phase), &interval_values(other))?;
+    push_cells_beside(text, &ped_values(&phase.ped), &ped_values(&other.ped))?;
+    push_phases_beside(text, phase.mates.as_slice(), other.mates.as_slice())
 }
 
-/// Appends the cells of a pattern before its coordinated phases.
-#[tactic(auto, unfolding(crate::specs::Rows::pattern_cells))]
-fn push_pattern(text: &mut String, n: PatternNo, pattern: &Pattern) -> Result<(), AllocError>
+/// Appends the cells of a ring's sequence beside those of another.
+#[tactic(auto, unfolding(crate::specs::Rows::sequence_beside))]
+fn push_sequence_beside(
+    text: &mut String,
+    n: SeqNo,
+    ring: RingNo,
+    seq: &SeqRow,
+    other: &SeqRow,
+) -> Result<(), AllocError>
     ensures { OnOk result (string_bytes text.new
-        ≡ string_bytes text.old ++ pattern_cells n pattern.now) }
+        ≡ string_bytes text.old ++ sequence_beside n ring seq.now other.now) }
 {
     push_row_heading(text, n.get())?;
-    push_number(text, pattern.cycle.get())?;
-    push_number(text, u32::from(pattern.offset))?;
-    push_number(text, pattern.split.get())?;
-    push_number(text, pattern.seq.get())
+    push_row_heading(text, ring.get())?;
+    push_phases_beside(text, seq.list.as_slice(), other.list.as_slice())
 }
 
-/// Appends the cells of a row of a set.
-fn push_cells(alloc: Global, text: &mut String, set: &TimingSet, row: &Row) -> Result<(), NoMemory>
-    ensures { OnOk result (string_bytes text.new
-        ≡ string_bytes text.old ++ row_cells set.now row.now) }
+/// Appends the cells of a split of a phase beside those of the same phase in another set.
+#[tactic(auto, unfolding(crate::specs::Rows::split_beside))]
+fn push_split_beside(
+    text: &mut String,
+    n: SplitNo,
+    p: PhaseNo,
+    set: &TimingSet,
+    split: &Split,
+    other_set: &TimingSet,
+    other: &Split,
+) -> Result<(), AllocError>
+    ensures { OnOk result (string_bytes text.new ≡ string_bytes text.old
+        ++ split_beside n p set.now split.now other_set.now other.now) }
+{
+    push_row_heading(text, n.get())?;
+    push_row_heading(text, p.get())?;
+    push_cells_beside(
+        text,
+        &split_values(set, p, split),
+        &split_values(other_set, p, other),
+    )
+}
+
+/// Appends the cells of a pattern beside those of another.
+#[tactic(auto, unfolding(crate::specs::Rows::pattern_beside))]
+fn push_pattern_beside(
+    alloc: Global,
+    text: &mut String,
+    n: PatternNo,
+    set: &TimingSet,
+    pattern: &Pattern,
+    other_set: &TimingSet,
+    other: &Pattern,
+) -> Result<(), NoMemory>
+    ensures { OnOk result (string_bytes text.new ≡ string_bytes text.old
+        ++ pattern_beside n set.now pattern.now other_set.now other.now) }
+{
+    push_row_heading(text, n.get())?;
+    push_cells_beside(text, &pattern_values(pattern), &pattern_values(other))?;
+    push_coordinated_beside(alloc, text, set, pattern.split, other_set, other.split)
+}
+
+/// The phase of a row, or its own where the row is of another kind.
+fn phase_or<'a>(row: &'a Row, own: &'a Phase) -> &'a Phase
+    ensures { result.now ≡ phase_or row.now own.now }
 {
     match row {
-        Row::Phase(p, phase) => {
-            push_intervals(text, *p, phase)?;
-            push_ped(text, &phase.ped)?;
-            push_list(text, phase.mates.as_slice())
-        }
+        Row::Phase(_, phase) => phase,
+        _ => own,
+    }
+}
+
+fn sequence_or<'a>(row: &'a Row, own: &'a SeqRow) -> &'a SeqRow
+    ensures { result.now ≡ sequence_or row.now own.now }
+{
+    match row {
+        Row::Seq(_, _, seq) => seq,
+        _ => own,
+    }
+}
+
+fn split_or<'a>(row: &'a Row, own: &'a Split) -> &'a Split
+    ensures { result.now ≡ split_or row.now own.now }
+{
+    match row {
+        Row::Split(_, _, split) => split,
+        _ => own,
+    }
+}
+
+fn pattern_or<'a>(row: &'a Row, own: &'a Pattern) -> &'a Pattern
+    ensures { result.now ≡ pattern_or row.now own.now }
+{
+    match row {
+        Row::Pattern(_, pattern) => pattern,
+        _ => own,
+    }
+}
+
+/// Appends the cells of a row beside another row, each with its set.
+pub(crate) fn push_row_beside(
+    alloc: Global,
+    text: &mut String,
+    set: &TimingSet,
+    row: &Row,
+    other_set: &TimingSet,
+    other: &Row,
+) -> Result<(), NoMemory>
+    ensures { OnOk result (string_bytes text.new
+        ≡ string_bytes text.old ++ row_beside set.now row.now other_set.now other.now) }
+{
+    match row {
+        Row::Phase(p, phase) => push_phase_beside(text, *p, phase, phase_or(other, phase)),
         Row::Seq(n, ring, seq) => {
-            push_row_heading(text, n.get())?;
-            push_row_heading(text, ring.get())?;
-            push_list(text, seq.list.as_slice())
+            push_sequence_beside(text, *n, *ring, seq, sequence_or(other, seq))
         }
         Row::Split(n, p, split) => {
-            push_row_heading(text, n.get())?;
-            push_row_heading(text, p.get())?;
-            push_number(text, u32::from(split.time))?;
-            push_need(text, set, *p, split)?;
-            push_words(text, mode_words(split.mode))?;
-            push_flag(text, split.coord)
+            let other = split_or(other, split);
+            push_split_beside(text, *n, *p, set, split, other_set, other)
         }
         Row::Pattern(n, pattern) => {
-            push_pattern(text, *n, pattern)?;
-            push_coordinated(alloc, text, set, pattern.split)
+            let other = pattern_or(other, pattern);
+            push_pattern_beside(alloc, text, *n, set, pattern, other_set, other)
         }
     }
 }
@@ -162,7 +272,7 @@ fn push_whole_row(
         ≡ string_bytes text.old ++ whole_row kind opening.now set.now reasons.now row.now) }
 {
     push_markup(text, opening)?;
-    push_cells(alloc, text, set, row)?;
+    push_row_beside(alloc, text, set, row, set, row)?;
     push_markup(text, "</tr>\n")?;
     push_reasons_below(text, columns(kind), reasons, &subject_of(row))
 }

@@ -6,13 +6,13 @@ pub const STYLE: &str = "\
   color-scheme: light dark;
   --ground: #f6f7f9; --card: #ffffff; --ink: #1b2430; --quiet: #556070; --line: #d9dee6;
   --stripe: #f3f5f8; --link: #0b57a4; --red: #a1121f; --red-ground: #fdecec; --green: #14612f;
-  --green-ground: #e8f5ec; --blue: #0b4a8f; --blue-ground: #e8f0fb;
+  --green-ground: #e8f5ec; --blue: #0b4a8f; --blue-ground: #e8f0fb; --mark: #ffe38a;
 }
 @media (prefers-color-scheme: dark) {
   :root {
     --ground: #12161c; --card: #1b212a; --ink: #e6eaf0; --quiet: #9ba8b8; --line: #323c49;
     --stripe: #212935; --link: #8ec1ff; --red: #ff9a9a; --red-ground: #3d1f24; --green: #8fdcaa;
-    --green-ground: #183526; --blue: #a5cbff; --blue-ground: #1c2e47;
+    --green-ground: #183526; --blue: #a5cbff; --blue-ground: #1c2e47; --mark: #5c4a00;
   }
 }
 * { box-sizing: border-box; }
@@ -87,6 +87,11 @@ tbody tr.after { border-top-style: dashed; }
 .added td:first-child { color: var(--green); font-weight: 600; }
 .before td:first-child, .after td:first-child { color: var(--blue); font-weight: 600; }
 .changes td:first-child { white-space: nowrap; }
+mark {
+  padding: 0 0.2em; color: inherit; background: var(--mark); font-weight: 700;
+  text-decoration: underline;
+}
+mark:empty { padding: 0 0.5em; border-bottom: 2px solid; }
 .broken, .sound { padding: 0.6rem 0.9rem; border-left: 0.3rem solid; border-radius: 0.2rem; }
 .broken { color: var(--red); background: var(--red-ground); }
 .sound { color: var(--green); background: var(--green-ground); }
@@ -95,7 +100,7 @@ tbody tr.after { border-top-style: dashed; }
   :root {
     --ground: #ffffff; --card: #ffffff; --ink: #000000; --quiet: #000000; --line: #999999;
     --stripe: #ffffff; --red: #000000; --red-ground: #ffffff; --green: #000000;
-    --green-ground: #ffffff; --blue: #000000; --blue-ground: #ffffff;
+    --green-ground: #ffffff; --blue: #000000; --blue-ground: #ffffff; --mark: #ffffff;
   }
   @page { size: landscape; margin: 12mm; }
   body { font-size: 10pt; }

@@ -1,5 +1,5 @@
-use Rattle.std.proofs.Common.{refl, ap}
-use Rattle.std.specs.Ordering.{is_eq}
+use Rattle.std.proofs.Common.{refl, ap, subst}
+use Rattle.std.specs.{Int.IsInRange, Ordering.is_eq}
 use Rattle.office_tables_shelf.specs.CabinetRows.{inspection_columns}
 use Rattle.office_tables_maps.specs.MapCabinet.{inspection_place_key, IsInspectionAt}
 use Rattle.office_tables_maps.proofs.CabinetTrees.{record_cmp, inspection_order, record_exact}
@@ -9,9 +9,18 @@ use Rattle.office_tables_maps.proofs.map_cabinet.put_inspection.Goals as goal
 
 pub returns-clause-rows : goal.returns-clause-rows
 returns-clause-rows c =
-    insert_tree record_cmp inspection_place_key inspection_columns (λ a b. ap is_eq (inspection_order a b)) c.args.rows.now.entries c.insert.new.self.entries (record { inter = c.args.inter; number = c.args.inspection.number }) c.args.inspection c.in_ok-insert.ensures.updates.0
+    insert_tree record_cmp inspection_place_key inspection_columns
+    (λ a b. ap is_eq (inspection_order a b)) c.args.rows.now.entries
+    c.insert.new.self.entries
+    (record { inter = c.args.inter; number = c.args.inspection.number }) c.args.inspection
+    c.in_ok-insert.ensures.updates.0
 
 pub returns-clause-placed : goal.returns-clause-placed
 returns-clause-placed c = λ placed.
+    let read : IsInRange 1 9999 c.get-inter.result =
+    (c.get-inter.ensures.low, c.get-inter.ensures.high) in
+    let limits = subst (IsInRange 1 9999) c.get-inter.ensures.value read in
     rw c.in_ok-insert.ensures.entries
-    (standing_put record_cmp record_exact IsInspectionAt c.args.rows.now.entries (record { inter = c.args.inter; number = c.args.inspection.number }) c.args.inspection (refl, c.inspection_is_within.ensures) placed)
+    (standing_put record_cmp record_exact IsInspectionAt c.args.rows.now.entries
+    (record { inter = c.args.inter; number = c.args.inspection.number }) c.args.inspection
+    (refl, (limits, c.inspection_is_within.ensures)) placed)

@@ -1,10 +1,10 @@
 use Rattle.std.proofs.lemmas.Result.{IfOk-weaker}
 use Rattle.office_tables_shelf.specs.declared.rows.Table.TheVariants.{Timing}
-use Rattle.office_tables_migration.specs.Listing.{lists_timing, queries_timing}
+use Rattle.office_tables_migration.specs.Listing.{lists_timing}
 use Rattle.office_tables_migration.proofs.listing.timing_rows.Goals as goal
 
 pub list-requires-clause-query : goal.list-requires-clause-query
-list-requires-clause-query g c = queries_timing
+list-requires-clause-query g c = lists_timing.text.query
 
 pub returns-clause-rows : goal.returns-clause-rows
 returns-clause-rows g c = IfOk-weaker c.list.result _ _ (λ kept rows honest. rows honest Timing lists_timing) c.list.ensures.rows

@@ -19,32 +19,32 @@ keeps : (g : Over) (c : In_default g) → Keeps (state g.S.Store c.args.conn.now
 keeps g c =
     let inv = c.rows.invariant in
     let step = c.in_default.ensures in
-    next_keeps g.T.StoredRow.texts.list g.met.T.StoredRow.means.lists.query _ c.requires.office _ inv.1
+    next_keeps g.T.StoredRow.texts.list (g.met.T.StoredRow.lists c.args.of).query _ c.requires.office _ inv.1
     inv.2 (λ clean. (inv.3 clean).0) _ step.survives step.mode step.same
 
 honest : (g : Over) (c : In_default g) → HasCleanDisk (state g.S.Store c.advance.new.self.conn.now) → IsHonest (state g.S.Store c.advance.new.self.conn.now)
 honest g c =
     let inv = c.rows.invariant in
     let step = c.in_default.ensures in
-    next_honest g.T.StoredRow.texts.list g.met.T.StoredRow.means.lists.query _ c.requires.office _ inv.1
+    next_honest g.T.StoredRow.texts.list (g.met.T.StoredRow.lists c.args.of).query _ c.requires.office _ inv.1
     inv.2 (λ clean. (inv.3 clean).0) _ step.survives step.mode step.same
 
 pub returns-in-Err-clause-kept : goal.returns-in-Err-clause-kept
 returns-in-Err-clause-kept g c =
     let held = rw (c.in-Err.is, c.requires.params) at c.query_prepared.follows.holds-at-none in
-    refused_keeps _ _ _ g.met.T.StoredRow.means.lists.query _ c.requires.office c.requires.opened c.requires.text _ held.survives (held.mode c.requires.office.autocommit) _ held.err
+    refused_keeps _ _ _ (g.met.T.StoredRow.lists c.args.of).query _ c.requires.office c.requires.opened c.requires.text _ held.survives (held.mode c.requires.office.autocommit) _ held.err
 
 pub returns-in-Err-clause-crash : goal.returns-in-Err-clause-crash
 returns-in-Err-clause-crash g c =
     let held = rw (c.in-Err.is, c.requires.params) at c.query_prepared.follows.holds-at-none in
-    began_survives _ _ _ g.met.T.StoredRow.means.lists.query _ c.requires.office c.requires.opened c.requires.text _ held.survives (held.mode c.requires.office.autocommit)
+    began_survives _ _ _ (g.met.T.StoredRow.lists c.args.of).query _ c.requires.office c.requires.opened c.requires.text _ held.survives (held.mode c.requires.office.autocommit)
 
 pub rows-init : goal.rows-init
 rows-init g c =
-    let query = g.met.T.StoredRow.means.lists.query in
+    let query = (g.met.T.StoredRow.lists c.args.of).query in
     let made = rw (c.requires.params) at c.in-Ok.ensures in
     let mode = made.mode c.requires.office.autocommit in
-    let params : Row = params_of g.T.StoredRow.table (g.T.StoredRow.number c.args.of) in
+    let params : Row = params_of (g.T.StoredRow.whose c.args.of) in
     let survives = began_survives _ _ params query _ c.requires.office c.requires.opened c.requires.text _ made.survives mode in (
       refl,
       survives,
@@ -59,29 +59,32 @@ returns-in-Err-advance-clause-kept g c =
     let inv = c.rows.invariant in
     let step = c.in-Err-advance.ensures in
     let kept : Keeps (state g.S.Store c.args.conn.now) (state g.S.Store c.advance.new.self.conn.now) =
-    broken_keeps g.T.StoredRow.texts.list g.met.T.StoredRow.means.lists.query _ c.requires.office _ inv.1
+    broken_keeps g.T.StoredRow.texts.list (g.met.T.StoredRow.lists c.args.of).query _ c.requires.office _ inv.1
     inv.2 (λ clean. (inv.3 clean).0) _ step.survives.clean (step.mode inv.2) _ step.kept in
     search rules
 
 pub returns-in_default-get-clause-rows : goal.returns-in_default-get-clause-rows
 returns-in_default-get-clause-rows g c =
     let text = c.args.statement.now.text in
-    let params : Row = params_of g.T.StoredRow.table (g.T.StoredRow.number c.args.of) in
-    let means = g.met.T.StoredRow.means.lists in
+    let params : Row = params_of (g.T.StoredRow.whose c.args.of) in
+    let T = g.T.StoredRow in
+    let key = T.key c.args.of in
+    let whose = T.whose c.args.of in
+    let means = g.met.T.StoredRow.lists c.args.of in
     let inv = c.rows.invariant in
     let old = state g.S.Store c.args.conn.now in
     let new = state g.S.Store c.advance.new.self.conn.now in
     let step = c.in_default.ensures in
     let none : row_if c.advance.new.self.has_row c.advance.new.self.conn.now ≡ None = sym c.get.ensures ∙ ap option_copied c.in_default-get.is in
-    let told : IsHonest new → Gathers g.G.Gather.holds g.T.StoredRow.table g.T.StoredRow.is_within
-    g.T.StoredRow.key g.T.StoredRow.columns (content_now old)
-    (g.T.StoredRow.number c.args.of) c.rows.found = λ honest.
+    let told : IsHonest new → Gathers g.G.Gather.holds T.table T.is_within key T.columns
+    (content_now old) whose c.rows.found = λ honest.
     let now = inv.3 (omega (arith, honest.0, step.survives.clean)) in
     let shown = λ (clean : HasCleanDisk new). subst (GivesOn g.S.Store text params c.rows.rows.conn.now c.advance.new.self.conn.now now.1) none (step.ok clean text params now.1 now.2) in
     let reads : Reads g.T.StoredRow.texts.list params old.now now.1 = all_read _ text params means.query old c.requires.office c.requires.opened c.requires.text _ inv.1 inv.2 (λ clean. (inv.3 clean).0) _ step.survives (step.mode inv.2) now.1 shown honest in
     let was = (keeps g (goal.at.returns-in_default-get-clause-rows g c).In_default).honest honest in
     let office = c.requires.office in
-    let listed = lists g.T.StoredRow.table old.now (office.schema was) (office.sound was) (office.ordered was) _ means (g.T.StoredRow.number c.args.of) now.1 reads in
+    let listed = lists T.table old.now (office.schema was) (office.sound was) (office.ordered was) whose _
+    means now.1 reads in
     record { records = now.3.0; held = now.3.1; within = now.3.2; lists = now.3.3 ∙ listed } in
     search rules
 
@@ -98,8 +101,11 @@ returns-in_default-get-clause-kept g c =
 pub returns-in_err-record-clause-damaged : goal.returns-in_err-record-clause-damaged
 returns-in_err-record-clause-damaged g c bad =
     let text = c.args.statement.now.text in
-    let params : Row = params_of g.T.StoredRow.table (g.T.StoredRow.number c.args.of) in
-    let means = g.met.T.StoredRow.means.lists in
+    let params : Row = params_of (g.T.StoredRow.whose c.args.of) in
+    let T = g.T.StoredRow in
+    let key = T.key c.args.of in
+    let whose = T.whose c.args.of in
+    let means = g.met.T.StoredRow.lists c.args.of in
     let inv = c.rows.invariant in
     let old = state g.S.Store c.args.conn.now in
     let new = state g.S.Store c.advance.new.self.conn.now in
@@ -109,17 +115,20 @@ returns-in_err-record-clause-damaged g c bad =
     let unchanged = λ (clean : HasCleanDisk new). unchanged_then _ _ _ (inv.3 (omega (arith, clean, step.survives.clean))).0 (step.same clean) in
     let is : c.read.result ≡ Err Damaged = search rules in
     let some : row_if c.advance.new.self.has_row c.advance.new.self.conn.now ≡ Some c.in-Some.row.now = sym c.get.ensures ∙ ap option_copied c.in-Some.is in
-    let told : IsHonest new → HasDamagedRow g.T.StoredRow.table g.T.StoredRow.is_within g.T.StoredRow.key g.T.StoredRow.columns (content_now old) (g.T.StoredRow.number c.args.of) = λ honest.
+    let told : IsHonest new → HasDamagedRow T.table T.is_within key T.columns (content_now old)
+    whose = λ honest.
     let now = inv.3 (omega (arith, honest.0, step.survives.clean)) in
     let so_far = now.1 ++ c.in-Some.row.now ∷ [] in
     let given = subst (GivesOn g.S.Store text params c.rows.rows.conn.now c.advance.new.self.conn.now now.1) some (step.ok honest.0 text params now.1 now.2) in
-    let whole = some_read _ text params means.query old c.requires.office c.requires.opened c.requires.text new survives mode unchanged g.T.StoredRow.table means honest so_far (given_begin g.S.Store text params c.advance.new.self.conn.now so_far given) in
+    let whole = some_read _ text params means.query old c.requires.office c.requires.opened c.requires.text new survives mode unchanged T.table whose means honest so_far (given_begin g.S.Store text params c.advance.new.self.conn.now so_far given) in
     let was = (keeps g (goal.at.returns-in_err-record-clause-damaged g c).In_default).honest honest in
     let all = so_far ++ whole.0 in
     let office = c.requires.office in
-    damaged_at g.T.StoredRow.table g.T.StoredRow.is_within g.T.StoredRow.key g.T.StoredRow.columns (content_now old) (g.T.StoredRow.number c.args.of) all
-    (lists g.T.StoredRow.table old.now (office.schema was) (office.sound was) (office.ordered was) _ means (g.T.StoredRow.number c.args.of) all whole.1)
-    (width g.T.StoredRow.table old.now (office.schema was) (office.sound was) (office.ordered was) _ means (g.T.StoredRow.number c.args.of) all whole.1)
+    damaged_at T.table T.is_within key T.columns (content_now old) whose all
+    (lists T.table old.now (office.schema was) (office.sound was) (office.ordered was) whose _
+    means all whole.1)
+    (width T.table old.now (office.schema was) (office.sound was) (office.ordered was) whose _
+    means all whole.1)
     c.in-Some.row.now (has_mid now.1 c.in-Some.row.now whole.0) (c.read.ensures.damaged is) in
     search rules
 
@@ -141,7 +150,7 @@ returns-in_err-take-clause-kept g c =
 pub rows-preserved : goal.rows-preserved
 rows-preserved g c =
     let text = c.args.statement.now.text in
-    let params : Row = params_of g.T.StoredRow.table (g.T.StoredRow.number c.args.of) in
+    let params : Row = params_of (g.T.StoredRow.whose c.args.of) in
     let inv = c.rows.invariant in
     let new = state g.S.Store c.advance.new.self.conn.now in
     let step = c.in_default.ensures in
@@ -164,8 +173,7 @@ rows-preserved g c =
               now.3.0 ++ read ∷ [],
               c.in_ok-take.ensures now.3.0 now.3.1,
               all_more g.T.StoredRow.is_within now.3.0 read now.3.2 c.in_ok-record.ensures.within,
-              one_more (stored_for g.T.StoredRow.key g.T.StoredRow.columns
-                  (g.T.StoredRow.number c.args.of)) (row_shown g.T.StoredRow.table) now.3.0 now.1
+              one_more (stored_for (g.T.StoredRow.key c.args.of) g.T.StoredRow.columns) (row_shown g.T.StoredRow.table) now.3.0 now.1
                   read c.in-Some.row.now now.3.3 (λ i. (key i, columns i)),
             ),
           ),

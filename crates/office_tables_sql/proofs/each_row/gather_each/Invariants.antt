@@ -9,6 +9,6 @@ invariant-rows g l =
     let old = state g.S.Store l.fn.conn in
     let now = state g.S.Store l.rows.conn.now in
     (l.rows.conn.ghost_name ≡ l.initial.rows.conn.ghost_name) × Survives old now (λ _. ⊥) × (now.in_transaction ≡ false)
-    × (HasCleanDisk now → IsUnchanged old now × (given : List Row) × HasGiven g.S.Store l.fn.statement.text (params_of g.T.StoredRow.table (g.T.StoredRow.number l.fn.of)) l.rows.conn.now given
+    × (HasCleanDisk now → IsUnchanged old now × (given : List Row) × HasGiven g.S.Store l.fn.statement.text (params_of (g.T.StoredRow.whose l.fn.of)) l.rows.conn.now given
     × HasGathered g.G.Gather.holds g.T.StoredRow.table g.T.StoredRow.is_within
-    g.T.StoredRow.key g.T.StoredRow.columns (g.T.StoredRow.number l.fn.of) given l.found)
+    (g.T.StoredRow.key l.fn.of) g.T.StoredRow.columns given l.found)

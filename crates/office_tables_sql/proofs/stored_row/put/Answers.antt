@@ -9,9 +9,9 @@ pub returns-clause-put : goal.returns-clause-put
 returns-clause-put g c clean ready =
     let T = g.T.StoredRow in
     let met = g.met.T.StoredRow in
-    let fits = met.fits (T.number c.args.of) c.args.row.now in
+    let fits = met.fits c.args.of c.args.row.now in
     let old = state g.S.Store c.args.tx.now.conn.now in
-    let put = put_in (content_now old) T.table (T.key (T.number c.args.of) c.args.row.now) (T.columns c.args.row.now) in
+    let put = put_in (content_now old) T.table (T.key c.args.of c.args.row.now) (T.columns c.args.row.now) in
     let first = λ (clear : HasCleanDisk (state g.S.Store c.write.new.tx.conn.now)).
     rw (c.texts-texts.ensures.update, c.as_slice.ensures.value, c.in-Ok.ensures) at (c.in_ok-changed.ensures.ran clear) in
     elim c.if-changed-eq0.branch [

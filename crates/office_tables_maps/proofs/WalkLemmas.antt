@@ -1,0 +1,56 @@
+-- What a walk over all records has found so far, with what is left to it.
+use Rattle.std.proofs.Common.{◌≡◌, ◌==◌, ◌++◌, ℕ, true, false, cond, if◌then◌else◌, List, [], ◌∷◌}
+use Rattle.std.proofs.Common.{filter, Option, Some, None, refl, arith, append_assoc}
+use Rattle.std.proofs.lemmas.Bool.Decides.{nat_tests}
+use Rattle.cabinet_core.specs.{Orders.is_open, Overdue.greater, Overdue.latest_day}
+use Rattle.cabinet_core.specs.{declared.record.Inspection.Inspection, declared.record.Order.Order}
+use Rattle.office_tables_maps.specs.Places.{records_under}
+use Rattle.office_tables_maps.specs.declared.place.RecordPlace.{RecordPlace}
+use Rattle.office_tables_maps.proofs.CabinetTrees.{record_inter}
+
+-- ---- the latest day
+
+-- the latest day of inspections, and another day
+abbrev pub latest_with : Option ℕ → Option ℕ → Option ℕ
+latest_with None last = last
+latest_with (Some day) last = Some (greater day last)
+
+pub latest_with_none : (last : Option ℕ) → latest_with last None ≡ last
+latest_with_none None = refl
+latest_with_none (Some day) = refl
+
+-- the latest days so far, with those of the inspections that are left, are those of all
+abbrev pub DaysWith : (ℕ → Option ℕ) → (rest all : List (RecordPlace × Inspection)) → Type 0
+DaysWith days rest all = (id : ℕ)
+    → latest_with (days id) (latest_day (records_under record_inter id rest))
+    ≡ latest_day (records_under record_inter id all)
+
+-- ---- open orders
+
+-- the open orders so far, with those that are left, are those of all
+abbrev pub OrdersWith : (ℕ → List Order) → (rest all : List (RecordPlace × Order)) → Type 0
+OrdersWith orders rest all = (id : ℕ)
+    → orders id ++ filter is_open (records_under record_inter id rest)
+    ≡ filter is_open (records_under record_inter id all)
+
+one_first : (x : Order) (xs : List Order)
+    → filter is_open (x ∷ xs) ≡ filter is_open (x ∷ []) ++ filter is_open xs
+one_first x xs =
+    elim (is_open x) as (λ b. cond b (x ∷ filter is_open xs) (filter is_open xs)
+    ≡ cond b (x ∷ []) [] ++ filter is_open xs) [
+      | true ↦ refl
+      | false ↦ refl
+    ]
+
+pub orders_more : (old new : ℕ → List Order) (place : RecordPlace) (x : Order)
+    (rest all : List (RecordPlace × Order))
+    → ((n : ℕ) → new n
+    ≡ (if n == place.inter then old place.inter ++ filter is_open (x ∷ []) else old n))
+    → OrdersWith old ((place, x) ∷ rest) all → OrdersWith new rest all
+orders_more old new place x rest all added so_far n =
+    let left = records_under record_inter n rest in
+    let here = added n in
+    let begun = so_far n in
+    let first = one_first x left in
+    let seam = append_assoc (old n) (filter is_open (x ∷ [])) (filter is_open left) in
+    grind (arith, nat_tests)

@@ -1,0 +1,25 @@
+-- The open orders of all intersections, as the tables hold them.
+use Rattle.std.specs.Prelude.{◌≡◌, ℕ, ◌==◌, List, [], filter, Option, None, Some, Vec}
+use Rattle.std.specs.List.{AllByRecursion}
+use Rattle.std.specs.Map.{lookup}
+use Rattle.cabinet_core.specs.Orders.{is_open}
+use Rattle.cabinet_core.specs.Within.{IsOrderWithin}
+use Rattle.cabinet_core.specs.declared.record.Order.{Order}
+use Rattle.office_tables_shelf.specs.CabinetReads.{ListsOrders}
+use Rattle.office_tables_shelf.specs.Content.{Content}
+
+-- the orders of an entry, none where there is none
+abbrev pub orders_kept : {A : Type 0} → Option (Vec Order A) → List Order
+orders_kept None = []
+orders_kept (Some found) = found.items
+
+-- the orders that a map has for an intersection
+abbrev pub orders_in : {A : Type 0} → List (ℕ × Vec Order A) → ℕ → List Order
+orders_in orders id = orders_kept (lookup (λ n. n == id) orders)
+
+-- what the tables hold of the orders on the intersection are orders, and these are the open ones of them
+pub record ReadsOpen (tables : Content) (id : ℕ) (found : List Order) : Type 0 where
+  pub orders : List Order
+  pub lists : ListsOrders tables id orders
+  pub within : AllByRecursion IsOrderWithin orders
+  pub open_ones : found ≡ filter is_open orders

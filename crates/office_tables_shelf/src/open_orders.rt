@@ -1,0 +1,42 @@
+//! The open orders of each intersection, gathered from a walk over all orders.
+
+ghost use Rattle.std.specs.Prelude.{◌≡◌, ◌==◌, ◌++◌, ℕ, if◌then◌else◌, [], ◌∷◌, filter, OnOk};
+ghost use Rattle.cabinet_core.specs.Orders.{is_open};
+ghost use Rattle.office_tables_shelf.specs.OpenOrders.{orders_in};
+
+use cabinet_core::Order;
+use signal_records::{InterId, NoMemory};
+use std::alloc::Global;
+use std::collections::BTreeMap;
+
+/// Takes the orders that are kept of an intersection, none where there is none.
+fn taken(alloc: Global, orders: &mut BTreeMap<InterId, Vec<Order>>, id: InterId) -> Vec<Order>
+    ensures taken { result.items ≡ orders_in orders.old.entries id }
+    ensures left { (n : ℕ) → orders_in orders.new.entries n ≡
+        (if n == id then [] else orders_in orders.old.entries n) }
+{
+    match orders.remove(&id) {
+        Some(kept) => kept,
+        None => Vec::new(alloc),
+    }
+}
+
+/// Keeps an order on an intersection after those that are kept of it, where it is open.
+pub fn add_open(
+    alloc: Global,
+    orders: &mut BTreeMap<InterId, Vec<Order>>,
+    id: InterId,
+    order: Order,
+) -> Result<(), NoMemory>
+    ensures { OnOk result ((n : ℕ) → orders_in orders.new.entries n ≡
+        (if n == id then orders_in orders.old.entries id ++ filter is_open (order ∷ [])
+        else orders_in orders.old.entries n)) }
+{
+    if order.closing.is_some() {
+        return Ok(());
+    }
+    let mut kept = taken(alloc, orders, id);
+    kept.push(order)?;
+    orders.insert(id, kept)?;
+    Ok(())
+}

@@ -1,0 +1,89 @@
+-- A walk over the rows of all intersections, and what it tells of those of one.
+use Rattle.std.proofs.Common.{◌≡◌, inl, inr, ℕ, ◌==◌, Bool, true, false, cond, if◌then◌else◌, eqb-true, List, [], ◌∷◌, ◌++◌, map, Option, refl, sym, ap, ◌∙◌, arith}
+use Rattle.std.proofs.lemmas.{Bool.cases_Bool, Bool.Decides.nat_tests}
+use Rattle.std.specs.{FinMap.entries, FinMap.Entries.where_key, List.AllByRecursion}
+use Rattle.office_tables_shelf.specs.{Cells.Cell, Cells.TableRows, Cells.cells_cmp, CabinetReads.IsOfOne, CabinetReads.of_one}
+use Rattle.office_tables_shelf.specs.{Content.Content, Reads.HasDamagedRow, Shelf.is_of, Shelf.rows_of, declared.rows.Table.Table}
+use Rattle.office_tables_shelf.proofs.ListedRows.{listed_whole}
+use Rattle.office_tables_statements.specs.Tables.{rows_at}
+use Rattle.office_tables_statements.proofs.TableLemmas.{among}
+use Rattle.office_tables_sql.specs.Gathers.{Gathers}
+
+-- ---- the rows of one intersection
+
+module _ {X : Type 0} (key : ℕ → X → List Cell) (columns : X → List Cell)
+    (begins : (id n : ℕ) (x : X) → is_of id (key n x) ≡ (n == id)) where
+  abbrev stored : ℕ × X → List Cell × List Cell
+  stored e = (key e.0 e.1, columns e.1)
+
+  of_it : (id : ℕ) (all : List (ℕ × X)) → where_key cells_cmp (is_of id) (map stored all)
+      ≡ map (λ x. (key id x, columns x)) (of_one id all)
+  of_it id [] = refl
+  of_it id (e ∷ es) = elim (cases_Bool (e.0 == id)) [
+    | inl same ↦ rw (begins id e.0 e.1, same)
+        (λ i. (key (eqb-true e.0 id same i) e.1, columns e.1) ∷ of_it id es i)
+    | inr other ↦ rw (begins id e.0 e.1, other) (of_it id es)
+  ]
+
+  -- those of the records that are of one stand for its rows
+  pub lists_one : (rows : TableRows) (all : List (ℕ × X)) → map stored all ≡ entries rows
+      → (id : ℕ) → map (λ x. (key id x, columns x)) (of_one id all) ≡ rows_of id rows
+  lists_one rows all lists id = sym (of_it id all) ∙ ap (where_key cells_cmp (is_of id)) lists
+
+-- and are within their limits
+pub within_one : {X : Type 0} (Within : X → Type 0) (all : List (ℕ × X))
+    → AllByRecursion (IsOfOne Within) all → (id : ℕ) → AllByRecursion Within (of_one id all)
+within_one Within [] within id = tt
+within_one Within (e ∷ es) within id = elim (cases_Bool (e.0 == id)) [
+  | inl same ↦ rw same (within.0.1, within_one Within es within.1 id)
+  | inr other ↦ rw other (within_one Within es within.1 id)
+]
+
+-- ---- what was gathered of a list
+
+-- none of its rows is damaged
+pub none_damaged : {X G : Type 0} (holds : G → List X → Type 0) (t : Table) (Within : X → Type 0)
+    (key columns : X → List Cell) (tables : Content) (whose : Option ℕ) (found : G)
+    → Gathers holds t Within key columns tables whose found
+    → ¬ HasDamagedRow t Within key columns tables whose
+none_damaged holds t Within key columns tables whose found it =
+    listed_whole t Within key columns tables whose it.records
+    (it.lists ∙ sym (among whose (rows_at tables t))) it.within
+
+-- ---- one more record
+
+either_way : (n id : ℕ) → (n == id) ≡ (id == n)
+either_way n id = grind (arith, nat_tests)
+
+further : {X : Type 0} (b : Bool) (x y : X) (xs : List X)
+    → x ∷ cond b (xs ++ y ∷ []) xs ≡ cond b ((x ∷ xs) ++ y ∷ []) (x ∷ xs)
+further true x y xs = refl
+further false x y xs = refl
+
+-- it is the last of those of its intersection
+one_more : {X : Type 0} (all : List (ℕ × X)) (e : ℕ × X) (id : ℕ) → of_one id (all ++ e ∷ [])
+    ≡ (if id == e.0 then of_one id all ++ e.1 ∷ [] else of_one id all)
+one_more [] e id = ap (λ b. cond b (e.1 ∷ []) []) (either_way e.0 id)
+one_more (x ∷ xs) e id = elim (cases_Bool (x.0 == id)) [
+  | inl same ↦ rw same (ap (λ found. x.1 ∷ found) (one_more xs e id)
+      ∙ further (id == e.0) x.1 e.1 (of_one id xs))
+  | inr other ↦ rw other (one_more xs e id)
+]
+
+-- what is known of the records of each intersection, after one more record of one of them
+pub known_after : {X Y : Type 0} (known : List X → Y) (all : List (ℕ × X)) (e : ℕ × X) (next : Y)
+    (old new : ℕ → Y) → ((n : ℕ) → old n ≡ known (of_one n all))
+    → next ≡ known (of_one e.0 all ++ e.1 ∷ [])
+    → ((n : ℕ) → new n ≡ (if n == e.0 then next else old n))
+    → (n : ℕ) → new n ≡ known (of_one n (all ++ e ∷ []))
+known_after known all e next old new before is updates n = elim (cases_Bool (n == e.0)) [
+  | inl same ↦
+      updates n ∙ ap (λ b. cond b next (old n)) same ∙ is
+      ∙ ap (λ m. known (of_one m all ++ e.1 ∷ [])) (sym (eqb-true n e.0 same))
+      ∙ sym (ap known (one_more all e n
+      ∙ ap (λ b. cond b (of_one n all ++ e.1 ∷ []) (of_one n all)) same))
+  | inr other ↦
+      updates n ∙ ap (λ b. cond b next (old n)) other ∙ before n
+      ∙ sym (ap known (one_more all e n
+      ∙ ap (λ b. cond b (of_one n all ++ e.1 ∷ []) (of_one n all)) other))
+]
