@@ -37,7 +37,7 @@ PAUSE = 0.005  # seconds between two looks at what a program holds
 DAY = "2027-03-02"
 VALGRIND = ("valgrind", "--tool=callgrind", "--callgrind-out-file=/dev/null")
 PYTHON = (sys.executable, str(HERE / "baseline.py"))
-KEPT = ("add", "file: add", "new imports", "overdue", "opening")  # of former states
+KEPT = ("add", "file: add", "new imports", "overdue", "orders", "opening")  # of former states
 HEAD = ["work", "office", "C", "Python", "Python checks"]
 
 
@@ -92,6 +92,8 @@ def on_files(program, folder):
     for name, words, theirs, size, fill in (
         ("overdue, 9,999 intersections", ("overdue", "--db", "FILE", DAY),
          ("overdue", "FILE", DAY), 9_999, work.with_inspections),
+        ("orders, 9,999 intersections", ("orders", "--db", "FILE", "--csv"),
+         ("orders", "FILE"), 9_999, work.with_orders),
         ("opening, 120,000 rows", ("batch", "--db", "FILE"),
          ("open", "FILE"), 2_000, work.with_plans),
         ("migrating, 120,000 rows", ("migrate", "--db", "FILE"),

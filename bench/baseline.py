@@ -5,6 +5,7 @@ records, by the rules of tests/model.
     python3 bench/baseline.py serve [FILE] [--checking]   answers requests, over tables in memory
                                                           or in a file
     python3 bench/baseline.py overdue FILE DAY     prints the report
+    python3 bench/baseline.py orders FILE          prints the open orders as CSV
     python3 bench/baseline.py open FILE            has SQLite check the file
     python3 bench/baseline.py migrate FILE         brings a file of version 1 to version 2
 """
@@ -205,6 +206,17 @@ def overdue(path, day):
     print("\n".join([*lines, f"Count {len(rows)}"]))
 
 
+def orders(path):
+    """The open orders by one query."""
+    rows = sqlite3.connect(path).execute(
+        "SELECT id, name, number, opened, clerk, body FROM work_order JOIN intersection ON"
+        " inter = id WHERE closed IS NULL ORDER BY id, number"
+    )
+    out = csv.writer(sys.stdout, lineterminator="\n")
+    for number, name, order, opened, clerk, text in rows:
+        out.writerow([number, name, order, EPOCH + datetime.timedelta(days=opened), clerk, text])
+
+
 def check(path):
     told = sqlite3.connect(path).execute("PRAGMA integrity_check").fetchone()[0]
     if told != "ok":
@@ -231,4 +243,4 @@ if __name__ == "__main__":
     if work == "serve":
         serve(sys.stdin.buffer, sys.stdout.buffer, *(it for it in words if it != "--checking"))
     else:
-        {"overdue": overdue, "open": check, "migrate": migrate}[work](*words)
+        {"overdue": overdue, "orders": orders, "open": check, "migrate": migrate}[work](*words)

@@ -123,6 +123,18 @@ def with_inspections(db, numbers):
         db.executemany("INSERT INTO inspection VALUES (?, ?, ?, ?, ?)", rows)
 
 
+def with_orders(db, numbers):
+    """20 orders each, the last two of which are open."""
+    for number in numbers:
+        rows = [(number, turn, FIRST + turn, "Ana", f"Relay {turn}", *closing(turn))
+                for turn in range(1, 21)]
+        db.executemany("INSERT INTO work_order VALUES (?, ?, ?, ?, ?, ?, ?)", rows)
+
+
+def closing(turn):
+    return (FIRST + turn + 1, "Ben") if turn <= 18 else (None, None)
+
+
 def with_plans(db, numbers):
     """A committed plan of 60 rows each."""
     rows = [key_and_body(row) for row in plan(0, 0)]

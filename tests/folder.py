@@ -9,12 +9,13 @@ what the other commands print.
 - A second run writes no file whose text is as it stands, and each whose text is another.
 - A folder that is a file, may not be written, or is on a full disk ends with status 1 and
   `fault: write`; the files that are there are whole. (A full disk needs root, for a small tmpfs.)
-- A run that is killed at a random moment leaves each file as it was before, or as it is to be.
-- 9,999 intersections are written within two minutes.
+- A run that is killed at any of its calls that make, write, sync or rename a file or a folder, or
+  at a random moment, leaves each file as it was before, or as it is to be.
+- 9,999 intersections are written within two minutes by each.
 - Each page is what `page ID` prints with one link more, to the index; the index has a link to each
   page, marks those that `overdue --csv` prints, and shows a name as it is.
 
-Prints a line for each, and ends with status 1 if anything else happened.
+Prints a line for each, and ends with status 1 if anything else happened. Needs a C compiler, `cc`.
 """
 import contextlib
 import os
@@ -27,6 +28,7 @@ import sys
 import tempfile
 import time
 
+from preloaded import built
 from program import TOP, found
 
 PLAN = TOP / "bench" / "plan.csv"
@@ -41,6 +43,63 @@ KILLS = 10
 WRITE_FAULT = (1, b"", b"fault: write\n")
 BACK = b"<li><a href='index.html'>All intersections</a></li>\n"
 DAY = "2027-03-02"  # the day after the one on which the inspection of 12 falls due
+KINDS = ("export", "pages")  # the commands that fill a folder
+# Ends the program at one of its calls of files: half of what is to be written is then written.
+STOP = r"""
+#define _GNU_SOURCE
+#include <fcntl.h>
+#include <signal.h>
+#include <stdarg.h>
+#include <stdlib.h>
+#include <sys/stat.h>
+#include <sys/syscall.h>
+#include <unistd.h>
+
+static long last;
+
+__attribute__((constructor)) static void begin(void) {
+  const char *told = getenv("STOP");
+  last = told ? atol(told) : 0;
+}
+
+static int is_last(void) { return last > 0 && --last == 0; }
+
+static void count(void) {
+  if (is_last()) kill(getpid(), SIGKILL);
+}
+
+ssize_t write(int fd, const void *bytes, size_t length) {
+  if (fd > 2 && is_last()) {
+    syscall(SYS_write, fd, bytes, length / 2);
+    kill(getpid(), SIGKILL);
+  }
+  return syscall(SYS_write, fd, bytes, length);
+}
+
+static int opened(int folder, const char *path, int flags, mode_t mode) {
+  if (flags & O_CREAT) count();
+  return syscall(SYS_openat, folder, path, flags, mode);
+}
+
+#define OPENED(folder)                                        \
+  va_list more;                                               \
+  va_start(more, flags);                                      \
+  mode_t mode = flags & O_CREAT ? va_arg(more, mode_t) : 0;   \
+  va_end(more);                                               \
+  return opened(folder, path, flags, mode)
+
+int open(const char *path, int flags, ...) { OPENED(AT_FDCWD); }
+int openat(int folder, const char *path, int flags, ...) { OPENED(folder); }
+int open64(const char *, int, ...) __attribute__((alias("open")));
+int openat64(int, const char *, int, ...) __attribute__((alias("openat")));
+int fsync(int fd) { return count(), syscall(SYS_fsync, fd); }
+int fdatasync(int fd) { return count(), syscall(SYS_fdatasync, fd); }
+int rename(const char *old, const char *new) { return count(), syscall(SYS_rename, old, new); }
+int renameat(int one, const char *old, int two, const char *new) {
+  return count(), syscall(SYS_renameat, one, old, two, new);
+}
+int mkdir(const char *path, mode_t mode) { return count(), syscall(SYS_mkdir, path, mode); }
+"""
 
 
 class Office:
@@ -62,8 +121,21 @@ class Office:
     def lines(self, command, *words):
         return self.printed(command, "--db", self.db, "--csv", *words).decode().splitlines()
 
+    def words(self, kind, name):
+        """The words of the command that fills a folder."""
+        return [kind, "--db", self.db, *["--all"] * (kind == "export"), name]
+
+    def fill(self, kind, name):
+        return self.run(*self.words(kind, name))
+
     def export(self, name):
-        return self.run("export", "--db", self.db, "--all", name)
+        return self.fill("export", name)
+
+    def filled(self, kind):
+        """The files of a folder that a command filled anew."""
+        with tempfile.TemporaryDirectory(dir=self.folder) as name:
+            assert self.fill(kind, name) == (0, b"", b"")
+            return self.held(name)
 
     def begin(self, numbers):
         """Adds intersections, a plan to the first, and the records of a cabinet."""
@@ -114,68 +186,101 @@ def writes_whole(office):
 
 def refuses_a_file(office):
     (office.folder / "plain").write_text("a file\n")
-    assert office.export("plain") == WRITE_FAULT
-    assert (office.folder / "plain").read_text() == "a file\n"
-    assert office.export("none/city") == WRITE_FAULT
-    assert not (office.folder / "none").exists()
+    for kind in KINDS:
+        assert office.fill(kind, "plain") == WRITE_FAULT
+        assert (office.folder / "plain").read_text() == "a file\n"
+        assert office.fill(kind, "none/city") == WRITE_FAULT
+        assert not (office.folder / "none").exists()
 
 
 def refuses_a_closed_folder(office):
     if os.geteuid() == 0:
         return "not tried: root may write it"
     (office.folder / "closed").mkdir(mode=0o500)
-    assert office.export("closed") == WRITE_FAULT
-    assert not office.held("closed")
+    for kind in KINDS:
+        assert office.fill(kind, "closed") == WRITE_FAULT
+        assert not office.held("closed")
 
 
 def stops_before_a_row_that_is_none(office):
     with contextlib.closing(sqlite3.connect(office.db)) as tables, tables:
         tables.execute("UPDATE inspection SET day = 84006")
-    assert office.export("damaged") == (1, b"", b"fault: damaged\n")
-    assert not (office.folder / "damaged").exists()
+    for kind in KINDS:
+        assert office.fill(kind, "damaged") == (1, b"", b"fault: damaged\n")
+        assert not (office.folder / "damaged").exists()
     with contextlib.closing(sqlite3.connect(office.db)) as tables, tables:
         tables.execute("UPDATE inspection SET day = 20513")
 
 
 def leaves_whole_files_on_a_full_disk(office):
-    full = office.folder / "full"
-    full.mkdir()
-    mounted = ["mount", "-t", "tmpfs", "-o", "size=8k", "none", str(full)]
-    if os.geteuid() != 0 or subprocess.run(mounted, stderr=subprocess.DEVNULL).returncode:
-        return "not tried: it needs root and mount"
-    try:
-        wanted = office.wanted()
-        assert office.export("full") == WRITE_FAULT
-        held = office.held("full")
-        assert held and all(wanted.get(name) == text for name, text in held.items()), held
-    finally:
-        subprocess.run(["umount", str(full)], check=True)
+    for kind, size in zip(KINDS, ("8k", "40k")):
+        full = office.folder / f"full-{kind}"
+        full.mkdir()
+        mounted = ["mount", "-t", "tmpfs", "-o", f"size={size}", "none", str(full)]
+        if os.geteuid() != 0 or subprocess.run(mounted, stderr=subprocess.DEVNULL).returncode:
+            return "not tried: it needs root and mount"
+        try:
+            wanted = office.filled(kind)
+            assert office.fill(kind, full.name) == WRITE_FAULT
+            held = office.held(full.name)
+            assert held and all(wanted.get(name) == text for name, text in held.items()), held
+        finally:
+            subprocess.run(["umount", str(full)], check=True)
+
+
+def stopped(office, kind, name, wait, env):
+    """The status of a run that fills a folder and is killed after a while, or by itself."""
+    run = subprocess.Popen([office.program, *office.words(kind, name)], cwd=office.folder,
+                           stderr=subprocess.DEVNULL, env={**os.environ, **env})
+    if wait is not None:
+        time.sleep(wait)
+        run.kill()
+    return run.wait()
+
+
+def assert_whole(held, *states):
+    """Each file is as one of these has it; one that was being written has a name of its own."""
+    for name, text in held.items():
+        if not (name.startswith(".") or name.endswith(".part")):
+            assert text in [it.get(name) for it in states], name
 
 
 def leaves_whole_files_where_it_is_killed(office):
     plan = office.folder / "other.csv"
     plan.write_text(PLAN.read_text().replace("8,20,40,", "9,20,40,", 1))
-    old, dice = office.wanted(), random.Random(1)
-    assert office.export("killed") == (0, b"", b"")
-    begun = time.monotonic()
-    assert office.export("timed") == (0, b"", b"")
-    whole = time.monotonic() - begun
-    for turn in range(KILLS):
-        office.commit(12, (plan, PLAN)[turn % 2])
-        new = office.wanted()
-        run = subprocess.Popen([office.program, "export", "--db", office.db, "--all", "killed"],
-                               cwd=office.folder, stderr=subprocess.DEVNULL)
-        time.sleep(dice.uniform(0, 1.2 * whole))
-        run.kill()
-        run.wait()
-        for name, text in office.held("killed").items():
-            if not name.startswith("."):
-                assert text in (old[name], new[name]), name
-        assert office.export("killed") == (0, b"", b"")
-        left = {name: text for name, text in office.held("killed").items()
-                if not name.endswith(".part")}
-        assert left == new
-        old = new
+    dice, turns = random.Random(1), 0
+    for kind in KINDS:
+        name, begun, old = f"killed-{kind}", time.monotonic(), office.filled(kind)
+        whole = time.monotonic() - begun
+        assert office.fill(kind, name) == (0, b"", b"")
+        for _ in range(KILLS):
+            turns += 1
+            office.commit(12, (PLAN, plan)[turns % 2])
+            new = office.filled(kind)
+            assert new != old
+            stopped(office, kind, name, dice.uniform(0, 1.2 * whole), {})
+            assert_whole(office.held(name), old, new)
+            assert office.fill(kind, name) == (0, b"", b"")
+            left = {it: text for it, text in office.held(name).items() if not it.endswith(".part")}
+            assert left == new
+            old = new
+
+
+def leaves_whole_files_where_it_is_stopped_at_a_call(office):
+    library, counts = built(office.folder, "stop", STOP), []
+    for kind in KINDS:
+        new, call, status = office.filled(kind), 0, -9
+        while status == -9:
+            call += 1
+            name = f"stopped-{kind}-{call}"
+            env = {"LD_PRELOAD": str(library), "STOP": str(call)}
+            status = stopped(office, kind, name, None, env)
+            if (office.folder / name).exists():
+                assert_whole(office.held(name), new)
+        assert status == 0 and office.held(name) == new, status
+        assert call > 2 * len(new), call
+        counts.append(str(call - 1))
+    return f"as told, at each of {' and '.join(counts)} calls"
 
 
 def writes_pages(office):
@@ -195,7 +300,6 @@ def writes_pages(office):
         page = held[f"{number}.html"]
         assert page.count(BACK) == 1
         assert page.replace(BACK, b"") == office.printed("page", "--db", office.db, number)
-    assert office.run("pages", "--db", office.db, "plain") == WRITE_FAULT
     assert office.run("pages", "--db", office.db, "pages") == (0, b"", b"")
     assert "class='late'" not in office.held("pages")["index.html"].decode()
 
@@ -208,17 +312,20 @@ def writes_9999_in_time(office):
         tables.executemany(f"INSERT OR IGNORE INTO intersection VALUES ({marks})",
                            ([it if name != "id" else number for name, it in zip(columns, row)]
                             for number in range(1, 10_000)))
-    begun = time.monotonic()
-    assert office.export("large") == (0, b"", b"")
-    taken = time.monotonic() - begun
-    assert len(office.held("large")) == 2 + 2 * 9_999
-    assert taken < MOST_SECONDS, f"{taken:.0f} seconds"
-    return f"{taken:.1f} seconds"
+    told = []
+    for kind, count in zip(KINDS, (2 + 2 * 9_999, 1 + 9_999)):
+        begun = time.monotonic()
+        assert office.fill(kind, f"large-{kind}") == (0, b"", b"")
+        taken = time.monotonic() - begun
+        assert len(office.held(f"large-{kind}")) == count
+        assert taken < MOST_SECONDS, f"{taken:.0f} seconds"
+        told.append(f"{taken:.1f}")
+    return f"{' and '.join(told)} seconds"
 
 
 TRIALS = (writes_whole, refuses_a_file, refuses_a_closed_folder, stops_before_a_row_that_is_none,
           leaves_whole_files_on_a_full_disk, leaves_whole_files_where_it_is_killed,
-          writes_pages, writes_9999_in_time)
+          leaves_whole_files_where_it_is_stopped_at_a_call, writes_pages, writes_9999_in_time)
 
 
 def main():

@@ -8,9 +8,10 @@ texts look like markup or run from right to left, and the page of each intersect
 browser's own document that each name and text is text, that nothing but a table's or a picture's
 own box is wider than the screen, that each element is displayed as the browser computes its style,
 and has letters of 11 pixels or more, each section, broken rule and change among them, on both
-screens and on paper; and puts pictures at 1280 and at 390 pixels of width, light and dark, and one
-page as it is printed, into FOLDER, or into a folder of its own. So it looks at a folder of pages,
-and follows each of its links. It prints `ok` at the end.
+screens and on paper; that what differs between the two rows of a change is marked, and nothing
+else, by bold and underlined letters; and puts pictures at 1280 and at 390 pixels of width, light
+and dark, and one page as it is printed, into FOLDER, or into a folder of its own. So it looks at a
+folder of pages, and follows each of its links. It prints `ok` at the end.
 """
 import html.parser
 import json
@@ -48,7 +49,9 @@ for (const it of document.body.querySelectorAll('*')) {
 const count = x => document.querySelectorAll(x).length;
 document.title = JSON.stringify({
   width: document.body.scrollWidth, lost, small, sections: count('section'), rules: count('tr.why'),
-  changes: count('.changes tbody tr'), bare: count('tbody:empty'),
+  changes: count('.changes tbody tr'), bare: count('tbody:empty'), marks: count('mark'),
+  faint: [...document.querySelectorAll('mark')].map(x => getComputedStyle(x)).filter(x =>
+    Number(x.fontWeight) < 700 || !x.textDecorationLine.includes('underline')).length,
 });
 """
 NAME = "<script>alert(1)</script>&\""
@@ -80,6 +83,9 @@ phase,8,2,8,25,30,40,20,3 4,7,19,640,60,0,0
 remove,seq,1,2
 pattern,2,60,5,1,1
 """
+# What differs of it: time and spare time of the split, whose need is 15.5, from and to; then red,
+# walk, setback and short walk of the phase, from and to.
+MARKED = ["45", "29.5", "40", "24.5", "1.5", "4", "2.0", "yes", "2.0", "7", "6.0", "no"]
 RECORDS = """delivery,LAMP,1,2026-04-02,9
 inspection,12,1,2025-03-04,Bo,"Cabinet clean, fan and filter in order"
 inspection,12,2,2026-03-01,Ana,Fan cleaned; battery at 12.9 V; door seal worn
@@ -101,17 +107,20 @@ def missing(text):
 
 
 class Document(html.parser.HTMLParser):
-    """The elements of a document, and the text of those that hold names."""
+    """The elements of a document, and the text of those that hold names or are marked."""
 
     def __init__(self, text):
         super().__init__(convert_charrefs=True)
-        self.elements, self.names, self.within = [], [], []
+        self.elements, self.names, self.marks, self.within = [], [], [], []
         self.feed(text)
+
+    def texts_of(self, tag):
+        return self.marks if tag == "mark" else self.names
 
     def handle_starttag(self, tag, attrs):
         self.elements.append(tag)
-        if tag in ("bdi", "title"):
-            self.names.append("")
+        if tag in ("bdi", "title", "mark"):
+            self.texts_of(tag).append("")
             self.within.append(tag)
 
     def handle_endtag(self, tag):
@@ -120,7 +129,7 @@ class Document(html.parser.HTMLParser):
 
     def handle_data(self, data):
         if self.within:
-            self.names[-1] += data
+            self.texts_of(self.within[-1])[-1] += data
 
 
 class Browser:
@@ -213,6 +222,8 @@ def check(browser, pages):
     drafted = browser.document(pages[12])
     if drafted.names[1] != "Main St & 3rd Ave" or CLERK not in drafted.names:
         fail(f"the names of 12 are shown as {drafted.names}")
+    if drafted.marks != MARKED or shown.marks:
+        fail(f"what differs is marked as {drafted.marks}, and without a draft {shown.marks}")
     for page in pages.values():
         for screen in SCREENS:
             look_at(browser, page, screen)
@@ -246,7 +257,8 @@ def look_at(browser, page, screen, paper=False):
             fail(f"{page.name} has elements that are {what} {where}: {names[:5]}")
     marks = ("<tr class='added'", "<tr class='removed'", "<tr class='before'", "<tr class='after'")
     counts = {"sections": text.count("<section "), "rules": text.count("<tr class='why'>"),
-              "changes": sum(map(text.count, marks)), "bare": 0}
+              "changes": sum(map(text.count, marks)), "bare": 0, "marks": text.count("<mark>"),
+              "faint": 0}
     for what, count in counts.items():
         if told[what] != count:
             fail(f"{page.name} shows {told[what]} {what}, and has {count}")

@@ -1,6 +1,7 @@
 """The page of an intersection, or of a plan alone: one HTML text, with the style in page.css."""
 import html
 import pathlib
+import re
 
 from . import reasons, rules
 from .pictures import picture
@@ -239,27 +240,38 @@ def changes(before, after):
     if not keys:
         yield "<p>It changes nothing of the plan that runs.</p>\n"
     for name, (kind, names) in TABLES.items():
-        rows = [changed(mark, it, rules.View(plan))
-                for key in keys for mark, it, plan in marked(key, before, after)
-                if isinstance(it, kind)]
+        rows = [row for key in keys if isinstance(before.get(key, after.get(key)), kind)
+                for row in changed(key, before, after)]
         if rows:
             yield table(f"{name} that change", [["Change"], *names], rows)
     yield "</div>\n"
 
 
-def marked(key, before, after):
-    """The rows of a change, each with its mark and the plan that has it."""
+def cells_of(plan, key):
+    """The cells of a row of a plan."""
+    return CELLS[type(plan[key])](rules.View(plan), plan[key])
+
+
+def standing_out(own, beside):
+    """The cells of a row, each marked that reads otherwise in the row beside it."""
+    return [one if one == other else re.sub("^(<td.*?>)(.*)(</td>)$", r"\1<mark>\2</mark>\3", one)
+            for one, other in zip(own, beside)]
+
+
+def changed(key, before, after):
+    """The rows of a change: what is removed or added, or what stands beside what it becomes."""
     if key not in after:
-        return [(("removed", "removed"), before[key], before)]
+        return [change("removed", "removed", cells_of(before, key))]
     if key not in before:
-        return [(("added", "added"), after[key], after)]
-    return [(("before", "changed from"), before[key], before),
-            (("after", "changed to"), after[key], after)]
+        return [change("added", "added", cells_of(after, key))]
+    was, becomes = cells_of(before, key), cells_of(after, key)
+    return [change("before", "changed from", standing_out(was, becomes)),
+            change("after", "changed to", standing_out(becomes, was))]
 
 
-def changed(mark, row, view):
+def change(kind, words, cells):
     """A row of what is changed."""
-    return f"<tr class='{mark[0]}'>{word(mark[1])}{''.join(CELLS[type(row)](view, row))}</tr>\n"
+    return f"<tr class='{kind}'>{word(words)}{''.join(cells)}</tr>\n"
 
 
 def section(name, title, content):
