@@ -29,7 +29,7 @@ LAYERS = {
              ("office_http",)),
     "texts": (0, 2, "CSV, lists, pictures, pages", "plans and replies", (
         "office_files", "office_spreadsheets", "office_listings", "signal_page", "signal_index",
-        "signal_diagram", "signal_compare", "plan_notes")),
+        "signal_diagram", "signal_compare")),
     "desk": (1, 2, "reads, decides, gives changes (3)", "machine and tables", ("office_desk",)),
     "tables": (1, 3, "eight maps: memory or SQL (5)", "rows and records", ("office_tables",)),
     "machine": (1, 4, "what each command means", "no storage", ("office_machine",)),

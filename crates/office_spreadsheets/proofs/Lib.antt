@@ -2,3 +2,4 @@ mod PaddedLemmas
 mod GoodLemmas
 mod HintLemmas
 mod LineLemmas
+mod NoteLemmas

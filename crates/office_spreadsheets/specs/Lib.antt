@@ -1,3 +1,4 @@
 pub mod Padded
 pub mod RecordLines
 pub mod Hints
+pub mod Notes

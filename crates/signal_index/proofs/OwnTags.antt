@@ -5,8 +5,9 @@ use Rattle.std.specs.Prelude.{cond, option_map}
 use Rattle.draft_state.specs.declared.state.Holder.{Holder}
 use Rattle.office_listings.specs.Intersections.{state_word}
 use Rattle.office_listings.specs.declared.orders.NamedOrder.{NamedOrder}
-use Rattle.signal_page.specs.{Cells.number_cell, Cells.row_heading, Cells.words_cell, Page.page_end, Register.day_cell, Reading.is_markup, Reading.marks}
-use Rattle.signal_page.proofs.Markup.{Alike, IsRow, after, before, each, each_marked, equal, joined, same, table_alike, text_cell_alike}
+use Rattle.signal_page_tables.specs.{Cells.number_cell, Cells.row_heading, Cells.words_cell, Reading.is_markup, Reading.marks}
+use Rattle.signal_page.specs.{Page.page_end, Register.day_cell}
+use Rattle.signal_page_tables.proofs.Marks.{Alike, IsRow, after, before, each, each_marked, equal, joined, same, table_alike, text_cell_alike}
 use Rattle.signal_index.specs.Rows.{link_heading, standing_cells, cabinet_cells, entry_row, holder_cell, late_row, other_row, entry_rows, intersections_part}
 use Rattle.signal_index.specs.Rows.{named_row, orders_part, stock_row, stock_part}
 use Rattle.signal_index.specs.Blank.{blank_entry, blank_holder, blank_index, blank_named, blank_part}

@@ -2,7 +2,7 @@
 use Rattle.std.specs.Prelude.{◌≡◌, ℕ, List, [], ◌++◌, flat_map, length, map, codes, decimal, Option, Some, None}
 use Rattle.cabinet_core.specs.Day.{day_text}
 use Rattle.signal_page.specs.Page.{head_opening, page_end}
-use Rattle.signal_page.specs.Reading.{marks}
+use Rattle.signal_page_tables.specs.Reading.{marks}
 use Rattle.signal_page.specs.declared.style.TheConstants.{STYLE}
 use Rattle.signal_index.specs.Blank.{blank_index}
 use Rattle.signal_index.specs.Overdue.{number_of_entry, overdue_among, overdue_before, overdue_numbers, seen_by, times_among}

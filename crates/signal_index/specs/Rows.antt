@@ -3,11 +3,11 @@ use Rattle.std.specs.Prelude.{ℕ, Bool, true, false, if◌then◌else◌, List,
 use Rattle.draft_state.specs.declared.state.Holder.{Holder}
 use Rattle.office_listings.specs.Intersections.{state_word}
 use Rattle.office_listings.specs.declared.orders.NamedOrder.{NamedOrder}
-use Rattle.signal_page.specs.Cells.{heading, words_heading, row_heading, number_cell, text_cell}
-use Rattle.signal_page.specs.Cells.{words_cell}
+use Rattle.signal_page_tables.specs.Cells.{heading, words_heading, row_heading, number_cell, text_cell}
+use Rattle.signal_page_tables.specs.Cells.{words_cell}
 use Rattle.signal_page.specs.Register.{day_cell}
 use Rattle.signal_page.specs.State.{due_text, last_text}
-use Rattle.signal_page.specs.Tables.{table_opening, table_body, table_end, rows_or_none}
+use Rattle.signal_page_tables.specs.Tables.{table_opening, table_body, table_end, rows_or_none}
 use Rattle.signal_index.specs.Overdue.{is_overdue}
 use Rattle.signal_index.specs.declared.shown.IndexEntry.{IndexEntry}
 

@@ -1,8 +1,8 @@
 //! The index page.
 
 ghost use Rattle.std.specs.Prelude.{◌≡◌, ◌++◌, IfOk, List, OnOk, length, string_bytes, ℕ};
-ghost use Rattle.signal_page.specs.Reading.{unescaped};
-ghost use Rattle.signal_page.specs.Words.{escaped};
+ghost use Rattle.signal_page_tables.specs.Reading.{unescaped};
+ghost use Rattle.signal_page_tables.specs.Words.{escaped};
 ghost use Rattle.cabinet_core.specs.Day.{day_text};
 ghost use Rattle.signal_index.specs.Index.{IsIndex, counts_text, day_note};
 ghost use Rattle.signal_index.specs.Index.{day_words, index_head, index_text};
@@ -13,7 +13,8 @@ use crate::orders::push_orders;
 use crate::shown::{IndexEntry, IndexShown};
 use crate::stock::push_stock;
 use cabinet_core::{Day, push_date};
-use signal_page::{STYLE, end_page, open_head, push_markup};
+use signal_page::{STYLE, end_page, open_head};
+use signal_page_tables::push_markup;
 use signal_records::NoMemory;
 use std::alloc::{AllocError, Global};
 use std::fmt::Write;

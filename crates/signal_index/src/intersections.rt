@@ -2,8 +2,8 @@
 
 ghost use Rattle.std.specs.Prelude.{◌≡◌, ◌++◌, OnOk, flat_map, string_bytes};
 ghost use Rattle.office_listings.specs.Intersections.{stage_word, state_word};
-ghost use Rattle.signal_page.specs.Cells.{number_cell};
-ghost use Rattle.signal_page.specs.Tables.{rows_or_none};
+ghost use Rattle.signal_page_tables.specs.Cells.{number_cell};
+ghost use Rattle.signal_page_tables.specs.Tables.{rows_or_none};
 ghost use Rattle.signal_index.specs.Overdue.{is_past_due, is_overdue};
 ghost use Rattle.signal_index.specs.Rows.{cabinet_cells, due_cell, due_headings, entry_row};
 ghost use Rattle.signal_index.specs.Rows.{entry_rows, holder_cell, intersections_part, last_cell};
@@ -14,9 +14,10 @@ ghost use Rattle.signal_index.specs.Rows.{standing_headings};
 use crate::shown::IndexEntry;
 use cabinet_core::{Day, due};
 use draft_state::state::{Holder, Stage};
-use signal_page::{
-    begin_rows, end_table, open_table, push_due, push_heading, push_last, push_markup,
-    push_none_since, push_number, push_text, push_words, push_words_heading,
+use signal_page::{push_due, push_last};
+use signal_page_tables::{
+    begin_rows, end_table, open_table, push_heading, push_markup, push_none_since, push_number,
+    push_text, push_words, push_words_heading,
 };
 use signal_records::{InterId, Interval};
 use std::alloc::AllocError;
@@ -83,7 +84,7 @@ fn push_owner(text: &mut String, holder: &Option<Holder>) -> Result<(), AllocErr
 }
 
 /// Appends a count.
-#[tactic(auto, unfolding(signal_page::specs::Cells::number_cell))]
+#[tactic(auto, unfolding(signal_page_tables::specs::Cells::number_cell))]
 fn push_count(text: &mut String, n: usize) -> Result<(), AllocError>
     ensures { OnOk result (string_bytes text.new
         ≡ string_bytes text.old ++ number_cell n) }

@@ -1,13 +1,14 @@
 //! The table of the open orders of all intersections.
 
 ghost use Rattle.std.specs.Prelude.{◌≡◌, ◌++◌, OnOk, flat_map, string_bytes};
-ghost use Rattle.signal_page.specs.Tables.{rows_or_none};
+ghost use Rattle.signal_page_tables.specs.Tables.{rows_or_none};
 ghost use Rattle.signal_index.specs.Rows.{named_headings, named_row, orders_part};
 
 use office_listings::NamedOrder;
-use signal_page::{
-    begin_rows, end_table, open_table, push_day, push_heading, push_markup, push_none_since,
-    push_number, push_row_heading, push_text, push_words_heading,
+use signal_page::push_day;
+use signal_page_tables::{
+    begin_rows, end_table, open_table, push_heading, push_markup, push_none_since, push_number,
+    push_row_heading, push_text, push_words_heading,
 };
 use signal_records::NoMemory;
 use std::alloc::{AllocError, Global};

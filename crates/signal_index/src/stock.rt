@@ -1,11 +1,11 @@
 //! The table of the stock.
 
 ghost use Rattle.std.specs.Prelude.{◌≡◌, ◌++◌, OnOk, flat_map, string_bytes};
-ghost use Rattle.signal_page.specs.Tables.{rows_or_none};
+ghost use Rattle.signal_page_tables.specs.Tables.{rows_or_none};
 ghost use Rattle.signal_index.specs.Rows.{stock_part, stock_row};
 
 use cabinet_core::{Hand, PartCode};
-use signal_page::{
+use signal_page_tables::{
     begin_rows, end_table, open_table, push_heading, push_markup, push_none_since, push_number,
     push_text, push_words_heading,
 };

@@ -3,7 +3,7 @@ use Rattle.std.specs.Prelude.{◌≡◌, ◌⊎◌, ℕ, Bool, false, List, [], 
 use Rattle.clap.specs.Walk.{Text}
 use Rattle.office_http_framing.specs.Ends.{Told}
 use Rattle.office_http_framing.specs.Serve.{Ends, ends_of}
-use Rattle.plan_notes.specs.Notes.{notes_in}
+use Rattle.office_spreadsheets.specs.Notes.{notes_in}
 use Rattle.signal_office_faults.specs.declared.fault.Fault.{Fault}
 use Rattle.signal_office_line.specs.declared.job.CsvFile.{CsvFile}
 use Rattle.signal_office_jobs.specs.Printing.{IsAnyDayRead, IsNameRead}

@@ -1,7 +1,7 @@
 //! CSV files that are read before the file of an office is opened, and the notes on those of plans.
 
 ghost use Rattle.std.specs.Prelude.{◌≡◌, IfErr, IfOk};
-ghost use Rattle.plan_notes.specs.Notes.{notes_in};
+ghost use Rattle.office_spreadsheets.specs.Notes.{notes_in};
 ghost use Rattle.signal_office_faults.specs.declared.fault.Fault.TheVariants as fault;
 ghost use Rattle.signal_office_line.specs.Job.{file_asked};
 ghost use Rattle.signal_office_reading.specs.Reading.{GivesFile, GivesNoFile, IsCsvRead};
@@ -9,8 +9,7 @@ ghost use Rattle.signal_office_reading.specs.Reading.{SaysNotes, file_text, is_i
 
 use crate::input::read_input;
 use office_http_framing::ends::{Sink, Source, write_all};
-use office_spreadsheets::{record_lines, unpadded_csv};
-use plan_notes::notes_in;
+use office_spreadsheets::{notes_in, record_lines, unpadded_csv};
 use signal_office_faults::{Fault, read_file};
 use signal_office_line::CsvFile;
 use std::alloc::Global;

@@ -11,7 +11,7 @@ use Rattle.signal_office_commands.proofs.FaultLemmas.{damage_refused, list_told}
 use Rattle.signal_office_commands.specs.Refused.{fault_of}
 use Rattle.signal_office_faults.specs.declared.fault.Fault.{Fault}
 use Rattle.signal_office_faults.specs.declared.fault.Fault.TheVariants as fault
-use Rattle.signal_office_folder.specs.Folder.{AddsFiles, IsUnput, KnownFiles, NamedText}
+use Rattle.signal_office_faults.specs.Folder.{AddsFiles, IsUnput, KnownFiles, NamedText}
 use Rattle.signal_office_tasks.specs.Filed.{file_name, file_shown, files_in}
 use Rattle.signal_office_tasks.specs.Filled.{AreFilesOf, ChecksFiles, FillsWith, IsAnyUnshown, IsNotFilled, IsUnfilled, IsUnshownLate, ListsOffice, PutsFile, PutsFiles}
 use Rattle.signal_office_tasks.specs.Shown.{IsShown}

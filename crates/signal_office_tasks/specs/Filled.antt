@@ -6,7 +6,7 @@ use Rattle.office_tables_shelf.specs.Content.{Content}
 use Rattle.office_tables_shelf.specs.Damage.{HasAnyDamagedIntersection}
 use Rattle.signal_office_faults.specs.declared.fault.Fault.{Fault}
 use Rattle.signal_office_faults.specs.declared.fault.Fault.TheVariants as fault
-use Rattle.signal_office_folder.specs.Folder.{AddsFiles, IsUnput, KnownFiles, NamedText}
+use Rattle.signal_office_faults.specs.Folder.{AddsFiles, IsUnput, KnownFiles, NamedText}
 use Rattle.signal_office_line.specs.declared.shows.Shown.{Shown}
 use Rattle.signal_office_tasks.specs.Filed.{file_name, file_shown, files_in}
 use Rattle.signal_office_tasks.specs.Shown.{IsFaultOfAll, IsShown, OfOffice}

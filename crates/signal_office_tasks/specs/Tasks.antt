@@ -35,7 +35,7 @@ use Rattle.signal_office_faults.specs.declared.fault.Fault.{Fault}
 use Rattle.signal_office_faults.specs.declared.fault.Fault.TheVariants as fault
 use Rattle.signal_office_tasks.specs.Done.{TellsAs, compared_status, compared_text, edited_status, outcome_line, refused_status, status_of, text_of}
 use Rattle.signal_office_tasks.specs.Explained.{IsEditRefused}
-use Rattle.signal_office_folder.specs.Folder.{NamedText}
+use Rattle.signal_office_faults.specs.Folder.{NamedText}
 use Rattle.signal_office_tasks.specs.Filled.{AreFilesOfAll, IsBeginning, IsUnfilled}
 use Rattle.signal_office_tasks.specs.Serving.{ServesPort}
 use Rattle.signal_office_tasks.specs.Shown.{IsUsedShown, ShowsAs}

@@ -14,7 +14,7 @@ use office_desk::office::Office;
 use office_machine::intersections::ListedIntersection;
 use office_tables_shelf::shelf::Shelf;
 use signal_office_commands::{Fault, fault_of};
-use signal_office_folder::Folder;
+use signal_office_faults::Folder;
 use signal_office_line::Shown;
 use std::alloc::Global;
 

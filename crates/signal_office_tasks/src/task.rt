@@ -33,7 +33,7 @@ use signal_office_commands::{
     orders_of, overdue_csv_of, overdue_of, page_of, revise_plan, running_differences, sheet_of,
     stock_of, timing_csv_of,
 };
-use signal_office_folder::SystemFolder;
+use signal_office_faults::SystemFolder;
 use signal_office_in_file::OfficeTask;
 use signal_office_index::index_of;
 use signal_office_line::{Shown, View};

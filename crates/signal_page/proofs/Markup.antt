@@ -1,7 +1,6 @@
 -- The tags of a page are its own, whatever names and texts of others hold.
-use Rattle.std.proofs.Common.{◌≡◌, ℕ, suc, ◌+◌, ◌≤◌, ◌⊎◌, inl, inr, arith, eqb, Bool, true, false, List, [], ◌∷◌, ◌++◌, map, flat_map}
+use Rattle.std.proofs.Common.{◌≡◌, ℕ, suc, inl, inr, arith, eqb, Bool, true, false, List, [], ◌∷◌, ◌++◌, map, flat_map}
 use Rattle.std.proofs.Common.{filter, length, max, codes, Option, Some, None, refl, sym, ap, ap₂, ◌∙◌}
-use Rattle.std.proofs.{lemmas.List.Elements.filter-append, lemmas.List.length-append}
 use Rattle.std.specs.{List.list_any, Prelude.cond, Prelude.reverse, Prelude.decimal, Prelude.is_some, Prelude.not, Prelude.option_map, Prelude.◌||◌}
 use Rattle.cabinet_core.specs.{Places.inspection_place, Places.order_place}
 use Rattle.cabinet_core.specs.{Orders.is_open, Overdue.greater, Overdue.latest_day, declared.record.CabinetView.CabinetView}
@@ -10,129 +9,26 @@ use Rattle.cabinet_core.specs.declared.record.UsedLine.{UsedLine}
 use Rattle.office_machine.specs.declared.reply.IntersectionState.{IntersectionState}
 use Rattle.signal_compare.specs.declared.difference.Difference.{Difference}
 use Rattle.signal_reasons.specs.declared.reason.Explained.{Explained}
-use Rattle.signal_page.specs.{declared.shown.IntersectionShown.IntersectionShown, Words.escaped_byte, Words.escaped, Words.isolated}
-use Rattle.signal_page.specs.{Reading.is_markup, Reading.marks, Blank.blank_state, Blank.blank_inspection, Blank.blank_closing}
-use Rattle.signal_page.specs.{Blank.blank_order, Blank.blank_line, Blank.blank_view, Blank.blank, Cells.row_heading, Cells.text_cell}
+use Rattle.signal_page.specs.declared.shown.IntersectionShown.{IntersectionShown}
+use Rattle.signal_page_tables.specs.{Reading.marks, Cells.row_heading}
+use Rattle.signal_page.specs.{Blank.blank_state, Blank.blank_inspection, Blank.blank_closing}
+use Rattle.signal_page.specs.{Blank.blank_order, Blank.blank_line, Blank.blank_view, Blank.blank}
 use Rattle.signal_page.specs.{State.fact, State.owner_text, State.last_text, State.due_text, State.draft_facts, State.cabinet_facts, Register.day_cell}
 use Rattle.signal_page.specs.Register.{part_used, part_of, parts_cell, parts_or_none, order_cells, closing_cells, row_if_open, open_row, closed_by, closed_row}
 use Rattle.signal_page.specs.Register.{open_orders_part, closed_orders_part, inspection_row, inspections_part, due_note, next_note, register_part}
-use Rattle.office_files.specs.{Cells.when_empty, Records.is_line_of}
+use Rattle.office_files.specs.Records.{is_line_of}
 use Rattle.office_listings.specs.Next.{greatest_of, next_after, next_word}
-use Rattle.signal_page.specs.Tables.{none_row, rows_or_none}
+use Rattle.signal_page_tables.proofs.Marks.{Alike, IsRow, after, before, each, each_marked, equal, escaped_alike, isolated_alike, joined}
+use Rattle.signal_page_tables.proofs.Marks.{same, table_alike, text_cell_alike}
 use Rattle.signal_page.proofs.Newest.{reversed_map}
 use Rattle.signal_page.specs.Page.{header, plan_section, draft_section, cabinet_section, page_end, page_text}
 
--- ---- texts with the same markup characters
+-- ---- lists, the last one first
 
-pub record Alike (a b : List ℕ) : Type 0 where
-  pub marked : marks a ≡ marks b
-
-pub same : (a : List ℕ) → Alike a a
-same a = record { marked = refl }
-
-pub equal : (a b : List ℕ) → a ≡ b → Alike a b
-equal a b e = record { marked = ap marks e }
-
-pub joined : {a b c d : List ℕ} → Alike a b → Alike c d → Alike (a ++ c) (b ++ d)
-unfolding marks
-joined {a = a} {b = b} {c = c} {d = d} p q = record {
-  marked = filter-append is_markup a c ∙ ap₂ (λ (xs ys : List ℕ). xs ++ ys) p.marked q.marked
-      ∙ sym (filter-append is_markup b d);
-}
-
-pub after : (a : List ℕ) {c d : List ℕ} → Alike c d → Alike (a ++ c) (a ++ d)
-after a p = joined (same a) p
-
-pub before : {a b : List ℕ} (c : List ℕ) → Alike a b → Alike (a ++ c) (b ++ c)
-before c p = joined p (same c)
-
-pub each : {A : Type 0} (f g : A → List ℕ) (blanked : A → A)
-    → ((x : A) → Alike (f x) (g (blanked x)))
-    → (xs : List A) → Alike (flat_map f xs) (flat_map g (map blanked xs))
-each f g blanked h [] = same []
-each f g blanked h (x ∷ xs) = joined (h x) (each f g blanked h xs)
-
--- the same of the last one first
 each_back : {A : Type 0} (f g : A → List ℕ) (blanked : A → A)
     → ((x : A) → Alike (f x) (g (blanked x)))
     → (xs : List A) → Alike (flat_map f (reverse xs)) (flat_map g (reverse (map blanked xs)))
 each_back f g blanked h xs = rw (reversed_map blanked xs) (each f g blanked h (reverse xs))
-
--- ---- rows that are empty, or have markup characters
-
--- a row is empty, or is one with tags
-abbrev pub IsRow : List ℕ → Type 0
-IsRow a = (a ≡ []) ⊎ (1 ≤ length (marks a))
-
-pub each_marked : {A : Type 0} (f : A → List ℕ) → ((x : A) → IsRow (f x)) → (xs : List A) → IsRow (flat_map f xs)
-unfolding marks
-each_marked f h [] = inl refl
-each_marked f h (x ∷ xs) = step (h x) (each_marked f h xs) where
-  several : length (filter is_markup (f x ++ flat_map f xs)) ≡ length (filter is_markup (f x)) + length (filter is_markup (flat_map f xs))
-  several = ap length (filter-append is_markup (f x) (flat_map f xs)) ∙ length-append (filter is_markup (f x)) (filter is_markup (flat_map f xs))
-
-  step : IsRow (f x) → IsRow (flat_map f xs) → IsRow (f x ++ flat_map f xs)
-  step (inl none) (inl left) = inl (rw (none, left) refl)
-  step (inl none) (inr some) = inr (omega (arith, several, some))
-  step (inr some) left = inr (omega (arith, several, some))
-
--- where texts with the same markup characters stand in a table, both are empty or none is
-pub table_alike : {a b : List ℕ} (columns : ℕ) → Alike a b → IsRow a → IsRow b → Alike (rows_or_none columns a) (rows_or_none columns b)
-unfolding marks
-table_alike {a = a} {b = b} columns p first second = joined p (equal _ _ (both first second)) where
-  same_count : length (filter is_markup a) ≡ length (filter is_markup b)
-  same_count = ap length p.marked
-
-  some_text : (c : List ℕ) → 1 ≤ length (filter is_markup c) → when_empty c (none_row columns) ≡ []
-  some_text [] h = absurd (omega (arith, h))
-  some_text (x ∷ xs) h = refl
-
-  both : IsRow a → IsRow b → when_empty a (none_row columns) ≡ when_empty b (none_row columns)
-  both (inl none) (inl left) = rw (none, left) refl
-  both (inl none) (inr some) =
-      let count : length (filter is_markup a) ≡ 0 = ap (λ (xs : List ℕ). length (filter is_markup xs)) none in
-      absurd (omega (arith, same_count, count, some))
-  both (inr some) (inl left) =
-      let count : length (filter is_markup b) ≡ 0 = ap (λ (xs : List ℕ). length (filter is_markup xs)) left in
-      absurd (omega (arith, same_count, count, some))
-  both (inr some) (inr left) = some_text a some ∙ sym (some_text b left)
-
--- ---- names and texts have none
-
-in_case : (t : Bool) (x y : List ℕ) → marks x ≡ [] → (t ≡ false → marks y ≡ []) → marks (cond t x y) ≡ []
-in_case true x y p q = p
-in_case false x y p q = q refl
-
-plain : (b : ℕ) → eqb b 60 ≡ false → eqb b 62 ≡ false → eqb b 34 ≡ false → eqb b 39 ≡ false → marks (b ∷ []) ≡ []
-unfolding marks
-plain b lt gt quot apos = rw (lt, gt, quot, apos) refl
-
-byte_marks : (b : ℕ) → marks (escaped_byte b) ≡ []
-unfolding marks
-byte_marks b =
-    in_case (eqb b 38) (codes "&amp;") _ refl (λ _.
-    in_case (eqb b 60) (codes "&lt;") _ refl (λ lt.
-    in_case (eqb b 62) (codes "&gt;") _ refl (λ gt.
-    in_case (eqb b 34) (codes "&quot;") _ refl (λ quot.
-    in_case (eqb b 39) (codes "&#39;") _ refl (λ apos. plain b lt gt quot apos)))))
-
-pub escaped_marks : (words : List ℕ) → marks (escaped words) ≡ []
-unfolding escaped marks
-escaped_marks [] = refl
-escaped_marks (b ∷ bs) =
-    filter-append is_markup (escaped_byte b) (escaped bs)
-    ∙ ap₂ (λ (xs ys : List ℕ). xs ++ ys) (byte_marks b) (escaped_marks bs)
-
-pub escaped_alike : (x y : List ℕ) → Alike (escaped x) (escaped y)
-escaped_alike x y = record { marked = escaped_marks x ∙ sym (escaped_marks y) }
-
-pub isolated_alike : (x y : List ℕ) → Alike (isolated x) (isolated y)
-unfolding isolated
-isolated_alike x y = before (codes "</bdi>") (after (codes "<bdi>") (escaped_alike x y))
-
-pub text_cell_alike : (x y : List ℕ) → Alike (text_cell x) (text_cell y)
-unfolding text_cell
-text_cell_alike x y = before (codes "</td>") (after (codes "<td class='w'>") (isolated_alike x y))
 
 -- ---- how an intersection stands
 

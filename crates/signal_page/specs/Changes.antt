@@ -8,11 +8,11 @@ use Rattle.signal_records.specs.declared.record.Row.{Row}
 use Rattle.signal_records.specs.TimingSet.{Rows}
 use Rattle.signal_page.specs.declared.changes.Mark.{Mark}
 use Rattle.signal_page.specs.declared.changes.Mark.TheVariants.{Removed, Added, Before, After}
-use Rattle.signal_page.specs.declared.rows.Kind.{Kind}
-use Rattle.signal_page.specs.declared.rows.Kind.TheVariants.{Phases, Sequences, Splits, Patterns}
-use Rattle.signal_page.specs.Cells.{words_heading}
-use Rattle.signal_page.specs.Rows.{row_beside, is_of_kind}
-use Rattle.signal_page.specs.Tables.{name_of, headings, table_opening, table_body, table_end}
+use Rattle.signal_page_tables.specs.declared.rows.Kind.{Kind}
+use Rattle.signal_page_tables.specs.declared.rows.Kind.TheVariants.{Phases, Sequences, Splits, Patterns}
+use Rattle.signal_page_tables.specs.Cells.{words_heading}
+use Rattle.signal_page_tables.specs.Rows.{row_beside, is_of_kind}
+use Rattle.signal_page_tables.specs.Tables.{name_of, headings, table_opening, table_body, table_end}
 
 -- how a row opens that was removed or added, or that was changed, as it was and as it is to be
 abbrev pub row_opening : Mark → List ℕ

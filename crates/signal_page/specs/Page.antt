@@ -8,8 +8,8 @@ use Rattle.signal_reasons.specs.declared.reason.Explained.{Explained}
 use Rattle.signal_reasons.specs.Reasons.{AreReasons}
 use Rattle.signal_page.specs.declared.shown.IntersectionShown.{IntersectionShown}
 use Rattle.signal_page.specs.declared.style.TheConstants.{STYLE}
-use Rattle.signal_page.specs.Words.{escaped, isolated}
-use Rattle.signal_page.specs.Reading.{marks}
+use Rattle.signal_page_tables.specs.Words.{escaped, isolated}
+use Rattle.signal_page_tables.specs.Reading.{marks}
 use Rattle.signal_page.specs.Blank.{blank}
 use Rattle.signal_page.specs.State.{draft_facts, cabinet_facts}
 use Rattle.signal_page.specs.Plan.{plan_part, reasons_note}

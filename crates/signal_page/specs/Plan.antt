@@ -11,7 +11,7 @@ use Rattle.signal_records.specs.declared.record.Split.{Split}
 use Rattle.signal_records.specs.TimingSet.{Rows}
 use Rattle.signal_rules.specs.Lookup.{split_at}
 use Rattle.signal_reasons.specs.declared.reason.Explained.{Explained}
-use Rattle.signal_page.specs.Tables.{tables}
+use Rattle.signal_page_tables.specs.Tables.{tables}
 
 -- ---- what a picture cannot show
 

@@ -12,9 +12,9 @@ use Rattle.cabinet_core.specs.declared.record.Order.{Order}
 use Rattle.cabinet_core.specs.declared.record.UsedLine.{UsedLine}
 use Rattle.office_files.specs.Records.{is_line_of}
 use Rattle.office_listings.specs.Next.{next_numbers_words}
-use Rattle.signal_page.specs.Words.{isolated}
-use Rattle.signal_page.specs.Cells.{heading, words_heading, row_heading, text_cell}
-use Rattle.signal_page.specs.Tables.{table_opening, table_body, table_end, rows_or_none}
+use Rattle.signal_page_tables.specs.Words.{isolated}
+use Rattle.signal_page_tables.specs.Cells.{heading, words_heading, row_heading, text_cell}
+use Rattle.signal_page_tables.specs.Tables.{table_opening, table_body, table_end, rows_or_none}
 
 unfoldable pub day_cell : ℕ → List ℕ
 day_cell day = codes "<td class='d'>" ++ day_text day ++ codes "</td>"

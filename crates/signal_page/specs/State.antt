@@ -9,7 +9,7 @@ use Rattle.draft_state.specs.declared.state.Verdict.TheVariants.{NotDone, DoneWi
 use Rattle.draft_state.specs.declared.state.Verdict.TheVariants.{DoneWithNoError}
 use Rattle.office_machine.specs.States.{state_name}
 use Rattle.office_machine.specs.declared.reply.IntersectionState.{IntersectionState}
-use Rattle.signal_page.specs.Words.{isolated}
+use Rattle.signal_page_tables.specs.Words.{isolated}
 
 -- ---- what is told
 

@@ -1,8 +1,8 @@
 //! The page of an intersection, and that of a plan alone.
 
 ghost use Rattle.std.specs.Prelude.{◌≡◌, ◌++◌, ℕ, List, OnOk, IfOk, string_bytes};
-ghost use Rattle.signal_page.specs.Words.{escaped};
-ghost use Rattle.signal_page.specs.Reading.{unescaped};
+ghost use Rattle.signal_page_tables.specs.Words.{escaped};
+ghost use Rattle.signal_page_tables.specs.Reading.{unescaped};
 ghost use Rattle.signal_page.specs.Page.{head_opening, head_end, page_end, title, draft_link};
 ghost use Rattle.signal_page.specs.Page.{index_link};
 ghost use Rattle.signal_page.specs.Page.{links, header, plan_section, open_draft_section};
@@ -16,8 +16,8 @@ use crate::plan::{push_plan, push_reasons_note};
 use crate::register::push_register;
 use crate::shown::IntersectionShown;
 use crate::style::STYLE;
-use crate::words::{push_escaped, push_isolated, push_markup};
 use signal_compare::{Difference, compare};
+use signal_page_tables::{push_escaped, push_isolated, push_markup};
 use signal_reasons::{Explained, reasons};
 use signal_records::{InterId, NoMemory, TimingSet};
 use std::alloc::{AllocError, Global};

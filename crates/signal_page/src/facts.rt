@@ -8,10 +8,10 @@ ghost use Rattle.signal_page.specs.State.{verdict_words, owner_text, due_text, l
 ghost use Rattle.signal_page.specs.State.{fact};
 ghost use Rattle.signal_page.specs.State.{draft_facts, cabinet_facts};
 
-use crate::words::push_isolated;
 use cabinet_core::{Day, Inspection, Order, due, latest, open_count, push_date};
 use draft_core::state::Verdict;
 use office_machine::reply::{IntersectionState, state_name};
+use signal_page_tables::push_isolated;
 use signal_records::{Interval, Words};
 use std::alloc::AllocError;
 use std::fmt::Write;

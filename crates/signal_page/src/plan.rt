@@ -8,9 +8,8 @@ ghost use Rattle.signal_page.specs.Plan.{picture_for, pictures, pictures_and_tab
 ghost use Rattle.signal_page.specs.Plan.{plan_part, whole_figure};
 ghost use Rattle.signal_page.specs.Plan.{broken_note, reasons_note};
 
-use crate::tables::push_tables;
-use crate::words::push_markup;
 use signal_diagram::figure;
+use signal_page_tables::{push_markup, push_tables};
 use signal_reasons::Explained;
 use signal_records::{NoMemory, Pattern, PatternNo, Ped, PhaseNo, Row, Split, TimingSet};
 use signal_rules::split_at;

@@ -10,14 +10,15 @@ ghost use Rattle.signal_page.specs.Register.{closing_cells, open_row, closed_row
 ghost use Rattle.signal_page.specs.Register.{open_orders_part, closed_orders_part, inspection_row};
 ghost use Rattle.signal_page.specs.Register.{inspection_headings, inspections_part, due_words};
 ghost use Rattle.signal_page.specs.Register.{due_on, due_note, next_note, register_part};
-ghost use Rattle.signal_page.specs.Tables.{rows_or_none};
+ghost use Rattle.signal_page_tables.specs.Tables.{rows_or_none};
 
-use crate::cells::{push_heading, push_row_heading, push_text, push_words_heading};
 use crate::facts::push_due_day;
-use crate::tables::{begin_rows, end_table, open_table, push_none_since};
-use crate::words::{push_isolated, push_markup};
 use cabinet_core::{CabinetView, Closing, Day, Inspection, Order, UsedLine, latest, write_day};
 use office_listings::push_next_numbers;
+use signal_page_tables::{
+    begin_rows, end_table, open_table, push_heading, push_isolated, push_markup, push_none_since,
+    push_row_heading, push_text, push_words_heading,
+};
 use signal_records::{Interval, NoMemory, RecordNo};
 use std::alloc::{AllocError, Global};
 use std::fmt::Write;

@@ -1,5 +1,5 @@
 use Rattle.std.proofs.lemmas.Result.{IfOk-weaker}
-use Rattle.signal_page.proofs.Restored.{restored}
+use Rattle.signal_page_tables.proofs.Restored.{restored}
 use Rattle.signal_index.proofs.{LateLemmas.late_numbers, OrderedRows.each_time, OrderedRows.rows_by, OwnTags.own_tags}
 use Rattle.signal_index.proofs.document.index_page.Goals as goal
 

@@ -1,6 +1,6 @@
 use Rattle.std.proofs.Common.{string_bytes}
 use Rattle.signal_index.specs.Index.{index_text}
-use Rattle.signal_page.proofs.Parts.{from_start, two}
+use Rattle.signal_page_tables.proofs.Parts.{from_start, two}
 use Rattle.signal_index.proofs.document.whole_index.Goals as goal
 
 pub returns : goal.returns

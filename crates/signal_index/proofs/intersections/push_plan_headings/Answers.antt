@@ -1,6 +1,6 @@
 use Rattle.std.proofs.{Common.string_bytes, lemmas.Result.on_ok_weaker}
 use Rattle.signal_index.specs.Rows.{standing_headings}
-use Rattle.signal_page.proofs.Parts.{two}
+use Rattle.signal_page_tables.proofs.Parts.{two}
 use Rattle.signal_index.proofs.intersections.push_plan_headings.Goals as goal
 
 pub returns : goal.returns

@@ -1,6 +1,6 @@
 use Rattle.std.proofs.{Common.string_bytes, lemmas.Result.on_ok_weaker}
 use Rattle.signal_index.specs.Rows.{stock_part}
-use Rattle.signal_page.proofs.Parts.{two}
+use Rattle.signal_page_tables.proofs.Parts.{two}
 use Rattle.signal_index.proofs.stock.push_stock.Goals as goal
 
 pub returns : goal.returns

@@ -1,6 +1,6 @@
 use Rattle.std.proofs.Common.{List, take}
 use Rattle.office_tables_shelf.specs.Keeps.{KeepsShelf}
-use Rattle.signal_office_folder.specs.Folder.{AddsFiles, NamedText}
+use Rattle.signal_office_faults.specs.Folder.{AddsFiles, NamedText}
 use Rattle.signal_office_tasks.specs.Filled.{AreFilesOf}
 use Rattle.signal_office_tasks.proofs.filling.put_each.Given as goal
 

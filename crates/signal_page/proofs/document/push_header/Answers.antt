@@ -1,6 +1,6 @@
 use Rattle.std.proofs.lemmas.Result.{on_ok_weaker}
 use Rattle.signal_page.specs.Page.{header}
-use Rattle.signal_page.proofs.Parts.{two}
+use Rattle.signal_page_tables.proofs.Parts.{two}
 use Rattle.signal_page.proofs.document.push_header.Goals as goal
 
 pub returns : goal.returns

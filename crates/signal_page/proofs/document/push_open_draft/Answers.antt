@@ -1,6 +1,6 @@
 use Rattle.std.proofs.{Common.string_bytes, lemmas.Result.on_ok_weaker}
 use Rattle.signal_page.specs.Page.{open_draft_section}
-use Rattle.signal_page.proofs.Parts.{two}
+use Rattle.signal_page_tables.proofs.Parts.{two}
 use Rattle.signal_page.proofs.document.push_open_draft.Goals as goal
 
 pub returns : goal.returns

@@ -1,6 +1,6 @@
 use Rattle.std.proofs.Common.{string_bytes}
 use Rattle.signal_page.specs.Page.{page_text}
-use Rattle.signal_page.proofs.Parts.{from_start, two}
+use Rattle.signal_page_tables.proofs.Parts.{from_start, two}
 use Rattle.signal_page.proofs.document.whole_page.Goals as goal
 
 pub returns : goal.returns

@@ -1,6 +1,6 @@
 use Rattle.std.proofs.lemmas.Result.{on_ok_weaker}
 use Rattle.signal_page.specs.State.{cabinet_facts}
-use Rattle.signal_page.proofs.Parts.{two}
+use Rattle.signal_page_tables.proofs.Parts.{two}
 use Rattle.signal_page.proofs.facts.push_cabinet_facts.Goals as goal
 
 pub returns : goal.returns

@@ -1,0 +1,83 @@
+//! A folder of the system.
+
+ghost use Rattle.std.specs.Prelude.{IfErr};
+ghost use Rattle.signal_office_faults.specs.Folder.{IsUnput};
+
+use crate::fault::Fault;
+use crate::folder::Folder;
+use std::alloc::Global;
+use std::fs;
+
+/// A folder of the system, which is made as the first file is put. What its files hold no contract
+/// says.
+#[derive(Drop)]
+pub struct SystemFolder<'a> {
+    rt: &'a HostRuntime,
+    alloc: Global,
+    path: &'a str,
+    is_there: bool,
+}
+
+/// Whether a file holds this text.
+fn holds(rt: &HostRuntime, path: &str, text: &[u8]) -> bool {
+    let is_as_long = match fs::metadata(rt, path) {
+        Ok(found) => found.is_file() && found.len() == text.len() as u64,
+        Err(_) => false,
+    };
+    is_as_long && matches!(fs::read(rt, path), Ok(held) if held.as_slice() == text)
+}
+
+/// Makes a folder where there is none.
+fn make(rt: &HostRuntime, path: &str) -> Result<(), Fault>
+    ensures { IfErr result IsUnput }
+{
+    match fs::create_dir(rt, path) {
+        Ok(()) => Ok(()),
+        Err(_) if matches!(fs::metadata(rt, path), Ok(found) if found.is_dir()) => Ok(()),
+        Err(_) => Err(Fault::Write),
+    }
+}
+
+/// Writes a file under another name, and gives it its own. Where that fails there is no other.
+fn write_beside(rt: &HostRuntime, part: &str, path: &str, text: &[u8]) -> Result<(), Fault>
+    ensures { IfErr result IsUnput }
+{
+    let written = fs::write(rt, part, text).is_ok() && fs::rename(rt, part, path).is_ok();
+    if !written {
+        let _ = fs::remove_file(rt, part);
+        return Err(Fault::Write);
+    }
+    Ok(())
+}
+
+impl<'a> SystemFolder<'a> {
+    /// The folder of this path, which may not be there yet.
+    pub fn new(rt: &'a HostRuntime, alloc: Global, path: &'a str) -> SystemFolder<'a> {
+        SystemFolder {
+            rt,
+            alloc,
+            path,
+            is_there: false,
+        }
+    }
+}
+
+impl Folder for SystemFolder<'_> {
+    ghost use Rattle.std.specs.Prelude.{None};
+
+    ghost files = { λ _. None };
+
+    fn put(&mut self, name: &str, text: &[u8]) -> Result<(), Fault> {
+        let (alloc, folder) = (self.alloc, self.path);
+        if !self.is_there {
+            make(self.rt, folder)?;
+            self.is_there = true;
+        }
+        let path = format!(in alloc; "{folder}/{name}")?;
+        if holds(self.rt, path.as_str(), text) {
+            return Ok(());
+        }
+        let part = format!(in alloc; "{folder}/.{name}.part")?;
+        write_beside(self.rt, part.as_str(), path.as_str(), text)
+    }
+}

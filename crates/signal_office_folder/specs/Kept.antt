@@ -1,7 +1,0 @@
--- The files of a folder in memory.
-use Rattle.std.specs.Prelude.{List, map, string_bytes}
-use Rattle.signal_office_folder.specs.Folder.{NamedText}
-use Rattle.signal_office_folder.specs.declared.memory.KeptFile.{KeptFile}
-
-abbrev pub kept_files : List KeptFile → List NamedText
-kept_files = map (λ (file : KeptFile). (string_bytes file.name, file.text.items))

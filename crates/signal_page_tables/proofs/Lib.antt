@@ -1,0 +1,6 @@
+pub mod Escaping
+pub mod Restored
+pub mod Parts
+pub mod Empty
+pub mod Alike
+pub mod Marks
