@@ -44,6 +44,7 @@ pub(crate) fn put_inspection(
     ensures placed { AreInspectionsPlaced rows.old.entries → AreInspectionsPlaced rows.new.entries }
 {
     inspection_is_within(&inspection);
+    // its range, by which `placed` holds
     let _inter = inter.get();
     let number = inspection.number;
     rows.insert(RecordPlace { inter, number }, inspection)?;
@@ -95,6 +96,7 @@ pub(crate) fn put_order(
     ensures placed { AreOrdersPlaced rows.old.entries → AreOrdersPlaced rows.new.entries }
 {
     order_is_within(&order);
+    // its range, by which `placed` holds
     let _inter = inter.get();
     let number = order.number;
     rows.insert(RecordPlace { inter, number }, order)?;
