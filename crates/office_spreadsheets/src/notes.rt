@@ -1,8 +1,8 @@
 //! Notes on records that put or remove a key again.
 
 ghost use Rattle.std.specs.Prelude.{◌≡◌, ◌++◌, length, IfOk, OnOk, string_bytes};
-ghost use Rattle.office_spreadsheets.specs.Notes.{deed, key_for, key_words, note_on, notes_in, notes_within};
-ghost use Rattle.office_spreadsheets.specs.Notes.{record_word};
+ghost use Rattle.office_spreadsheets.specs.Notes.{deed, key_for, key_words, note_on, notes_in};
+ghost use Rattle.office_spreadsheets.specs.Notes.{notes_within, record_word};
 
 use office_files::{CsvFault, read_timing_csv};
 use signal_records::{Change, Key, NoMemory};

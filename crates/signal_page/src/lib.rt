@@ -1,6 +1,7 @@
 //! The page of an intersection, or of a plan alone: one HTML text that needs nothing else.
 //!
-//! `specs/` has its definition, a file for each part; the tables of a plan stand in `signal_page_tables`.
+//! `specs/` has its definition, a file for each part. The tables of a plan stand in
+//! `signal_page_tables`.
 #![tactic(auto)]
 
 mod changes;

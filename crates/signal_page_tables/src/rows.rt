@@ -4,8 +4,8 @@ ghost use Rattle.std.specs.Prelude.{◌≡◌, ◌++◌, OnOk, string_bytes};
 ghost use Rattle.signal_page_tables.specs.Rows.{interval_values, ped_values, split_values};
 ghost use Rattle.signal_page_tables.specs.Rows.{pattern_values, phase_beside};
 ghost use Rattle.signal_page_tables.specs.Rows.{sequence_beside, split_beside, pattern_beside};
-ghost use Rattle.signal_page_tables.specs.Rows.{phase_or, sequence_or, split_or, pattern_or, row_beside};
-ghost use Rattle.signal_page_tables.specs.Rows.{columns, is_of_kind, whole_row, row_in};
+ghost use Rattle.signal_page_tables.specs.Rows.{phase_or, sequence_or, split_or, pattern_or};
+ghost use Rattle.signal_page_tables.specs.Rows.{row_beside, columns, is_of_kind, whole_row, row_in};
 
 use crate::cells::push_row_heading;
 use crate::needs::{need_at, need_value, push_coordinated_beside, spare_value};

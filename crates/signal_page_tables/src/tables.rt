@@ -3,8 +3,8 @@
 ghost use Rattle.std.specs.Prelude.{◌≡◌, ◌++◌, OnOk, codes, flat_map, length, string_bytes};
 ghost use Rattle.signal_page_tables.specs.Rows.{row_in, columns};
 ghost use Rattle.signal_page_tables.specs.Tables.{name_of, interval_headings, crossing_headings};
-ghost use Rattle.signal_page_tables.specs.Tables.{sequence_headings, split_headings, pattern_headings};
-ghost use Rattle.signal_page_tables.specs.Tables.{headings, table_opening, table_body};
+ghost use Rattle.signal_page_tables.specs.Tables.{sequence_headings, split_headings, headings};
+ghost use Rattle.signal_page_tables.specs.Tables.{pattern_headings, table_opening, table_body};
 ghost use Rattle.signal_page_tables.specs.Tables.{none_row, rows_or_none, none_since};
 ghost use Rattle.signal_page_tables.specs.Tables.{table_end, table, tables};
 
