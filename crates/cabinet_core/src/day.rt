@@ -1,6 +1,7 @@
 //! Days, which are counted from 1 January 1970.
 
-ghost use Rattle.std.specs.Prelude.{◌≡◌, ℕ, ◌+◌, ◌*◌, ◌/◌, ◌%◌, ◌<◌, ◌≤◌, pos, ◌++◌, IfSome, IfNone, IfOk, OnOk, Some, string_bytes};
+ghost use Rattle.std.specs.Prelude.{◌≡◌, ℕ, ◌+◌, ◌*◌, ◌/◌, ◌%◌, ◌<◌, ◌≤◌, pos, ◌++◌, IfSome};
+ghost use Rattle.std.specs.Prelude.{IfNone, IfOk, OnOk, Some, string_bytes};
 ghost use Rattle.std.specs.Option.{SomeIff};
 ghost use Rattle.jiff.specs.Words.{epoch_day};
 ghost use Rattle.jiff_core.specs.Calendar.{IsCivilDate};
@@ -117,7 +118,8 @@ fn date_of(century: u8, year: u8, month: u8, day: u8) -> Option<CivilDate>
     requires year_in { year < 100 }
     requires month_in { month < 100 }
     requires day_in { day < 100 }
-    ensures value { IfSome result (λ d. (d.year ≡ pos (century * 100 + year)) × (d.month ≡ month) × (d.day ≡ day)) }
+    ensures value { IfSome result
+        (λ d. (d.year ≡ pos (century * 100 + year)) × (d.month ≡ month) × (d.day ≡ day)) }
     ensures none { IfNone result (¬ (IsCivilDate (pos (century * 100 + year)) month day)) }
 {
     let year = u16::from(century) * 100 + u16::from(year);

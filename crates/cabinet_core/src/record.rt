@@ -124,7 +124,8 @@ impl Order {
 
     /// The clerk who closed it, unless it is open.
     pub fn closer(&self) -> Option<&Words<40>>
-        ensures { option_map (λ closer. closer.now) result ≡ option_map (λ closing. closing.closer) self.now.closing }
+        ensures { option_map (λ closer. closer.now) result ≡ option_map
+            (λ closing. closing.closer) self.now.closing }
     {
         match &self.closing {
             Some(closing) => Some(&closing.closer),

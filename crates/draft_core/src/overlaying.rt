@@ -58,7 +58,9 @@ pub(crate) fn violations_after(
     committed: &TimingSet,
     changes: &[Change],
 ) -> Result<Vec<Violation>, NoMemory>
-    ensures { violations_of committed.now ≡ [] → IfOk result (λ found. found.items ≡ violations_of (after_changes committed.now changes.now)) }
+    ensures { violations_of committed.now ≡ [] →
+        IfOk result (λ found.
+        found.items ≡ violations_of (after_changes committed.now changes.now)) }
 {
     let draft = overlay(alloc, committed, changes)?;
     let keys = changed_keys(alloc, changes)?;

@@ -61,7 +61,9 @@ impl DraftRefusal {
 
 impl From<NoMemory> for DraftRefusal {
     ghost use Rattle.std.specs.Prelude.{◌≡◌};
-    ghost use Rattle.draft_core.specs.declared.refusal.DraftRefusal.TheVariants.{NoMemory as OutOfMemory};
+    ghost use Rattle.draft_core.specs.declared.refusal.DraftRefusal.TheVariants.{
+      NoMemory as OutOfMemory,
+    };
 
     ghost from_gives = { λ _ refusal. refusal ≡ OutOfMemory };
 

@@ -51,17 +51,22 @@ pub(crate) fn take_record<S: Shelf>(
     requires { S.is_honest shelf.old → AreFound (S.content shelf.old) found.old }
     ensures found { IfOk result (λ _. S.is_honest shelf.new →
         AreFound (S.content shelf.old) found.new) }
-    ensures step { S.is_honest shelf.new → IfOk result (λ taken. TakesRecord (S.content shelf.old) pending command.now taken.0 taken.1) }
+    ensures step { S.is_honest shelf.new →
+        IfOk result (λ taken.
+        TakesRecord (S.content shelf.old) pending command.now taken.0 taken.1) }
     ensures told { S.is_honest shelf.new → IfOk result (λ taken.
         TellsTaken (S.content shelf.old) pending command.now taken.0) }
-    ensures damaged { result ≡ Err ShelfFault.Damaged → S.is_honest shelf.new → MeetsCabinetDamage (S.content shelf.old) command.now (about_of command.now) }
+    ensures damaged { result ≡ Err ShelfFault.Damaged → S.is_honest shelf.new →
+        MeetsCabinetDamage (S.content shelf.old) command.now (about_of command.now) }
     ensures whole { IfOk result (λ taken. S.is_honest shelf.new →
         TakesWhole (S.content shelf.old) pending command.now taken.1) }
     ensures line { IfOk result (λ taken. S.is_honest shelf.new →
         TakesLine (S.content shelf.old) pending command.now taken.0 taken.1) }
     ensures named { IfOk result (λ taken. IsNamedTaken command.now taken.0) }
     ensures leaves { IfOk result (λ taken. LeavesAnyTiming pending → LeavesAnyTiming taken.1) }
-    ensures writes { IfOk result (λ taken. (table : Table) → writes_in table taken.1 ≤ writes_in table pending + most_record_writes command.now table) }
+    ensures writes { IfOk result
+        (λ taken. (table : Table) →
+        writes_in table taken.1 ≤ writes_in table pending + most_record_writes command.now table) }
     ensures kept { KeepsShelf S.Shelf shelf.old shelf.new }
     ensures open { DatabaseStaysOpen S.is_clean S.is_honest (pending ≡ [])
         result shelf.old shelf.new }
@@ -86,7 +91,8 @@ pub(crate) fn decide_import<S: Shelf>(
     alloc: Global,
     records: &Records,
 ) -> Result<Decided, ShelfFault>
-    ensures decides { Decides (S.is_honest shelf.new) (S.content shelf.old) (Command.Import records.now) result }
+    ensures decides { Decides (S.is_honest shelf.new) (S.content shelf.old)
+        (Command.Import records.now) result }
     ensures blames { IfOk result (λ decided. BlamesRightly (S.is_honest shelf.new)
         (S.content shelf.old) (Command.Import records.now) decided.reply) }
     ensures kept { KeepsShelf S.Shelf shelf.old shelf.new }

@@ -18,7 +18,8 @@ pub(crate) fn decide_overdue<S: Shelf>(
     alloc: Global,
     day: Day,
 ) -> Result<Decided, ShelfFault>
-    ensures decides { Decides (S.is_honest shelf.new) (S.content shelf.old) (Command.Overdue day) result }
+    ensures decides { Decides (S.is_honest shelf.new) (S.content shelf.old)
+        (Command.Overdue day) result }
     ensures kept { KeepsShelf S.Shelf shelf.old shelf.new }
     ensures open { AnswersShelf S.Shelf result shelf.old shelf.new }
 {

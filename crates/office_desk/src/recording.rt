@@ -38,13 +38,16 @@ pub(crate) fn is_known<S: Shelf>(
     alloc: Global,
     about: Option<InterId>,
 ) -> Result<bool, ShelfFault>
-    ensures known { IfOk result (λ known. S.is_honest shelf.new → IsKnownIn (S.content shelf.old) about known) }
+    ensures known { IfOk result
+        (λ known. S.is_honest shelf.new → IsKnownIn (S.content shelf.old) about known) }
     ensures tells { IfOk result (λ known. S.is_honest shelf.new →
         TellsAbout (S.content shelf.old) about known) }
     ensures asked { result ≡ Ok false → IsSome about }
     ensures fault { OnErr result (IsSome about) }
-    ensures whole { IfOk result (λ _. S.is_honest shelf.new → ¬ HasDamagedAbout (S.content shelf.old) about) }
-    ensures damaged { result ≡ Err ShelfFault.Damaged → S.is_honest shelf.new → HasDamagedAbout (S.content shelf.old) about }
+    ensures whole { IfOk result
+        (λ _. S.is_honest shelf.new → ¬ HasDamagedAbout (S.content shelf.old) about) }
+    ensures damaged { result ≡ Err ShelfFault.Damaged → S.is_honest shelf.new →
+        HasDamagedAbout (S.content shelf.old) about }
     ensures kept { KeepsShelf S.Shelf shelf.old shelf.new }
     ensures open { DatabaseStaysOpen S.is_clean S.is_honest (IsSome about)
         result shelf.old shelf.new }
@@ -87,7 +90,8 @@ pub(crate) fn decide_record_command<S: Shelf>(
     alloc: Global,
     command: &RecordCommand,
 ) -> Result<Decided, ShelfFault>
-    ensures decides { Decides (S.is_honest shelf.new) (S.content shelf.old) (Command.Record command.now) result }
+    ensures decides { Decides (S.is_honest shelf.new) (S.content shelf.old)
+        (Command.Record command.now) result }
     ensures kept { KeepsShelf S.Shelf shelf.old shelf.new }
     ensures open { AnswersShelf S.Shelf result shelf.old shelf.new }
 {

@@ -18,7 +18,8 @@ pub(crate) fn decide_cabinet<S: Shelf>(
     alloc: Global,
     id: InterId,
 ) -> Result<Decided, ShelfFault>
-    ensures decides { Decides (S.is_honest shelf.new) (S.content shelf.old) (Command.Cabinet id) result }
+    ensures decides { Decides (S.is_honest shelf.new) (S.content shelf.old)
+        (Command.Cabinet id) result }
     ensures kept { KeepsShelf S.Shelf shelf.old shelf.new }
     ensures open { AnswersShelf S.Shelf result shelf.old shelf.new }
 {
@@ -36,7 +37,8 @@ pub(crate) fn decide_open_orders<S: Shelf>(
     alloc: Global,
     id: InterId,
 ) -> Result<Decided, ShelfFault>
-    ensures decides { Decides (S.is_honest shelf.new) (S.content shelf.old) (Command.OpenOrders id) result }
+    ensures decides { Decides (S.is_honest shelf.new) (S.content shelf.old)
+        (Command.OpenOrders id) result }
     ensures kept { KeepsShelf S.Shelf shelf.old shelf.new }
     ensures open { AnswersShelf S.Shelf result shelf.old shelf.new }
 {

@@ -43,7 +43,8 @@ pub fn cabinet_view<S: Shelf>(
 
 /// The numbers of the orders that are open.
 fn open_numbers(alloc: Global, orders: &[Order]) -> Result<Vec<RecordNo>, NoMemory>
-    ensures { IfOk result (λ numbers. numbers.items ≡ map (λ (order : Order). order.number) (filter is_open orders.now)) }
+    ensures { IfOk result (λ numbers. numbers.items ≡ map
+        (λ (order : Order). order.number) (filter is_open orders.now)) }
 {
     let mut numbers = Vec::new(alloc);
     for order in orders {

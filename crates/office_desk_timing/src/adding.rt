@@ -23,7 +23,8 @@ fn added(
     name: &Words<120>,
     row: &Option<IntersectionRow>,
 ) -> Result<Decided, NoMemory>
-    ensures { IfOk result (λ decided. AddsRow id interval name.now row.now decided.reply decided.changes.items) }
+    ensures { IfOk result (λ decided.
+        AddsRow id interval name.now row.now decided.reply decided.changes.items) }
 {
     let _number = id.get();
     let text = name.as_str();
@@ -55,7 +56,8 @@ pub fn decide_add<S: Shelf>(
     interval: Interval,
     name: &Words<120>,
 ) -> Result<Decided, ShelfFault>
-    ensures decides { Decides (S.is_honest shelf.new) (S.content shelf.old) (Command.AddIntersection id interval name.now) result }
+    ensures decides { Decides (S.is_honest shelf.new) (S.content shelf.old)
+        (Command.AddIntersection id interval name.now) result }
     ensures kept { KeepsShelf S.Shelf shelf.old shelf.new }
     ensures open { AnswersShelf S.Shelf result shelf.old shelf.new }
 {

@@ -55,7 +55,8 @@ fn moved(
     found: Found,
     step: Move,
 ) -> Result<Decided, NoMemory>
-    ensures { IfOk result (λ decided. WritesMove id clerk.now found step decided.reply decided.changes.items) }
+    ensures { IfOk result (λ decided.
+        WritesMove id clerk.now found step decided.reply decided.changes.items) }
 {
     let Move {
         revision,
@@ -103,7 +104,8 @@ pub(crate) fn answer(
     found: Found,
     decision: Result<Move, DraftRefusal>,
 ) -> Result<Decided, ShelfFault>
-    ensures writes { IfOk result (λ decided. WritesDecision id clerk.now found decision decided.reply decided.changes.items) }
+    ensures writes { IfOk result (λ decided.
+        WritesDecision id clerk.now found decision decided.reply decided.changes.items) }
     ensures fault { OnErr result (result ≡ Err ShelfFault.NoMemory) }
     ensures wants { OnErr result (WantsMemory decision) }
 {

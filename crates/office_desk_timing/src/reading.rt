@@ -59,9 +59,12 @@ pub fn intersection_row<S: Shelf>(
     alloc: Global,
     id: InterId,
 ) -> Result<Option<IntersectionRow>, ShelfFault>
-    ensures row { IfOk result (λ row. S.is_honest shelf.new → ReadsIntersection (S.content shelf.old) id row) }
-    ensures whole { IfOk result (λ _. S.is_honest shelf.new → ¬ HasDamagedIntersection (S.content shelf.old) id) }
-    ensures damaged { result ≡ Err ShelfFault.Damaged → S.is_honest shelf.new → HasDamagedIntersection (S.content shelf.old) id }
+    ensures row { IfOk result
+        (λ row. S.is_honest shelf.new → ReadsIntersection (S.content shelf.old) id row) }
+    ensures whole { IfOk result
+        (λ _. S.is_honest shelf.new → ¬ HasDamagedIntersection (S.content shelf.old) id) }
+    ensures damaged { result ≡ Err ShelfFault.Damaged → S.is_honest shelf.new →
+        HasDamagedIntersection (S.content shelf.old) id }
     ensures kept { KeepsShelf S.Shelf shelf.old shelf.new }
     ensures open { AnswersShelf S.Shelf result shelf.old shelf.new }
 {

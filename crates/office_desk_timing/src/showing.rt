@@ -62,10 +62,12 @@ fn verdict_at<S: Shelf>(
     id: InterId,
     row: &IntersectionRow,
 ) -> Result<Verdict, ShelfFault>
-    ensures verdict { IfOk result (λ verdict. S.is_honest shelf.new → IsVerdictOf (S.content shelf.old) id row.now verdict) }
+    ensures verdict { IfOk result
+        (λ verdict. S.is_honest shelf.new → IsVerdictOf (S.content shelf.old) id row.now verdict) }
     ensures whole { IfOk result (λ _. S.is_honest shelf.new →
         IsDone row.now → ¬ HasDamage (S.content shelf.old) id) }
-    ensures damaged { result ≡ Err ShelfFault.Damaged → S.is_honest shelf.new → IsDone row.now × HasDamage (S.content shelf.old) id }
+    ensures damaged { result ≡ Err ShelfFault.Damaged → S.is_honest shelf.new →
+        IsDone row.now × HasDamage (S.content shelf.old) id }
     ensures kept { KeepsShelf S.Shelf shelf.old shelf.new }
     ensures open { DatabaseStaysOpen S.is_clean S.is_honest (IsDone row.now)
         result shelf.old shelf.new }
@@ -89,7 +91,8 @@ pub fn decide_state<S: Shelf>(
     alloc: Global,
     id: InterId,
 ) -> Result<Decided, ShelfFault>
-    ensures decides { Decides (S.is_honest shelf.new) (S.content shelf.old) (Command.State id) result }
+    ensures decides { Decides (S.is_honest shelf.new) (S.content shelf.old)
+        (Command.State id) result }
     ensures kept { KeepsShelf S.Shelf shelf.old shelf.new }
     ensures open { AnswersShelf S.Shelf result shelf.old shelf.new }
 {
@@ -107,7 +110,8 @@ pub fn decide_timing<S: Shelf>(
     alloc: Global,
     id: InterId,
 ) -> Result<Decided, ShelfFault>
-    ensures decides { Decides (S.is_honest shelf.new) (S.content shelf.old) (Command.Timing id) result }
+    ensures decides { Decides (S.is_honest shelf.new) (S.content shelf.old)
+        (Command.Timing id) result }
     ensures kept { KeepsShelf S.Shelf shelf.old shelf.new }
     ensures open { AnswersShelf S.Shelf result shelf.old shelf.new }
 {
@@ -155,7 +159,8 @@ pub fn decide_draft<S: Shelf>(
     alloc: Global,
     id: InterId,
 ) -> Result<Decided, ShelfFault>
-    ensures decides { Decides (S.is_honest shelf.new) (S.content shelf.old) (Command.Draft id) result }
+    ensures decides { Decides (S.is_honest shelf.new) (S.content shelf.old)
+        (Command.Draft id) result }
     ensures kept { KeepsShelf S.Shelf shelf.old shelf.new }
     ensures open { AnswersShelf S.Shelf result shelf.old shelf.new }
 {

@@ -35,13 +35,16 @@ impl CsvRow for RecordCommand {
 /// records. An empty file has no commands. A byte order mark is taken off.
 pub fn read_records_csv(alloc: Global, bytes: &[u8]) -> Result<Vec<RecordCommand>, CsvFault>
     ensures commands { IfOk result (λ commands. commands_of bytes.now ≡ Ok commands.items) }
-    ensures fault { IfErr result (λ fault. fault ≢ CsvFault.NoMemory → commands_of bytes.now ≡ Err fault) }
+    ensures fault { IfErr result
+        (λ fault. fault ≢ CsvFault.NoMemory → commands_of bytes.now ≡ Err fault) }
     ensures named { IfErr result NamesFault }
 
     // Each record is the one spelling of its command, and a file of such spellings gives them.
-    ensures found { IfOk result (λ commands. csv_records bytes.now ≡ map record_spelling commands.items) }
+    ensures found { IfOk result
+        (λ commands. csv_records bytes.now ≡ map record_spelling commands.items) }
     ensures within { IfOk result (λ commands. AreRecordsWithin commands.items) }
-    ensures only { (commands : List Command) → AreRecordsWithin commands → csv_records bytes.now ≡ map record_spelling commands
+    ensures only { (commands : List Command) → AreRecordsWithin commands →
+        csv_records bytes.now ≡ map record_spelling commands
         → MatchResult result (λ read. read.items ≡ commands) (λ fault. fault ≡ CsvFault.NoMemory) }
 {
     read_rows(alloc, bytes)
@@ -52,7 +55,8 @@ fn push_inspections(
     id: InterId,
     inspections: &[Inspection],
 ) -> Result<(), NoMemory>
-    ensures { OnOk result (commands.new.items ≡ commands.old.items ++ map (RecordCommand.Inspect id) inspections.now) }
+    ensures { OnOk result (commands.new.items ≡ commands.old.items
+        ++ map (RecordCommand.Inspect id) inspections.now) }
 {
     for inspection in inspections {
         commands.push(RecordCommand::Inspect {
@@ -70,7 +74,8 @@ fn push_uses(
     order: RecordNo,
     lines: &[UsedLine],
 ) -> Result<(), NoMemory>
-    ensures { OnOk result (commands.new.items ≡ commands.old.items ++ map (RecordCommand.UsePart id) (filter (is_line_of order) lines.now)) }
+    ensures { OnOk result (commands.new.items ≡ commands.old.items
+        ++ map (RecordCommand.UsePart id) (filter (is_line_of order) lines.now)) }
 {
     for line in lines {
         if line.order == order {
@@ -90,7 +95,8 @@ fn push_closing(
     order: RecordNo,
     closing: &Option<Closing>,
 ) -> Result<(), NoMemory>
-    ensures { OnOk result (commands.new.items ≡ commands.old.items ++ close_commands id order closing.now) }
+    ensures { OnOk result (commands.new.items ≡ commands.old.items
+        ++ close_commands id order closing.now) }
 {
     if let Some(closing) = closing {
         commands.push(RecordCommand::CloseOrder {
@@ -120,7 +126,8 @@ fn push_order(
     lines: &[UsedLine],
     order: &Order,
 ) -> Result<(), NoMemory>
-    ensures { OnOk result (commands.new.items ≡ commands.old.items ++ order_commands id lines.now order.now) }
+    ensures { OnOk result (commands.new.items ≡ commands.old.items
+        ++ order_commands id lines.now order.now) }
 {
     commands.push(RecordCommand::OpenOrder {
         id,
@@ -174,7 +181,8 @@ pub fn records_csv(alloc: Global, id: InterId, view: &CabinetView) -> Result<Vec
     ensures text { IfOk result (λ text. text.items ≡ records_csv_text id view.now) }
     ensures in_order { IfOk result (λ _. IsInFileOrder view.now) }
     ensures utf8 { IfOk result (λ text. IsUtf8 text.items) }
-    ensures reads_back { IfOk result (λ text. commands_of text.items ≡ Ok (view_commands id view.now)) }
+    ensures reads_back { IfOk result
+        (λ text. commands_of text.items ≡ Ok (view_commands id view.now)) }
 {
     let commands = view_commands(alloc, id, view)?;
     write_records(alloc, &commands)

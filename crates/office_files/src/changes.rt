@@ -27,13 +27,15 @@ impl CsvRow for Change {
 /// records. An empty file has no changes. A byte order mark is taken off.
 pub fn read_timing_csv(alloc: Global, bytes: &[u8]) -> Result<Vec<Change>, CsvFault>
     ensures changes { IfOk result (λ changes. changes_of bytes.now ≡ Ok changes.items) }
-    ensures fault { IfErr result (λ fault. fault ≢ CsvFault.NoMemory → changes_of bytes.now ≡ Err fault) }
+    ensures fault { IfErr result
+        (λ fault. fault ≢ CsvFault.NoMemory → changes_of bytes.now ≡ Err fault) }
     ensures named { IfErr result NamesFault }
 
     // Each record is the one spelling of its change, and a file of such spellings gives them.
     ensures found { IfOk result (λ changes. csv_records bytes.now ≡ spellings changes.items) }
     ensures within { IfOk result (λ changes. AreWithin changes.items) }
-    ensures only { (changes : List Change) → AreWithin changes → csv_records bytes.now ≡ spellings changes
+    ensures only { (changes : List Change) → AreWithin changes →
+        csv_records bytes.now ≡ spellings changes
         → MatchResult result (λ read. read.items ≡ changes) (λ fault. fault ≡ CsvFault.NoMemory) }
 {
     read_rows(alloc, bytes)

@@ -21,7 +21,8 @@ fn push_due(text: &mut String, due: &Option<Date>) -> Result<(), AllocError>
 
 /// Appends an intersection's number, right in four places.
 fn push_id(text: &mut String, id: InterId) -> Result<(), AllocError>
-    ensures { OnOk result (string_bytes text.new ≡ string_bytes text.old ++ right_aligned 4 (decimal id)) }
+    ensures { OnOk result (string_bytes text.new ≡ string_bytes text.old
+        ++ right_aligned 4 (decimal id)) }
 {
     let id = id.get();
     write!(text, "{id:>4}")

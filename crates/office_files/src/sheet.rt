@@ -2,7 +2,10 @@
 
 ghost use Rattle.std.specs.Prelude.{◌≡◌, ◌++◌, OnOk, IfOk, string_bytes};
 ghost use Rattle.std.specs.FinMap as finmap;
-ghost use Rattle.office_files.specs.Sheet.{interval_columns, ped_columns, phases_section, sequences_section, splits_section, patterns_section, sections, title, phase_line, sequence_line, split_line, pattern_line, sheet_text};
+ghost use Rattle.office_files.specs.Sheet.{interval_columns, ped_columns, phases_section};
+ghost use Rattle.office_files.specs.Sheet.{sequences_section, splits_section, patterns_section};
+ghost use Rattle.office_files.specs.Sheet.{sections, title, phase_line, sequence_line, split_line};
+ghost use Rattle.office_files.specs.Sheet.{pattern_line, sheet_text};
 
 use crate::cells::{push_flag, push_list, push_number, push_tenths};
 use draft_state::revision::Revision;
@@ -27,7 +30,8 @@ fn push_ped(text: &mut String, ped: &Option<Ped>) -> Result<(), NoMemory>
 
 /// Appends the columns of a phase up to its pedestrian part.
 fn push_intervals(text: &mut String, p: PhaseNo, phase: &Phase) -> Result<(), NoMemory>
-    ensures { OnOk result (string_bytes text.new ≡ string_bytes text.old ++ interval_columns p phase.now) }
+    ensures { OnOk result (string_bytes text.new ≡ string_bytes text.old
+        ++ interval_columns p phase.now) }
 {
     push_number(text, p.get())?;
     push_number(text, phase.ring.get())?;
@@ -95,10 +99,12 @@ fn push_pattern(text: &mut String, row: &Row) -> Result<(), NoMemory>
 }
 
 fn push_phases(text: &mut String, rows: &[Row]) -> Result<(), NoMemory>
-    ensures { OnOk result (string_bytes text.new ≡ string_bytes text.old ++ phases_section rows.now) }
+    ensures { OnOk result (string_bytes text.new ≡ string_bytes text.old
+        ++ phases_section rows.now) }
 {
     text.push_str(
-        "Phases\n    No  Ring   Min  Pass   Max   Yel   Red  Walk Clear Width Setbk Short  Lead Mates\n",
+        "Phases\n    No  Ring   Min  Pass   Max   Yel   Red  Walk Clear Width Setbk Short  \
+         Lead Mates\n",
     )?;
     for row in rows {
         push_phase(text, row)?;
@@ -107,7 +113,8 @@ fn push_phases(text: &mut String, rows: &[Row]) -> Result<(), NoMemory>
 }
 
 fn push_sequences(text: &mut String, rows: &[Row]) -> Result<(), NoMemory>
-    ensures { OnOk result (string_bytes text.new ≡ string_bytes text.old ++ sequences_section rows.now) }
+    ensures { OnOk result (string_bytes text.new ≡ string_bytes text.old
+        ++ sequences_section rows.now) }
 {
     text.push_str("Sequences\n    No  Ring Phases\n")?;
     for row in rows {
@@ -117,7 +124,8 @@ fn push_sequences(text: &mut String, rows: &[Row]) -> Result<(), NoMemory>
 }
 
 fn push_splits(text: &mut String, rows: &[Row]) -> Result<(), NoMemory>
-    ensures { OnOk result (string_bytes text.new ≡ string_bytes text.old ++ splits_section rows.now) }
+    ensures { OnOk result (string_bytes text.new ≡ string_bytes text.old
+        ++ splits_section rows.now) }
 {
     text.push_str("Splits\n    No Phase  Time  Mode Coord\n")?;
     for row in rows {
@@ -127,7 +135,8 @@ fn push_splits(text: &mut String, rows: &[Row]) -> Result<(), NoMemory>
 }
 
 fn push_patterns(text: &mut String, rows: &[Row]) -> Result<(), NoMemory>
-    ensures { OnOk result (string_bytes text.new ≡ string_bytes text.old ++ patterns_section rows.now) }
+    ensures { OnOk result (string_bytes text.new ≡ string_bytes text.old
+        ++ patterns_section rows.now) }
 {
     text.push_str("Patterns\n    No Cycle  Offs Split   Seq\n")?;
     for row in rows {
@@ -153,7 +162,8 @@ fn push_title(
     name: &Words<120>,
     revision: Revision,
 ) -> Result<(), NoMemory>
-    ensures { OnOk result (string_bytes text.new ≡ string_bytes text.old ++ title id name.now revision) }
+    ensures { OnOk result (string_bytes text.new ≡ string_bytes text.old
+        ++ title id name.now revision) }
 {
     let id = id.get();
     let name = name.as_str();
@@ -172,7 +182,8 @@ pub fn timing_sheet(
     revision: Revision,
     set: &TimingSet,
 ) -> Result<Vec<u8>, NoMemory>
-    ensures { IfOk result (λ text. text.items ≡ sheet_text id name.now revision (finmap.values set.now)) }
+    ensures { IfOk result (λ text.
+        text.items ≡ sheet_text id name.now revision (finmap.values set.now)) }
 {
     let rows = set.rows(alloc)?;
     let mut text = String::new(alloc);

@@ -1,6 +1,8 @@
 //! Why a request asks nothing.
 ghost use Rattle.std.specs.Prelude.{◌≡◌};
-ghost use Rattle.office_http_faults.specs.declared.fault.AskFault.TheVariants.{NoMemory as OutOfMemory};
+ghost use Rattle.office_http_faults.specs.declared.fault.AskFault.TheVariants.{
+  NoMemory as OutOfMemory,
+};
 
 use crate::field::Field;
 use office_files::{BadRow, CsvFault};

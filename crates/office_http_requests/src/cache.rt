@@ -26,10 +26,12 @@ impl RouteCache {
     /// What a request asks, or the first fault, by the table that is kept. Where there is none, it
     /// is made first.
     pub fn command_of(&mut self, alloc: Global, request: &Request) -> Result<Asked, AskFault>
-        ensures gives { Gives result (command_at request.now.method.now request.now.path.now request.now.body.now) }
+        ensures gives { Gives result
+            (command_at request.now.method.now request.now.path.now request.now.body.now) }
         // Once there is a table, want of memory is told of no fault of the route, the method or the
         // path, and of no body that can't be an object.
-        ensures memory { IsSome self.old.routes → WantsMemoryOnlyIf result (MayWantFor request.now.method.now request.now.path.now request.now.body.now) }
+        ensures memory { IsSome self.old.routes → WantsMemoryOnlyIf result
+            (MayWantFor request.now.method.now request.now.path.now request.now.body.now) }
         ensures made { OnOk result (IsSome self.new.routes) }
         ensures kept { IsSome self.old.routes → self.new ≡ self.old }
     {

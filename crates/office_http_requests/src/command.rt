@@ -4,7 +4,11 @@ ghost use Rattle.serde_json.specs.View.{view};
 ghost use Rattle.office_http_requests.specs.Asks.{Gives, MayWant, WantsMemoryOnlyIf};
 ghost use Rattle.office_http_requests.specs.Bodies.{data_of, MayBeObject};
 ghost use Rattle.office_http_requests.specs.Routes.{method_of, takes_body};
-ghost use Rattle.office_http_requests.specs.Commands.{MayWantFor, added_intersection, asked_at, body_for, clerk_and_csv_in, clerk_and_rows_in, asked_in_csv, asked_in_json, command_at, edited_by_csv, edited_in, id_and_clerk_in, imported_in};
+ghost use Rattle.office_http_requests.specs.Commands.{MayWantFor, added_intersection, asked_at};
+ghost use Rattle.office_http_requests.specs.Commands.{body_for, clerk_and_csv_in};
+ghost use Rattle.office_http_requests.specs.Commands.{clerk_and_rows_in, asked_in_csv};
+ghost use Rattle.office_http_requests.specs.Commands.{asked_in_json, command_at, edited_by_csv};
+ghost use Rattle.office_http_requests.specs.Commands.{edited_in, id_and_clerk_in, imported_in};
 
 use crate::asked::Asked;
 use crate::route::{Endpoint, Routes};
@@ -24,10 +28,12 @@ impl Routes {
     /// nothing.
     #[tactic(auto, unfolding(crate::specs::Commands::command_with, crate::specs::Commands::command_at))]
     pub fn command_of(&self, alloc: Global, request: &Request) -> Result<Asked, AskFault>
-        ensures gives { Gives result (command_at request.now.method.now request.now.path.now request.now.body.now) }
+        ensures gives { Gives result
+            (command_at request.now.method.now request.now.path.now request.now.body.now) }
         // A fault of the route, the method or the path is told, and so is a body that can't be an
         // object, however long it is: want of memory is told of none of them, and of no GET.
-        ensures memory { WantsMemoryOnlyIf result (MayWantFor request.now.method.now request.now.path.now request.now.body.now) }
+        ensures memory { WantsMemoryOnlyIf result
+            (MayWantFor request.now.method.now request.now.path.now request.now.body.now) }
     {
         let endpoint = self.endpoint_at(request.path)?;
         if !endpoint.allows(request.method) {
@@ -53,7 +59,8 @@ fn told_of_body(alloc: Global, endpoint: Endpoint, bytes: &[u8]) -> Result<Value
 
 /// What a request asks, or the first fault, by a table of routes that is made for it alone.
 pub fn command_of(alloc: Global, request: &Request) -> Result<Asked, AskFault>
-    ensures { Gives result (command_at request.now.method.now request.now.path.now request.now.body.now) }
+    ensures { Gives result
+        (command_at request.now.method.now request.now.path.now request.now.body.now) }
 {
     let routes = Routes::new(alloc)?;
     routes.command_of(alloc, request)

@@ -23,7 +23,8 @@ pub(crate) fn command_of(
 ) -> Result<RecordCommand, AskFault>
     ensures gives { Gives result (record_asked kind path.now (data_of body)) }
     // Want of memory is told of no fault of the path, the body or a key.
-    ensures memory { WantsMemoryOnlyIf result (MayWant (record_asked kind path.now (data_of body))) }
+    ensures memory { WantsMemoryOnlyIf result
+        (MayWant (record_asked kind path.now (data_of body))) }
 {
     match kind {
         RecordKind::Inspect => inspect(alloc, path, body),
@@ -41,7 +42,8 @@ fn inspect(
     body: Result<Value, AskFault>,
 ) -> Result<RecordCommand, AskFault>
     ensures gives { Gives result (record_asked kind.Inspect path.now (data_of body)) }
-    ensures memory { WantsMemoryOnlyIf result (MayWant (record_asked kind.Inspect path.now (data_of body))) }
+    ensures memory { WantsMemoryOnlyIf result
+        (MayWant (record_asked kind.Inspect path.now (data_of body))) }
 {
     let id = path::id(path)?;
     let body = body?;
@@ -56,7 +58,8 @@ fn open_order(
     body: Result<Value, AskFault>,
 ) -> Result<RecordCommand, AskFault>
     ensures gives { Gives result (record_asked kind.OpenOrder path.now (data_of body)) }
-    ensures memory { WantsMemoryOnlyIf result (MayWant (record_asked kind.OpenOrder path.now (data_of body))) }
+    ensures memory { WantsMemoryOnlyIf result
+        (MayWant (record_asked kind.OpenOrder path.now (data_of body))) }
 {
     let id = path::id(path)?;
     let body = body?;
@@ -71,7 +74,8 @@ fn use_part(
     body: Result<Value, AskFault>,
 ) -> Result<RecordCommand, AskFault>
     ensures gives { Gives result (record_asked kind.UsePart path.now (data_of body)) }
-    ensures memory { WantsMemoryOnlyIf result (MayWant (record_asked kind.UsePart path.now (data_of body))) }
+    ensures memory { WantsMemoryOnlyIf result
+        (MayWant (record_asked kind.UsePart path.now (data_of body))) }
 {
     let id = path::id(path)?;
     let order = path::order(path)?;
@@ -87,7 +91,8 @@ fn close_order(
     body: Result<Value, AskFault>,
 ) -> Result<RecordCommand, AskFault>
     ensures gives { Gives result (record_asked kind.CloseOrder path.now (data_of body)) }
-    ensures memory { WantsMemoryOnlyIf result (MayWant (record_asked kind.CloseOrder path.now (data_of body))) }
+    ensures memory { WantsMemoryOnlyIf result
+        (MayWant (record_asked kind.CloseOrder path.now (data_of body))) }
 {
     let id = path::id(path)?;
     let order = path::order(path)?;

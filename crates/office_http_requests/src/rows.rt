@@ -6,7 +6,8 @@ ghost use Rattle.serde_json.specs.Find.{get, as_array, as_str};
 ghost use Rattle.serde_json.specs.View.{view, items_view};
 ghost use Rattle.office_http_requests.specs.Asks.{Gives, MayWant, WantsMemoryOnlyIf};
 ghost use Rattle.office_http_faults.specs.Fields.{field_name};
-ghost use Rattle.office_http_requests.specs.Rows.{texts_in, rows_in, changes_spelled, changes_in, rows_seen};
+ghost use Rattle.office_http_requests.specs.Rows.{texts_in, rows_in, changes_spelled, changes_in};
+ghost use Rattle.office_http_requests.specs.Rows.{rows_seen};
 ghost use Rattle.office_http_requests.specs.Rows.{PutsListAt, ShowsTexts, ShowsRows};
 
 use draft_core::changes::Changes;

@@ -17,11 +17,11 @@ use office_machine::refusal::Refusal;
 use office_machine::reply::Reply;
 use std::alloc::{AllocError, Global};
 
-const UNAVAILABLE: &[u8] =
-    b"HTTP/1.1 503 Service Unavailable\r\nContent-Type: application/json\r\nContent-Length: 35\r\n\r\n{\"error\":\"Unavailable\",\"number\":90}";
+const UNAVAILABLE: &[u8] = b"HTTP/1.1 503 Service Unavailable\r\nContent-Type: application/json\r\n\
+      Content-Length: 35\r\n\r\n{\"error\":\"Unavailable\",\"number\":90}";
 
-const DAMAGED: &[u8] =
-    b"HTTP/1.1 500 Internal Server Error\r\nContent-Type: application/json\r\nContent-Length: 31\r\n\r\n{\"error\":\"Damaged\",\"number\":91}";
+const DAMAGED: &[u8] = b"HTTP/1.1 500 Internal Server Error\r\nContent-Type: application/json\r\n\
+      Content-Length: 31\r\n\r\n{\"error\":\"Damaged\",\"number\":91}";
 
 /// The room that most contents need.
 pub(crate) const CONTENT_ROOM: usize = 240;

@@ -64,7 +64,8 @@ fn write_uses(
     order: RecordNo,
     lines: &[UsedLine],
 ) -> Result<(), AllocError>
-    ensures { Adds result to.old to.new (flat_map tokens_of (map used_tree (filter (is_line_of order) lines.now))) }
+    ensures { Adds result to.old to.new (flat_map tokens_of
+        (map used_tree (filter (is_line_of order) lines.now))) }
 {
     for line in lines {
         if line.order == order {
@@ -130,7 +131,8 @@ fn write_orders(
     lines: &[UsedLine],
     orders: &[Order],
 ) -> Result<(), AllocError>
-    ensures { Adds result to.old to.new (flat_map tokens_of (map (order_tree lines.now) orders.now)) }
+    ensures { Adds result to.old to.new (flat_map tokens_of
+        (map (order_tree lines.now) orders.now)) }
 {
     for order in orders {
         write_order(alloc, to, lines, order)?;

@@ -3,7 +3,8 @@
 ghost use Rattle.std.specs.Prelude.{◌≡◌, ◌++◌, All, OnOk, IfOk, IsUtf8, string_bytes};
 ghost use Rattle.csv.specs.Records.{fields_of};
 ghost use Rattle.office_listings.specs.Intersections.{owner_word, stage_word, state_word};
-ghost use Rattle.office_listings.specs.Intersections.{holder_columns, intersection_line, owner_field};
+ghost use Rattle.office_listings.specs.Intersections.{holder_columns, intersection_line};
+ghost use Rattle.office_listings.specs.Intersections.{owner_field};
 ghost use Rattle.office_listings.specs.Intersections.{intersections_listing};
 ghost use Rattle.office_listings.specs.Intersections.{intersection_fields, intersections_csv_text};
 
@@ -83,8 +84,8 @@ fn push_intersection(text: &mut String, listed: &ListedIntersection) -> Result<(
 }
 
 /// The list of intersections: a heading, a line for each with its number, revision, state, owner or
-/// `-`, number of committed rows, days from one inspection to the next, and name, and their count. A
-/// longer owner stands whole.
+/// `-`, number of committed rows, days from one inspection to the next, and name, and their count.
+/// A longer owner stands whole.
 pub fn intersections_text(alloc: Global, list: &[ListedIntersection]) -> Result<Vec<u8>, NoMemory>
     ensures { IfOk result (λ text. text.items ≡ intersections_listing list.now) }
 {

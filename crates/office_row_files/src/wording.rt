@@ -93,7 +93,8 @@ pub fn answer(alloc: Global, text: &str) -> Result<Vec<u8>, AllocError> {
     let status = status.trim_ascii_end();
     let length = body.len();
     let whole = format!(in alloc;
-        "HTTP/1.1 {status}\r\nContent-Type: application/json\r\nContent-Length: {length}\r\n\r\n{body}"
+        "HTTP/1.1 {status}\r\nContent-Type: application/json\r\n\
+         Content-Length: {length}\r\n\r\n{body}"
     )?;
     Ok(whole.into_bytes())
 }

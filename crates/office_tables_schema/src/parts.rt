@@ -5,9 +5,13 @@ ghost use Rattle.std.specs.Prelude.{slice_get, IsTrue};
 ghost use Rattle.std.specs.List.{AllByRecursion};
 ghost use Rattle.sqlite_value.specs.declared.value.Value.TheVariants.{Int};
 ghost use Rattle.sqlite_value.specs.Keys.{plain};
-ghost use Rattle.sqlite_schema.specs.declared.code.Op.TheVariants.{Column as AColumn, Literal as ALiteral};
+ghost use Rattle.sqlite_schema.specs.declared.code.Op.TheVariants.{Column as AColumn};
+ghost use Rattle.sqlite_schema.specs.declared.code.Op.TheVariants.{Literal as ALiteral};
 ghost use Rattle.office_tables_schema.specs.Schema.{numbered, IsAlikeOne};
-ghost use Rattle.office_tables_schema.specs.Wanted.{column_wanted, reference_wanted, ComparesAt, checks_wanted, key_of, primary_of, uniques_of, orders_of, table_wanted, index_wanted, indexes_wanted};
+ghost use Rattle.office_tables_schema.specs.Wanted.{column_wanted, reference_wanted, ComparesAt};
+ghost use Rattle.office_tables_schema.specs.Wanted.{checks_wanted, key_of, primary_of, uniques_of};
+ghost use Rattle.office_tables_schema.specs.Wanted.{orders_of, table_wanted, index_wanted};
+ghost use Rattle.office_tables_schema.specs.Wanted.{indexes_wanted};
 
 use sqlite_items::Items;
 use sqlite_schema::code::{Op, Terms};
@@ -181,7 +185,9 @@ fn is_keyed(table: &Table, want: &WantedKey<'_>) -> bool
     ensures primary { IsTrue result → table.now.primary ≡ primary_of want.now }
     ensures uniques { IsTrue result → table.now.uniques ≡ uniques_of want.now }
     ensures orders { IsTrue result → table.now.orders ≡ orders_of want.now }
-    ensures other { table.now.key ≡ key_of want.now → table.now.primary ≡ primary_of want.now → table.now.uniques ≡ uniques_of want.now → table.now.orders ≡ orders_of want.now → IsTrue result }
+    ensures other { table.now.key ≡ key_of want.now → table.now.primary ≡ primary_of want.now →
+        table.now.uniques ≡ uniques_of want.now → table.now.orders ≡ orders_of want.now →
+        IsTrue result }
 {
     match want {
         WantedKey::Rowid => {
@@ -202,9 +208,12 @@ fn is_keyed(table: &Table, want: &WantedKey<'_>) -> bool
 /// Whether nothing of a new row is computed.
 fn is_plain(table: &Table) -> bool
     ensures computed { IsTrue result → table.now.computed ≡ [] }
-    ensures stamps { IsTrue result → table.now.stamps ≡ record { places = []; terms = []; formats = [] } }
+    ensures stamps { IsTrue result →
+        table.now.stamps ≡ record { places = []; terms = []; formats = [] } }
     ensures is_counted { IsTrue result → table.now.is_counted ≡ false }
-    ensures other { table.now.computed ≡ [] → table.now.stamps ≡ record { places = []; terms = []; formats = [] } → table.now.is_counted ≡ false → IsTrue result }
+    ensures other { table.now.computed ≡ [] →
+        table.now.stamps ≡ record { places = []; terms = []; formats = [] } →
+        table.now.is_counted ≡ false → IsTrue result }
 {
     table.computed.is_empty()
         && table.stamps.places.is_empty()

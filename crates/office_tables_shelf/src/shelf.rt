@@ -51,7 +51,9 @@ pub enum ShelfFault {
 
 impl From<NoMemory> for ShelfFault {
     ghost use Rattle.std.specs.Prelude.{◌≡◌};
-    ghost use Rattle.office_tables_shelf.specs.declared.shelf.ShelfFault.TheVariants.{NoMemory as OutOfMemory};
+    ghost use Rattle.office_tables_shelf.specs.declared.shelf.ShelfFault.TheVariants.{
+      NoMemory as OutOfMemory,
+    };
 
     ghost from_gives = { λ _ fault. fault ≡ OutOfMemory };
 

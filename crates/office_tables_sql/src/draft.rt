@@ -25,8 +25,8 @@ use std::alloc::Global;
 const LIST: &str =
     "SELECT inter, kind, a, b, body FROM draft WHERE inter = ?1 ORDER BY inter, kind, a, b";
 
-const FIND: &str =
-    "SELECT inter, kind, a, b, body FROM draft WHERE inter = ?1 AND kind = ?2 AND a = ?3 AND b = ?4";
+const FIND: &str = "SELECT inter, kind, a, b, body FROM draft \
+     WHERE inter = ?1 AND kind = ?2 AND a = ?3 AND b = ?4";
 
 const UPDATE: &str =
     "UPDATE draft SET body = ?5 WHERE inter = ?1 AND kind = ?2 AND a = ?3 AND b = ?4";

@@ -24,8 +24,8 @@ use sqlite::{Alter, Connection, Row, params};
 use std::alloc::Global;
 use std::collections::BTreeMap;
 
-const LIST: &str =
-    "SELECT inter, number, day, clerk, body FROM inspection WHERE inter = ?1 ORDER BY inter, number";
+const LIST: &str = "SELECT inter, number, day, clerk, body FROM inspection WHERE inter = ?1 \
+     ORDER BY inter, number";
 
 const WALK: &str = "SELECT inter, number, day, clerk, body FROM inspection ORDER BY inter, number";
 

@@ -42,10 +42,11 @@ const LIST: &str = "SELECT id, name, days, revision, state, owner FROM intersect
 const FIND: &str = "SELECT id, name, days, revision, state, owner FROM intersection WHERE id = ?1";
 
 const UPDATE: &str =
-    "UPDATE intersection SET name = ?2, days = ?3, revision = ?4, state = ?5, owner = ?6 WHERE id = ?1";
+    "UPDATE intersection SET name = ?2, days = ?3, revision = ?4, state = ?5, owner = ?6 \
+     WHERE id = ?1";
 
-const INSERT: &str =
-    "INSERT INTO intersection (id, name, days, revision, state, owner) VALUES (?1, ?2, ?3, ?4, ?5, ?6)";
+const INSERT: &str = "INSERT INTO intersection (id, name, days, revision, state, owner) \
+     VALUES (?1, ?2, ?3, ?4, ?5, ?6)";
 
 impl StoredRow for (InterId, IntersectionRow) {
     ghost use Rattle.office_tables_shelf.specs.Rows.{intersection_key, intersection_columns};

@@ -33,19 +33,21 @@ use std::alloc::Global;
 use std::collections::BTreeMap;
 
 const LIST: &str =
-    "SELECT inter, number, opened, clerk, body, closed, closer FROM work_order WHERE inter = ?1 ORDER BY inter, number";
+    "SELECT inter, number, opened, clerk, body, closed, closer FROM work_order WHERE inter = ?1 \
+     ORDER BY inter, number";
 
 const WALK: &str = "SELECT inter, number, opened, clerk, body, closed, closer \
     FROM work_order ORDER BY inter, number";
 
-const FIND: &str =
-    "SELECT inter, number, opened, clerk, body, closed, closer FROM work_order WHERE inter = ?1 AND number = ?2";
+const FIND: &str = "SELECT inter, number, opened, clerk, body, closed, closer \
+    FROM work_order WHERE inter = ?1 AND number = ?2";
 
 const UPDATE: &str =
-    "UPDATE work_order SET opened = ?3, clerk = ?4, body = ?5, closed = ?6, closer = ?7 WHERE inter = ?1 AND number = ?2";
+    "UPDATE work_order SET opened = ?3, clerk = ?4, body = ?5, closed = ?6, closer = ?7 \
+     WHERE inter = ?1 AND number = ?2";
 
-const INSERT: &str =
-    "INSERT INTO work_order (inter, number, opened, clerk, body, closed, closer) VALUES (?1, ?2, ?3, ?4, ?5, ?6, ?7)";
+const INSERT: &str = "INSERT INTO work_order (inter, number, opened, clerk, body, closed, closer) \
+     VALUES (?1, ?2, ?3, ?4, ?5, ?6, ?7)";
 
 impl StoredRow for Order {
     ghost use Rattle.cabinet_core.specs.Within.{IsOrderWithin};

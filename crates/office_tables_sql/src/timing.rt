@@ -22,8 +22,8 @@ use std::alloc::Global;
 const LIST: &str =
     "SELECT inter, kind, a, b, body FROM timing WHERE inter = ?1 ORDER BY inter, kind, a, b";
 
-const FIND: &str =
-    "SELECT inter, kind, a, b, body FROM timing WHERE inter = ?1 AND kind = ?2 AND a = ?3 AND b = ?4";
+const FIND: &str = "SELECT inter, kind, a, b, body FROM timing \
+     WHERE inter = ?1 AND kind = ?2 AND a = ?3 AND b = ?4";
 
 const COUNT: &str = "SELECT count(*) FROM timing WHERE inter = ?1";
 

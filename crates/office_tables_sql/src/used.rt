@@ -13,11 +13,11 @@ use sqlite::Row;
 use sqlite::types::{ToSql, ValueRef};
 use std::alloc::Global;
 
-const LIST: &str =
-    "SELECT inter, ord, line, part, amount FROM used_part WHERE inter = ?1 ORDER BY inter, ord, line";
+const LIST: &str = "SELECT inter, ord, line, part, amount FROM used_part WHERE inter = ?1 \
+     ORDER BY inter, ord, line";
 
-const FIND: &str =
-    "SELECT inter, ord, line, part, amount FROM used_part WHERE inter = ?1 AND ord = ?2 AND line = ?3";
+const FIND: &str = "SELECT inter, ord, line, part, amount FROM used_part \
+     WHERE inter = ?1 AND ord = ?2 AND line = ?3";
 
 const UPDATE: &str =
     "UPDATE used_part SET part = ?4, amount = ?5 WHERE inter = ?1 AND ord = ?2 AND line = ?3";

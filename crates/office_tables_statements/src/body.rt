@@ -16,7 +16,8 @@ pub fn write_body(alloc: Global, row: &Row) -> Result<String, NoMemory>
 }
 
 fn joined(alloc: Global, fields: &[String]) -> Result<String, NoMemory>
-    ensures { IfOk result (λ text. string_bytes text ≡ join_with_byte 44 (map string_bytes fields.now)) }
+    ensures { IfOk result (λ text.
+        string_bytes text ≡ join_with_byte 44 (map string_bytes fields.now)) }
 {
     match fields {
         [] => Ok(String::new(alloc)),
@@ -25,7 +26,8 @@ fn joined(alloc: Global, fields: &[String]) -> Result<String, NoMemory>
 }
 
 fn joined_from(first: &String, rest: &[String]) -> Result<String, NoMemory>
-    ensures { IfOk result (λ text. string_bytes text ≡ join_with_byte 44 (map string_bytes (first.now ∷ rest.now))) }
+    ensures { IfOk result (λ text.
+        string_bytes text ≡ join_with_byte 44 (map string_bytes (first.now ∷ rest.now))) }
 {
     let mut text = first.clone()?;
     for field in rest {

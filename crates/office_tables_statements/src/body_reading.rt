@@ -12,8 +12,10 @@ use std::alloc::Global;
 
 /// The row within its limits whose fields, with a comma between, are these bytes, if there is one.
 pub fn row_of_body(alloc: Global, body: &[u8]) -> Result<Option<Row>, NoMemory>
-    ensures ok { IfOk result (λ found. IfSome found (λ row. (body_of row ≡ body.now) × IsRowWithin current_limits row)) }
-    ensures none { result ≡ Ok None → (row : Row) → IsRowWithin current_limits row → body_of row ≢ body.now }
+    ensures ok { IfOk result (λ found. IfSome found
+        (λ row. (body_of row ≡ body.now) × IsRowWithin current_limits row)) }
+    ensures none { result ≡ Ok None → (row : Row) → IsRowWithin current_limits row →
+        body_of row ≢ body.now }
 {
     let fields = fields_of(alloc, body)?;
     match read_row(alloc, &fields) {

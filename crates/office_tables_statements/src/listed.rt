@@ -23,10 +23,14 @@ use std::alloc::Global;
 
 /// The row in the column of the bodies, where it is not NULL.
 pub fn body_at(alloc: Global, row: &SqlRow, at: usize) -> Result<Option<Row>, ShelfFault>
-    ensures row { IfOk result (λ found. IfSome found (λ r. (cell_of (column row.now at) ≡ text (body_of r)) × IsRowWithin current_limits r)) }
+    ensures row { IfOk result
+        (λ found. IfSome found
+        (λ r. (cell_of (column row.now at) ≡ text (body_of r)) × IsRowWithin current_limits r)) }
     ensures null { result ≡ Ok None → cell_of (column row.now at) ≡ null }
-    ensures damaged { result ≡ Err ShelfFault.Damaged → at < length row.now → (r : Row) → IsRowWithin current_limits r → cell_of (column row.now at) ≢ text (body_of r) }
-    ensures damaged_null { result ≡ Err ShelfFault.Damaged → at < length row.now → cell_of (column row.now at) ≢ null }
+    ensures damaged { result ≡ Err ShelfFault.Damaged → at < length row.now → (r : Row) →
+        IsRowWithin current_limits r → cell_of (column row.now at) ≢ text (body_of r) }
+    ensures damaged_null { result ≡ Err ShelfFault.Damaged → at < length row.now →
+        cell_of (column row.now at) ≢ null }
 {
     let Some(body) = text_or_null_at(row, at)? else {
         return Ok(None);
@@ -40,7 +44,8 @@ pub fn body_at(alloc: Global, row: &SqlRow, at: usize) -> Result<Option<Row>, Sh
 /// Tests that the column has this number.
 pub fn check_number(row: &SqlRow, at: usize, n: u32) -> Result<(), ShelfFault>
     ensures ok { OnOk result (cell_of (column row.now at) ≡ number (pos n)) }
-    ensures damaged { result ≡ Err ShelfFault.Damaged → at < length row.now → cell_of (column row.now at) ≢ number (pos n) }
+    ensures damaged { result ≡ Err ShelfFault.Damaged → at < length row.now →
+        cell_of (column row.now at) ≢ number (pos n) }
 {
     if number_at(row, at)? == n {
         Ok(())
@@ -52,7 +57,8 @@ pub fn check_number(row: &SqlRow, at: usize, n: u32) -> Result<(), ShelfFault>
 /// Tests that the first columns are those of the key.
 pub fn check_key(row: &SqlRow, id: InterId, key: &Key) -> Result<(), ShelfFault>
     ensures ok { OnOk result (shown_key row.now ≡ timing_key id key.now) }
-    ensures damaged { result ≡ Err ShelfFault.Damaged → 4 ≤ length row.now → shown_key row.now ≢ timing_key id key.now }
+    ensures damaged { result ≡ Err ShelfFault.Damaged → 4 ≤ length row.now →
+        shown_key row.now ≢ timing_key id key.now }
 {
     check_number(row, 0, id.get())?;
     check_number(row, 1, key.kind())?;
@@ -64,7 +70,8 @@ pub fn check_key(row: &SqlRow, id: InterId, key: &Key) -> Result<(), ShelfFault>
 pub fn read_key(row: &SqlRow, id: InterId) -> Result<Key, ShelfFault>
     ensures ok { IfOk result (λ key. shown_key row.now ≡ timing_key id key) }
     ensures within { IfOk result (IsKeyWithin current_limits) }
-    ensures damaged { result ≡ Err ShelfFault.Damaged → 4 ≤ length row.now → (key : Key) → IsKeyWithin current_limits key → shown_key row.now ≢ timing_key id key }
+    ensures damaged { result ≡ Err ShelfFault.Damaged → 4 ≤ length row.now → (key : Key) →
+        IsKeyWithin current_limits key → shown_key row.now ≢ timing_key id key }
 {
     let kind = number_at(row, 1)?;
     let first = number_at(row, 2)?;
@@ -80,7 +87,8 @@ pub fn read_key(row: &SqlRow, id: InterId) -> Result<Key, ShelfFault>
 fn key_of_numbers(kind: u32, first: u32, second: u32) -> Option<Key>
     ensures some { IfSome result (λ key. key ≡ key_at kind first second) }
     ensures within { IfSome result (IsKeyWithin current_limits) }
-    ensures none { result ≡ None → (key : Key) → IsKeyWithin current_limits key → kind_of key ≡ kind → first_of key ≡ first → second_of key ≢ second }
+    ensures none { result ≡ None → (key : Key) → IsKeyWithin current_limits key →
+        kind_of key ≡ kind → first_of key ≡ first → second_of key ≢ second }
 {
     match kind {
         1 => Some(Key::Phase(PhaseNo::new(first)?)),

@@ -61,7 +61,8 @@ pub fn select<S: Alter>(
 ) -> Result<Vec<Row>, SqlFault>
     requires office { IsOffice (state S.Store conn.old) }
     requires query { IsQuery sql.now }
-    ensures rows { IsHonest (state S.Store conn.new) → IfOk result (λ rows. Reads sql.now (bound params.now) (state S.Store conn.old).now rows.items) }
+    ensures rows { IsHonest (state S.Store conn.new) → IfOk result (λ rows.
+        Reads sql.now (bound params.now) (state S.Store conn.old).now rows.items) }
     ensures kept { Keeps (state S.Store conn.old) (state S.Store conn.new) }
     ensures crash { Survives (state S.Store conn.old) (state S.Store conn.new) (λ _. ⊥) }
     ensures open { StaysOpen result (state S.Store conn.new) }
@@ -79,7 +80,8 @@ pub fn select_one<S: Alter>(
 ) -> Result<Option<Row>, SqlFault>
     requires office { IsOffice (state S.Store conn.old) }
     requires query { IsQuery sql.now }
-    ensures row { IsHonest (state S.Store conn.new) → IfOk result (λ row. Reads sql.now (bound params.now) (state S.Store conn.old).now (option_to_list row)) }
+    ensures row { IsHonest (state S.Store conn.new) → IfOk result (λ row.
+        Reads sql.now (bound params.now) (state S.Store conn.old).now (option_to_list row)) }
     ensures kept { Keeps (state S.Store conn.old) (state S.Store conn.new) }
     ensures crash { Survives (state S.Store conn.old) (state S.Store conn.new) (λ _. ⊥) }
     ensures open { StaysOpen result (state S.Store conn.new) }
@@ -99,10 +101,14 @@ pub fn write<S: Alter>(
 ) -> Result<usize, SqlFault>
     requires { IsWriting sql.now }
     ensures same_reference { tx.new.conn.ghost_name ≡ tx.old.conn.ghost_name }
-    ensures ran { HasCleanDisk (state S.Store tx.new.conn.now) → IfOk result (Ran sql.now (bound params.now) (state S.Store tx.old.conn.now) (state S.Store tx.new.conn.now)) }
-    ensures honest { HasCleanDisk (state S.Store tx.new.conn.now) → OnOk result (IsHonest (state S.Store tx.old.conn.now)) }
+    ensures ran { HasCleanDisk (state S.Store tx.new.conn.now) → IfOk result
+        (Ran sql.now (bound params.now) (state S.Store tx.old.conn.now)
+        (state S.Store tx.new.conn.now)) }
+    ensures honest { HasCleanDisk (state S.Store tx.new.conn.now) →
+        OnOk result (IsHonest (state S.Store tx.old.conn.now)) }
     ensures stands { StandsOn (state S.Store tx.old.conn.now) (state S.Store tx.new.conn.now) }
-    ensures crash { Survives (state S.Store tx.old.conn.now) (state S.Store tx.new.conn.now) (λ _. ⊥) }
+    ensures crash { Survives (state S.Store tx.old.conn.now) (state S.Store tx.new.conn.now)
+        (λ _. ⊥) }
 {
     let count = tx.execute(sql, params)?;
     Ok(count)

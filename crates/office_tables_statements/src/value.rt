@@ -22,7 +22,8 @@ use std::alloc::Global;
 /// The value of a column, as a `T`.
 pub fn value_at<T: FromSql>(row: &Row, at: usize) -> Result<T, ShelfFault>
     ensures ok { IfOk result (λ x. T.FromSql.reads_as (column row.now at) x) }
-    ensures damaged { result ≡ Err ShelfFault.Damaged → at < length row.now → ¬ T.FromSql.is_readable (column row.now at) }
+    ensures damaged { result ≡ Err ShelfFault.Damaged → at < length row.now →
+        ¬ T.FromSql.is_readable (column row.now at) }
 {
     match row.get(at) {
         Ok(value) => Ok(value),
@@ -34,7 +35,8 @@ pub fn value_at<T: FromSql>(row: &Row, at: usize) -> Result<T, ShelfFault>
 /// The number in a column.
 pub fn number_at(row: &Row, at: usize) -> Result<u32, ShelfFault>
     ensures ok { IfOk result (λ n. cell_of (column row.now at) ≡ number (pos n)) }
-    ensures damaged { result ≡ Err ShelfFault.Damaged → at < length row.now → (n : ℕ) → n < 2 ^ 32 → cell_of (column row.now at) ≢ number (pos n) }
+    ensures damaged { result ≡ Err ShelfFault.Damaged → at < length row.now → (n : ℕ) →
+        n < 2 ^ 32 → cell_of (column row.now at) ≢ number (pos n) }
 {
     value_at(row, at)
 }
@@ -46,7 +48,8 @@ pub fn ranged_at<Of, const LOW: u32, const HIGH: u32>(
 ) -> Result<Number<Of, LOW, HIGH>, ShelfFault>
     ensures ok { IfOk result (λ n. cell_of (column row.now at) ≡ number (pos n)) }
     ensures range { IfOk result (IsInRange LOW HIGH) }
-    ensures damaged { result ≡ Err ShelfFault.Damaged → at < length row.now → (n : ℕ) → LOW ≤ n → n ≤ HIGH → cell_of (column row.now at) ≢ number (pos n) }
+    ensures damaged { result ≡ Err ShelfFault.Damaged → at < length row.now → (n : ℕ) → LOW ≤ n →
+        n ≤ HIGH → cell_of (column row.now at) ≢ number (pos n) }
 {
     let n = number_at(row, at)?;
     match Number::new(n) {
@@ -59,7 +62,8 @@ pub fn ranged_at<Of, const LOW: u32, const HIGH: u32>(
 pub fn revision_at(row: &Row, at: usize) -> Result<Revision, ShelfFault>
     ensures ok { IfOk result (λ n. cell_of (column row.now at) ≡ number (pos n)) }
     ensures range { IfOk result (λ n. n ≤ LAST_REVISION) }
-    ensures damaged { result ≡ Err ShelfFault.Damaged → at < length row.now → (n : ℕ) → n ≤ LAST_REVISION → cell_of (column row.now at) ≢ number (pos n) }
+    ensures damaged { result ≡ Err ShelfFault.Damaged → at < length row.now → (n : ℕ) →
+        n ≤ LAST_REVISION → cell_of (column row.now at) ≢ number (pos n) }
 {
     let n = number_at(row, at)?;
     match Revision::new(n) {
@@ -102,7 +106,8 @@ pub fn words_at<const MAX: usize>(
 ) -> Result<Words<MAX>, ShelfFault>
     ensures ok { IfOk result (λ words. cell_of (column row.now at) ≡ text words) }
     ensures words { IfOk result (AreWords MAX) }
-    ensures damaged { result ≡ Err ShelfFault.Damaged → at < length row.now → (words : List ℕ) → AreWords MAX words → cell_of (column row.now at) ≢ text words }
+    ensures damaged { result ≡ Err ShelfFault.Damaged → at < length row.now → (words : List ℕ) →
+        AreWords MAX words → cell_of (column row.now at) ≢ text words }
 {
     match Words::new(alloc, text_at(row, at)?)? {
         Some(words) => Ok(words),
@@ -118,7 +123,9 @@ pub fn words_or_null_at<const MAX: usize>(
 ) -> Result<Option<Words<MAX>>, ShelfFault>
     ensures ok { IfOk result (λ words. cell_of (column row.now at) ≡ text_or_null words) }
     ensures words { IfOk result (λ words. IfSome words (AreWords MAX)) }
-    ensures damaged { result ≡ Err ShelfFault.Damaged → at < length row.now → (words : Option (List ℕ)) → IfSome words (AreWords MAX) → cell_of (column row.now at) ≢ text_or_null words }
+    ensures damaged { result ≡ Err ShelfFault.Damaged → at < length row.now →
+        (words : Option (List ℕ)) → IfSome words (AreWords MAX) →
+        cell_of (column row.now at) ≢ text_or_null words }
 {
     let Some(found) = text_or_null_at(row, at)? else {
         return Ok(None);
@@ -133,7 +140,8 @@ pub fn words_or_null_at<const MAX: usize>(
 pub fn day_at(row: &Row, at: usize) -> Result<Day, ShelfFault>
     ensures ok { IfOk result (λ day. cell_of (column row.now at) ≡ number (pos day)) }
     ensures day { IfOk result IsDay }
-    ensures damaged { result ≡ Err ShelfFault.Damaged → at < length row.now → (n : ℕ) → IsDay n → cell_of (column row.now at) ≢ number (pos n) }
+    ensures damaged { result ≡ Err ShelfFault.Damaged → at < length row.now → (n : ℕ) → IsDay n →
+        cell_of (column row.now at) ≢ number (pos n) }
 {
     let n = number_at(row, at)?;
     match Day::new(n) {
@@ -146,7 +154,8 @@ pub fn day_at(row: &Row, at: usize) -> Result<Day, ShelfFault>
 pub fn code_at(alloc: Global, row: &Row, at: usize) -> Result<PartCode, ShelfFault>
     ensures ok { IfOk result (λ code. cell_of (column row.now at) ≡ text code) }
     ensures code { IfOk result IsPartCode }
-    ensures damaged { result ≡ Err ShelfFault.Damaged → at < length row.now → (code : List ℕ) → IsPartCode code → cell_of (column row.now at) ≢ text code }
+    ensures damaged { result ≡ Err ShelfFault.Damaged → at < length row.now → (code : List ℕ) →
+        IsPartCode code → cell_of (column row.now at) ≢ text code }
 {
     match PartCode::new(alloc, text_at(row, at)?)? {
         Some(code) => Ok(code),
@@ -157,7 +166,8 @@ pub fn code_at(alloc: Global, row: &Row, at: usize) -> Result<PartCode, ShelfFau
 /// Tests that the column is NULL.
 pub fn check_null(row: &Row, at: usize) -> Result<(), ShelfFault>
     ensures ok { OnOk result (cell_of (column row.now at) ≡ null) }
-    ensures damaged { result ≡ Err ShelfFault.Damaged → at < length row.now → cell_of (column row.now at) ≢ null }
+    ensures damaged { result ≡ Err ShelfFault.Damaged → at < length row.now →
+        cell_of (column row.now at) ≢ null }
 {
     let stored: Option<u32> = value_at(row, at)?;
     match stored {

@@ -41,7 +41,8 @@ const CASES: [(&str, &str, &str, u64); 9] = [
         2,
     ),
     (
-        "split,1,2,200,2,1;split,1,4,55,2,0;split,1,6,200,2,1;split,1,8,55,2,0;pattern,1,255,255,1,1",
+        "split,1,2,200,2,1;split,1,4,55,2,0;split,1,6,200,2,1;split,1,8,55,2,0;\
+         pattern,1,255,255,1,1",
         "split 1 2;split 1 4;split 1 6;split 1 8;pattern 1;",
         "pattern 1 V10;",
         4,

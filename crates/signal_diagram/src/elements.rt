@@ -78,7 +78,8 @@ pub(crate) fn push_wedge(
     requires beside { length ≤ x }
     requires near { y ≤ 10000 }
     requires low { height ≤ 100 }
-    ensures { OnOk result (string_bytes text.new ≡ string_bytes text.old ++ wedge x y length height) }
+    ensures { OnOk result (string_bytes text.new ≡ string_bytes text.old
+        ++ wedge x y length height) }
 {
     let left = x - length;
     let middle = y + height / 2;

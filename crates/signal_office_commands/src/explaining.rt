@@ -38,7 +38,8 @@ pub fn draft_reasons<S: Shelf>(
     ensures clean { S.is_clean office.new → S.is_clean office.old }
     ensures found { IfOk result (λ found. TellsTables S.Shelf office.old office.new
         (λ tables. ExplainsDraft tables id found.items)) }
-    ensures fault { IfErr result (λ why. why ≢ Fault.Memory → TellsTables S.Shelf office.old office.new
+    ensures fault { IfErr result
+        (λ why. why ≢ Fault.Memory → TellsTables S.Shelf office.old office.new
         (λ tables. ShowsDraft tables id (Err why))) }
 {
     let draft = draft_in(alloc, office, id)?;

@@ -36,7 +36,8 @@ pub fn overdue_of<S: Shelf>(
     ensures whole { IfOk result (λ text. TellsTables S.Shelf office.old office.new
         (λ tables. IsWholeReport tables day most text.items)) }
     // Where it fails, memory or the database refused, or a row that is read is no record.
-    ensures fault { IfErr result (λ why. (why ≡ Fault.Memory) ⊎ ((why ≡ Fault.Store) ⊎ (why ≡ Fault.Damaged))) }
+    ensures fault { IfErr result
+        (λ why. (why ≡ Fault.Memory) ⊎ ((why ≡ Fault.Store) ⊎ (why ≡ Fault.Damaged))) }
     ensures damaged { result ≡ Err Fault.Damaged → TellsTables S.Shelf office.old office.new
         (λ tables. MeetsDamage tables (command.Overdue day)) }
 {
@@ -63,7 +64,8 @@ pub fn overdue_csv_of<S: Shelf>(
     ensures whole { IfOk result (λ text. TellsTables S.Shelf office.old office.new
         (λ tables. IsWholeOverdueCsv tables day most text.items)) }
     // Where it fails, memory or the database refused, or a row that is read is no record.
-    ensures fault { IfErr result (λ why. (why ≡ Fault.Memory) ⊎ ((why ≡ Fault.Store) ⊎ (why ≡ Fault.Damaged))) }
+    ensures fault { IfErr result
+        (λ why. (why ≡ Fault.Memory) ⊎ ((why ≡ Fault.Store) ⊎ (why ≡ Fault.Damaged))) }
     ensures damaged { result ≡ Err Fault.Damaged → TellsTables S.Shelf office.old office.new
         (λ tables. MeetsDamage tables (command.Overdue day)) }
 {

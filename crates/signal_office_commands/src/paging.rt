@@ -36,7 +36,8 @@ pub fn page_of<S: Shelf>(
     ensures whole { IfOk result (λ text. TellsTables S.Shelf office.old office.new
         (λ tables. IsWholePage linked tables id text.items)) }
     // Where it fails, memory was refused, or one of the queries.
-    ensures fault { IfErr result (λ why. why ≢ Fault.Memory → TellsTables S.Shelf office.old office.new
+    ensures fault { IfErr result
+        (λ why. why ≢ Fault.Memory → TellsTables S.Shelf office.old office.new
         (λ tables. IsRefusedShowing tables id why)) }
     // An unknown intersection is told where the office has none, and only there.
     ensures unknown { IfErr result (λ why. TellsOffice S.Shelf office.old office.new

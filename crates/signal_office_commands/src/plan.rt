@@ -12,7 +12,8 @@ use std::alloc::Global;
 /// bad record.
 pub fn violations_in(alloc: Global, bytes: &[u8]) -> Result<Vec<Violation>, CsvFault>
     ensures found { IfOk result (λ found. AreOfPlan bytes.now found.items) }
-    ensures fault { IfErr result (λ fault. fault ≢ CsvFault.NoMemory → changes_of bytes.now ≡ Err fault) }
+    ensures fault { IfErr result
+        (λ fault. fault ≢ CsvFault.NoMemory → changes_of bytes.now ≡ Err fault) }
 {
     let plan = read_plan_csv(alloc, bytes)?;
     let found = violations(alloc, &plan)?;

@@ -1,9 +1,9 @@
 //! The words that the program takes, with what its help says of them.
 
-ghost use Rattle.std.specs.Prelude.{IfOk};
-ghost use Rattle.clap.specs.Simple.{App};
+ghost use Rattle.std.specs.Prelude.{◌≡◌, IfOk, map};
+ghost use Rattle.signal_office_line.specs.Arguments.{app_for};
 ghost use Rattle.signal_office_line.specs.CommandLine.{ParsesAs, office_commands, plan_commands};
-ghost use Rattle.signal_office_line.specs.CommandLine.{signal_app, with_subcommands};
+ghost use Rattle.signal_office_line.specs.CommandLine.{signal_app};
 
 use crate::arguments::{
     Argument, EXPLAIN, Ending, FILE_OR_MEMORY, FOUND_FILE, Form, ID, MADE_FILE, PADDED, Usage,
@@ -387,20 +387,17 @@ const PLAN_COMMANDS: &[Usage<'static>] = &[
     ),
 ];
 
-/// The program with the commands that serve an office and show what it holds.
-fn with_office<'a>(alloc: Global, program: Command<'a>) -> Result<Command<'a>, AllocError>
-    ensures { (app : App) → ParsesAs program.entry app →
-        IfOk result (λ c. ParsesAs c (with_subcommands app office_commands)) }
+// Each table is named in one function, since its texts count in every one that names it.
+fn office_commands() -> &'static [Usage<'static>]
+    ensures { map app_for result.now ≡ office_commands }
 {
-    with_commands(alloc, program, OFFICE_COMMANDS)
+    OFFICE_COMMANDS
 }
 
-/// The program with the commands that read files, change plans, and draw.
-fn with_plans<'a>(alloc: Global, program: Command<'a>) -> Result<Command<'a>, AllocError>
-    ensures { (app : App) → ParsesAs program.entry app →
-        IfOk result (λ c. ParsesAs c (with_subcommands app plan_commands)) }
+fn plan_commands() -> &'static [Usage<'static>]
+    ensures { map app_for result.now ≡ plan_commands }
 {
-    with_commands(alloc, program, PLAN_COMMANDS)
+    PLAN_COMMANDS
 }
 
 /// The command line of the program.
@@ -411,8 +408,8 @@ pub(crate) fn command_line<'a>(alloc: Global) -> Result<Command<'a>, AllocError>
         .about("The office of a city's traffic signals: timing plans, cabinets and stock")
         .version(VERSION)
         .subcommand_required(true);
-    let begun = with_office(alloc, program)?;
-    with_plans(alloc, begun)
+    let begun = with_commands(alloc, program, office_commands())?;
+    with_commands(alloc, begun, plan_commands())
 }
 
 /// The command of a name in a table.
@@ -426,19 +423,11 @@ fn usage_in(usages: &[Usage<'static>], name: &str) -> Option<Usage<'static>> {
     None
 }
 
-fn office_usage(name: &str) -> Option<Usage<'static>> {
-    usage_in(OFFICE_COMMANDS, name)
-}
-
-fn plan_usage(name: &str) -> Option<Usage<'static>> {
-    usage_in(PLAN_COMMANDS, name)
-}
-
 /// The command of a name.
 fn usage_named(name: &str) -> Option<Usage<'static>> {
-    match office_usage(name) {
+    match usage_in(office_commands(), name) {
         Some(usage) => Some(usage),
-        None => plan_usage(name),
+        None => usage_in(plan_commands(), name),
     }
 }
 

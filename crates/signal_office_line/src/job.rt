@@ -44,7 +44,7 @@ pub struct Edit<T> {
 /// What the words ask the program to do. A word `T` that names a file, a clerk, an intersection, a
 /// part or a day may name none: a job that reads such a word, or a file, before it opens the
 /// office's is a variant of its own, as is one that writes or tells by its status.
-#[derive(Clone, Copy)]
+#[derive(Copy)]
 pub enum Job<T> {
     /// Answer the requests on standard input, over a file or memory.
     Batch {
@@ -147,6 +147,19 @@ pub enum Job<T> {
         csv: CsvFile<T>,
         shown: PlanShown,
     },
+}
+
+// By hand: what a derive writes for all variants takes half a minute to prove.
+impl<T: Copy> Clone for Job<T> {
+    ghost use Rattle.std.specs.Prelude.{◌≡◌, ⊤};
+
+    ghost is_clone = { λ job copy. copy ≡ job };
+
+    ghost is_infallible = { λ _. ⊤ };
+
+    fn clone(&self) -> Result<Job<T>, AllocError> {
+        Ok(*self)
+    }
 }
 
 /// Why there is nothing to do.

@@ -50,7 +50,8 @@ fn is_same(a: &Subject, b: &Subject) -> bool
 /// Appends a broken rule and its reason.
 #[tactic(auto, unfolding(crate::specs::Rules::reason_note))]
 fn push_reason(text: &mut String, broken: &Explained) -> Result<(), AllocError>
-    ensures { OnOk result (string_bytes text.new ≡ string_bytes text.old ++ reason_note broken.now) }
+    ensures { OnOk result (string_bytes text.new ≡ string_bytes text.old
+        ++ reason_note broken.now) }
 {
     let rule = broken.violation.rule;
     let reason = broken.reason;
@@ -60,7 +61,8 @@ fn push_reason(text: &mut String, broken: &Explained) -> Result<(), AllocError>
 /// Opens a row over so many columns.
 #[tactic(auto, unfolding(crate::specs::Rules::reason_opening))]
 fn open_reason_row(text: &mut String, columns: u32) -> Result<(), AllocError>
-    ensures { OnOk result (string_bytes text.new ≡ string_bytes text.old ++ reason_opening columns) }
+    ensures { OnOk result (string_bytes text.new ≡ string_bytes text.old
+        ++ reason_opening columns) }
 {
     write!(text, "<tr class='why'><td colspan='{columns}'>")
 }

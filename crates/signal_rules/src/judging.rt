@@ -1,7 +1,9 @@
 //! The violations of a timing set, subject by subject.
 
 ghost use Rattle.std.specs.Prelude.{◌≡◌, [], ◌∷◌, ◌++◌, OnOk, IfOk};
-ghost use Rattle.signal_rules.specs.Violations.{violations_of, violations_at, broken, crossing_findings, phase_findings, lane_findings, pattern_findings};
+ghost use Rattle.signal_rules.specs.Violations.{violations_of, violations_at, broken};
+ghost use Rattle.signal_rules.specs.Violations.{crossing_findings, phase_findings, lane_findings};
+ghost use Rattle.signal_rules.specs.Violations.{pattern_findings};
 ghost use Rattle.signal_rules.specs.Counts.{RisesAtMost, sequence_entries, most_seconds};
 ghost use Rattle.signal_rules.specs.Lookup as set_has;
 
@@ -39,7 +41,8 @@ pub(crate) fn judge(
     ticks: &mut u64,
     found: &mut Vec<Violation>,
 ) -> Result<(), NoMemory>
-    ensures found { OnOk result (found.new.items ≡ found.old.items ++ violations_at set.now subject) }
+    ensures found { OnOk result (found.new.items ≡ found.old.items
+        ++ violations_at set.now subject) }
     ensures ticks { RisesAtMost (most_seconds set.now subject) ticks.old ticks.new }
 {
     match subject {
@@ -66,7 +69,8 @@ fn report(
     rule: Rule,
     found: &mut Vec<Violation>,
 ) -> Result<(), NoMemory>
-    ensures { OnOk result (found.new.items ≡ found.old.items ++ broken subject ((rule, holds) ∷ [])) }
+    ensures { OnOk result (found.new.items ≡ found.old.items
+        ++ broken subject ((rule, holds) ∷ [])) }
 {
     if !holds {
         found.push(Violation { subject, rule })?;
@@ -81,7 +85,8 @@ fn judge_phase(
     phase: &Phase,
     found: &mut Vec<Violation>,
 ) -> Result<(), NoMemory>
-    ensures { OnOk result (found.new.items ≡ found.old.items ++ broken (Subject.Phase p) (phase_findings set.now p phase.now)) }
+    ensures { OnOk result (found.new.items ≡ found.old.items
+        ++ broken (Subject.Phase p) (phase_findings set.now p phase.now)) }
 {
     report(
         phase::yellow_is_right(phase),
@@ -119,7 +124,8 @@ fn judge_crossing(
     ped: &Ped,
     found: &mut Vec<Violation>,
 ) -> Result<(), NoMemory>
-    ensures { OnOk result (found.new.items ≡ found.old.items ++ broken (Subject.Phase p) (crossing_findings phase.now ped.now)) }
+    ensures { OnOk result (found.new.items ≡ found.old.items
+        ++ broken (Subject.Phase p) (crossing_findings phase.now ped.now)) }
 {
     report(phase::walk_is_long(ped), Subject::Phase(p), Rule::V3, found)?;
     report(
@@ -142,7 +148,8 @@ fn judge_sequence(
     n: SeqNo,
     found: &mut Vec<Violation>,
 ) -> Result<(), NoMemory>
-    ensures { OnOk result (found.new.items ≡ found.old.items ++ violations_at set.now (Subject.Seq n)) }
+    ensures { OnOk result (found.new.items ≡ found.old.items
+        ++ violations_at set.now (Subject.Seq n)) }
 {
     if has_sequence(set, n) {
         let phases = phases_of(alloc, set)?;
@@ -161,7 +168,8 @@ fn judge_pattern(
     found: &mut Vec<Violation>,
 ) -> Result<(), NoMemory>
     ensures ticks { RisesAtMost (sequence_entries set.now pattern.now.seq) ticks.old ticks.new }
-    ensures found { OnOk result (found.new.items ≡ found.old.items ++ broken (Subject.Pattern n) (pattern_findings set.now pattern.now)) }
+    ensures found { OnOk result (found.new.items ≡ found.old.items
+        ++ broken (Subject.Pattern n) (pattern_findings set.now pattern.now)) }
 {
     let phases = phases_of(alloc, set)?;
     let has_rows = pattern::has_rows(set, &phases, pattern);
@@ -197,7 +205,8 @@ fn judge_lanes(
 ) -> Result<(), NoMemory>
     requires { phases.now ≡ set_has.phases set.now }
     ensures ticks { RisesAtMost (sequence_entries set.now pattern.now.seq) ticks.old ticks.new }
-    ensures found { OnOk result (found.new.items ≡ found.old.items ++ broken (Subject.Pattern n) (lane_findings set.now pattern.now)) }
+    ensures found { OnOk result (found.new.items ≡ found.old.items
+        ++ broken (Subject.Pattern n) (lane_findings set.now pattern.now)) }
 {
     let rings = pattern::rings_of(alloc, set, phases)?;
     let mut slots = Vec::new(alloc);

@@ -1,7 +1,9 @@
 //! V1 to V6 and V14, the rules of a phase.
 
 ghost use Rattle.std.specs.Prelude.{◌≡◌, ◌≤◌};
-ghost use Rattle.signal_rules.specs.PhaseRules.{yellow_is_right, red_is_right, walk_is_long, clearance, clears_crossing, clears_setback, lead_is_right, where_walked, is_mate, mates_agree};
+ghost use Rattle.signal_rules.specs.PhaseRules.{yellow_is_right, red_is_right, walk_is_long};
+ghost use Rattle.signal_rules.specs.PhaseRules.{clearance, clears_crossing, clears_setback};
+ghost use Rattle.signal_rules.specs.PhaseRules.{lead_is_right, where_walked, is_mate, mates_agree};
 ghost use Rattle.signal_rules.specs.Lookup.{phase_at};
 
 use crate::lookup::phase_at;
