@@ -3,7 +3,6 @@ use Rattle.std.specs.Prelude.{ℕ, ◌+◌, Bool, true, false, not, List, [], �
 use Rattle.std.specs.Str.{bytes_eq}
 use Rattle.std.specs.Result.{result_err}
 use Rattle.signal_records.specs.TimingSet.{Rows, after_changes}
-use Rattle.signal_records.specs.declared.record.Change.{Change}
 use Rattle.signal_rules.specs.Violations.{violations_of}
 use Rattle.signal_rules.specs.declared.violation.Violation.{Violation}
 use Rattle.draft_state.specs.declared.revision.TheConstants.{LAST_REVISION}

@@ -1,7 +1,6 @@
 -- Records that are tried in turn.
-use Rattle.std.proofs.Common.{◌≡◌, ◌+◌, ◌++◌, ◌≤◌, ℕ, zero, suc, Bool, List, [], ◌∷◌, Option, Some, None, length, drop, refl, ap, ap₂, sym, subst, ◌∙◌, inl, inr, append_assoc, append-nil}
+use Rattle.std.proofs.Common.{◌≡◌, ◌+◌, ◌++◌, ℕ, zero, suc, Bool, List, [], ◌∷◌, Option, Some, None, drop, refl, ap, ap₂, sym, subst, ◌∙◌, inl, inr, append_assoc}
 use Rattle.std.specs.Prelude.{◌⊎◌, IfOk, IsErrAnd, Result, Ok, Err}
-use Rattle.std.proofs.lemmas.List.{drop_all}
 use Rattle.cabinet_core.specs.{Register.Register, Step.line_at}
 use Rattle.cabinet_core.specs.declared.{record.Delivery.Delivery, record.UsedLine.UsedLine}
 use Rattle.cabinet_core.specs.declared.{command.RecordCommand.RecordCommand, refusal.CabinetRefusal.CabinetRefusal}
@@ -9,11 +8,11 @@ use Rattle.cabinet_core.specs.declared.command.RecordCommand.TheVariants as asks
 use Rattle.cabinet_core.specs.declared.refusal.CabinetRefusal.TheVariants as cabinet
 use Rattle.office_tables_shelf.specs.{Change.changed_by, Content.Content, declared.rows.RowChange.RowChange, RegisterStands.RegisterStandsSound}
 use Rattle.office_tables_shelf.specs.Places as place
-use Rattle.office_tables_shelf.specs.Places.{DamagedAt, Place, RecordAt}
+use Rattle.office_tables_shelf.specs.Places.{DamagedAt, Place}
 use Rattle.office_desk_cabinet.proofs.Found.{standing_at, stands_at}
 use Rattle.office_desk_decisions.specs.RegisterDamage.{MeetsRecordDamage}
-use Rattle.office_desk.specs.Checking.{Checks, ChecksRecord, MeetsCheckDamage, ReadsThere, TellsThere, checked_by, checked_from, held_in, office_with, place_told, taken_in, there_in, told_there}
-use Rattle.office_desk.specs.{Damage.MeetsCabinetDamage, Importing.register_with, Importing.taken_by, Recording.HasDamagedAbout, StandFor.StandForSound}
+use Rattle.office_desk.specs.Checking.{ChecksRecord, MeetsCheckDamage, ReadsThere, TellsThere, checked_by, checked_from, held_in, office_with, place_told, taken_in, there_in, told_there}
+use Rattle.office_desk.specs.{Importing.register_with, Importing.taken_by, Recording.HasDamagedAbout, StandFor.StandForSound}
 use Rattle.office_desk.specs.declared.{checking.Checked.Checked, importing.Taken.Taken, there.There.There}
 use Rattle.office_desk.specs.declared.there.There.TheVariants as there
 use Rattle.office_desk.proofs.Imports.{IsNext}
@@ -85,12 +84,6 @@ nothing_told r c refusal never = refl
 
 -- ---- damaged rows
 
-pub damage_of_one : (tables : Content) (c : RecordCommand) (about : Option ℕ) → MeetsCabinetDamage tables c about
-    → HasDamagedAbout tables about ⊎ MeetsRecordDamage tables c
-damage_of_one tables c None damage = inr damage
-damage_of_one tables c (Some id) (inl damage) = inl damage
-damage_of_one tables c (Some id) (inr later) = inr later.1
-
 -- a fault that is handed on
 pub handed_err : {A B E : Type 0} (result : Result A E) (found : Result B E) (why told : E) → found ≡ Err why → IsErrAnd result (λ it. it ≡ why)
     → result ≡ Err told → found ≡ Err told
@@ -145,12 +138,6 @@ checked_more stored all index before after done more c it so_far next one list o
       goes = made.goes ∙ ap (λ (cs : List RecordCommand). done ++ checked_from now cs) next.left ∙ ap (λ (xs : List Checked). done ++ xs) both
           ∙ sym (append_assoc done (it ∷ []) _) ∙ ap (λ (xs : List Checked). xs ++ checked_from (record office { register = register_with t r c }) rest) (sym list);
     }
-
-pub all_checked : (stored : Content) (all : List RecordCommand) (index : ℕ) (pending : List RowChange) (done : List Checked) → length all ≤ index
-    → CheckedSoFar stored all index pending done → Checks stored all done
-all_checked stored all index pending done high so_far office stands =
-    let made = so_far office stands in
-    sym (made.goes ∙ ap (λ (cs : List RecordCommand). done ++ checked_from (record office { register = made.register }) cs) (drop_all index all high) ∙ append-nil done)
 
 -- what is told of one record
 pub checks_so : (stored : Content) (after : List RowChange) (c : RecordCommand) (r : Register) (t now all : Taken) (it : Checked)

@@ -1,7 +1,7 @@
 //! Records of the register that are tried in turn and not taken.
 ghost use Rattle.std.specs.Prelude.{◌≡◌, ◌⊎◌, ◌++◌, [], ◌∷◌, IfOk, OnOk, Err};
 ghost use Rattle.office_tables_shelf.specs.Keeps.{KeepsShelf};
-ghost use Rattle.office_desk.specs.Checking.{Checks, ChecksRecord, MeetsCheckDamage, there_in};
+ghost use Rattle.office_desk.specs.Checking.{Checks, ChecksRecord, MeetsCheckDamage};
 ghost use Rattle.office_desk.specs.Checking.{TellsThere};
 ghost use Rattle.office_desk.specs.Recording.{AreFound, HasDamagedAbout};
 ghost use Rattle.office_desk_decisions.specs.RegisterDamage.{MeetsRecordDamage};

@@ -11,10 +11,10 @@ use Rattle.signal_records.specs.declared.record.Change.TheVariants.{Put, Remove}
 use Rattle.signal_rules.specs.Violations.{violations_of}
 use Rattle.draft_core.specs.Transaction.{TimingSide, Draft, holder_of, owned, with_draft, begun_from, abandoned_from, table_line}
 use Rattle.draft_core.specs.Within.{AreChangesWithin}
-use Rattle.draft_core.specs.declared.refusal.DraftRefusal.TheVariants.{NotNormal, NotTransaction, NotVerify, NotDone}
+use Rattle.draft_core.specs.declared.refusal.DraftRefusal.TheVariants.{NotNormal, NotTransaction}
 use Rattle.draft_core.specs.declared.refusal.DraftRefusal.{DraftRefusal}
 use Rattle.draft_state.specs.declared.{revision.TheConstants.LAST_REVISION, state.Stage.Stage}
-use Rattle.draft_state.specs.declared.state.Stage.TheVariants.{Transaction, Verify, Done}
+use Rattle.draft_state.specs.declared.state.Stage.TheVariants.{Transaction}
 use Rattle.draft_core.proofs.Sound.{owned_inverts, committed_inverts}
 use Rattle.office_machine.specs.Office.{Intersection, IsSoundIntersection, IsSoundDraft, AreRecords}
 use Rattle.draft_core.specs.{Steps.asked_changes, declared.step.Step.Step}

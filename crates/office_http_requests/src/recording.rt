@@ -1,5 +1,4 @@
 //! From a request to a command of the register.
-ghost use Rattle.std.specs.Prelude.{◌≡◌};
 ghost use Rattle.office_http_requests.specs.Asks.{Gives, MayWant, WantsMemoryOnlyIf};
 ghost use Rattle.office_http_requests.specs.Bodies.{data_of};
 ghost use Rattle.office_http_requests.specs.Recording.{received_in, record_asked};

@@ -1,5 +1,5 @@
 //! What the register holds of an intersection, in JSON.
-ghost use Rattle.std.specs.Prelude.{◌≡◌, map, flat_map};
+ghost use Rattle.std.specs.Prelude.{map, flat_map};
 ghost use Rattle.std.specs.List.{filter};
 ghost use Rattle.office_files.specs.Records.{is_line_of};
 ghost use Rattle.office_http_responses.specs.Json.{array_of};

@@ -1,5 +1,5 @@
 //! The items of lists, in JSON: rows, broken rules, numbers, parts and overdue inspections.
-ghost use Rattle.std.specs.Prelude.{◌≡◌, map, string_bytes};
+ghost use Rattle.std.specs.Prelude.{map, string_bytes};
 ghost use Rattle.office_http_responses.specs.Json.{array_of, text};
 ghost use Rattle.office_http_responses.specs.Trees.{rows_tree};
 ghost use Rattle.office_http_responses.specs.Writing.{AddsTree};

@@ -1,6 +1,5 @@
 //! JSON written a token at a time, in the order of the keys.
 ghost use Rattle.std.specs.Prelude.{◌≡◌, [], ◌∷◌, map, flat_map, option_map};
-ghost use Rattle.json.specs.Token.{key as key_token};
 ghost use Rattle.office_http_responses.specs.Json.{keys, array_of, or_null, text as text_tree};
 ghost use Rattle.office_http_responses.specs.RegisterTrees.{day_tree};
 ghost use Rattle.office_http_responses.specs.Writing.{Adds, AddsTree, entry_of, member_tokens};

@@ -1,7 +1,6 @@
 //! The lists of used parts.
 
-ghost use Rattle.std.specs.Prelude.{◌≡◌, ◌++◌, All, OnOk, IfOk, IsUtf8, filter, map, string_bytes};
-ghost use Rattle.std.specs.Prelude.{flat_map};
+ghost use Rattle.std.specs.Prelude.{◌≡◌, ◌++◌, All, OnOk, IfOk, IsUtf8, string_bytes};
 ghost use Rattle.csv.specs.Records.{fields_of};
 ghost use Rattle.office_listings.specs.Used.{is_asked_part, is_used_in, used_by, used_for};
 ghost use Rattle.office_listings.specs.Used.{used_in_order, used_on, used_part_columns};

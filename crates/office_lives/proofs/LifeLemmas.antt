@@ -5,14 +5,14 @@ use Rattle.sqlite.specs.{Files.image_of, Held.Held, WalReads.AreClean}
 use Rattle.sqlite.specs.declared.FileStore.{FileStore}
 use Rattle.sqlite_disk.specs.declared.Disk.{Ghosts as Disk}
 use Rattle.sqlite_disk.specs.declared.Files.{Files}
-use Rattle.office_tables.specs.{Content.Content, Migrate.IsBrought, Stored.content_of}
+use Rattle.office_tables.specs.{Content.Content, Stored.content_of}
 use Rattle.office_tables_migration.specs.declared.puts.Migrated.{Migrated}
 use Rattle.office_tables_migration.proofs.Migration.{stand_anew}
-use Rattle.office_tables_open.specs.{Version.AreToday, declared.open.OpenFault.OpenFault}
+use Rattle.office_tables_open.specs.{Version.AreToday}
 use Rattle.signal_office_file.specs.Files.{HoldIn, KeepTables}
 use Rattle.signal_office_file.specs.InFile.{IsKept}
 use Rattle.signal_office_file.specs.Left.{IsCleanFile, closed_of, database_of}
-use Rattle.signal_office_file.specs.Migrating.{ClosedMigrated, IsClosedMigrated, told_of_outcome}
+use Rattle.signal_office_file.specs.Migrating.{IsClosedMigrated}
 use Rattle.signal_office_file.specs.declared.left.FileLeft.{FileLeft}
 use Rattle.signal_office_file.specs.declared.left.FileLeft.TheVariants as left
 use Rattle.office_lives.specs.Life.{HoldFormerly, Made, migrated}

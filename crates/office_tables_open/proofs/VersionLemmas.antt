@@ -1,5 +1,5 @@
 -- The stored version and its statements, and the queries of all rows of a table.
-use Rattle.std.proofs.Common.{◌≡◌, Bor, ℕ, List, [], ◌∷◌, filter, length, codes, refl, sym, ap, subst, ◌∙◌, ◌≢◌, cond, Option, Some, IfSome, option_map, pos}
+use Rattle.std.proofs.Common.{◌≡◌, Bor, ℕ, List, [], ◌∷◌, filter, length, codes, refl, sym, ap, subst, ◌∙◌, cond, Option, Some, IfSome, option_map, pos}
 use Rattle.std.proofs.lemmas.List.{Sorted.length_permutation, length-map}
 use Rattle.std.specs.{List.AllByRecursion, Option.option_to_list, FinMap.get, FinMap.insert, FinMap.get-insert}
 use Rattle.sqlite.specs.{Command.Command, Command.TheVariants.Select, Command.TheVariants.Insert, Command.TheVariants.Delete, Query.Join, Query.inner}
@@ -11,7 +11,7 @@ use Rattle.sqlite_tied.specs.Compute.{everything}
 use Rattle.office_tables_statements.specs.Layout as layout
 use Rattle.office_tables_shelf.specs.{Content.no_content, Cells.number, declared.rows.Table.Table}
 use Rattle.office_tables_statements.specs.{Stored.rows_in, Stored.content_of, Stored.cells, Stored.rows_stored, Stored.content_now, Calls.IsQuery}
-use Rattle.office_tables_statements.specs.{Calls.Reads, Calls.IsReady, Calls.Ran, Tables.schema_at, Tables.found_by, Layout.office_version}
+use Rattle.office_tables_statements.specs.{Calls.Reads, Calls.IsReady, Calls.Ran, Tables.found_by, Layout.office_version}
 use Rattle.office_tables_schema.specs.Schema.{office_schema, version_table}
 use Rattle.office_tables_open.specs.Version.{AreEmpty, IsListing, ShowsAllRows, stored_trees, version_in, current_version}
 use Rattle.office_tables_statements.proofs.QueryLemmas.{answers, IsRead, IsWrite, AreShaped, found_by_key, has_width}

@@ -74,22 +74,11 @@ abbrev pub of_one : {X : Type 0} → ℕ → List (ℕ × X) → List X
 of_one id [] = []
 of_one id (e ∷ es) = cond (e.0 == id) (e.1 ∷ of_one id es) (of_one id es)
 
--- the inspections of all, in the order of the intersections and of their numbers
-abbrev pub ListsEachInspection : Content → List (ℕ × Inspection) → Type 0
-ListsEachInspection tables all =
-    map (λ e. (inspection_key e.0 e.1.number, inspection_columns e.1)) all
-    ≡ entries tables.inspection
-
 -- a row stands in the table that is no inspection of an intersection within its limits
 abbrev pub HasAnyDamagedInspection : Content → Type 0
 HasAnyDamagedInspection tables =
     HasDamagedRow table.Inspection (IsOfOne IsInspectionWithin)
     (λ e. inspection_key e.0 e.1.number) (λ e. inspection_columns e.1) tables None
-
--- the orders on all
-abbrev pub ListsEachOrder : Content → List (ℕ × Order) → Type 0
-ListsEachOrder tables all =
-    map (λ e. (order_key e.0 e.1.number, order_columns e.1)) all ≡ entries tables.work_order
 
 abbrev pub HasAnyDamagedOrder : Content → Type 0
 HasAnyDamagedOrder tables =

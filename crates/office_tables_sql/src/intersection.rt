@@ -1,6 +1,6 @@
 //! The table `intersection`, whose key is the rowid.
 
-ghost use Rattle.std.specs.Prelude.{◌≡◌, ◌≢◌, pos, [], length, Option, None, IfOk, IfSome, OnOk};
+ghost use Rattle.std.specs.Prelude.{◌≡◌, ◌≢◌, pos, length, Option, None, IfOk, IfSome, OnOk};
 ghost use Rattle.sqlite.specs.Order.{column};
 ghost use Rattle.sqlite.specs.State.{HasCleanDisk, Survives};
 ghost use Rattle.sqlite.specs.Held.{state};

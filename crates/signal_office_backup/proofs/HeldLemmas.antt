@@ -1,12 +1,12 @@
 -- What is known of a file up to a place, and of the bytes there, is known of it up to their end; and so it is of a sink.
-use Rattle.std.proofs.Common.{◌≡◌, ◌⊎◌, ℕ, ◌+◌, ◌<◌, ◌≤◌, List, ◌++◌, length, take, drop, ap, ◌∙◌, inl, inr}
+use Rattle.std.proofs.Common.{◌≡◌, ℕ, ◌+◌, ◌<◌, ◌≤◌, List, ◌++◌, length, take, drop, ap, ◌∙◌, inl, inr}
 use Rattle.std.proofs.Common.{arith, get_or-drop, get_or-take, length-drop, length-take}
 use Rattle.std.proofs.Math.Seq.{take-add}
 use Rattle.std.proofs.lemmas.List.{ext_get_or}
 use Rattle.office_http_framing.specs.Ends.{FailsOrGivesNone, Grows, Rose, Told}
 use Rattle.office_http_framing.specs.declared.ends.Counts.{Counts}
 use Rattle.sqlite_disk.specs.Disk.{Holds}
-use Rattle.signal_office_backup.specs.Copying.{CopyBreaksOff, FailsToCopy}
+use Rattle.signal_office_backup.specs.Copying.{CopyBreaksOff}
 use Rattle.signal_office_backup.specs.declared.copying.CopyFault.{CopyFault}
 use Rattle.signal_office_backup.specs.declared.copying.CopyFault.TheVariants as fault
 
@@ -35,8 +35,3 @@ pub breaks_before : (first old new : Told) → Grows first.counts old.counts →
 breaks_before first old new grows fault.Read it = tt
 breaks_before first old new grows fault.Write it = fails_before first.counts old.counts new.counts grows it
 breaks_before first old new grows fault.NoMemory it = it
-
-pub breaks_fails : (start end : Told) (why : CopyFault) → CopyBreaksOff start end why → FailsToCopy start end why
-breaks_fails start end fault.Read it = it
-breaks_fails start end fault.Write it = it
-breaks_fails start end fault.NoMemory it = absurd it

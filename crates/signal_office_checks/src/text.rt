@@ -1,9 +1,8 @@
 //! What is told of records that would be refused.
 
 ghost use Rattle.std.specs.Prelude.{◌≡◌, ◌+◌, ◌++◌, OnOk, IfOk, string_bytes};
-ghost use Rattle.cabinet_core.specs.Day.{day_text};
 ghost use Rattle.signal_office_checks.specs.Texts.{by_text, checked_line, checked_lines};
-ghost use Rattle.signal_office_checks.specs.Texts.{checks_text, closed_text, counts_line};
+ghost use Rattle.signal_office_checks.specs.Texts.{checks_text, closed_text};
 ghost use Rattle.signal_office_checks.specs.Texts.{order_text, there_text};
 ghost use Rattle.signal_office_checks.specs.Texts.{refused_line, used_text};
 

@@ -1,6 +1,6 @@
 //! What the page of an intersection shows, by the queries of the office.
 
-ghost use Rattle.std.specs.Prelude.{IfErr, IfOk, ◌≢◌};
+ghost use Rattle.std.specs.Prelude.{IfErr, IfOk};
 ghost use Rattle.office_tables_shelf.specs.Keeps.{KeepsShelf};
 ghost use Rattle.signal_office_commands.specs.Intersection.{IsRefusedShowing, ShowsDraftIn};
 ghost use Rattle.signal_office_commands.specs.Intersection.{ShowsIntersection};

@@ -1,10 +1,9 @@
 //! The open orders of an intersection, or of all.
 
-ghost use Rattle.std.specs.Prelude.{◌≡◌, ◌≢◌, Err, None, Some, IfOk, IfErr, flat_map};
+ghost use Rattle.std.specs.Prelude.{◌≡◌, Err, None, Some, IfOk, IfErr, flat_map};
 ghost use Rattle.office_tables_shelf.specs.Keeps.{KeepsShelf};
 ghost use Rattle.office_tables_shelf.specs.OpenOrders.{orders_in};
 ghost use Rattle.office_desk.specs.Damage.{MeetsDamage};
-ghost use Rattle.office_listings.specs.Orders.{orders_listing};
 ghost use Rattle.office_machine.specs.declared.command.Command.TheVariants as command;
 ghost use Rattle.signal_office_commands.specs.Fault.{IsFaultOfQuery, TellsUnknown};
 ghost use Rattle.signal_office_commands.specs.Cabinet.{MeetsRegisterDamage};

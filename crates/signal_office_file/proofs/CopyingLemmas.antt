@@ -8,18 +8,11 @@ use Rattle.sqlite_disk.specs.declared.Disk.{Ghosts as Disk}
 use Rattle.sqlite_disk.specs.declared.Files.{Files}
 use Rattle.office_http_framing.specs.Ends.{Told}
 use Rattle.office_tables.specs.Content.{Content}
-use Rattle.signal_office_backup.specs.Copying.{FailsToCopy, StaysAsRead}
-use Rattle.signal_office_backup.specs.declared.copying.CopyFault.{CopyFault}
-use Rattle.signal_office_backup.specs.declared.copying.CopyFault.TheVariants as copy
+use Rattle.signal_office_backup.specs.Copying.{StaysAsRead}
 use Rattle.signal_office_faults.specs.declared.fault.Fault.{Fault}
-use Rattle.signal_office_in_file.specs.Ended.{IsCopyOf, IsUncopied}
-use Rattle.signal_office_file.specs.Copying.{PoursAs, told_of_copy}
+use Rattle.signal_office_in_file.specs.Ended.{IsCopyOf}
+use Rattle.signal_office_file.specs.Copying.{PoursAs}
 use Rattle.signal_office_file.specs.Files.{HoldAlone, IsImageOf, KeepTables}
-
-pub uncopied : (start end : Told) (why : CopyFault) → FailsToCopy start end why → IsUncopied start end (told_of_copy why)
-uncopied start end copy.Read it = inl refl
-uncopied start end copy.NoMemory it = inr (inl (refl, it))
-uncopied start end copy.Write it = inr (inr (refl, it))
 
 -- the bytes of the database file are the office, with no log
 bytes_alone : {D : Type 0} (g : Disk D) (files : Files D) (tables : Content) → KeepTables g files tables → HoldAlone (g.seen files.db) tables

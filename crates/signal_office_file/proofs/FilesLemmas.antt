@@ -6,13 +6,11 @@ use Rattle.sqlite.specs.declared.FileStore.{FileStore}
 use Rattle.sqlite_disk.specs.declared.Disk.{Ghosts as Disk}
 use Rattle.sqlite_disk.specs.declared.Files.{Files}
 use Rattle.sqlite_trees.specs.Props.{Trees-set}
-use Rattle.office_desk.specs.StandFor.{StandForSound}
-use Rattle.office_machine.specs.Office.{Office}
 use Rattle.office_tables.specs.{Content.Content, Stored.content_now, Stored.content_of}
 use Rattle.office_tables_open.specs.{Lacking.Hold, SqlShelf.IsCurrent, SqlShelf.MayLeave, Version.AreToday}
 use Rattle.office_tables_open.proofs.LackingLemmas.{hold_office}
 use Rattle.signal_office_faults.specs.declared.fault.Fault.{Fault}
-use Rattle.signal_office_file.specs.Files.{AreThoseOf, HoldIn, IsImageOf, KeepTables, StandInBoth}
+use Rattle.signal_office_file.specs.Files.{AreThoseOf, HoldIn, IsImageOf, KeepTables}
 use Rattle.signal_office_file.specs.Left.{IsCleanFile, IsUnclosed, LeavesDatabases, LeavesToday, MayLeaveOf}
 use Rattle.signal_office_file.specs.declared.left.FileLeft.{FileLeft}
 use Rattle.signal_office_file.specs.declared.left.FileLeft.TheVariants as left
@@ -49,11 +47,6 @@ module _ {D : Type 0} (g : Disk D) (files : Files D) where
         };
         content = sym (ap (λ (d : Database). content_of d.trees) (current.office.settled (copied.was_clean, copied.was_open)));
       }
-
-  -- so the next run finds the office for which they stand
-  pub stand_in_both : (tables : Content) (office : Office) → KeepTables g files tables → StandForSound tables office → StandInBoth g files office
-  stand_in_both tables office it stands image is found holds =
-      subst (λ t. StandForSound t office) (sym (found_tables tables it image is found holds)) stands
 
 -- ---- what is left where a database could not be closed
 

@@ -3,7 +3,6 @@ use Rattle.std.proofs.Common.{◌≡◌, Result, Ok, Err, ℕ, subst, sym}
 use Rattle.sqlite.specs.Recovery.{Image}
 use Rattle.sqlite_disk.specs.declared.Disk.{Ghosts as Disk}
 use Rattle.sqlite_disk.specs.declared.Files.{Files}
-use Rattle.office_tables.specs.Content.{Content}
 use Rattle.signal_office_faults.specs.declared.fault.Fault.{Fault}
 use Rattle.signal_office_in_file.specs.Ended.{EndsOver, FileView, IsBegun, IsCounted, Work}
 use Rattle.signal_office_in_file.specs.declared.Ended.{Ended}

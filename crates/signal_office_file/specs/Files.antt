@@ -8,8 +8,6 @@ use Rattle.sqlite.specs.WalFiles.{outcomes}
 use Rattle.sqlite.specs.WalReads.{AreClean}
 use Rattle.sqlite_disk.specs.declared.Disk.{Ghosts as Disk}
 use Rattle.sqlite_disk.specs.declared.Files.{Files}
-use Rattle.office_machine.specs.Office.{Office}
-use Rattle.office_desk.specs.StandFor.{StandForSound}
 use Rattle.office_tables.specs.Content.{Content}
 use Rattle.office_tables.specs.Stored.{content_of}
 use Rattle.office_tables_open.specs.Lacking.{Hold}
@@ -30,10 +28,6 @@ pub record HoldIn (image : Image) (tables : Content) : Type 0 where
   pub trees : Trees
   pub those : AreThoseOf image trees
   pub hold : Hold trees tables
-
--- whatever an open finds in the files stands for the office
-abbrev pub StandInFiles : Image → Office → Type 0
-StandInFiles image office = (tables : Content) → HoldIn image tables → StandForSound tables office
 
 -- A file of these bytes, with no log beside it, holds the office's tables, with today's version.
 pub record HoldAlone (bytes : List ℕ) (tables : Content) : Type 0 where
@@ -56,10 +50,6 @@ module _ {D : Type 0} (g : Disk D) (files : Files D) where
   -- the two files as they read now, or after a stop
   abbrev pub IsImageOf : Image → Type 0
   IsImageOf image = (image ≡ image_of g files) ⊎ outcomes g files.log files.db image
-
-  -- the tables in them stand for the office now and after a stop
-  abbrev pub StandInBoth : Office → Type 0
-  StandInBoth office = (image : Image) → IsImageOf image → StandInFiles image office
 
   -- They hold these trees and no others, now and after a stop: the tables of the office, with today's version.
   pub record HoldToday (trees : Trees) : Type 0 where

@@ -9,7 +9,7 @@ use Rattle.office_http_framing.specs.Ends.{Told}
 use Rattle.office_http_framing.specs.Serve.{Ends}
 use Rattle.signal_office_faults.specs.declared.fault.Fault.{Fault}
 use Rattle.signal_office_in_file.specs.Ended.{FileView}
-use Rattle.signal_office_jobs.specs.Printed.{Batches, JobDoes, OfficeFiles, Printed}
+use Rattle.signal_office_jobs.specs.Printed.{Batches, JobDoes, OfficeFiles}
 use Rattle.signal_office_jobs.specs.Runs.{IsFoundInWords, job_asked}
 use Rattle.signal_office_line.specs.CommandLine.{signal_app}
 use Rattle.signal_office_line.specs.Job.{Asked, asked, job_in}
@@ -22,10 +22,6 @@ use Rattle.signal_office_line.specs.declared.job.JobFault.TheVariants.{NoMemory}
 pub done_so : {Left : Type 0} (files : OfficeFiles Left) (job is : Asked) (start end : Ends) (err said : Told) (result : Result ℕ Fault)
     → job ≡ is → JobDoes files is start end err said result → JobDoes files job start end err said result
 done_so files job is start end err said result same it = subst (λ (x : Asked). JobDoes files x start end err said result) (sym same) it
-
-pub printed_so : {Left : Type 0} (files : OfficeFiles Left) (job is : Asked) (start end : Told) (result : Result ℕ Fault)
-    → job ≡ is → Printed files is start end result → Printed files job start end result
-printed_so files job is start end result same it = subst (λ (x : Asked). Printed files x start end result) (sym same) it
 
 -- and so is whether a file is given to answer requests over
 pub batched_so : {Left T : Type 0} (view : FileView Left) (db is : Option T) (start end : Ends) (result : Result ℕ Fault)

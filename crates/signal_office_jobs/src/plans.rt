@@ -1,6 +1,6 @@
 //! Plans in CSV files: shown, and compared.
 
-ghost use Rattle.std.specs.Prelude.{◌≡◌, false, true};
+ghost use Rattle.std.specs.Prelude.{false, true};
 ghost use Rattle.office_http_framing.specs.Serve.{ends_of};
 ghost use Rattle.signal_office_jobs.specs.Printed.{Compares, ShowsPlan};
 ghost use Rattle.signal_office_jobs.specs.Printing.{Made};

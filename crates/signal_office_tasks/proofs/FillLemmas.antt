@@ -61,10 +61,6 @@ module _ (day : Option ℕ) where
   adds_none None = tt
   adds_none (Some files) = sym (append-nil files)
 
-  -- nothing was put
-  pub adds_nothing : (old new : KnownFiles) → new ≡ old → AddsFiles old new []
-  adds_nothing old new same = subst (λ known. AddsFiles old known []) (sym same) (adds_none old)
-
   -- these, and then those
   pub adds_then : (old mid new : KnownFiles) (first rest : List NamedText) → AddsFiles old mid first → AddsFiles mid new rest → AddsFiles old new (first ++ rest)
   adds_then None None None first rest one two = tt

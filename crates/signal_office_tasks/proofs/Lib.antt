@@ -3,4 +3,3 @@ pub mod RevisedLemmas
 pub mod ShownLemmas
 pub mod StopLemmas
 pub mod TaskLemmas
-mod ExplainedLemmas

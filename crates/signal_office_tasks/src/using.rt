@@ -1,6 +1,6 @@
 //! What was used of parts, told of an office.
 
-ghost use Rattle.std.specs.Prelude.{◌≡◌, Ok, Err, MatchResult};
+ghost use Rattle.std.specs.Prelude.{Ok, Err, MatchResult};
 ghost use Rattle.office_tables_shelf.specs.Keeps.{KeepsShelf};
 ghost use Rattle.signal_office_tasks.specs.Shown.{IsUsedShown};
 ghost use Rattle.signal_office_tasks.specs.Tasks.{TellsUsed};

@@ -1,7 +1,6 @@
 //! A plan in the page: the pictures of its patterns, and its tables.
 
 ghost use Rattle.std.specs.Prelude.{◌≡◌, ◌+◌, ◌++◌, OnOk, flat_map, string_bytes};
-ghost use Rattle.std.specs.FinMap.{values};
 ghost use Rattle.signal_diagram.specs.Diagram.{figure_text};
 ghost use Rattle.signal_page.specs.Plan.{is_cut, cut_words, cut_note, cut_note_of, figure_parts};
 ghost use Rattle.signal_page.specs.Plan.{picture_for, pictures, pictures_and_tables, plan_rows};

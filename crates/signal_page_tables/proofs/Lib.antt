@@ -1,6 +1,5 @@
 pub mod Escaping
 pub mod Restored
 pub mod Parts
-pub mod Empty
 pub mod Alike
 pub mod Marks

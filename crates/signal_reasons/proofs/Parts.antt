@@ -1,6 +1,6 @@
 -- A list and its first element.
-use Rattle.std.proofs.Common.{◌≡◌, ℕ, ◌-◌, ◌≤◌, Bool, true, false, eqb, not, List, [], ◌∷◌, take, drop, length, get_or, ◌⊎◌, inl, inr, sym, ap, subst, ◌∙◌, arith}
-use Rattle.std.proofs.lemmas.Bool.{and_parts, eqb-true, not-true, or_cases}
+use Rattle.std.proofs.Common.{◌≡◌, ℕ, ◌-◌, ◌≤◌, Bool, true, eqb, not, List, [], ◌∷◌, take, drop, length, get_or, ◌⊎◌, inl, inr, sym, ap, subst, ◌∙◌, arith}
+use Rattle.std.proofs.lemmas.Bool.{and_parts, eqb-true, or_cases}
 use Rattle.std.proofs.lemmas.List.{take_all}
 use Rattle.std.specs.List.{list_all}
 use Rattle.signal_records.specs.{declared.record.Pattern.Pattern, TimingSet.Rows, PhaseList.is_distinct}
@@ -26,9 +26,6 @@ module _ (ns : List ℕ) (n : ℕ) (some : 1 ≤ length ns) (is : n ≡ get_or n
 
   parts : is_distinct ns ≡ true → (not (is_in n (later ns)) ≡ true) × (is_distinct (later ns) ≡ true)
   parts apart = and_parts (not (is_in n (later ns))) (is_distinct (later ns)) (ap is_distinct (sym (parted ns n some is)) ∙ apart)
-
-  pub first_apart : is_distinct ns ≡ true → is_in n (later ns) ≡ false
-  first_apart apart = not-true (is_in n (later ns)) (parts apart).0
 
   pub later_apart : is_distinct ns ≡ true → is_distinct (later ns) ≡ true
   later_apart apart = (parts apart).1

@@ -3,7 +3,7 @@
 ghost use Rattle.std.specs.Prelude.{◌≡◌, ◌≤◌, true, IfSome, IfNone};
 ghost use Rattle.signal_rules.specs.PhaseRules.{walk_is_long, clears_crossing, clears_setback};
 ghost use Rattle.signal_rules.specs.PhaseRules.{clearance, lead_is_right};
-ghost use Rattle.signal_reasons.specs.PhaseReasons.{IsCrossingReason, IsRoundedUp, crossing_rule};
+ghost use Rattle.signal_reasons.specs.PhaseReasons.{IsCrossingReason, crossing_rule};
 ghost use Rattle.signal_reasons.specs.PhaseReasons.{crossing_keeps};
 
 use crate::reason::CrossingReason;

@@ -1,7 +1,7 @@
 //! Why a sequence breaks V7.
 
-ghost use Rattle.std.specs.Prelude.{◌≡◌, ◌==◌, true, Contains, IfSome, IfNone, count_by};
-ghost use Rattle.signal_rules.specs.Lookup.{phase_at, phases, ring_numbers, is_in};
+ghost use Rattle.std.specs.Prelude.{◌≡◌, ◌==◌, true, Contains, IfSome, IfNone};
+ghost use Rattle.signal_rules.specs.Lookup.{phase_at, ring_numbers, is_in};
 ghost use Rattle.signal_rules.specs.OnePass.{stands_in_ring, each_stands_once, no_other_stands};
 ghost use Rattle.signal_rules.specs.SequenceRule.{in_ring, ring_row, has_no_other, rows_are_right};
 ghost use Rattle.signal_reasons.specs.SequenceReasons.{IsSequenceReason, times_in};

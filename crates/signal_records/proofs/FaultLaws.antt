@@ -1,12 +1,10 @@
 -- The faults of the timing rows: none is of a day or a text, and reading gives no want of memory.
 use Rattle.std.proofs.Common.{◌≡◌, ℕ, Bool, true, false, eqb, List, [], ◌∷◌, length, Option, Some, None, Result, Ok, Err, refl, subst, rules}
-use Rattle.std.specs.Prelude.{IfErr, IsTrue, ◌+◌, ◌||◌, codes, if◌then◌else◌}
-use Rattle.std.specs.Str.{bytes_eq}
+use Rattle.std.specs.Prelude.{IfErr, IsTrue, ◌+◌, if◌then◌else◌}
 use Rattle.signal_records.specs.{declared.fault.RowFault.RowFault, declared.limits.Limits.Limits, declared.record.Ped.Ped}
 use Rattle.signal_records.specs.{declared.record.Row.Row, declared.record.Change.Change, RowFault.is_timing_fault}
 use Rattle.signal_records.specs.declared.fault.RowFault.TheVariants as fault
-use Rattle.signal_records.specs.declared.record.Change.TheVariants as change
-use Rattle.signal_records.specs.Reading.{◌>>=◌, text_at, number_of, number_at, flag_of, flag_at, mode_in, mode_at, parts, phases_in, or_no_list, list_at, some_ped, ped_width, lead_in, ped_record, ped_at, phase_record, seq_record, split_record, pattern_record, counted, row_at, phase_key, seq_key, split_key, pattern_key, key_at, removal_at, put_at, change_at, Gives}
+use Rattle.signal_records.specs.Reading.{◌>>=◌, text_at, number_of, number_at, flag_at, mode_at, parts, phases_in, or_no_list, list_at, some_ped, ped_width, lead_in, ped_record, ped_at, phase_record, seq_record, split_record, pattern_record, row_at, phase_key, seq_key, split_key, pattern_key, key_at, removal_at, put_at, change_at, Gives}
 
 -- a fault that is read from the fields of a timing row
 abbrev pub is_read_fault : RowFault → Bool
@@ -39,10 +37,6 @@ bind_timing (Err e) f h k = fault_timing _ e (fault_is _ e h)
 if_timing : {X : Type 0} (b : Bool) (r s : Result X RowFault) → IsTiming r → IsTiming s → IsTiming (if b then r else s)
 if_timing true r s h k = h
 if_timing false r s h k = k
-
-counted_timing : {X : Type 0} (right : Bool) (r : Result X RowFault) → IsTiming r → IsTiming (counted right r)
-counted_timing true r h = h
-counted_timing false r h = fault_timing _ fault.Count refl
 
 -- fields
 

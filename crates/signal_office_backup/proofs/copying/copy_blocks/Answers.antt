@@ -1,4 +1,4 @@
-use Rattle.std.proofs.Common.{◌≡◌, ◌<◌, ◌+◌, ◌≤◌, length, IsTrue, List, ◌++◌, ℕ, take, drop, sym, subst, ap, ◌∙◌, arith, rules, length-append, length-drop, length-take}
+use Rattle.std.proofs.Common.{◌≡◌, ◌+◌, length, List, ◌++◌, ℕ, take, drop, sym, subst, ap, ◌∙◌, arith, rules, length-append, length-drop}
 use Rattle.std.proofs.lemmas.List.{places}
 use Rattle.std.specs.Io.KnownBytes.{Appends}
 use Rattle.std.proofs.KnownBytes.{Appends-trans}

@@ -1,4 +1,4 @@
-use Rattle.std.proofs.Common.{◌≡◌, ℕ, ◌-◌, ◌<◌, ◌≤◌, length, take, IsTrue}
+use Rattle.std.proofs.Common.{◌≡◌, ◌-◌, ◌<◌, ◌≤◌, length, take, IsTrue}
 use Rattle.std.specs.Io.KnownBytes.{Appends}
 use Rattle.office_http_framing.specs.Ends.{Grows}
 use Rattle.signal_office_backup.specs.Copying.{StaysAsRead}

@@ -10,7 +10,7 @@ returns c =
     subst (λ apps. IfOk c.with_commands-2.result (λ x. ParsesAs x (with_subcommands (with_subcommands signal_top office_commands) apps)))
     c.plan_commands.ensures
     (c.with_commands-2.ensures (with_subcommands signal_top office_commands)
-    (subst (λ apps. ParsesAs _ (with_subcommands signal_top apps)) c.office_commands.ensures
+    (subst (λ apps. ParsesAs c.in_ok-begun.begun (with_subcommands signal_top apps)) c.office_commands.ensures
     (c.in_ok-begun.ensures signal_top (record {
       app_is = ap app_of_fields c.subcommand_required-program.ensures
           ∙ ap (on_top (λ s. record s { subcommand_required = true }))
