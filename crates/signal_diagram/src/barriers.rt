@@ -6,9 +6,8 @@ ghost use Rattle.signal_diagram.specs.Barriers.{barriers};
 
 use crate::elements::{Line, push_line};
 use crate::geometry::{BARRIER_RISE, LANES_TOP, THICK, top_of, x_of};
-use crate::rows::{row_of, time_of};
 use signal_records::{Pattern, RingNo, TimingSet};
-use signal_rules::split_at;
+use signal_rules::{ring_row, split_at, time_of};
 use std::alloc::AllocError;
 
 /// Whether a ring starts a phase at a second.
@@ -16,7 +15,7 @@ fn ring_starts(set: &TimingSet, pattern: &Pattern, second: u32, ring: RingNo) ->
     ensures { result ≡ ring_starts set.now pattern.now second ring }
 {
     let mut start: u32 = 0;
-    for p in row_of(set, pattern.seq, ring) {
+    for p in ring_row(set, pattern.seq, ring) {
         let time = time_of(split_at(set, pattern.split, *p));
         if time != 0 && start == second {
             return true;

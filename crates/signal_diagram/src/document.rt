@@ -13,10 +13,10 @@ use crate::barriers::push_barriers;
 use crate::geometry::{height_of, top_of, width_of};
 use crate::lanes::push_lanes;
 use crate::notes::push_head;
-use crate::rows::{longest_of, rings_of};
+use crate::rows::longest_of;
 use crate::scale::push_scale;
 use signal_records::{NoMemory, Pattern, PatternNo, RingNo, TimingSet};
-use signal_rules::pattern_at;
+use signal_rules::{pattern_at, used_rings};
 use std::alloc::{AllocError, Global};
 use std::fmt::Write;
 
@@ -123,7 +123,7 @@ fn picture(
 ) -> Result<String, NoMemory>
     ensures { IfOk result (λ text. string_bytes text ≡ picture sizing set.now n pattern.now) }
 {
-    let rings = rings_of(alloc, set)?;
+    let rings = used_rings(alloc, set)?;
     let seconds = longest_of(set, pattern, &rings);
     let mut text = String::new(alloc);
     let width = width_of(seconds);

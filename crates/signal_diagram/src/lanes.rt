@@ -6,9 +6,8 @@ ghost use Rattle.signal_diagram.specs.Lanes.{lane_phase, lane_phases, lane_pictu
 use crate::elements::{close_words, open_words};
 use crate::geometry::{LABEL_LEFT, Place, top_of};
 use crate::phase_picture::push_phase;
-use crate::rows::{row_of, time_of};
 use signal_records::{Pattern, PhaseNo, RingNo, Split, TimingSet};
-use signal_rules::{phase_at, split_at};
+use signal_rules::{phase_at, ring_row, split_at, time_of};
 use std::alloc::AllocError;
 use std::fmt::Write;
 
@@ -73,7 +72,7 @@ fn push_lane(
     open_words(text, LABEL_LEFT, top + 40)?;
     write!(text, "Ring {number}")?;
     close_words(text)?;
-    push_lane_phases(text, set, pattern, top, row_of(set, pattern.seq, ring))
+    push_lane_phases(text, set, pattern, top, ring_row(set, pattern.seq, ring))
 }
 
 /// Appends the lanes of some rings, from the top.

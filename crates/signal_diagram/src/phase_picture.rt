@@ -10,8 +10,9 @@ ghost use Rattle.signal_diagram.specs.PhasePicture.{seconds_words, phase_words, 
 
 use crate::elements::{Area, close_words, open_words, push_outline, push_rect, push_wedge};
 use crate::geometry::{Band, NARROW, Place, THICK, THIN, WEDGE, x_of};
-use crate::rows::{calls_walk, is_coordinated};
+use crate::rows::calls_walk;
 use signal_records::{Ped, Phase, PhaseNo, Split};
+use signal_rules::is_coordinated;
 use std::alloc::AllocError;
 use std::fmt::Write;
 

@@ -1,14 +1,13 @@
 //! What a plan has beyond its rows: needs of splits, and the coordinated phases of a pattern.
 
 ghost use Rattle.std.specs.Prelude.{◌≡◌, ◌++◌, OnOk, IfOk, string_bytes};
-ghost use Rattle.signal_rules.specs.PatternRules.{is_coordinated};
 ghost use Rattle.signal_page_tables.specs.Needs.{need_at, need_value, spare_value, coordinates};
 ghost use Rattle.signal_page_tables.specs.Needs.{coordinated};
 ghost use Rattle.signal_page_tables.specs.Values.{phases_beside};
 
 use crate::values::{CellValue, push_phases_beside};
 use signal_records::{NoMemory, PhaseNo, Split, SplitMode, SplitNo, TimingSet, need};
-use signal_rules::{phase_at, split_at};
+use signal_rules::{has_phase, is_coordinated, phase_at, split_at};
 use std::alloc::Global;
 
 /// The need of the phase of a split, in tenths of a second. An omitted phase needs no time, and a
@@ -43,20 +42,11 @@ pub(crate) fn spare_value(time: u32, need: Option<u32>) -> CellValue
     }
 }
 
-fn is_coordinated(split: Option<Split>) -> bool
-    ensures { result ≡ is_coordinated split }
-{
-    match split {
-        Some(split) => split.coord,
-        None => false,
-    }
-}
-
 /// Whether a split plan coordinates a phase of the set.
 fn coordinates(set: &TimingSet, n: SplitNo, p: PhaseNo) -> bool
     ensures { result ≡ coordinates set.now n p }
 {
-    phase_at(set, p).is_some() && is_coordinated(split_at(set, n, p))
+    has_phase(set, p) && is_coordinated(split_at(set, n, p))
 }
 
 /// The phases that a split plan coordinates, ascending.

@@ -1,4 +1,3 @@
-pub mod FewPhases
 pub mod Tests
 pub mod Ranges
 pub mod Rings

@@ -8,7 +8,7 @@ use Rattle.signal_rules.proofs.Among.{in_numbers, in_filter}
 use Rattle.signal_reasons.specs.PhaseReasons.{Has}
 use Rattle.signal_reasons.specs.SequenceReasons.{times_in, OwnRow}
 
-pub of_set : (set : Rows) (p : ℕ) → is_some (phase_at set p) ≡ true → 1 ≤ p → p ≤ PHASES → is_in p (phases set) ≡ true
+of_set : (set : Rows) (p : ℕ) → is_some (phase_at set p) ≡ true → 1 ≤ p → p ≤ PHASES → is_in p (phases set) ≡ true
 of_set set p there low high =
     in_filter (λ q. is_some (phase_at set q)) phase_numbers p there (in_numbers PHASES 1 p low (omega arith))
 

@@ -3,7 +3,7 @@
 ghost use Rattle.std.specs.Prelude.{◌≡◌, ◌≢◌, ℕ, ◌<◌, ◌≤◌, true, false, length, IfSome, IfNone};
 ghost use Rattle.std.specs.List.{list_all};
 ghost use Rattle.signal_records.specs.PhaseList.{is_distinct};
-ghost use Rattle.signal_rules.specs.Lookup.{phase_at, the_mates, is_in};
+ghost use Rattle.signal_rules.specs.Lookup.{is_in};
 ghost use Rattle.signal_rules.specs.Lanes.{lane, used_rings, lanes_fill_cycle, lanes_agree};
 ghost use Rattle.signal_rules.specs.Lanes.{list_each_other};
 ghost use Rattle.signal_street.specs.Timing.{TimesIn};
@@ -12,10 +12,9 @@ ghost use Rattle.signal_reasons.specs.PatternReasons.{AreMatedIn, IsPatternReaso
 ghost use Rattle.signal_reasons.specs.PatternReasons.{pattern_rule};
 ghost use Rattle.signal_reasons.specs.Together.{TimesOn, AreMatedWith, AreMatedBefore};
 
-use crate::lanes::{row_of, time_of};
 use crate::reason::PatternReason;
 use signal_records::{Pattern, PhaseNo, RingNo, TimingSet};
-use signal_rules::{Rule, phase_at, split_at};
+use signal_rules::{Rule, lists, ring_row, split_at, time_of};
 
 /// A phase that times from some second on, and the first second at which it no longer does.
 #[derive(Clone, Copy)]
@@ -138,7 +137,7 @@ fn timing_at(set: &TimingSet, pattern: &Pattern, ring: RingNo, second: u32) -> O
         TimesOn set.now pattern.now ring second found.phase found.until) }
 {
     let mut begin: u32 = 0;
-    for p in row_of(set, pattern.seq, ring) {
+    for p in ring_row(set, pattern.seq, ring) {
         let until = begin + time_of(split_at(set, pattern.split, *p));
         if second < until {
             return Some(Stretch { phase: *p, until });
@@ -152,15 +151,5 @@ fn timing_at(set: &TimingSet, pattern: &Pattern, ring: RingNo, second: u32) -> O
 fn list_each_other(set: &TimingSet, p: PhaseNo, q: PhaseNo) -> bool
     ensures { result ≡ list_each_other set.now p q }
 {
-    mates_of(set, p).contains(&q) && mates_of(set, q).contains(&p)
-}
-
-/// `phaseConcurrency` of a phase; one that is not in the set has none.
-fn mates_of(set: &TimingSet, p: PhaseNo) -> &[PhaseNo]
-    ensures { result.now ≡ the_mates (phase_at set.now p) }
-{
-    match phase_at(set, p) {
-        Some(phase) => phase.mates.as_slice(),
-        None => &[],
-    }
+    lists(set, p, q) && lists(set, q, p)
 }

@@ -2,10 +2,11 @@
 //! is a sum of splits, and the rings are compared only at the seconds at which one of them starts a
 //! phase. What that takes of the set is looked up once for each ring and for each phase of its row.
 
-ghost use Rattle.std.specs.Prelude.{◌≡◌, ◌<◌, ◌+◌, ◌^◌, ◌++◌, ◌==◌, true, IfOk, OnOk, length};
+ghost use Rattle.std.specs.Prelude.{◌≡◌, ◌<◌, ◌≤◌, ◌+◌, ◌*◌, ◌^◌, ◌++◌, ◌==◌, true};
+ghost use Rattle.std.specs.Prelude.{IfOk, OnOk, length};
 ghost use Rattle.std.specs.List.{list_all};
 ghost use Rattle.signal_rules.specs.Lookup.{phase_at, the_mates, lists};
-ghost use Rattle.signal_rules.specs.Lanes.{time_of};
+ghost use Rattle.signal_rules.specs.Lanes.{time_of, lane};
 ghost use Rattle.signal_rules.specs.CutPoints.{timed};
 ghost use Rattle.signal_rules.specs.Starts.{times, rings_fill};
 ghost use Rattle.signal_rules.specs.Slots.{spans_at, spans_from, spans_of, has_second, are_mates};
@@ -73,7 +74,7 @@ fn row_fills<'s>(
     let cycle = pattern.cycle.get();
     let mut second: u32 = 0;
     for p in row {
-        let time = u32::from(time_of(split_at(set, pattern.split, *p)));
+        let time = time_of(split_at(set, pattern.split, *p));
         if cycle < second + time {
             return Ok(false);
         }
@@ -83,12 +84,25 @@ fn row_fills<'s>(
     Ok(second == cycle)
 }
 
-/// The seconds of a phase.
-fn time_of(split: Option<Split>) -> u8
-    ensures { result ≡ time_of split }
+/// The seconds of the lane of a ring.
+pub fn lane_seconds(set: &TimingSet, pattern: &Pattern, ring: RingNo) -> u32
+    ensures exact { result ≡ length (lane set.now pattern.now.seq pattern.now.split ring) }
+    ensures small { result ≤ 255 * 33 }
+{
+    let mut seconds: u32 = 0;
+    for p in ring_row(set, pattern.seq, ring) {
+        seconds += time_of(split_at(set, pattern.split, *p));
+    }
+    seconds
+}
+
+/// The seconds of a phase; one without a split row has none.
+pub fn time_of(split: Option<Split>) -> u32
+    ensures exact { result ≡ time_of split }
+    ensures small { result ≤ 255 }
 {
     match split {
-        Some(split) => split.time,
+        Some(split) => u32::from(split.time),
         None => 0,
     }
 }
@@ -171,7 +185,7 @@ fn list_each_other(slot: &Slot<'_>, other: &Slot<'_>) -> bool
 }
 
 /// `phaseConcurrency` of the first phase has the second.
-pub(crate) fn lists(set: &TimingSet, p: PhaseNo, q: PhaseNo) -> bool
+pub fn lists(set: &TimingSet, p: PhaseNo, q: PhaseNo) -> bool
     ensures { result ≡ lists set.now p q }
 {
     mates_of(set, p).contains(&q)

@@ -20,7 +20,9 @@ mod violation;
 
 pub use counting::{Judge, Tally, violations_touched};
 pub use judging::violations;
-pub use lookup::{pattern_at, phase_at, ring_row, split_at};
-pub use pattern::used_rings;
+pub use lanes::{lane_seconds, lists, time_of};
+pub use lookup::{has_phase, pattern_at, phase_at, ring_row, split_at};
+pub use pattern::{is_coordinated, used_rings, without_split};
 pub use reach::touched;
+pub use sequence::has_sequence;
 pub use violation::{Rule, Subject, Violation};

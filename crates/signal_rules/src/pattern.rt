@@ -1,13 +1,14 @@
 //! V9 to V11, the rules of a pattern that look at no lane.
 
-ghost use Rattle.std.specs.Prelude.{◌≡◌, IfOk};
+ghost use Rattle.std.specs.Prelude.{◌≡◌, ◌≤◌, true, false, length, IfOk, IfSome, IfNone};
 ghost use Rattle.signal_rules.specs.Lookup as set_has;
+ghost use Rattle.signal_rules.specs.Lookup.{split_at};
 ghost use Rattle.signal_rules.specs.OnePass.{rings_at};
 ghost use Rattle.signal_rules.specs.PatternRules.{has_splits, has_rows, offset_is_right};
 ghost use Rattle.signal_rules.specs.PatternRules.{is_coordinated, has_coordinated};
 ghost use Rattle.signal_rules.specs.Lanes.{used_rings};
 
-use crate::lookup::{has_split, phase_at, phases_of, split_at};
+use crate::lookup::{has_phase, has_split, phase_at, phases_of, split_at};
 use crate::sequence::has_sequence;
 use signal_records::{NoMemory, Pattern, PhaseNo, RingNo, Split, SplitNo, TimingSet};
 use std::alloc::Global;
@@ -32,6 +33,23 @@ fn has_splits(set: &TimingSet, phases: &[PhaseNo], n: SplitNo) -> bool
     true
 }
 
+/// The first phase of the set for which a split number has no row.
+pub fn without_split(set: &TimingSet, n: SplitNo) -> Option<PhaseNo>
+    ensures none { IfNone result (has_splits set.now n ≡ true) }
+    ensures some { IfSome result (λ p. has_splits set.now n ≡ false) }
+    ensures phase { IfSome result (λ p. set_has.is_in p (set_has.phases set.now) ≡ true) }
+    ensures row { IfSome result (λ p. split_at set.now n p ≡ None) }
+{
+    for p in PhaseNo::all() {
+        if has_phase(set, p) && !has_split(set, n, p) {
+            // It is read, so that its range is known.
+            let _phase = p.get();
+            return Some(p);
+        }
+    }
+    None
+}
+
 /// V10, of `patternOffsetTime` and `patternCycleTime`.
 pub(crate) fn offset_is_right(pattern: &Pattern) -> bool
     ensures { result ≡ offset_is_right pattern.now }
@@ -52,7 +70,8 @@ pub(crate) fn has_coordinated(set: &TimingSet, phases: &[PhaseNo], n: SplitNo) -
     false
 }
 
-fn is_coordinated(split: Option<Split>) -> bool
+/// Whether a phase is coordinated; one without a split row is not.
+pub fn is_coordinated(split: Option<Split>) -> bool
     ensures { result ≡ is_coordinated split }
 {
     match split {
@@ -61,9 +80,10 @@ fn is_coordinated(split: Option<Split>) -> bool
     }
 }
 
-/// The rings that have a phase, in ascending order.
+/// The rings that have a phase, in ascending order: no more than an intersection has.
 pub fn used_rings(alloc: Global, set: &TimingSet) -> Result<Vec<RingNo>, NoMemory>
-    ensures { IfOk result (λ rings. rings.items ≡ used_rings set.now) }
+    ensures rings { IfOk result (λ rings. rings.items ≡ used_rings set.now) }
+    ensures few { IfOk result (λ rings. length rings.items ≤ 8) }
 {
     let phases = phases_of(alloc, set)?;
     rings_of(alloc, set, &phases)

@@ -11,7 +11,7 @@ use crate::lookup::{has_row, phase_at, ring_row};
 use signal_records::{Phase, PhaseNo, RingNo, SeqNo, TimingSet};
 
 /// Whether a sequence has a row.
-pub(crate) fn has_sequence(set: &TimingSet, n: SeqNo) -> bool
+pub fn has_sequence(set: &TimingSet, n: SeqNo) -> bool
     ensures { result ≡ has_sequence set.now n }
 {
     for ring in RingNo::all() {

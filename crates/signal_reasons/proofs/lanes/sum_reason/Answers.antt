@@ -9,7 +9,7 @@ use Rattle.signal_reasons.proofs.lanes.sum_reason.Goals as goal
 pub returns-then-sum-get-clause-some : goal.returns-then-sum-get-clause-some
 returns-then-sum-get-clause-some c = (
   used_at c.args.set.now c.args.rings.now c.loop-ring.ring-index c.ring-item.result c.requires c.loop-ring-test.true c.ring-item.is,
-  c.lane_seconds-sum.ensures ∙ sym (seconds_are c.args.set.now c.args.pattern.now c.ring-item.result),
+  c.lane_seconds-sum.ensures.exact ∙ sym (seconds_are c.args.set.now c.args.pattern.now c.ring-item.result),
   refl,
   λ same. c.if-sum-get.true (same ∙ sym c.get.ensures.value),
 )

@@ -13,7 +13,7 @@ told set pattern ring row fill e f = sym (f ∙ ap (λ ps. eqb (length (timed (t
 
 pub returns-then-not-branch-clause-fill : goal.returns-then-not-branch-clause-fill
 returns-then-not-branch-clause-fill c =
-    let test = told c.args.set.now c.args.pattern.now c.ring-item.result _ _ c.ring_row-row.ensures c.in_ok-row_fills.ensures.fill in
+    let test = told c.args.set.now c.args.pattern.now c.ring-item.result _ _ c.ring_row-row.ensures.row c.in_ok-row_fills.ensures.fill in
     sym (list_all_at (fills c.args.set.now c.args.pattern.now) c.args.rings.now c.loop-ring.ring-index c.ring-item.result c.loop-ring-test.true
     (ap (fills c.args.set.now c.args.pattern.now) (sym c.ring-item.is) ∙ test ∙ c.if-not-branch.true))
 
@@ -21,9 +21,9 @@ pub loop-ring-preserved : goal.loop-ring-preserved
 loop-ring-preserved c =
     let set = c.args.set.now in
     let pattern = c.args.pattern.now in
-    let test = told c.args.set.now c.args.pattern.now c.ring-item.result _ _ c.ring_row-row.ensures c.in_ok-row_fills.ensures.fill in
+    let test = told c.args.set.now c.args.pattern.now c.ring-item.result _ _ c.ring_row-row.ensures.row c.in_ok-row_fills.ensures.fill in
     record {
       fill = all_passed (fills set pattern) c.args.rings.now c.loop-ring.ring-index c.ring-item.result _ c.loop-ring-test.true c.ring-item.is c.loop-ring.invariant.fill (test ∙ c.if-not-branch.false);
       slots = flat_map_step (λ ring. spans_from set pattern.split 0 (ring_row set pattern.seq ring)) _ _ c.args.rings.now _ c.loop-ring.ring-index c.ring-item.result c.loop-ring-test.true c.ring-item.is c.loop-ring.invariant.slots
-          (c.in_ok-row_fills.ensures.slots c.if-not-branch.false ∙ ap (λ row. c.loop-ring.slots.items ++ spans_from set pattern.split 0 row) c.ring_row-row.ensures);
+          (c.in_ok-row_fills.ensures.slots c.if-not-branch.false ∙ ap (λ row. c.loop-ring.slots.items ++ spans_from set pattern.split 0 row) c.ring_row-row.ensures.row);
     }

@@ -9,4 +9,4 @@ returns-in-Some-clause-alone c =
     one_stands_wrong c.args.set.now c.args.n c.args.p c.in-Some.phase.now (sym c.in-Some.ensures)
     (omega (arith, c.get-phase.ensures.value, c.get-phase.ensures.low)) (omega (arith, c.get-phase.ensures.value, c.get-phase.ensures.high))
     (omega (arith, c.get-ring.ensures.value, c.get-ring.ensures.low)) (omega (arith, c.get-ring.ensures.value, c.get-ring.ensures.high))
-    (ap (λ row. eqb (count_by (λ m. eqb m c.args.p) row) 1) (sym c.ring_row.ensures) ∙ sym c.stands_once.ensures ∙ wrong)
+    (ap (λ row. eqb (count_by (λ m. eqb m c.args.p) row) 1) (sym c.ring_row.ensures.row) ∙ sym c.stands_once.ensures ∙ wrong)

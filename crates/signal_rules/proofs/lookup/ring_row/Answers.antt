@@ -1,5 +1,5 @@
-use Rattle.signal_diagram.proofs.FewPhases.{few_phases}
-use Rattle.signal_diagram.proofs.rows.row_of.Goals as goal
+use Rattle.signal_rules.proofs.FewPhases.{few_phases}
+use Rattle.signal_rules.proofs.lookup.ring_row.Goals as goal
 
 pub returns-in-Some-Seq-clause-short : goal.returns-in-Some-Seq-clause-short
 returns-in-Some-Seq-clause-short c =

@@ -1,7 +1,7 @@
 use Rattle.std.proofs.Common.{◌≡◌, is_some, filter}
 use Rattle.std.specs.List.{list_all}
 use Rattle.signal_rules.specs.{Lookup.phase_at, Lookup.split_at, PatternRules.has_splits}
-use Rattle.signal_reasons.proofs.pattern.without_split.Given as goal
+use Rattle.signal_rules.proofs.pattern.without_split.Given as goal
 
 abbrev pub invariant-loop-p : goal.invariant-loop-p
 invariant-loop-p l =

@@ -1,6 +1,6 @@
 use Rattle.std.proofs.Common.{◌≡◌, ◌+◌, ◌*◌, ◌≤◌, length, drop}
 use Rattle.signal_rules.specs.{CutPoints.timed, Lanes.lane, Starts.times}
-use Rattle.signal_reasons.proofs.lanes.lane_seconds.Given as goal
+use Rattle.signal_rules.proofs.lanes.lane_seconds.Given as goal
 
 -- the seconds of the phases so far
 abbrev pub invariant-loop-p : goal.invariant-loop-p

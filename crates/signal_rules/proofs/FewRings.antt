@@ -1,9 +1,9 @@
 -- A timing set uses no more rings than an intersection has.
-use Rattle.std.proofs.Common.{◌≡◌, ℕ, ◌≤◌, Bool, List, length}
-use Rattle.std.proofs.{Common.arith, Common.refl, Common.Result, lemmas.List.Filters.length-filter_both, lemmas.Result.IfOk-weaker}
+use Rattle.std.proofs.Common.{◌≡◌, ℕ, ◌≤◌, Bool, List, Result, length, refl, arith}
+use Rattle.std.proofs.lemmas.{List.Filters.length-filter_both, Result.IfOk-weaker}
 use Rattle.std.specs.Prelude.{IfOk, not}
 use Rattle.signal_records.specs.TimingSet.{Rows}
-use Rattle.signal_rules.specs.{Lookup.ring_numbers, PatternRules.is_used, PatternRules.used_rings}
+use Rattle.signal_rules.specs.{Lookup.ring_numbers, Lanes.is_used, Lanes.used_rings}
 
 few_rings : (set : Rows) → length (used_rings set) ≤ 8
 few_rings set =

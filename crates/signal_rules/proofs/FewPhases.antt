@@ -1,10 +1,12 @@
 -- A list of distinct phases has no more of them than an intersection.
 use Rattle.std.proofs.Common.{◌≡◌, ℕ, ◌<◌, ◌≤◌, true, false, eqb, not, List, [], ◌∷◌}
-use Rattle.std.proofs.{Common.length, Common.arith, Common.inl, Common.inr, lemmas.Bool.and_parts, lemmas.Bool.or_cases}
-use Rattle.std.proofs.{lemmas.Bool.or_parts, lemmas.Bool.not-true, lemmas.Bool.eqb-true, lemmas.Bool.Decides.nat_tests}
+use Rattle.std.proofs.Common.{length, arith, inl, inr}
+use Rattle.std.proofs.lemmas.Bool.{and_parts, or_cases, or_parts, not-true, eqb-true}
+use Rattle.std.proofs.lemmas.Bool.Decides.{nat_tests}
 use Rattle.std.proofs.lemmas.Map.Steps.{length-le_from_distinct_below}
-use Rattle.std.specs.{Prelude.IsTrue, List.list_any, List.list_all, List.IsDistinct, List.AllByRecursion}
-use Rattle.signal_records.specs.{PhaseList.is_phase, PhaseList.is_phase_list, PhaseList.is_distinct}
+use Rattle.std.specs.Prelude.{IsTrue}
+use Rattle.std.specs.List.{list_any, list_all, IsDistinct, AllByRecursion}
+use Rattle.signal_records.specs.PhaseList.{is_phase, is_phase_list, is_distinct}
 use Rattle.signal_values.specs.declared.number.TheConstants.{PHASES}
 
 -- two numbers are told apart in either order

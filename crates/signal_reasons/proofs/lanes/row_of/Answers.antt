@@ -1,6 +1,0 @@
-use Rattle.signal_reasons.proofs.FewPhases.{few_phases}
-use Rattle.signal_reasons.proofs.lanes.row_of.Goals as goal
-
-pub returns-in-Some-Seq-clause-short : goal.returns-in-Some-Seq-clause-short
-returns-in-Some-Seq-clause-short c =
-    rw c.as_slice.ensures.phases (few_phases _ c.as_slice.ensures.kept)
