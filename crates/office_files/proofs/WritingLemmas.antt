@@ -2,7 +2,7 @@
 use Rattle.std.proofs.Common.{length-append, append_assoc, slice_index, get_or, All, ◌≡◌, ℕ, zero, suc, ◌+◌, ◌<◌, ◌≤◌, ◌==◌, false, List, [], ◌∷◌, ◌++◌, length, map, inl, inr, take, Some, refl, sym, ap, ◌∙◌, arith}
 use Rattle.std.proofs.lemmas.List.{take_more, append-nil, map-append}
 use Rattle.std.proofs.lemmas.{Grind.flat_map-append, Bool.cases_Bool, Bool.ne_eqb}
-use Rattle.std.proofs.lemmas.List.Elements.{All-nil, All-cons, All-head, All-tail}
+use Rattle.std.proofs.lemmas.List.Elements.{All-nil, All-cons, All-head, All-tail, All-weaker}
 use Rattle.std.specs.List.{list_any}
 use Rattle.csv.specs.{Machine.next_record, Reading.default_config, Reading.strip_bom, Reading.records_from, Writing.default_writer}
 use Rattle.csv.specs.Writing.{row_text, field_text, fields_text, escaped, is_blank, needs_byte}
@@ -50,18 +50,22 @@ row_text-file [] = rw (is_blank-file []) refl
 row_text-file (field ∷ fields) =
     rw (field_text-file field, fields_text-file fields, is_blank-file (field ∷ fields)) refl
 
+-- a record that was read has a field
+abbrev pub HasField : List (List ℕ) → Type 0
+HasField row = 1 ≤ length row
+
 -- what a file of one row more reads as
-next_record-row : (row : List (List ℕ)) (tail : List ℕ) → BeginsWithLetter row → next_record default_config st.StartRecord [] [] (row_text file_writer row ++ tail) ≡ Some (row, st.StartRecord, tail)
-next_record-row [] tail h = elim h [ ]
+next_record-row : (row : List (List ℕ)) (tail : List ℕ) → HasField row → next_record default_config st.StartRecord [] [] (row_text file_writer row ++ tail) ≡ Some (row, st.StartRecord, tail)
+next_record-row [] tail h = absurd (omega arith)
 next_record-row (field ∷ fields) tail h = rw (row_text-file (field ∷ fields)) (read-write (field ∷ fields) tail)
 
-records_from-csv_text : (rows : List (List (List ℕ))) (n : ℕ) → length rows < n → All BeginsWithLetter rows → records_from default_config n st.StartRecord (csv_text rows) ≡ rows
+records_from-csv_text : (rows : List (List (List ℕ))) (n : ℕ) → length rows < n → All HasField rows → records_from default_config n st.StartRecord (csv_text rows) ≡ rows
 unfolding records_from next_record
 records_from-csv_text rows zero h each = absurd (omega arith)
 records_from-csv_text [] (suc n) h each = refl
 records_from-csv_text (row ∷ rows) (suc n) h each =
-    let more = records_from-csv_text rows n (omega arith) (All-tail BeginsWithLetter row rows each) in
-    rw (next_record-row row (csv_text rows) (All-head BeginsWithLetter row rows each), more) refl
+    let more = records_from-csv_text rows n (omega arith) (All-tail HasField row rows each) in
+    rw (next_record-row row (csv_text rows) (All-head HasField row rows each), more) refl
 
 -- each row takes some bytes
 row_text-nonempty : (row : List (List ℕ)) → 1 ≤ length (row_text file_writer row)
@@ -73,6 +77,10 @@ length-csv_text (row ∷ rows) =
     let one = row_text-nonempty row in
     let more = length-csv_text rows in
     omega (arith, length-append (row_text file_writer row) (csv_text rows))
+
+-- the file of records that have a field is read as them
+pub read_rows : (rows : List (List (List ℕ))) → All HasField rows → records_from default_config (length (csv_text rows) + 1) st.StartRecord (csv_text rows) ≡ rows
+read_rows rows each = records_from-csv_text rows (length (csv_text rows) + 1) (omega (arith, length-csv_text rows)) each
 
 -- a field that begins with a letter is written with a letter or a quote first
 field_text-first : (field : List ℕ) (rest : List ℕ) → 97 ≤ slice_index field 0 → slice_index field 0 ≤ 122 → slice_index (field_text file_writer field ++ rest) 0 ≤ 122
@@ -97,10 +105,14 @@ strip_bom-csv_text ((field ∷ fields) ∷ rows) each =
     let letter = All-head BeginsWithLetter (field ∷ fields) rows each in
     strip_bom-first (csv_text ((field ∷ fields) ∷ rows)) (simp append_assoc (field_text-first field _ letter.0 letter.1))
 
+has_field : (row : List (List ℕ)) → BeginsWithLetter row → HasField row
+has_field [] h = elim h [ ]
+has_field (field ∷ fields) h = omega arith
+
 -- the file of rows that begin with a letter reads as those rows
 csv_records-csv_text : (rows : List (List (List ℕ))) → All BeginsWithLetter rows → csv_records (csv_text rows) ≡ rows
 csv_records-csv_text rows each =
-    rw (strip_bom-csv_text rows each) (records_from-csv_text rows (length (csv_text rows) + 1) (omega (arith, length-csv_text rows)) each)
+    rw (strip_bom-csv_text rows each) (read_rows rows (All-weaker BeginsWithLetter HasField has_field rows each))
 
 All-spellings : {T : Type 0} (spelling : T → List (List ℕ)) → ((value : T) → BeginsWithLetter (spelling value)) → (values : List T) → All BeginsWithLetter (map spelling values)
 All-spellings spelling begins [] = All-nil BeginsWithLetter

@@ -8,7 +8,8 @@ use csv::ByteRecord;
 use signal_records::NoMemory;
 use std::alloc::Global;
 
-pub(crate) fn fields_in<'a>(alloc: Global, row: &'a ByteRecord) -> Result<Vec<&'a [u8]>, NoMemory>
+/// The fields, in their order.
+pub fn fields_in<'a>(alloc: Global, row: &'a ByteRecord) -> Result<Vec<&'a [u8]>, NoMemory>
     ensures { IfOk result (λ fields. texts fields.items ≡ fields_of row.now) }
 {
     let mut fields = Vec::with_capacity(alloc, row.len())?;

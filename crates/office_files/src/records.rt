@@ -12,7 +12,7 @@ use signal_records::NoMemory;
 use std::alloc::Global;
 
 /// The records of a file, of which none is a header and which may differ in length.
-pub(crate) fn read_records(alloc: Global, text: &[u8]) -> Result<Vec<ByteRecord>, NoMemory>
+pub fn read_records(alloc: Global, text: &[u8]) -> Result<Vec<ByteRecord>, NoMemory>
     ensures { IfOk result (λ records. map fields_of records.items ≡ csv_records text.now) }
 {
     let reader = ReaderBuilder::new()

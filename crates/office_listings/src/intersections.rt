@@ -1,17 +1,16 @@
 //! The list of the intersections.
 
-ghost use Rattle.std.specs.Prelude.{◌≡◌, ◌++◌, All, OnOk, IfOk, IsUtf8, string_bytes};
-ghost use Rattle.csv.specs.Records.{fields_of};
+ghost use Rattle.std.specs.Prelude.{◌≡◌, ◌++◌, OnOk, IfOk, IsUtf8, string_bytes};
 ghost use Rattle.office_listings.specs.Intersections.{owner_word, stage_word, state_word};
 ghost use Rattle.office_listings.specs.Intersections.{holder_columns, intersection_line};
 ghost use Rattle.office_listings.specs.Intersections.{owner_field};
 ghost use Rattle.office_listings.specs.Intersections.{intersections_listing};
-ghost use Rattle.office_listings.specs.Intersections.{intersection_fields, intersections_csv_text};
+ghost use Rattle.office_listings.specs.Intersections.{intersections_csv_text};
 
 use crate::columns::{push_count, push_long_number, push_number, push_word};
+use crate::listed::{Listed, list_csv, text_record};
 use csv::ByteRecord;
 use draft_state::state::{Holder, Stage};
-use office_files::csv_file;
 use office_machine::intersections::ListedIntersection;
 use signal_records::NoMemory;
 use std::alloc::{AllocError, Global};
@@ -98,32 +97,31 @@ pub fn intersections_text(alloc: Global, list: &[ListedIntersection]) -> Result<
     Ok(text.into_bytes())
 }
 
-/// The fields of an intersection.
-fn listed_record(alloc: Global, listed: &ListedIntersection) -> Result<ByteRecord, NoMemory>
-    ensures fields { IfOk result (λ row. fields_of row ≡ intersection_fields listed.now) }
-    ensures texts { OnOk result (All IsUtf8 (intersection_fields listed.now)) }
-{
-    let id = listed.id.get();
-    let revision = listed.revision.get();
-    let state = state_word(&listed.holder);
-    let owner = owner_field(&listed.holder);
-    let rows = listed.rows;
-    let name = listed.name.as_str();
-    let interval = listed.interval.get();
-    let id = format!(in alloc; "{id}")?;
-    let revision = format!(in alloc; "{revision}")?;
-    let rows = format!(in alloc; "{rows}")?;
-    let interval = format!(in alloc; "{interval}")?;
-    let fields = [
-        id.as_bytes(),
-        revision.as_bytes(),
-        state.as_bytes(),
-        owner.as_bytes(),
-        rows.as_bytes(),
-        name.as_bytes(),
-        interval.as_bytes(),
-    ];
-    ByteRecord::from_fields(alloc, &fields)
+impl Listed for ListedIntersection {
+    ghost use Rattle.office_listings.specs.Intersections.{intersection_fields};
+
+    ghost fields = { intersection_fields };
+
+    fn record(&self, alloc: Global) -> Result<ByteRecord, NoMemory> {
+        let id = self.id.get();
+        let revision = self.revision.get();
+        let rows = self.rows;
+        let interval = self.interval.get();
+        let id = format!(in alloc; "{id}")?;
+        let revision = format!(in alloc; "{revision}")?;
+        let rows = format!(in alloc; "{rows}")?;
+        let interval = format!(in alloc; "{interval}")?;
+        let fields = [
+            id.as_str(),
+            revision.as_str(),
+            state_word(&self.holder),
+            owner_field(&self.holder),
+            rows.as_str(),
+            self.name.as_str(),
+            interval.as_str(),
+        ];
+        text_record(alloc, &fields)
+    }
 }
 
 /// The list of intersections as CSV: a record for each with its number, revision, state, owner or
@@ -132,9 +130,5 @@ pub fn intersections_csv(alloc: Global, list: &[ListedIntersection]) -> Result<V
     ensures text { IfOk result (λ text. text.items ≡ intersections_csv_text list.now) }
     ensures utf8 { IfOk result (λ text. IsUtf8 text.items) }
 {
-    let mut records = Vec::new(alloc);
-    for listed in list {
-        records.push(listed_record(alloc, listed)?)?;
-    }
-    csv_file(alloc, &records)
+    list_csv(alloc, list)
 }

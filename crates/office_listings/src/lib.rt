@@ -6,6 +6,7 @@
 mod cabinet;
 mod columns;
 mod intersections;
+mod listed;
 mod next_numbers;
 mod orders;
 mod overdue;

@@ -1,18 +1,16 @@
 //! The lists of open orders.
 
-ghost use Rattle.std.specs.Prelude.{◌≡◌, ◌++◌, All, OnOk, IfOk, IsUtf8, filter, map, string_bytes};
-ghost use Rattle.csv.specs.Records.{fields_of};
+ghost use Rattle.std.specs.Prelude.{◌≡◌, ◌++◌, OnOk, IfOk, IsUtf8, filter, map, string_bytes};
 ghost use Rattle.cabinet_core.specs.Orders.{is_open};
 ghost use Rattle.office_listings.specs.Orders.{order_on, open_orders, open_order_line};
 ghost use Rattle.office_listings.specs.Orders.{open_order_columns, orders_listing};
 ghost use Rattle.office_listings.specs.Orders.{order_named, named_orders, named_order_line};
-ghost use Rattle.office_listings.specs.Orders.{named_orders_listing, named_order_fields};
-ghost use Rattle.office_listings.specs.Orders.{orders_csv_text};
+ghost use Rattle.office_listings.specs.Orders.{named_orders_listing, orders_csv_text};
 
 use crate::columns::{push_count, push_day, push_long_number, push_number, push_word};
+use crate::listed::{Listed, list_csv, text_record};
 use cabinet_core::{Order, write_day};
 use csv::ByteRecord;
-use office_files::csv_file;
 use office_machine::reply::CabinetShown;
 use signal_records::{InterId, NoMemory, Words};
 use std::alloc::{AllocError, Global};
@@ -162,30 +160,28 @@ pub fn named_orders_text(alloc: Global, orders: &[NamedOrder]) -> Result<Vec<u8>
     Ok(text.into_bytes())
 }
 
-/// The fields of an open order.
-fn named_record(alloc: Global, named: &NamedOrder) -> Result<ByteRecord, NoMemory>
-    ensures fields { IfOk result (λ row. fields_of row ≡ named_order_fields named.now) }
-    ensures texts { OnOk result (All IsUtf8 (named_order_fields named.now)) }
-{
-    let order = &named.listed.order;
-    let id = named.listed.id.get();
-    let number = order.number.get();
-    let name = named.name.as_str();
-    let clerk = order.clerk.as_str();
-    let what = order.text.as_str();
-    let id = format!(in alloc; "{id}")?;
-    let number = format!(in alloc; "{number}")?;
-    let day = write_day(alloc, order.opened)?;
-    let opened = day.as_str();
-    let fields = [
-        id.as_bytes(),
-        name.as_bytes(),
-        number.as_bytes(),
-        opened.as_bytes(),
-        clerk.as_bytes(),
-        what.as_bytes(),
-    ];
-    ByteRecord::from_fields(alloc, &fields)
+impl Listed for NamedOrder {
+    ghost use Rattle.office_listings.specs.Orders.{named_order_fields};
+
+    ghost fields = { named_order_fields };
+
+    fn record(&self, alloc: Global) -> Result<ByteRecord, NoMemory> {
+        let order = &self.listed.order;
+        let id = self.listed.id.get();
+        let number = order.number.get();
+        let id = format!(in alloc; "{id}")?;
+        let number = format!(in alloc; "{number}")?;
+        let day = write_day(alloc, order.opened)?;
+        let fields = [
+            id.as_str(),
+            self.name.as_str(),
+            number.as_str(),
+            day.as_str(),
+            order.clerk.as_str(),
+            order.text.as_str(),
+        ];
+        text_record(alloc, &fields)
+    }
 }
 
 /// The list of open orders as CSV: a record for each with the number and the name of its
@@ -195,9 +191,5 @@ pub fn orders_csv(alloc: Global, orders: &[NamedOrder]) -> Result<Vec<u8>, NoMem
     ensures text { IfOk result (λ text. text.items ≡ orders_csv_text orders.now) }
     ensures utf8 { IfOk result (λ text. IsUtf8 text.items) }
 {
-    let mut records = Vec::new(alloc);
-    for listed in orders {
-        records.push(named_record(alloc, listed)?)?;
-    }
-    csv_file(alloc, &records)
+    list_csv(alloc, orders)
 }

@@ -1,12 +1,11 @@
 //! The list of overdue inspections as CSV.
 
-ghost use Rattle.std.specs.Prelude.{◌≡◌, ◌++◌, All, OnOk, IfOk, IsUtf8, string_bytes};
-ghost use Rattle.csv.specs.Records.{fields_of};
-ghost use Rattle.office_listings.specs.Overdue.{due_field, overdue_fields, overdue_csv_text};
+ghost use Rattle.std.specs.Prelude.{◌≡◌, ◌++◌, OnOk, IfOk, IsUtf8, string_bytes};
+ghost use Rattle.office_listings.specs.Overdue.{due_field, overdue_csv_text};
 
+use crate::listed::{Listed, list_csv, text_record};
 use cabinet_core::{Date, OverdueRow, push_date};
 use csv::ByteRecord;
-use office_files::csv_file;
 use signal_records::NoMemory;
 use std::alloc::{AllocError, Global};
 
@@ -20,19 +19,19 @@ fn push_due(text: &mut String, due: &Option<Date>) -> Result<(), AllocError>
     }
 }
 
-/// The fields of an overdue intersection.
-fn overdue_record(alloc: Global, row: &OverdueRow) -> Result<ByteRecord, NoMemory>
-    ensures fields { IfOk result (λ line. fields_of line ≡ overdue_fields row.now) }
-    ensures texts { OnOk result (All IsUtf8 (overdue_fields row.now)) }
-{
-    let id = row.id.get();
-    let name = row.name.as_str();
-    let id = format!(in alloc; "{id}")?;
-    let mut day = String::new(alloc);
-    push_due(&mut day, &row.due)?;
-    let due = day.as_str();
-    let fields = [id.as_bytes(), name.as_bytes(), due.as_bytes()];
-    ByteRecord::from_fields(alloc, &fields)
+impl Listed for OverdueRow {
+    ghost use Rattle.office_listings.specs.Overdue.{overdue_fields};
+
+    ghost fields = { overdue_fields };
+
+    fn record(&self, alloc: Global) -> Result<ByteRecord, NoMemory> {
+        let id = self.id.get();
+        let id = format!(in alloc; "{id}")?;
+        let mut due = String::new(alloc);
+        push_due(&mut due, &self.due)?;
+        let fields = [id.as_str(), self.name.as_str(), due.as_str()];
+        text_record(alloc, &fields)
+    }
 }
 
 /// The overdue intersections as CSV: a record for each with its number, its name, and the day on
@@ -41,9 +40,5 @@ pub fn overdue_csv(alloc: Global, rows: &[OverdueRow]) -> Result<Vec<u8>, NoMemo
     ensures text { IfOk result (λ text. text.items ≡ overdue_csv_text rows.now) }
     ensures utf8 { IfOk result (λ text. IsUtf8 text.items) }
 {
-    let mut records = Vec::new(alloc);
-    for row in rows {
-        records.push(overdue_record(alloc, row)?)?;
-    }
-    csv_file(alloc, &records)
+    list_csv(alloc, rows)
 }

@@ -1,14 +1,12 @@
 //! What is on hand of each part.
 
-ghost use Rattle.std.specs.Prelude.{◌≡◌, ◌++◌, All, OnOk, IfOk, IsUtf8, string_bytes};
-ghost use Rattle.csv.specs.Records.{fields_of};
-ghost use Rattle.office_listings.specs.Stock.{part_fields, part_line};
-ghost use Rattle.office_listings.specs.Stock.{stock_csv_text, stock_listing};
+ghost use Rattle.std.specs.Prelude.{◌≡◌, ◌++◌, OnOk, IfOk, IsUtf8, string_bytes};
+ghost use Rattle.office_listings.specs.Stock.{part_line, stock_csv_text, stock_listing};
 
 use crate::columns::{push_count, push_hand};
+use crate::listed::{Listed, list_csv, text_record};
 use cabinet_core::{Hand, PartCode};
 use csv::ByteRecord;
-use office_files::csv_file;
 use signal_records::NoMemory;
 use std::alloc::{AllocError, Global};
 use std::fmt::Write;
@@ -36,16 +34,17 @@ pub fn stock_text(alloc: Global, parts: &[(PartCode, Hand)]) -> Result<Vec<u8>, 
     Ok(text.into_bytes())
 }
 
-/// The fields of a part.
-fn part_record(alloc: Global, part: &(PartCode, Hand)) -> Result<ByteRecord, NoMemory>
-    ensures fields { IfOk result (λ row. fields_of row ≡ part_fields part.now) }
-    ensures texts { OnOk result (All IsUtf8 (part_fields part.now)) }
-{
-    let code = part.0.as_str();
-    let count = part.1.get();
-    let count = format!(in alloc; "{count}")?;
-    let fields = [code.as_bytes(), count.as_bytes()];
-    ByteRecord::from_fields(alloc, &fields)
+impl Listed for (PartCode, Hand) {
+    ghost use Rattle.office_listings.specs.Stock.{part_fields};
+
+    ghost fields = { part_fields };
+
+    fn record(&self, alloc: Global) -> Result<ByteRecord, NoMemory> {
+        let count = self.1.get();
+        let count = format!(in alloc; "{count}")?;
+        let fields = [self.0.as_str(), count.as_str()];
+        text_record(alloc, &fields)
+    }
 }
 
 /// What is on hand as CSV: a record for each part with its code and how many there are. It is
@@ -54,9 +53,5 @@ pub fn stock_csv(alloc: Global, parts: &[(PartCode, Hand)]) -> Result<Vec<u8>, N
     ensures text { IfOk result (λ text. text.items ≡ stock_csv_text parts.now) }
     ensures utf8 { IfOk result (λ text. IsUtf8 text.items) }
 {
-    let mut records = Vec::new(alloc);
-    for part in parts {
-        records.push(part_record(alloc, part)?)?;
-    }
-    csv_file(alloc, &records)
+    list_csv(alloc, parts)
 }

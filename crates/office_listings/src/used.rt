@@ -1,18 +1,16 @@
 //! The lists of used parts.
 
-ghost use Rattle.std.specs.Prelude.{◌≡◌, ◌++◌, All, OnOk, IfOk, IsUtf8, string_bytes};
-ghost use Rattle.csv.specs.Records.{fields_of};
+ghost use Rattle.std.specs.Prelude.{◌≡◌, ◌++◌, OnOk, IfOk, IsUtf8, string_bytes};
 ghost use Rattle.office_listings.specs.Used.{is_asked_part, is_used_in, used_by, used_for};
 ghost use Rattle.office_listings.specs.Used.{used_in_order, used_on, used_part_columns};
-ghost use Rattle.office_listings.specs.Used.{used_part_line, used_listing, used_part_fields};
-ghost use Rattle.office_listings.specs.Used.{used_csv_text};
+ghost use Rattle.office_listings.specs.Used.{used_part_line, used_listing, used_csv_text};
 
 use crate::columns::{
     push_count, push_day, push_last, push_line_number, push_long_number, push_number, push_word,
 };
+use crate::listed::{Listed, list_csv, text_record};
 use cabinet_core::{Day, Order, PartCode, UsedLine, write_day};
 use csv::ByteRecord;
-use office_files::csv_file;
 use office_machine::reply::CabinetShown;
 use signal_records::{InterId, NoMemory, Words};
 use std::alloc::{AllocError, Global};
@@ -153,33 +151,32 @@ pub fn used_text(alloc: Global, list: &[UsedPart]) -> Result<Vec<u8>, NoMemory>
     Ok(text.into_bytes())
 }
 
-/// The fields of a used part.
-fn used_record(alloc: Global, listed: &UsedPart) -> Result<ByteRecord, NoMemory>
-    ensures fields { IfOk result (λ row. fields_of row ≡ used_part_fields listed.now) }
-    ensures texts { OnOk result (All IsUtf8 (used_part_fields listed.now)) }
-{
-    let part = listed.used.part.as_str();
-    let id = listed.id.get();
-    let order = listed.used.order.get();
-    let line = listed.used.line.get();
-    let count = listed.used.count.get();
-    let clerk = listed.clerk.as_str();
-    let id = format!(in alloc; "{id}")?;
-    let order = format!(in alloc; "{order}")?;
-    let day = write_day(alloc, listed.opened)?;
-    let opened = day.as_str();
-    let line = format!(in alloc; "{line}")?;
-    let count = format!(in alloc; "{count}")?;
-    let fields = [
-        part.as_bytes(),
-        id.as_bytes(),
-        order.as_bytes(),
-        opened.as_bytes(),
-        line.as_bytes(),
-        count.as_bytes(),
-        clerk.as_bytes(),
-    ];
-    ByteRecord::from_fields(alloc, &fields)
+impl Listed for UsedPart {
+    ghost use Rattle.office_listings.specs.Used.{used_part_fields};
+
+    ghost fields = { used_part_fields };
+
+    fn record(&self, alloc: Global) -> Result<ByteRecord, NoMemory> {
+        let id = self.id.get();
+        let order = self.used.order.get();
+        let line = self.used.line.get();
+        let count = self.used.count.get();
+        let id = format!(in alloc; "{id}")?;
+        let order = format!(in alloc; "{order}")?;
+        let day = write_day(alloc, self.opened)?;
+        let line = format!(in alloc; "{line}")?;
+        let count = format!(in alloc; "{count}")?;
+        let fields = [
+            self.used.part.as_str(),
+            id.as_str(),
+            order.as_str(),
+            day.as_str(),
+            line.as_str(),
+            count.as_str(),
+            self.clerk.as_str(),
+        ];
+        text_record(alloc, &fields)
+    }
 }
 
 /// The list of used parts as CSV: a record for each with these fields. It is UTF-8.
@@ -187,9 +184,5 @@ pub fn used_csv(alloc: Global, list: &[UsedPart]) -> Result<Vec<u8>, NoMemory>
     ensures text { IfOk result (λ text. text.items ≡ used_csv_text list.now) }
     ensures utf8 { IfOk result (λ text. IsUtf8 text.items) }
 {
-    let mut records = Vec::new(alloc);
-    for listed in list {
-        records.push(used_record(alloc, listed)?)?;
-    }
-    csv_file(alloc, &records)
+    list_csv(alloc, list)
 }

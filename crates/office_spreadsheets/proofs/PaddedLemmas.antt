@@ -3,42 +3,38 @@ use Rattle.std.proofs.Common.{◌≡◌, ℕ, zero, suc, ◌+◌, ◌<◌, ◌�
 use Rattle.std.proofs.lemmas.List.{length-append}
 use Rattle.std.proofs.lemmas.List.Elements.{All-nil, All-cons, All-head, All-tail}
 use Rattle.csv.specs.{Machine.Read, Machine.next_record, Machine.step, Machine.is_end, Machine.fields_after, Machine.field_after, Machine.ends_at_end}
-use Rattle.csv.specs.{Reading.default_config, Reading.records_from, Reading.records_next, Reading.strip_bom, Writing.default_writer}
-use Rattle.csv.specs.Writing.{row_text, field_text, fields_text, escaped, is_blank as is_blank_row}
+use Rattle.csv.specs.Reading.{default_config, records_from, records_next, strip_bom}
 use Rattle.csv.specs.declared.parser.{Action.Action, Config.Config, State.State}
 use Rattle.csv.specs.declared.parser.Action.TheVariants as act
 use Rattle.csv.specs.declared.parser.State.TheVariants as st
-use Rattle.csv.proofs.RoundTrip.{read-write}
-use Rattle.office_files.specs.Csv.{csv_records, csv_text, file_writer}
+use Rattle.office_files.specs.Csv.{csv_records, csv_text}
+use Rattle.office_files.proofs.WritingLemmas.{HasField, read_rows}
 use Rattle.office_spreadsheets.specs.Padded.{kept_by, are_blank, record_width, removal_width, unpadded, unpadded_text, width_by}
 use Rattle.std.specs.Str.{bytes_eq}
 
 -- ---- a record that was read has a field
 
-abbrev IsFull : List (List ℕ) → Type 0
-IsFull row = 1 ≤ length row
-
-ended_full : (a : Action) (fields : List (List ℕ)) (field : List ℕ) → is_end a ≡ true → IsFull (fields_after a fields field)
+ended_full : (a : Action) (fields : List (List ℕ)) (field : List ℕ) → is_end a ≡ true → HasField (fields_after a fields field)
 ended_full act.EndRecord fields field e = omega (arith, length-append fields (field ∷ []))
 ended_full act.EndField fields field e = omega (arith, length-append fields (field ∷ []))
 ended_full act.Skip fields field e = cc
 ended_full act.Copy fields field e = cc
 
-at_end : (b : Bool) (row : List (List ℕ)) (r : Read) → IsFull row → (if b then Some (row, st.StartRecord, []) else None) ≡ Some r → IsFull r.0
+at_end : (b : Bool) (row : List (List ℕ)) (r : Read) → HasField row → (if b then Some (row, st.StartRecord, []) else None) ≡ Some r → HasField r.0
 at_end true row r full e =
     let same : (row, st.StartRecord, []) ≡ r = cc in
-    subst (λ (p : Read). IsFull p.0) same full
+    subst (λ (p : Read). HasField p.0) same full
 at_end false row r full e = cc
 
-at_step : (b : Bool) (one : Read) (rest : Option Read) (r : Read) → (b ≡ true → IsFull one.0) → (rest ≡ Some r → IsFull r.0)
-    → (if b then Some one else rest) ≡ Some r → IsFull r.0
+at_step : (b : Bool) (one : Read) (rest : Option Read) (r : Read) → (b ≡ true → HasField one.0) → (rest ≡ Some r → HasField r.0)
+    → (if b then Some one else rest) ≡ Some r → HasField r.0
 at_step true one rest r here later e =
     let same : one ≡ r = cc in
-    subst (λ (p : Read). IsFull p.0) same (here refl)
+    subst (λ (p : Read). HasField p.0) same (here refl)
 at_step false one rest r here later e = later e
 
 next_full : (cfg : Config) (s : State) (fields : List (List ℕ)) (field : List ℕ) (xs : List ℕ) (r : Read)
-    → next_record cfg s fields field xs ≡ Some r → IsFull r.0
+    → next_record cfg s fields field xs ≡ Some r → HasField r.0
 unfolding next_record
 next_full cfg s fields field [] r e =
     at_end (ends_at_end s) (fields ++ field ∷ []) r (omega (arith, length-append fields (field ∷ []))) e
@@ -46,14 +42,14 @@ next_full cfg s fields field (c ∷ xs) r e =
     at_step (is_end (step cfg s c).1) _ _ r (ended_full (step cfg s c).1 fields field)
     (next_full cfg (step cfg s c).0 (fields_after (step cfg s c).1 fields field) (field_after (step cfg s c).1 c field) xs r) e
 
-next_all : (more : State → List ℕ → List (List (List ℕ))) (next : Option Read) → ((p : Read) → next ≡ Some p → IsFull p.0)
-    → ((s : State) (xs : List ℕ) → All IsFull (more s xs)) → All IsFull (records_next more next)
-next_all more None full rest = All-nil IsFull
-next_all more (Some p) full rest = All-cons IsFull p.0 (more p.1 p.2) (full p refl) (rest p.1 p.2)
+next_all : (more : State → List ℕ → List (List (List ℕ))) (next : Option Read) → ((p : Read) → next ≡ Some p → HasField p.0)
+    → ((s : State) (xs : List ℕ) → All HasField (more s xs)) → All HasField (records_next more next)
+next_all more None full rest = All-nil HasField
+next_all more (Some p) full rest = All-cons HasField p.0 (more p.1 p.2) (full p refl) (rest p.1 p.2)
 
-records_full : (cfg : Config) (n : ℕ) (s : State) (xs : List ℕ) → All IsFull (records_from cfg n s xs)
+records_full : (cfg : Config) (n : ℕ) (s : State) (xs : List ℕ) → All HasField (records_from cfg n s xs)
 unfolding records_from
-records_full cfg zero s xs = All-nil IsFull
+records_full cfg zero s xs = All-nil HasField
 records_full cfg (suc n) s xs =
     next_all (records_from cfg n) (next_record cfg s [] [] xs) (next_full cfg s [] [] xs) (records_full cfg n)
 
@@ -103,71 +99,25 @@ wide kind rest =
     by_kinds (are_blank (drop 9 (kind ∷ rest))) (bytes_eq kind (codes "phase")) (bytes_eq kind (codes "seq")) (bytes_eq kind (codes "split"))
     (bytes_eq kind (codes "pattern")) (bytes_eq kind (codes "remove")) (removal_width rest) (record_width kind) (wide_removal rest) (wide_record kind)
 
-taken : (b : Bool) (width : ℕ) (kind : List ℕ) (rest : List (List ℕ)) → 1 ≤ width → IsFull (if b then take width (kind ∷ rest) else kind ∷ rest)
+taken : (b : Bool) (width : ℕ) (kind : List ℕ) (rest : List (List ℕ)) → 1 ≤ width → HasField (if b then take width (kind ∷ rest) else kind ∷ rest)
 taken true (suc n) kind rest h = omega arith
 taken true zero kind rest h = absurd (omega arith)
 taken false width kind rest h = omega arith
 
-kept_full : (width : Option ℕ) (kind : List ℕ) (rest : List (List ℕ)) → IsWide width → IsFull (kept_by width (kind ∷ rest))
+kept_full : (width : Option ℕ) (kind : List ℕ) (rest : List (List ℕ)) → IsWide width → HasField (kept_by width (kind ∷ rest))
 kept_full None kind rest h = omega arith
 kept_full (Some width) kind rest h = taken (are_blank (drop width (kind ∷ rest))) width kind rest h
 
-unpadded_full : (row : List (List ℕ)) → IsFull row → IsFull (unpadded row)
+unpadded_full : (row : List (List ℕ)) → HasField row → HasField (unpadded row)
 unpadded_full [] full = absurd (omega arith)
 unpadded_full (kind ∷ rest) full = kept_full (width_by kind rest) kind rest (wide kind rest)
 
-all_full : (rows : List (List (List ℕ))) → All IsFull rows → All IsFull (map unpadded rows)
-all_full [] each = All-nil IsFull
+all_full : (rows : List (List (List ℕ))) → All HasField rows → All HasField (map unpadded rows)
+all_full [] each = All-nil HasField
 all_full (row ∷ rows) each =
-    All-cons IsFull (unpadded row) (map unpadded rows) (unpadded_full row (All-head IsFull row rows each)) (all_full rows (All-tail IsFull row rows each))
+    All-cons HasField (unpadded row) (map unpadded rows) (unpadded_full row (All-head HasField row rows each)) (all_full rows (All-tail HasField row rows each))
 
--- ---- a file of records that have fields is read as them
-
-escaped-file : (field : List ℕ) → escaped file_writer field ≡ escaped default_writer field
-unfolding escaped
-escaped-file [] = refl
-escaped-file (b ∷ field) = rw (escaped-file field) refl
-
-field_text-file : (field : List ℕ) → field_text file_writer field ≡ field_text default_writer field
-field_text-file field = rw (escaped-file field) refl
-
-fields_text-file : (fields : List (List ℕ)) → fields_text file_writer fields ≡ fields_text default_writer fields
-unfolding fields_text
-fields_text-file [] = refl
-fields_text-file (field ∷ fields) = rw (field_text-file field, fields_text-file fields) refl
-
-is_blank-file : (fields : List (List ℕ)) → is_blank_row file_writer fields ≡ is_blank_row default_writer fields
-unfolding is_blank_row
-is_blank-file [] = refl
-is_blank-file (field ∷ []) = rw (field_text-file field) refl
-is_blank-file (field ∷ next ∷ fields) = refl
-
-row_text-file : (fields : List (List ℕ)) → row_text file_writer fields ≡ row_text default_writer fields
-row_text-file [] = rw (is_blank-file []) refl
-row_text-file (field ∷ fields) =
-    rw (field_text-file field, fields_text-file fields, is_blank-file (field ∷ fields)) refl
-
-next_row : (row : List (List ℕ)) (tail : List ℕ) → IsFull row → next_record default_config st.StartRecord [] [] (row_text file_writer row ++ tail) ≡ Some (row, st.StartRecord, tail)
-next_row [] tail full = absurd (omega arith)
-next_row (field ∷ fields) tail full = rw (row_text-file (field ∷ fields)) (read-write (field ∷ fields) tail)
-
-read_rows : (rows : List (List (List ℕ))) (n : ℕ) → length rows < n → All IsFull rows → records_from default_config n st.StartRecord (csv_text rows) ≡ rows
-unfolding records_from next_record
-read_rows rows zero h each = absurd (omega arith)
-read_rows [] (suc n) h each = refl
-read_rows (row ∷ rows) (suc n) h each =
-    let more = read_rows rows n (omega arith) (All-tail IsFull row rows each) in
-    rw (next_row row (csv_text rows) (All-head IsFull row rows each), more) refl
-
-row_takes : (row : List (List ℕ)) → 1 ≤ length (row_text file_writer row)
-row_takes row = omega (arith, length-append {A = ℕ})
-
-rows_take : (rows : List (List (List ℕ))) → length rows ≤ length (csv_text rows)
-rows_take [] = omega arith
-rows_take (row ∷ rows) =
-    let one = row_takes row in
-    let more = rows_take rows in
-    omega (arith, length-append (row_text file_writer row) (csv_text rows))
+-- ---- the file
 
 without_mark : (text : List ℕ) → strip_bom (0xEF ∷ 0xBB ∷ 0xBF ∷ text) ≡ text
 unfolding strip_bom
@@ -179,4 +129,4 @@ read_unpadded text =
     let rows = map unpadded (csv_records text) in
     let full = all_full (csv_records text) (records_full default_config _ st.StartRecord (strip_bom text)) in
     ap (λ t. records_from default_config (length t + 1) st.StartRecord t) (without_mark (csv_text rows))
-    ∙ read_rows rows (length (csv_text rows) + 1) (omega (arith, rows_take rows)) full
+    ∙ read_rows rows full

@@ -4,12 +4,10 @@ ghost use Rattle.std.specs.Prelude.{◌≡◌, IfOk};
 ghost use Rattle.csv.specs.Records.{fields_of};
 ghost use Rattle.office_spreadsheets.specs.Hints.{hint_for, hint_of, line_of_record};
 
-use crate::fields::fields_in;
 use crate::hints::{Hint, hint_by};
 use crate::kinds::row_kind_of;
-use crate::reading::read_records;
 use csv::ByteRecord;
-use office_files::BadRow;
+use office_files::{BadRow, fields_in, read_records};
 use signal_records::{NoMemory, RowFault};
 use std::alloc::Global;
 

@@ -4,13 +4,11 @@
 #![tactic(auto)]
 
 mod explaining;
-mod fields;
 mod hints;
 mod kinds;
 mod lines;
 mod notes;
 mod padded;
-mod reading;
 mod width;
 
 pub use explaining::{hint_of, line_of_record};

@@ -9,11 +9,9 @@ ghost use Rattle.office_files.specs.Records.{commands_of};
 ghost use Rattle.office_spreadsheets.specs.Padded.{unpadded, unpadded_text};
 ghost use Rattle.signal_records.specs.declared.record.Change.{Change};
 
-use crate::fields::{fields_in, record_of};
-use crate::reading::read_records;
 use crate::width::unpadded;
 use csv::ByteRecord;
-use office_files::csv_file;
+use office_files::{csv_file, fields_in, read_records};
 use signal_records::NoMemory;
 use std::alloc::Global;
 
@@ -25,7 +23,7 @@ fn unpadded_record(alloc: Global, record: &ByteRecord) -> Result<ByteRecord, NoM
     ensures { IfOk result (λ row. fields_of row ≡ unpadded (fields_of record.now)) }
 {
     let fields = fields_in(alloc, record)?;
-    record_of(alloc, unpadded(&fields))
+    ByteRecord::from_fields(alloc, unpadded(&fields))
 }
 
 /// The same of each record.
