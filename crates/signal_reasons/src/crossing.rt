@@ -1,14 +1,14 @@
 //! Why the crossing of a phase breaks V3, V4, V5 or V14.
 
-ghost use Rattle.std.specs.Prelude.{◌≡◌, ◌≤◌, true, IfSome, IfNone};
+ghost use Rattle.std.specs.Prelude.{◌≡◌, true, IfSome, IfNone};
 ghost use Rattle.signal_rules.specs.PhaseRules.{walk_is_long, clears_crossing, clears_setback};
-ghost use Rattle.signal_rules.specs.PhaseRules.{clearance, lead_is_right};
+ghost use Rattle.signal_rules.specs.PhaseRules.{lead_is_right};
 ghost use Rattle.signal_reasons.specs.PhaseReasons.{IsCrossingReason, crossing_rule};
 ghost use Rattle.signal_reasons.specs.PhaseReasons.{crossing_keeps};
 
 use crate::reason::CrossingReason;
 use signal_records::{Ped, Phase};
-use signal_rules::Rule;
+use signal_rules::{Rule, clearance};
 
 /// One of these rules, on a phase with a pedestrian part.
 pub(crate) fn crossing_reason(phase: &Phase, ped: &Ped, rule: Rule) -> Option<CrossingReason>
@@ -39,16 +39,6 @@ fn walk_reason(phase: &Phase, ped: &Ped) -> Option<CrossingReason>
         seconds: ped.walk,
         least,
     })
-}
-
-/// From the end of the walk to the end of red, in tenths of a second.
-fn clearance(phase: &Phase, ped: &Ped) -> u32
-    ensures exact { result ≡ clearance phase.now ped.now }
-    ensures small { result ≤ 3060 }
-{
-    let Ped { clear, .. } = ped;
-    let Phase { yellow, red, .. } = phase;
-    10 * u32::from(*clear) + (u32::from(*yellow) + u32::from(*red))
 }
 
 /// V4: walking 3.5 feet a second takes no longer than clearance, yellow and red.

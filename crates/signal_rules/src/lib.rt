@@ -23,6 +23,7 @@ pub use judging::violations;
 pub use lanes::{lane_seconds, lists, time_of};
 pub use lookup::{has_phase, pattern_at, phase_at, ring_row, split_at};
 pub use pattern::{is_coordinated, used_rings, without_split};
+pub use phase::clearance;
 pub use reach::touched;
 pub use sequence::has_sequence;
 pub use violation::{Rule, Subject, Violation};

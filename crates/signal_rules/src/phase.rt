@@ -31,7 +31,7 @@ pub(crate) fn walk_is_long(ped: &Ped) -> bool
 }
 
 /// From the end of the walk to the end of red, in tenths of a second.
-fn clearance(phase: &Phase, ped: &Ped) -> u32
+pub fn clearance(phase: &Phase, ped: &Ped) -> u32
     ensures exact { result ≡ clearance phase.now ped.now }
     ensures small { result ≤ 3060 }
 {
