@@ -1,5 +1,5 @@
 -- The query of all rows of a table that is keyed as `timing` is, what it shows, and what the cells of a row tell.
-use Rattle.std.proofs.Common.{◌≡◌, ℕ, List, [], ◌++◌, true, map, length, None, Some, refl, sym, subst, ap, ◌∙◌, ◌∷◌, pos, Result, Ok, Err}
+use Rattle.std.proofs.Common.{◌≡◌, ℕ, List, [], ◌++◌, true, map, length, None, Some, sym, subst, ap, ◌∙◌, ◌∷◌, pos, Result, Ok, Err}
 use Rattle.std.specs.{FinMap.entries, FinMap.get, List.AllByRecursion, Prelude.IfOk}
 use Rattle.sqlite.specs.{Effect.Database, Effect.IsDatabase}
 use Rattle.sqlite.specs.Order.{Row as SqlRow, column}
@@ -7,7 +7,7 @@ use Rattle.sqlite_rules.specs.Lists.{Has}
 use Rattle.office_tables_shelf.specs.{Cells.Cell, Cells.null, Cells.number, Cells.text, declared.rows.Table.Table, Rows.body_in}
 use Rattle.office_tables_shelf.specs.Rows.{timing_key, draft_key, left_columns_in}
 use Rattle.office_tables_statements.specs.{Calls.AreOrdered, Calls.Reads, Listed.shown_key, Listed.shown_body, Stored.cells_at, Stored.content_of}
-use Rattle.office_tables_statements.specs.{Stored.cell_of, Tables.rows_at, Tables.layout_at, Tables.row_shown}
+use Rattle.office_tables_statements.specs.{Stored.cell_of, Tables.rows_at, Tables.row_shown}
 use Rattle.office_tables_statements.specs.Tables.{places_from}
 use Rattle.office_tables_schema.specs.Schema.{office_schema}
 use Rattle.office_tables_shelf.proofs.{ListLemmas.stands, ListLemmas.where_all, RowLemmas.same_row}
