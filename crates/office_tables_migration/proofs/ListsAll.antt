@@ -1,5 +1,5 @@
 -- The query of all rows of a table that is keyed as `timing` is, what it shows, and what the cells of a row tell.
-use Rattle.std.proofs.Common.{◌≡◌, ℕ, List, [], ◌++◌, true, map, length, None, Some, refl, sym, subst, ap, ◌∙◌, ◌∷◌, pos, Result, Ok, Err}
+use Rattle.std.proofs.Common.{◌≡◌, ℕ, List, [], ◌++◌, true, map, length, None, Some, sym, subst, ap, ◌∙◌, ◌∷◌, pos, Result, Ok, Err}
 use Rattle.std.specs.{FinMap.entries, FinMap.get, List.AllByRecursion, Prelude.IfOk}
 use Rattle.sqlite.specs.{Effect.Database, Effect.IsDatabase}
 use Rattle.sqlite.specs.Order.{Row as SqlRow, column}

@@ -13,27 +13,13 @@ use Rattle.signal_records.specs.declared.record.Row.TheVariants as row
 use Rattle.signal_records.specs.declared.record.Change.{Change}
 use Rattle.signal_records.specs.declared.record.Change.TheVariants.{Put, Remove}
 use Rattle.draft_state.specs.ChangedRows.{left_by}
-use Rattle.office_tables_shelf.specs.Cells.{Cell, TableRows, text}
-use Rattle.office_tables_shelf.specs.Rows.{body_in, timing_key, timing_columns_in, draft_key, left_columns_in}
+use Rattle.office_tables_shelf.specs.Cells.{Cell, TableRows}
+use Rattle.office_tables_shelf.specs.Rows.{timing_key, timing_columns_in, draft_key, left_columns_in}
 use Rattle.office_tables_shelf.specs.declared.rows.RowChange.{RowChange}
 use Rattle.office_tables_shelf.specs.declared.rows.RowChange.TheVariants.{PutTiming, PutDraft}
 use Rattle.office_tables_shelf.specs.declared.shelf.ShelfFault.{ShelfFault}
 use Rattle.office_tables_shelf.specs.declared.shelf.ShelfFault.TheVariants as fault
 use Rattle.office_tables_statements.specs.Listed.{shown_key, shown_body}
-
--- the row that version 1 spelled in these bytes, or in this cell
-abbrev pub IsFormerBody : List ℕ → Row → Type 0
-IsFormerBody body r = (body_in version_1_limits r ≡ body) × IsRowWithin version_1_limits r
-
-abbrev pub IsFormerCell : Cell → Row → Type 0
-IsFormerCell cell r = (cell ≡ text (body_in version_1_limits r)) × IsRowWithin version_1_limits r
-
--- version 1 spelled no row so
-abbrev pub IsNoFormerBody : List ℕ → Type 0
-IsNoFormerBody body = (r : Row) → IsRowWithin version_1_limits r → body_in version_1_limits r ≢ body
-
-abbrev pub IsNoFormerCell : Cell → Type 0
-IsNoFormerCell cell = (r : Row) → IsRowWithin version_1_limits r → cell ≢ text (body_in version_1_limits r)
 
 -- where a row of five columns is told to be damaged, this holds of it
 abbrev pub OnDamage : {A : Type 0} → Result A ShelfFault → SqlRow → Type 0 → Type 0

@@ -15,6 +15,7 @@ use crate::stored_row::{StoredRow, Texts, TimingKeyed};
 use office_tables_shelf::rows::Table;
 use office_tables_shelf::shelf::ShelfFault;
 use office_tables_statements::body::write_body;
+use office_tables_statements::body_reading::Version;
 use office_tables_statements::listed::{body_at, check_key, read_key};
 use office_tables_statements::statement::{SqlFault, write};
 use signal_records::{Change, InterId, Key, NoMemory};
@@ -102,7 +103,7 @@ impl StoredRow for Change {
 
     /// Without a body it removes what is under its key.
     fn read(alloc: Global, id: InterId, row: &SqlRow) -> Result<Change, ShelfFault> {
-        let Some(found) = body_at(alloc, row, 4)? else {
+        let Some(found) = body_at(alloc, Version::Current, row, 4)? else {
             return Ok(Change::Remove(read_key(row, id)?));
         };
         check_key(row, id, &found.key())?;

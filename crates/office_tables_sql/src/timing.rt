@@ -11,6 +11,7 @@ ghost use Rattle.office_tables_statements.specs.Calls.{StaysOpen};
 use crate::stored_row::{StoredRow, Texts, TimingKeyed};
 use office_tables_shelf::shelf::ShelfFault;
 use office_tables_statements::body::write_body;
+use office_tables_statements::body_reading::Version;
 use office_tables_statements::listed::{body_at, check_key};
 use office_tables_statements::statement::{SqlFault, select_one};
 use office_tables_statements::value::number_at;
@@ -90,7 +91,7 @@ impl StoredRow for Row {
 
     /// Its body is a row, and the columns before it are that row's key.
     fn read(alloc: Global, id: InterId, row: &SqlRow) -> Result<Row, ShelfFault> {
-        let Some(found) = body_at(alloc, row, 4)? else {
+        let Some(found) = body_at(alloc, Version::Current, row, 4)? else {
             return Err(ShelfFault::Damaged);
         };
         check_key(row, id, &found.key())?;

@@ -3,3 +3,4 @@ pub mod Stored
 pub mod Calls
 pub mod Listed
 pub mod Tables
+pub mod Versions

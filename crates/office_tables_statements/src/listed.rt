@@ -10,32 +10,39 @@ ghost use Rattle.signal_records.specs.Within.{IsRowWithin, IsKeyWithin, current_
 ghost use Rattle.signal_records.specs.declared.key.Key.{Key};
 ghost use Rattle.signal_records.specs.declared.record.Row.{Row};
 ghost use Rattle.office_tables_shelf.specs.Cells.{number, text, null};
-ghost use Rattle.office_tables_shelf.specs.Rows.{body_of, timing_key};
+ghost use Rattle.office_tables_shelf.specs.Rows.{body_in, timing_key};
 ghost use Rattle.office_tables_statements.specs.Stored.{cell_of};
 ghost use Rattle.office_tables_statements.specs.Listed.{shown_key};
+ghost use Rattle.office_tables_statements.specs.Versions.{limits_of};
 
-use crate::body_reading::row_of_body;
+use crate::body_reading::{Version, row_of_body};
 use crate::value::{number_at, text_or_null_at};
 use office_tables_shelf::shelf::ShelfFault;
 use signal_records::{InterId, Key, PatternNo, PhaseNo, RingNo, Row, SeqNo, SplitNo};
 use sqlite::Row as SqlRow;
 use std::alloc::Global;
 
-/// The row in the column of the bodies, where it is not NULL.
-pub fn body_at(alloc: Global, row: &SqlRow, at: usize) -> Result<Option<Row>, ShelfFault>
-    ensures row { IfOk result
-        (λ found. IfSome found
-        (λ r. (cell_of (column row.now at) ≡ text (body_of r)) × IsRowWithin current_limits r)) }
+/// The row of a version in the column of the bodies, where it is not NULL.
+pub fn body_at(
+    alloc: Global,
+    version: Version,
+    row: &SqlRow,
+    at: usize,
+) -> Result<Option<Row>, ShelfFault>
+    ensures row { IfOk result (λ found. IfSome found (λ r.
+        (cell_of (column row.now at) ≡ text (body_in (limits_of version) r))
+        × IsRowWithin (limits_of version) r)) }
     ensures null { result ≡ Ok None → cell_of (column row.now at) ≡ null }
-    ensures damaged { result ≡ Err ShelfFault.Damaged → at < length row.now → (r : Row) →
-        IsRowWithin current_limits r → cell_of (column row.now at) ≢ text (body_of r) }
+    ensures damaged { result ≡ Err ShelfFault.Damaged → at < length row.now →
+        (r : Row) → IsRowWithin (limits_of version) r →
+        cell_of (column row.now at) ≢ text (body_in (limits_of version) r) }
     ensures damaged_null { result ≡ Err ShelfFault.Damaged → at < length row.now →
         cell_of (column row.now at) ≢ null }
 {
     let Some(body) = text_or_null_at(row, at)? else {
         return Ok(None);
     };
-    match row_of_body(alloc, body)? {
+    match row_of_body(alloc, version, body)? {
         Some(found) => Ok(Some(found)),
         None => Err(ShelfFault::Damaged),
     }

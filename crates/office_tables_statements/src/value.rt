@@ -20,7 +20,7 @@ use sqlite::{Error, ErrorCode, Row};
 use std::alloc::Global;
 
 /// The value of a column, as a `T`.
-pub fn value_at<T: FromSql>(row: &Row, at: usize) -> Result<T, ShelfFault>
+fn value_at<T: FromSql>(row: &Row, at: usize) -> Result<T, ShelfFault>
     ensures ok { IfOk result (λ x. T.FromSql.reads_as (column row.now at) x) }
     ensures damaged { result ≡ Err ShelfFault.Damaged → at < length row.now →
         ¬ T.FromSql.is_readable (column row.now at) }

@@ -1,0 +1,9 @@
+-- The limits of the rows in each version of the tables.
+use Rattle.signal_records.specs.Within.{current_limits, version_1_limits}
+use Rattle.signal_records.specs.declared.limits.Limits.{Limits}
+use Rattle.office_tables_statements.specs.declared.body_reading.Version.{Version}
+use Rattle.office_tables_statements.specs.declared.body_reading.Version.TheVariants.{First, Current}
+
+abbrev pub limits_of : Version → Limits
+limits_of First = version_1_limits
+limits_of Current = current_limits
