@@ -1,11 +1,11 @@
 -- The cells of a row tell the row: no field has a comma, so its text, cut at the commas, gives the
 -- fields back, and these spell one row.
-use Rattle.std.proofs.Common.{◌≡◌, ℕ, zero, suc, ◌^◌, ◌<◌, ◌≤◌, Bool, true, false, eqb}
+use Rattle.std.proofs.Common.{◌≡◌, ℕ, ◌^◌, ◌<◌, ◌≤◌, Bool, true, false, eqb}
 use Rattle.std.proofs.Common.{List, [], ◌∷◌, map, Option, Some, None, refl, sym, ap, ◌∙◌, arith}
-use Rattle.std.specs.Prelude.{codes, slice_index, not, ◌&&◌, IfSome, IsTrue}
-use Rattle.std.specs.{Char.is_ascii, Char.is_ascii_digit, Fmt.decimal, Str.IsUtf8, List.All, List.list_all, List.join_with_byte}
+use Rattle.std.specs.Prelude.{codes, not, IfSome, IsTrue}
+use Rattle.std.specs.{Char.is_ascii_digit, Fmt.decimal, List.All, List.list_all, List.join_with_byte}
 use Rattle.std.specs.List.{slice_split}
-use Rattle.std.proofs.{lemmas.Str.IsUtf8-from_ascii, lemmas.Bool.and_parts, lemmas.Bool.and_from, lemmas.Bool.not-true}
+use Rattle.std.proofs.{lemmas.Bool.and_parts, lemmas.Bool.and_from, lemmas.Bool.not-true}
 use Rattle.std.proofs.{lemmas.Bool.Decides.nat_tests, lemmas.List.Folds.list_all-append, lemmas.List.Elements.All-weaker}
 use Rattle.std.proofs.lemmas.List.Splits.{join_with_byte-slice_split, slice_split_at, slice_split_none}
 use Rattle.std.proofs.lemmas.List.Sums.{AllPass-from_list_all, list_all-from_AllPass}
@@ -25,9 +25,9 @@ use Rattle.office_tables_shelf.specs.Rows.{body_in, body_of, timing_columns, lef
 abbrev pub is_comma : ℕ → Bool
 is_comma b = eqb b 44
 
--- ASCII, and no comma
+-- no comma
 abbrev is_plain : ℕ → Bool
-is_plain b = not (is_comma b) && is_ascii b
+is_plain b = not (is_comma b)
 
 abbrev is_whole : List ℕ → Bool
 is_whole = list_all is_plain
@@ -51,7 +51,7 @@ joined p c (x ∷ y ∷ xs) between h =
 
 no_commas : (bs : List ℕ) → is_whole bs ≡ true → All (λ b. is_comma b ≡ false) bs
 no_commas bs h = All-weaker (λ b. is_plain b ≡ true) (λ b. is_comma b ≡ false)
-    (λ b k. not-true (is_comma b) (and_parts _ _ k).0) bs (AllPass-from_list_all is_plain bs h)
+    (λ b. not-true (is_comma b)) bs (AllPass-from_list_all is_plain bs h)
 
 cut_joined : (x : List ℕ) (xs : List (List ℕ)) → list_all is_whole (x ∷ xs) ≡ true → slice_split is_comma (join_with_byte 44 (x ∷ xs)) ≡ x ∷ xs
 cut_joined x [] h = slice_split_none is_comma x (no_commas x (and_parts (is_whole x) true h).0)
@@ -94,10 +94,6 @@ phases_whole last (n ∷ ns) small h =
 
 list_whole : (last : ℕ) (ns : List ℕ) → last ≤ PHASES → IsTrue (is_phase_list last ns) → is_whole (list ns) ≡ true
 list_whole last ns small h = joined is_plain 32 (map decimal ns) refl (phases_whole last ns small (and_parts (list_all (is_phase last) ns) (is_distinct ns) h).0)
-
-joined_ascii : (xs : List (List ℕ)) → list_all is_whole xs ≡ true → list_all is_ascii (join_with_byte 44 xs) ≡ true
-joined_ascii xs h = joined is_ascii 44 xs refl (weaker is_whole (list_all is_ascii)
-    (weaker is_plain is_ascii (λ b k. (and_parts (not (is_comma b)) _ k).1)) xs h)
 
 -- ---- rows
 
@@ -152,17 +148,6 @@ fields_back limits r are within = cut_spelling limits r (row_whole limits r are 
 pub body_back : (limits : Limits) (r : Row) (bytes : List ℕ) → slice_split is_comma bytes ≡ spelling limits r → body_in limits r ≡ bytes
 unfolding body_in
 body_back limits r bytes same = ap (join_with_byte 44) (sym same) ∙ join_with_byte-slice_split 44 bytes
-
-all_below : (bs : List ℕ) → list_all is_ascii bs ≡ true → (i : ℕ) → slice_index bs i < 128
-all_below [] h i = omega arith
-all_below (b ∷ bs) h zero = let first : is_ascii b ≡ true = (and_parts (is_ascii b) _ h).0 in grind (arith, nat_tests)
-all_below (b ∷ bs) h (suc i) = all_below bs (and_parts (is_ascii b) _ h).1 i
-
--- a row's text is ASCII, and so a text
-pub body_utf8 : (limits : Limits) (r : Row) → AreLimits limits → IsRowWithin limits r → IsUtf8 (body_in limits r)
-unfolding body_in
-body_utf8 limits r are within =
-    IsUtf8-from_ascii (body_in limits r) (all_below (body_in limits r) (joined_ascii (spelling limits r) (row_whole limits r are within)))
 
 -- ---- what the text and the cells tell
 
