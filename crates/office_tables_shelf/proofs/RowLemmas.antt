@@ -1,9 +1,9 @@
 -- The cells of a row tell the row: no field has a comma, so its text, cut at the commas, gives the
 -- fields back, and these spell one row.
-use Rattle.std.proofs.Common.{◌≡◌, ℕ, suc, ◌^◌, ◌<◌, ◌≤◌, Bool, true, false, eqb}
+use Rattle.std.proofs.Common.{◌≡◌, ℕ, ◌^◌, ◌<◌, ◌≤◌, Bool, true, false, eqb}
 use Rattle.std.proofs.Common.{List, [], ◌∷◌, map, Option, Some, None, refl, sym, ap, ◌∙◌, arith}
-use Rattle.std.specs.Prelude.{codes, not, ◌&&◌, IfSome, IsTrue}
-use Rattle.std.specs.{Char.is_ascii, Char.is_ascii_digit, Fmt.decimal, List.All, List.list_all, List.join_with_byte}
+use Rattle.std.specs.Prelude.{codes, not, IfSome, IsTrue}
+use Rattle.std.specs.{Char.is_ascii_digit, Fmt.decimal, List.All, List.list_all, List.join_with_byte}
 use Rattle.std.specs.List.{slice_split}
 use Rattle.std.proofs.{lemmas.Bool.and_parts, lemmas.Bool.and_from, lemmas.Bool.not-true}
 use Rattle.std.proofs.{lemmas.Bool.Decides.nat_tests, lemmas.List.Folds.list_all-append, lemmas.List.Elements.All-weaker}
@@ -25,9 +25,9 @@ use Rattle.office_tables_shelf.specs.Rows.{body_in, body_of, timing_columns, lef
 abbrev pub is_comma : ℕ → Bool
 is_comma b = eqb b 44
 
--- ASCII, and no comma
+-- no comma
 abbrev is_plain : ℕ → Bool
-is_plain b = not (is_comma b) && is_ascii b
+is_plain b = not (is_comma b)
 
 abbrev is_whole : List ℕ → Bool
 is_whole = list_all is_plain
@@ -51,7 +51,7 @@ joined p c (x ∷ y ∷ xs) between h =
 
 no_commas : (bs : List ℕ) → is_whole bs ≡ true → All (λ b. is_comma b ≡ false) bs
 no_commas bs h = All-weaker (λ b. is_plain b ≡ true) (λ b. is_comma b ≡ false)
-    (λ b k. not-true (is_comma b) (and_parts _ _ k).0) bs (AllPass-from_list_all is_plain bs h)
+    (λ b. not-true (is_comma b)) bs (AllPass-from_list_all is_plain bs h)
 
 cut_joined : (x : List ℕ) (xs : List (List ℕ)) → list_all is_whole (x ∷ xs) ≡ true → slice_split is_comma (join_with_byte 44 (x ∷ xs)) ≡ x ∷ xs
 cut_joined x [] h = slice_split_none is_comma x (no_commas x (and_parts (is_whole x) true h).0)
