@@ -13,6 +13,7 @@ use Rattle.office_listings.specs.Cabinet.{cabinet_register}
 use Rattle.office_listings.specs.Orders.{named_orders, orders_csv_text}
 use Rattle.signal_office_commands.proofs.AskingLemmas.{step_taken}
 use Rattle.signal_office_faults.specs.declared.fault.Fault.{Fault}
+use Rattle.signal_office_faults.specs.declared.fault.Fault.TheVariants as told
 use Rattle.signal_office_commands.specs.Cabinet.{IsCabinetOf, IsRegisterOf, IsStateOf}
 use Rattle.signal_office_commands.specs.Listing.{IsOrdersCsvOf}
 
@@ -73,3 +74,8 @@ csv_is office id text state cabinet (i, there, shows) (known, is) printed =
 pub handed : {A : Type 0} (result : Result A Fault) (fault told : Fault) → IsErrAnd result (λ why. why ≡ fault) → result ≡ Err told → fault ≡ told
 handed (Ok x) fault told is e = absurd is
 handed (Err why) fault told is e = let same : why ≡ told = cc in sym is ∙ same
+
+-- and so is what it tells of a damaged row
+pub damage_handed : {A B D : Type 0} {asked : Result A Fault} {result : Result B Fault} {fault : Fault} → asked ≡ Err fault
+    → IsErrAnd result (λ why. why ≡ fault) → (asked ≡ Err told.Damaged → D) → result ≡ Err told.Damaged → D
+damage_handed was is damaged e = damaged (was ∙ ap (λ (f : Fault). Err f) (handed _ _ told.Damaged is e))

@@ -1,11 +1,9 @@
-use Rattle.std.proofs.Common.{◌∙◌, Err, ap, flat_map, inl, inr, ⊎_elim}
+use Rattle.std.proofs.Common.{◌∙◌, ap, flat_map, inl, inr, ⊎_elim}
 use Rattle.signal_office_commands.specs.Listing.{named_from}
 use Rattle.signal_office_commands.proofs.AskingLemmas.{◌then◌, still_held}
 use Rattle.signal_office_commands.proofs.FaultLemmas.{on_fault}
 use Rattle.signal_office_commands.proofs.OrderLemmas.{all_from, listed_fault, listed_known}
-use Rattle.signal_office_commands.proofs.QueryLemmas.{handed}
-use Rattle.signal_office_faults.specs.declared.fault.Fault.{Fault}
-use Rattle.signal_office_faults.specs.declared.fault.Fault.TheVariants as told
+use Rattle.signal_office_commands.proofs.QueryLemmas.{damage_handed}
 use Rattle.signal_office_commands.proofs.orders.all_orders.Goals as goal
 
 pub returns-clause-open_ones : goal.returns-clause-open_ones
@@ -40,9 +38,7 @@ returns-in_err-list-clause-refused g c =
 
 pub returns-in_err-list-clause-damaged : goal.returns-in_err-list-clause-damaged
 returns-in_err-list-clause-damaged g c = λ is clean tables held.
-    let fault = handed _ c.in_err-list.field-0.0 told.Damaged c.from_residual.ensures.1 is in
-    inl (c.intersections_asked.ensures.damaged
-    (c.in_err-list.was ∙ ap (λ (f : Fault). Err f) fault) clean tables held)
+    inl (damage_handed c.in_err-list.was c.from_residual.ensures.1 c.intersections_asked.ensures.damaged is clean tables held)
 
 pub returns-in_err-orders-clause-fault : goal.returns-in_err-orders-clause-fault
 returns-in_err-orders-clause-fault g c =
@@ -57,9 +53,7 @@ returns-in_err-orders-clause-refused g c =
 
 pub returns-in_err-orders-clause-damaged : goal.returns-in_err-orders-clause-damaged
 returns-in_err-orders-clause-damaged g c = λ is clean tables held.
-    let fault = handed _ c.in_err-orders.field-0.0 told.Damaged c.from_residual-in_err-orders.ensures.1 is in
-    inr (c.open_orders_asked.ensures.damaged
-    (c.in_err-orders.was ∙ ap (λ (f : Fault). Err f) fault) clean tables
+    inr (damage_handed c.in_err-orders.was c.from_residual-in_err-orders.ensures.1 c.open_orders_asked.ensures.damaged is clean tables
     (still_held g.S.Shelf _ _ tables c.intersections_asked.ensures.kept held))
 
 pub returns-in_err-orders-clause-kept : goal.returns-in_err-orders-clause-kept

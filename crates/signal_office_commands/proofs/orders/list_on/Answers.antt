@@ -1,7 +1,6 @@
-use Rattle.std.proofs.Common.{◌∙◌, ◌++◌, Err, ap}
+use Rattle.std.proofs.Common.{◌∙◌, ◌++◌, ap}
 use Rattle.office_listings.specs.Orders.{open_orders, orders_listing}
-use Rattle.signal_office_commands.proofs.{FaultLemmas.known_tells_memory, FaultLemmas.on_fault, QueryLemmas.handed}
-use Rattle.signal_office_faults.specs.declared.fault.Fault.{Fault}
+use Rattle.signal_office_commands.proofs.{FaultLemmas.known_tells_memory, FaultLemmas.on_fault, QueryLemmas.damage_handed}
 use Rattle.signal_office_faults.specs.declared.fault.Fault.TheVariants as told
 use Rattle.signal_office_commands.proofs.orders.list_on.Goals as goal
 
@@ -13,9 +12,7 @@ returns-clause-orders g c = λ clean tables held before stands.
     (shows.0, c.in_ok-orders_text.ensures ∙ ap orders_listing all)
 
 pub returns-in_err-cabinet-clause-damaged : goal.returns-in_err-cabinet-clause-damaged
-returns-in_err-cabinet-clause-damaged g c = λ is.
-    let fault = handed _ c.in_err-cabinet.field-0.0 told.Damaged c.from_residual.ensures.1 is in
-    c.cabinet_asked.ensures.damaged (c.in_err-cabinet.was ∙ ap (λ (f : Fault). Err f) fault)
+returns-in_err-cabinet-clause-damaged g c = damage_handed c.in_err-cabinet.was c.from_residual.ensures.1 c.cabinet_asked.ensures.damaged
 
 pub returns-in_err-cabinet-clause-fault : goal.returns-in_err-cabinet-clause-fault
 returns-in_err-cabinet-clause-fault g c =

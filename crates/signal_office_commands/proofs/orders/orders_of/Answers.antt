@@ -1,24 +1,13 @@
-use Rattle.std.proofs.Common.{subst, sym}
-use Rattle.std.specs.Prelude.{IfErr, IfOk}
-use Rattle.signal_office_commands.specs.{Asking.TellsOffice, Listing.IsOrdersListOf, Listing.TellsOrders}
 use Rattle.signal_office_commands.proofs.orders.orders_of.Goals as goal
 
 pub returns-in-None-clause-orders : goal.returns-in-None-clause-orders
-returns-in-None-clause-orders g c =
-    subst (λ id. IfOk c.list_of_all.result (λ text. TellsOffice g.S.Shelf c.args.office.now c.list_of_all.new.office (λ before. IsOrdersListOf before id text.items)))
-    (sym c.in-None.is) c.list_of_all.ensures.orders
+returns-in-None-clause-orders g c = rw c.in-None.is c.list_of_all.ensures.orders
 
 pub returns-in-None-clause-fault : goal.returns-in-None-clause-fault
-returns-in-None-clause-fault g c =
-    subst (λ id. IfErr c.list_of_all.result (λ fault. TellsOffice g.S.Shelf c.args.office.now c.list_of_all.new.office (λ before. TellsOrders before id fault)))
-    (sym c.in-None.is) c.list_of_all.ensures.fault
+returns-in-None-clause-fault g c = rw c.in-None.is c.list_of_all.ensures.fault
 
 pub returns-in-Some-clause-orders : goal.returns-in-Some-clause-orders
-returns-in-Some-clause-orders g c =
-    subst (λ id. IfOk c.list_on.result (λ text. TellsOffice g.S.Shelf c.args.office.now c.list_on.new.office (λ before. IsOrdersListOf before id text.items)))
-    (sym c.in-Some.is) c.list_on.ensures.orders
+returns-in-Some-clause-orders g c = rw c.in-Some.is c.list_on.ensures.orders
 
 pub returns-in-Some-clause-fault : goal.returns-in-Some-clause-fault
-returns-in-Some-clause-fault g c =
-    subst (λ id. IfErr c.list_on.result (λ fault. TellsOffice g.S.Shelf c.args.office.now c.list_on.new.office (λ before. TellsOrders before id fault)))
-    (sym c.in-Some.is) c.list_on.ensures.fault
+returns-in-Some-clause-fault g c = rw c.in-Some.is c.list_on.ensures.fault

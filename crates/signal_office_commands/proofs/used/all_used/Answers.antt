@@ -1,13 +1,11 @@
-use Rattle.std.proofs.Common.{◌∙◌, Err, ap, arith, inl, inr, subst, sym}
+use Rattle.std.proofs.Common.{◌∙◌, ap, arith, inl, inr, subst, sym}
 use Rattle.std.proofs.lemmas.List.{take_all}
 use Rattle.office_desk_timing.specs.Listing.{ListsEachIntersection}
 use Rattle.signal_office_commands.proofs.AskingLemmas.{◌then◌, still_held}
 use Rattle.signal_office_commands.proofs.FaultLemmas.{on_fault}
 use Rattle.signal_office_commands.proofs.OrderLemmas.{AreWhole, all_whole, known_at, known_tells, listed_fault, listed_known, whole_more}
-use Rattle.signal_office_commands.proofs.QueryLemmas.{handed}
+use Rattle.signal_office_commands.proofs.QueryLemmas.{damage_handed}
 use Rattle.signal_office_commands.proofs.UsedLemmas.{all_used, used_among, used_more}
-use Rattle.signal_office_faults.specs.declared.fault.Fault.{Fault}
-use Rattle.signal_office_faults.specs.declared.fault.Fault.TheVariants as told
 use Rattle.signal_office_commands.proofs.used.all_used.Goals as goal
 
 pub loop-listed-init : goal.loop-listed-init
@@ -68,10 +66,9 @@ returns-in_err-add_used_at-clause-clean g c = λ clean. c.loop-listed.invariant.
 
 pub returns-in_err-add_used_at-clause-damaged : goal.returns-in_err-add_used_at-clause-damaged
 returns-in_err-add_used_at-clause-damaged g c = λ is clean tables held.
-    let fault = handed _ c.in_err-add_used_at.field-0.0 told.Damaged c.from_residual-in_err-add_used_at.ensures.1 is in
     inr (
       c.listed-item.result.id,
-      c.add_used_at.ensures.damaged (c.in_err-add_used_at.was ∙ ap (λ (f : Fault). Err f) fault) clean tables
+      damage_handed c.in_err-add_used_at.was c.from_residual-in_err-add_used_at.ensures.1 c.add_used_at.ensures.damaged is clean tables
           (still_held g.S.Shelf _ _ tables c.loop-listed.invariant.kept held),
     )
 
@@ -95,5 +92,4 @@ returns-in_err-list-clause-refused g c =
 
 pub returns-in_err-list-clause-damaged : goal.returns-in_err-list-clause-damaged
 returns-in_err-list-clause-damaged g c = λ is clean tables held.
-    let fault = handed _ c.in_err-list.field-0.0 told.Damaged c.from_residual.ensures.1 is in
-    inl (c.intersections_asked.ensures.damaged (c.in_err-list.was ∙ ap (λ (f : Fault). Err f) fault) clean tables held)
+    inl (damage_handed c.in_err-list.was c.from_residual.ensures.1 c.intersections_asked.ensures.damaged is clean tables held)

@@ -1,8 +1,6 @@
-use Rattle.std.proofs.Common.{◌∙◌, Err, ap}
+use Rattle.std.proofs.Common.{◌∙◌, ap}
 use Rattle.signal_office_commands.specs.Using.{used_written}
-use Rattle.signal_office_commands.proofs.{FaultLemmas.on_fault, QueryLemmas.handed}
-use Rattle.signal_office_faults.specs.declared.fault.Fault.{Fault}
-use Rattle.signal_office_faults.specs.declared.fault.Fault.TheVariants as told
+use Rattle.signal_office_commands.proofs.{FaultLemmas.on_fault, QueryLemmas.damage_handed}
 use Rattle.signal_office_commands.proofs.used.used_of.Goals as goal
 
 pub returns-clause-used : goal.returns-clause-used
@@ -11,9 +9,7 @@ returns-clause-used g c = λ clean tables held before stands.
     ∙ ap (used_written c.args.csv) (c.as_slice.ensures.value ∙ c.in_ok-found.ensures.used clean tables held before stands)
 
 pub returns-in_err-found-clause-damaged : goal.returns-in_err-found-clause-damaged
-returns-in_err-found-clause-damaged g c = λ is.
-    let fault = handed _ c.in_err-found.field-0.0 told.Damaged c.from_residual.ensures.1 is in
-    c.all_used.ensures.damaged (c.in_err-found.was ∙ ap (λ (f : Fault). Err f) fault)
+returns-in_err-found-clause-damaged g c = damage_handed c.in_err-found.was c.from_residual.ensures.1 c.all_used.ensures.damaged
 
 pub returns-in_err-found-clause-fault : goal.returns-in_err-found-clause-fault
 returns-in_err-found-clause-fault g c =
