@@ -6,16 +6,18 @@ use Rattle.cabinet_core.specs.declared.refusal.CabinetRefusal.TheVariants as cab
 use Rattle.draft_core.specs.declared.refusal.DraftRefusal.{DraftRefusal}
 use Rattle.draft_core.specs.declared.refusal.DraftRefusal.TheVariants as draft
 use Rattle.office_tables_shelf.specs.Content.{Content}
-use Rattle.office_desk.specs.{Answers.Answers, Named.number_of}
-use Rattle.office_machine.specs.{Office.Office, Office.Intersection, Step.Step, Step.answered, Step.shown, declared.command.Command.Command}
+use Rattle.office_desk.specs.{Damage.MeetsDamage, Named.number_of}
+use Rattle.office_machine.specs.{Office.Office, Office.Intersection, declared.command.Command.Command}
 use Rattle.office_machine.specs.{declared.refusal.Refusal.Refusal, declared.reply.Reply.Reply, declared.reply.Reply.TheVariants.Refused}
 use Rattle.office_machine.specs.declared.refusal.Refusal.TheVariants as refusal
+use Rattle.office_machine.specs.declared.reply.Reply.TheVariants as reply
 use Rattle.office_files.specs.declared.fault.CsvFault.{CsvFault}
 use Rattle.office_files.specs.declared.fault.CsvFault.TheVariants as file
-use Rattle.signal_office_commands.specs.Asking.{IsUnread}
+use Rattle.signal_office_commands.specs.Asking.{Answered, IsUnread}
 use Rattle.signal_office_commands.specs.Cabinet.{HasIntersection}
 use Rattle.signal_office_commands.specs.Fault.{IsFaultOfQuery, TellsUnknown}
 use Rattle.signal_office_commands.specs.Refused.{fault_of, fault_of_record, record_refusal}
+use Rattle.signal_office_commands.specs.Showing.{cabinet_shown, running_shown, state_shown}
 use Rattle.signal_office_faults.specs.declared.fault.Fault.{Fault}
 use Rattle.signal_office_faults.specs.declared.fault.Fault.TheVariants as told
 
@@ -71,6 +73,36 @@ query_told why (inr (inl is)) = subst (λ w. IsFaultOfQuery (fault_of w)) (sym i
 query_told why (inr (inr (inl is))) = subst (λ w. IsFaultOfQuery (fault_of w)) (sym (unknown_by_number why is)) (inl refl)
 query_told why (inr (inr (inr never))) = absurd never
 
+-- a fault that is made of a reply is that of its refusal, or of the database
+abbrev pub TellsFault : {A : Type 0} → (Reply → Result A Fault) → Type 0
+TellsFault made = (it : Reply) (fault : Fault) → made it ≡ Err fault
+    → (fault ≡ told.Store) ⊎ ((why : Refusal) × (it ≡ Refused why) × (fault ≡ fault_of why))
+
+pub state_fault : TellsFault state_shown
+state_fault (reply.State state) fault e = cc
+state_fault (Refused why) fault e = inr (why, refl, cc)
+state_fault other fault e = inl cc
+
+pub running_fault : TellsFault running_shown
+running_fault (reply.Timing timing) fault e = cc
+running_fault (Refused why) fault e = inr (why, refl, cc)
+running_fault other fault e = inl cc
+
+pub cabinet_fault : TellsFault cabinet_shown
+cabinet_fault (reply.Cabinet cabinet) fault e = cc
+cabinet_fault (Refused why) fault e = inr (why, refl, cc)
+cabinet_fault other fault e = inl cc
+
+-- so what is made of the reply to such a query has one of its faults
+pub query_fault : {A : Type 0} (made : Reply → Result A Fault) → TellsFault made → (it : Reply) (result : Result A Fault)
+    → ((why : Refusal) → it ≡ Refused why → (why ≡ refusal.Unavailable) ⊎ ((why ≡ refusal.Damaged) ⊎ ((number_of why ≡ 10) ⊎ ⊥)))
+    → result ≡ made it → IfErr result IsFaultOfQuery
+query_fault made tells it (Ok x) named is = tt
+query_fault made tells it (Err fault) named is = elim (tells it fault (sym is)) [
+  | inl store ↦ inr (inr (inl store))
+  | inr of ↦ subst IsFaultOfQuery (sym of.2) (query_told of.0 (named of.0 of.1))
+]
+
 -- one about no intersection is not refused
 pub list_told : (why : Refusal) → (why ≡ refusal.Unavailable) ⊎ (why ≡ refusal.Damaged) → (fault_of why ≡ told.Store) ⊎ (fault_of why ≡ told.Damaged)
 list_told why (inl is) = inl (ap fault_of is)
@@ -93,6 +125,14 @@ damaged_told refusal.Damaged e = refl
 pub damage_refused : {A : Type 0} (why : Refusal) (fault : Fault) → fault ≡ fault_of why → ◌≡◌ {A = Result A Fault} (Err fault) (Err told.Damaged) → Refused why ≡ Refused refusal.Damaged
 damage_refused why fault is e = let same : fault ≡ told.Damaged = cc in ap (λ w. Refused w) (damaged_told why (sym is ∙ same))
 
+-- and of a row that the query reads
+pub shown_damage : {A : Type 0} (made : Reply → Result A Fault) → TellsFault made → (tables : Content) (asked : Command) (result : Result A Fault)
+    → Answered made tables asked tables result → result ≡ Err told.Damaged → MeetsDamage tables asked
+shown_damage made tells tables asked result shows is = elim (tells shows.reply told.Damaged (sym shows.made_is ∙ is)) [
+  | inl store ↦ absurd cc
+  | inr of ↦ shows.damaged (of.1 ∙ ap (λ w. Refused w) (damaged_told of.0 (sym of.2)))
+]
+
 -- ---- of an intersection
 
 -- a fault of the database tells nothing
@@ -102,29 +142,6 @@ store_tells office id = record { unknown = λ e. cc; missing = λ none. inr refl
 -- a fault from elsewhere tells nothing of an intersection that is there
 pub there_tells : (office : Office) (id : ℕ) (i : Intersection) → get office.intersections id ≡ Some i → TellsUnknown office id told.Memory
 there_tells office id i there = record { unknown = λ e. cc; missing = λ none. cc }
-
-found_tells : (office : Office) (id : ℕ) (refused : Refusal) (make : Intersection → Reply) (found : Option Intersection)
-    → get office.intersections id ≡ found → ((i : Intersection) → make i ≡ Refused refused → ⊥) → shown found make ≡ Refused refused
-    → TellsUnknown office id (fault_of refused)
-found_tells office id refused make None is differs e =
-    let same : refused ≡ refusal.UnknownIntersection = cc in
-    subst (λ r. TellsUnknown office id (fault_of r)) (sym same) (record { unknown = λ _. is; missing = λ _. inl refl })
-found_tells office id refused make (Some i) is differs e = absurd (differs i e)
-
-step_tells : (office next : Office) (id : ℕ) (asked : Command) (refused : Refusal) (make : Intersection → Reply)
-    → answered office asked ≡ (shown (get office.intersections id) make, office) → ((i : Intersection) → make i ≡ Refused refused → ⊥)
-    → Step office asked (Refused refused) next → TellsUnknown office id (fault_of refused)
-step_tells office next id asked refused make is differs (inl h) =
-    let same : refused ≡ refusal.Unavailable = let e : Refused refused ≡ Refused refusal.Unavailable = h.0 in cc in
-    subst (λ r. TellsUnknown office id (fault_of r)) (sym same) (store_tells office id)
-step_tells office next id asked refused make is differs (inr h) =
-    found_tells office id refused make (get office.intersections id) refl differs (ap (λ (p : Reply × Office). p.0) (sym is ∙ h))
-
--- a query that shows an intersection is refused where there is none, or unavailable
-pub refused_tells : (tables : Content) (office : Office) (id : ℕ) (asked : Command) (refused : Refusal) (make : Intersection → Reply)
-    → answered office asked ≡ (shown (get office.intersections id) make, office) → ((i : Intersection) → make i ≡ Refused refused → ⊥)
-    → Answers office asked (Refused refused) tables → TellsUnknown office id (fault_of refused)
-refused_tells tables office id asked refused make is differs answers = step_tells office answers.next id asked refused make is differs answers.step
 
 no_some : IsSome {T = Intersection} None → ⊥
 no_some is = cc

@@ -1,10 +1,10 @@
--- What the queries State, Cabinet and Stock show.
-use Rattle.std.proofs.Common.{◌≡◌, ℕ, List, Option, Some, None, Result, Ok, Err, refl, sym, ap, ◌∙◌}
-use Rattle.std.specs.{FinMap.get, Option.IsSome, Result.IsErrAnd}
+-- What the queries State, Cabinet and Stock show, and the fault that is handed on.
+use Rattle.std.proofs.Common.{◌≡◌, ℕ, List, Some, Result, Ok, Err, refl, sym, ap, ◌∙◌}
+use Rattle.std.specs.{Prelude.IfErr, Prelude.IfOk, Result.IsErrAnd}
 use Rattle.cabinet_core.specs.Stock.{stock_of}
 use Rattle.office_tables_shelf.specs.Content.{Content}
 use Rattle.office_desk.specs.Answers.{Answers}
-use Rattle.office_machine.specs.{Office.Office, Office.Intersection, Step.cabinet_shown, Step.shown, Step.state_shown}
+use Rattle.office_machine.specs.Office.{Office}
 use Rattle.office_machine.specs.{declared.reply.CabinetShown.CabinetShown, declared.reply.IntersectionState.IntersectionState}
 use Rattle.office_machine.specs.declared.reply.Reply.{Reply}
 use Rattle.office_machine.specs.declared.command.Command.TheVariants as command
@@ -16,36 +16,6 @@ use Rattle.signal_office_faults.specs.declared.fault.Fault.{Fault}
 use Rattle.signal_office_faults.specs.declared.fault.Fault.TheVariants as told
 use Rattle.signal_office_commands.specs.Cabinet.{IsCabinetOf, IsRegisterOf, IsStateOf}
 use Rattle.signal_office_commands.specs.Listing.{IsOrdersCsvOf}
-
-shown_state : (id : ℕ) (found : Option Intersection) (state : IntersectionState)
-    → shown found (λ i. reply.State (state_shown id i)) ≡ reply.State state
-    → (i : Intersection) × (found ≡ Some i) × (state ≡ state_shown id i)
-shown_state id None state e = cc
-shown_state id (Some i) state e =
-    let same : state ≡ state_shown id i = cc in
-    (i, refl, same)
-
--- the query State shows the intersection
-pub stated : (tables : Content) (office : Office) (id : ℕ) (state : IntersectionState)
-    → Answers office (command.State id) (reply.State state) tables → IsStateOf office id state
-stated tables office id state answers =
-    let taken = step_taken office answers.next (command.State id) (reply.State state) answers.step (λ e. cc) in
-    shown_state id (get office.intersections id) state (ap (λ (p : Reply × Office). p.0) taken)
-
-shown_cabinet : (found : Option Intersection) (made cabinet : CabinetShown)
-    → shown found (λ i. reply.Cabinet made) ≡ reply.Cabinet cabinet
-    → IsSome found × (cabinet ≡ made)
-shown_cabinet None made cabinet e = cc
-shown_cabinet (Some i) made cabinet e =
-    let same : cabinet ≡ made = cc in
-    (refl, same)
-
--- the query Cabinet shows what the register holds of it
-pub filed : (tables : Content) (office : Office) (id : ℕ) (cabinet : CabinetShown)
-    → Answers office (command.Cabinet id) (reply.Cabinet cabinet) tables → IsCabinetOf office id cabinet
-filed tables office id cabinet answers =
-    let taken = step_taken office answers.next (command.Cabinet id) (reply.Cabinet cabinet) answers.step (λ e. cc) in
-    shown_cabinet (get office.intersections id) (cabinet_shown office.register id) cabinet (ap (λ (p : Reply × Office). p.0) taken)
 
 -- the query Stock shows the stock
 pub stocked : (tables : Content) (office : Office) (parts : List (List ℕ × ℕ))
@@ -69,6 +39,15 @@ pub csv_is : (office : Office) (id : ℕ) (text : List ℕ) (state : Intersectio
     → text ≡ orders_csv_text (named_orders state.name cabinet) → IsOrdersCsvOf office (Some id) text
 csv_is office id text state cabinet (i, there, shows) (known, is) printed =
     (i, there, printed ∙ (λ k. orders_csv_text (named_orders (shows k).name (is k))))
+
+-- what holds of either result
+pub if_ok : {A E : Type 0} (result : Result A E) (P : A → Type 0) → ((it : A) → result ≡ Ok it → P it) → IfOk result P
+if_ok (Ok it) P holds = holds it refl
+if_ok (Err why) P holds = tt
+
+pub if_err : {A E : Type 0} (result : Result A E) (P : E → Type 0) → ((why : E) → result ≡ Err why → P why) → IfErr result P
+if_err (Ok it) P holds = tt
+if_err (Err why) P holds = holds why refl
 
 -- a fault that is handed on is that which was told
 pub handed : {A : Type 0} (result : Result A Fault) (fault told : Fault) → IsErrAnd result (λ why. why ≡ fault) → result ≡ Err told → fault ≡ told

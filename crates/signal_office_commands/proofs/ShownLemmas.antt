@@ -1,6 +1,6 @@
 -- What the queries show is the intersection of the office that the tables stand for.
 use Rattle.std.proofs.Common.{◌≡◌, ◌≢◌, inl, inr, ℕ, Bool, List, Option, Some, None, Result, Ok, refl, sym, ap, subst, ◌∙◌}
-use Rattle.std.specs.{FinMap.get, Prelude.option_map}
+use Rattle.std.specs.{FinMap.get, Option.IsSome, Prelude.option_map}
 use Rattle.draft_core.specs.Transaction.{Draft, state_of, in_stage}
 use Rattle.draft_state.specs.declared.state.DbState.{DbState}
 use Rattle.draft_state.specs.declared.state.DbState.TheVariants.{Normal, Transaction, Verify, Done}
@@ -19,6 +19,7 @@ use Rattle.office_machine.specs.declared.refusal.Refusal.TheVariants as refusal
 use Rattle.office_machine.specs.declared.reply.Reply.TheVariants as reply
 use Rattle.signal_office_faults.specs.declared.fault.Fault.{Fault}
 use Rattle.signal_office_commands.specs.{Asking.Answered, Showing.state_shown, Showing.timing_shown, Showing.draft_shown}
+use Rattle.signal_office_commands.specs.{Cabinet.IsCabinetOf, Cabinet.IsStateOf, Showing.ShowsCabinet, Showing.ShowsState}
 use Rattle.signal_office_commands.specs.{Showing.cabinet_shown, Intersection.ShowsOpen, Intersection.ShowsDraftIn}
 use Rattle.office_desk.specs.Damage.{IsImport, IsTurnedAway, MeetsDamage}
 use Rattle.office_machine.specs.declared.refusal.Refusal.{Refusal}
@@ -57,9 +58,20 @@ rows_drafted (Some d) rows e = cc
 
 cabinet_found : (office : Office) (id : ℕ) (found : Option Intersection) (cabinet : CabinetShown)
     → cabinet_shown (shown found (λ i. reply.Cabinet (cabinet_of_intersection office.register id))) ≡ Ok cabinet
-    → cabinet ≡ cabinet_of_intersection office.register id
+    → IsSome found × (cabinet ≡ cabinet_of_intersection office.register id)
 cabinet_found office id None cabinet e = cc
-cabinet_found office id (Some i) cabinet e = cc
+cabinet_found office id (Some i) cabinet e = (refl, cc)
+
+pub stated : (tables : Content) (office : Office) (id : ℕ) (state : IntersectionState)
+    → ShowsState tables id (Ok state) → StandForSound tables office → IsStateOf office id state
+stated tables office id state shows stands =
+    state_found id (get office.intersections id) state (made_of_answer state_shown tables office (command.State id) state (λ e. cc) shows stands)
+
+pub filed : (tables : Content) (office : Office) (id : ℕ) (cabinet : CabinetShown)
+    → ShowsCabinet tables id (Ok cabinet) → StandForSound tables office → IsCabinetOf office id cabinet
+filed tables office id cabinet shows stands =
+    cabinet_found office id (get office.intersections id) cabinet
+    (made_of_answer cabinet_shown tables office (command.Cabinet id) cabinet (λ e. cc) shows stands)
 
 -- ---- an intersection in state Normal has no draft
 
@@ -111,8 +123,7 @@ pub all_shown : (tables : Content) (office : Office) (id : ℕ) (it : Intersecti
     → (i : Intersection) × (get office.intersections id ≡ Some i) × (it ≡ shown_of office.register id i)
 all_shown tables office id it shows stands =
     with_both
-    (state_found id (get office.intersections id) it.state
-    (made_of_answer state_shown tables office (command.State id) it.state (λ e. cc) shows.state stands))
+    (stated tables office id it.state shows.state stands)
     (timing_found (get office.intersections id) it.committed
     (made_of_answer timing_shown tables office (command.Timing id) it.committed (λ e. cc) shows.timing stands)) where
       with_both : ((i : Intersection) × (get office.intersections id ≡ Some i) × (it.state ≡ state_of_intersection id i))
@@ -124,8 +135,7 @@ all_shown tables office id it shows stands =
         assembled it _ _ _ _ state_is
             (committed_is ∙ ap (λ (x : Intersection). x.timing.committed) (same_found (get office.intersections id) i j there also))
             (drafted tables office id i it.state.state it.draft there (ap (λ (x : IntersectionState). x.state) state_is) stands shows.draft)
-            (cabinet_found office id (get office.intersections id) it.cabinet
-            (made_of_answer cabinet_shown tables office (command.Cabinet id) it.cabinet (λ e. cc) shows.cabinet stands)),
+            (filed tables office id it.cabinet shows.cabinet stands).1,
       )
 
 -- the page of what is shown is that of the intersection
@@ -139,7 +149,7 @@ page_shown linked tables office id it text shows stands page =
 
 -- ---- no damaged row was read for the page
 
-shown_passes : {A : Type 0} (made : Reply → Result A Fault) (tables : Content) (asked : Command) (value : A)
+pub shown_passes : {A : Type 0} (made : Reply → Result A Fault) (tables : Content) (asked : Command) (value : A)
     → ((why : Refusal) → made (reply.Refused why) ≢ Ok value) → ¬ IsImport asked
     → Answered made tables asked tables (Ok value) → ¬ MeetsDamage tables asked
 shown_passes made tables asked value refused query shows damage = by_reply (shows.turned_away damage) where

@@ -36,7 +36,7 @@ by_found made office id show (Some i) why is unknown there e = record {
   missing = λ none. cc;
 }
 
-tells : {A : Type 0} (made : Reply → Result A Fault) (tables : Content) (office : Office) (id : ℕ) (asked : Command) (show : Intersection → Reply) (why : Fault)
+pub tells : {A : Type 0} (made : Reply → Result A Fault) (tables : Content) (office : Office) (id : ℕ) (asked : Command) (show : Intersection → Reply) (why : Fault)
     → (answered office asked).0 ≡ shown (get office.intersections id) show
     → made (reply.Refused refusal.Unavailable) ≡ Err told.Store
     → made (reply.Refused refusal.UnknownIntersection) ≡ Err told.UnknownIntersection

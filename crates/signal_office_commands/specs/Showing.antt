@@ -4,6 +4,7 @@ use Rattle.signal_records.specs.TimingSet.{Rows}
 use Rattle.office_tables_shelf.specs.Content.{Content}
 use Rattle.office_machine.specs.declared.reply.CabinetShown.{CabinetShown}
 use Rattle.office_machine.specs.declared.reply.IntersectionState.{IntersectionState}
+use Rattle.office_machine.specs.declared.reply.RunningTiming.{RunningTiming}
 use Rattle.office_machine.specs.declared.command.Command.TheVariants as command
 use Rattle.office_machine.specs.declared.reply.Reply.{Reply}
 use Rattle.office_machine.specs.declared.reply.Reply.TheVariants as reply
@@ -17,6 +18,12 @@ abbrev pub state_shown : Reply → Result IntersectionState Fault
 state_shown (reply.State state) = Ok state
 state_shown (reply.Refused why) = Err (fault_of why)
 state_shown other = Err told.Store
+
+-- the committed timing set with its name
+abbrev pub running_shown : Reply → Result RunningTiming Fault
+running_shown (reply.Timing timing) = Ok timing
+running_shown (reply.Refused why) = Err (fault_of why)
+running_shown other = Err told.Store
 
 -- the rows that it shows: those of a timing set, and of a draft
 abbrev pub timing_shown : Reply → Result Rows Fault
@@ -39,6 +46,9 @@ cabinet_shown other = Err told.Store
 -- refusal
 abbrev pub ShowsState : Content → ℕ → Result IntersectionState Fault → Type 0
 ShowsState tables id state = Answered state_shown tables (command.State id) tables state
+
+abbrev pub ShowsRunning : Content → ℕ → Result RunningTiming Fault → Type 0
+ShowsRunning tables id timing = Answered running_shown tables (command.Timing id) tables timing
 
 abbrev pub ShowsTiming : Content → ℕ → Result Rows Fault → Type 0
 ShowsTiming tables id rows = Answered timing_shown tables (command.Timing id) tables rows

@@ -14,7 +14,8 @@ ghost use Rattle.signal_office_commands.specs.Listing.{TellsOrders};
 ghost use Rattle.office_desk.specs.Running.{TellsTables};
 ghost use Rattle.signal_office_commands.specs.Asking.{TellsOffice};
 
-use crate::querying::{cabinet_asked, intersections_asked, open_orders_asked, state_asked};
+use crate::cabinet::cabinet_with_state;
+use crate::querying::{cabinet_asked, intersections_asked, open_orders_asked};
 use cabinet_core::Order;
 use office_desk::office::Office;
 use office_listings::{
@@ -137,8 +138,7 @@ fn csv_on<S: Shelf>(alloc: Global, office: &mut Office<S>, id: InterId) -> Resul
     ensures fault { IfErr result (λ fault. TellsOffice S.Shelf office.old office.new
         (λ before. TellsUnknown before id fault)) }
 {
-    let state = state_asked(alloc, office, id)?;
-    let cabinet = cabinet_asked(alloc, office, id)?;
+    let (state, cabinet) = cabinet_with_state(alloc, office, id)?;
     let mut found = Vec::new(alloc);
     add_named_orders(&mut found, &state.name, &cabinet)?;
     Ok(orders_csv(alloc, found.as_slice())?)

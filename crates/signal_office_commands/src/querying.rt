@@ -1,5 +1,4 @@
-//! What is asked of the office: all intersections, all open orders, and what is known of an
-//! intersection and of its cabinet.
+//! What is asked of the office: all intersections, all open orders, and what a cabinet holds.
 
 ghost use Rattle.std.specs.Prelude.{◌≡◌, ◌⊎◌, Err, IfOk, IfErr};
 ghost use Rattle.office_tables_shelf.specs.CabinetReads.{HasAnyDamagedOrder};
@@ -9,19 +8,18 @@ ghost use Rattle.office_desk.specs.Damage.{MeetsDamage};
 ghost use Rattle.office_machine.specs.Listed.{intersections_of};
 ghost use Rattle.office_machine.specs.declared.command.Command.TheVariants as command;
 ghost use Rattle.signal_office_commands.specs.Fault.{IsFaultOfQuery, TellsUnknown};
-ghost use Rattle.signal_office_commands.specs.Cabinet.{IsCabinetOf, IsStateOf};
+ghost use Rattle.signal_office_commands.specs.Cabinet.{IsCabinetOf};
 ghost use Rattle.signal_office_commands.specs.Listing.{AreOpenOf};
 ghost use Rattle.office_desk.specs.Running.{TellsTables};
 ghost use Rattle.signal_office_commands.specs.Asking.{TellsOffice};
 ghost use Rattle.office_desk_timing.specs.Listing.{ListsEachIntersection};
 
-use crate::asking::ask;
 use crate::refused::fault_of;
+use crate::showing::cabinet_in;
 use cabinet_core::Order;
 use office_desk::office::Office;
-use office_machine::command::Command;
 use office_machine::intersections::ListedIntersection;
-use office_machine::reply::{CabinetShown, IntersectionState, Reply};
+use office_machine::reply::CabinetShown;
 use office_tables_shelf::shelf::Shelf;
 use signal_office_faults::Fault;
 use signal_records::InterId;
@@ -72,31 +70,6 @@ pub(crate) fn open_orders_asked<S: Shelf>(
     }
 }
 
-/// What is known of an intersection.
-pub(crate) fn state_asked<S: Shelf>(
-    alloc: Global,
-    office: &mut Office<S>,
-    id: InterId,
-) -> Result<IntersectionState, Fault>
-    ensures kept { KeepsShelf S.Shelf office.old office.new }
-    ensures clean { S.is_clean office.new → S.is_clean office.old }
-    ensures state { IfOk result (λ state. TellsOffice S.Shelf office.old office.new
-        (λ before. IsStateOf before id state)) }
-    ensures whole { IfOk result (λ _. TellsTables S.Shelf office.old office.new
-        (λ tables. ¬ MeetsDamage tables (command.State id))) }
-    ensures refused { IfErr result IsFaultOfQuery }
-    ensures damaged { result ≡ Err Fault.Damaged → TellsTables S.Shelf office.old office.new
-        (λ tables. MeetsDamage tables (command.State id)) }
-    ensures fault { IfErr result (λ fault. TellsOffice S.Shelf office.old office.new
-        (λ before. TellsUnknown before id fault)) }
-{
-    match ask(alloc, office, Command::State { id }) {
-        Reply::State(state) => Ok(state),
-        Reply::Refused(refusal) => Err(fault_of(refusal)),
-        _ => Err(Fault::Store),
-    }
-}
-
 /// What the register holds of an intersection.
 pub fn cabinet_asked<S: Shelf>(
     alloc: Global,
@@ -115,9 +88,5 @@ pub fn cabinet_asked<S: Shelf>(
     ensures fault { IfErr result (λ fault. TellsOffice S.Shelf office.old office.new
         (λ before. TellsUnknown before id fault)) }
 {
-    match ask(alloc, office, Command::Cabinet { id }) {
-        Reply::Cabinet(cabinet) => Ok(cabinet),
-        Reply::Refused(refusal) => Err(fault_of(refusal)),
-        _ => Err(Fault::Store),
-    }
+    cabinet_in(alloc, office, id)
 }

@@ -5,45 +5,17 @@ ghost use Rattle.office_tables_shelf.specs.Keeps.{KeepsShelf};
 ghost use Rattle.office_desk.specs.Damage.{MeetsDamage};
 ghost use Rattle.office_machine.specs.declared.command.Command.TheVariants as command;
 ghost use Rattle.signal_office_commands.specs.Fault.{IsFaultOfQuery, TellsUnknown};
-ghost use Rattle.signal_office_commands.specs.Sheet.{IsSheetOf, IsTimingOf};
+ghost use Rattle.signal_office_commands.specs.Sheet.{IsSheetOf};
 ghost use Rattle.office_desk.specs.Running.{TellsTables};
 ghost use Rattle.signal_office_commands.specs.Asking.{TellsOffice};
 
-use crate::asking::ask;
-use crate::refused::fault_of;
+use crate::showing::running_in;
 use office_desk::office::Office;
 use office_files::timing_sheet;
-use office_machine::command::Command;
-use office_machine::reply::{Reply, RunningTiming};
 use office_tables_shelf::shelf::Shelf;
 use signal_office_faults::Fault;
 use signal_records::InterId;
 use std::alloc::Global;
-
-/// The committed timing set of an intersection with its name, and how often it was committed.
-fn timing_in<S: Shelf>(
-    alloc: Global,
-    office: &mut Office<S>,
-    id: InterId,
-) -> Result<RunningTiming, Fault>
-    ensures kept { KeepsShelf S.Shelf office.old office.new }
-    ensures clean { S.is_clean office.new → S.is_clean office.old }
-    ensures timing { IfOk result (λ timing. TellsOffice S.Shelf office.old office.new
-        (λ before. IsTimingOf before id timing)) }
-    ensures whole { IfOk result (λ _. TellsTables S.Shelf office.old office.new
-        (λ tables. ¬ MeetsDamage tables (command.Timing id))) }
-    ensures refused { IfErr result IsFaultOfQuery }
-    ensures damaged { result ≡ Err Fault.Damaged → TellsTables S.Shelf office.old office.new
-        (λ tables. MeetsDamage tables (command.Timing id)) }
-    ensures fault { IfErr result (λ fault. TellsOffice S.Shelf office.old office.new
-        (λ before. TellsUnknown before id fault)) }
-{
-    match ask(alloc, office, Command::Timing { id }) {
-        Reply::Timing(timing) => Ok(timing),
-        Reply::Refused(refusal) => Err(fault_of(refusal)),
-        _ => Err(Fault::Store),
-    }
-}
 
 /// The timing sheet of an intersection: its name, and its committed timing set. The office is as it
 /// was.
@@ -70,6 +42,6 @@ pub fn sheet_of<S: Shelf>(
     ensures fault { IfErr result (λ fault. TellsOffice S.Shelf office.old office.new
         (λ before. TellsUnknown before id fault)) }
 {
-    let timing = timing_in(alloc, office, id)?;
+    let timing = running_in(alloc, office, id)?;
     Ok(timing_sheet(alloc, id, &timing.name, timing.revision, &timing.rows)?)
 }

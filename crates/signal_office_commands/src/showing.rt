@@ -1,7 +1,9 @@
 //! What the office shows of an intersection.
 
-ghost use Rattle.std.specs.Prelude.{◌≡◌};
+ghost use Rattle.std.specs.Prelude.{◌≡◌, IfErr};
 ghost use Rattle.office_tables_shelf.specs.Keeps.{KeepsShelf};
+ghost use Rattle.signal_office_commands.specs.Fault.{IsFaultOfQuery};
+ghost use Rattle.signal_office_commands.specs.Showing.{running_shown, ShowsRunning};
 ghost use Rattle.signal_office_commands.specs.Showing.{state_shown, timing_shown, draft_shown};
 ghost use Rattle.signal_office_commands.specs.Showing.{cabinet_shown};
 ghost use Rattle.signal_office_commands.specs.Showing.{ShowsState, ShowsTiming, ShowsDraft};
@@ -12,7 +14,7 @@ use crate::asking::ask;
 use crate::refused::fault_of;
 use office_desk::office::Office;
 use office_machine::command::Command;
-use office_machine::reply::{CabinetShown, IntersectionState, Reply};
+use office_machine::reply::{CabinetShown, IntersectionState, Reply, RunningTiming};
 use office_tables_shelf::shelf::Shelf;
 use signal_office_faults::Fault;
 use signal_records::{InterId, TimingSet};
@@ -24,6 +26,17 @@ fn state_shown(reply: Reply) -> Result<IntersectionState, Fault>
 {
     match reply {
         Reply::State(state) => Ok(state),
+        Reply::Refused(refusal) => Err(fault_of(refusal)),
+        _ => Err(Fault::Store),
+    }
+}
+
+/// The committed timing set that a reply shows, with its name.
+fn running_shown(reply: Reply) -> Result<RunningTiming, Fault>
+    ensures { result ≡ running_shown reply }
+{
+    match reply {
+        Reply::Timing(timing) => Ok(timing),
         Reply::Refused(refusal) => Err(fault_of(refusal)),
         _ => Err(Fault::Store),
     }
@@ -72,6 +85,7 @@ pub fn state_in<S: Shelf>(
     ensures clean { S.is_clean office.new → S.is_clean office.old }
     ensures shown { TellsTables S.Shelf office.old office.new
         (λ tables. ShowsState tables id result) }
+    ensures refused { IfErr result IsFaultOfQuery }
 {
     state_shown(ask(alloc, office, Command::State { id }))
 }
@@ -88,6 +102,21 @@ pub fn timing_in<S: Shelf>(
         (λ tables. ShowsTiming tables id result) }
 {
     timing_shown(ask(alloc, office, Command::Timing { id }))
+}
+
+/// The same with its name, and how often it was committed.
+pub(crate) fn running_in<S: Shelf>(
+    alloc: Global,
+    office: &mut Office<S>,
+    id: InterId,
+) -> Result<RunningTiming, Fault>
+    ensures kept { KeepsShelf S.Shelf office.old office.new }
+    ensures clean { S.is_clean office.new → S.is_clean office.old }
+    ensures shown { TellsTables S.Shelf office.old office.new
+        (λ tables. ShowsRunning tables id result) }
+    ensures refused { IfErr result IsFaultOfQuery }
+{
+    running_shown(ask(alloc, office, Command::Timing { id }))
 }
 
 /// The draft of an intersection's timing set, or why it is not shown. The office is as it was.
@@ -114,6 +143,7 @@ pub fn cabinet_in<S: Shelf>(
     ensures clean { S.is_clean office.new → S.is_clean office.old }
     ensures shown { TellsTables S.Shelf office.old office.new
         (λ tables. ShowsCabinet tables id result) }
+    ensures refused { IfErr result IsFaultOfQuery }
 {
     cabinet_shown(ask(alloc, office, Command::Cabinet { id }))
 }

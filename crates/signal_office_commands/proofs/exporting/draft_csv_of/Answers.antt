@@ -1,4 +1,4 @@
-use Rattle.std.proofs.Common.{inl, inr, refl}
+use Rattle.std.proofs.{Common.inl, Common.inr, Common.refl, lemmas.Result.IfErr-weaker}
 use Rattle.signal_office_faults.specs.declared.fault.Fault.TheVariants as told
 use Rattle.signal_office_commands.proofs.{FaultLemmas.on_fault, UnknownLemmas.draft_tells}
 use Rattle.signal_office_commands.proofs.exporting.draft_csv_of.Goals as goal
@@ -17,8 +17,8 @@ returns-in_err-rows-clause-fault g c =
 
 pub returns-in_err-rows-clause-unknown : goal.returns-in_err-rows-clause-unknown
 returns-in_err-rows-clause-unknown g c =
-    on_fault _ c.in_err-rows.field-0.0 _ c.from_residual.ensures.1 (λ clean tables held before stands.
-    draft_tells tables before c.args.id _ (inl (c.in_err-rows.ensures.shown clean tables held)) stands)
+    IfErr-weaker c.from_residual.result _ _ (λ why fault clean tables held before stands.
+    draft_tells tables before c.args.id why (fault clean tables held) stands) (returns-in_err-rows-clause-fault g c)
 
 pub returns-in_err-timing_csv-clause-fault : goal.returns-in_err-timing_csv-clause-fault
 returns-in_err-timing_csv-clause-fault g c =
@@ -27,6 +27,5 @@ returns-in_err-timing_csv-clause-fault g c =
 
 pub returns-in_err-timing_csv-clause-unknown : goal.returns-in_err-timing_csv-clause-unknown
 returns-in_err-timing_csv-clause-unknown g c =
-    on_fault _ told.Memory _ c.from_residual-in_err-timing_csv.ensures.1 (λ clean tables held before stands.
-    draft_tells tables before c.args.id _
-    (inr (refl, c.in_ok-rows.rows, c.in_ok-rows.ensures.shown clean tables held)) stands)
+    IfErr-weaker c.from_residual-in_err-timing_csv.result _ _ (λ why fault clean tables held before stands.
+    draft_tells tables before c.args.id why (fault clean tables held) stands) (returns-in_err-timing_csv-clause-fault g c)

@@ -1,4 +1,5 @@
-use Rattle.signal_office_commands.proofs.AskingLemmas.{query_answered}
+use Rattle.signal_office_commands.proofs.{AskingLemmas.query_answered, FaultLemmas.query_fault, FaultLemmas.state_fault}
+use Rattle.signal_office_commands.specs.Showing.{state_shown}
 use Rattle.signal_office_commands.proofs.showing.state_in.Goals as goal
 
 pub returns-clause-shown : goal.returns-clause-shown
@@ -7,3 +8,6 @@ returns-clause-shown g c =
 
 pub returns-clause-clean : goal.returns-clause-clean
 returns-clause-clean g c = c.ask.ensures.ran.clean
+
+pub returns-clause-refused : goal.returns-clause-refused
+returns-clause-refused g c = query_fault state_shown state_fault c.ask.result _ c.ask.ensures.ran.step.named c.state_shown.ensures
