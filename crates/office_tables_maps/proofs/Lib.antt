@@ -1,6 +1,5 @@
 mod TreeRows
 mod PlaceLemmas
-mod CabinetTrees
 mod RangeLemmas
 mod RecordTrees
 mod WalkLemmas

@@ -1,4 +1,4 @@
--- Trees of timing and draft rows: how their places compare, and that each row stays under its own key.
+-- Trees of timing and draft rows: each row stays under its own key.
 use Rattle.std.proofs.Common.{◌≡◌, ℕ, ◌==◌, Bool, true, false, List, [], ◌∷◌, filter, not, cond, Option, Some, None, Ordering, refl, sym, ap, ◌∙◌}
 use Rattle.std.specs.{List.AllByRecursion, Map.remove_entry}
 use Rattle.std.specs.{Ordering.is_eq, Ordering.ordering_then, Prelude.IfSome, declared.cmp.Ordering.TheVariants.Equal}
@@ -9,31 +9,15 @@ use Rattle.draft_state.specs.ChangedRows.{changed_key, left_by}
 use Rattle.office_tables_shelf.specs.{Cells.Cell, Cells.cells_cmp, Cells.tree_rows, Content.rows_but, Rows.timing_key, Rows.timing_columns}
 use Rattle.office_tables_shelf.specs.{Rows.left_columns, Rows.draft_key, Rows.draft_columns, Shelf.is_of}
 use Rattle.office_tables_maps.specs.{MapShelf.place_key, MapShelf.change_at, Places.under_by, declared.place.Place.Place}
+use Rattle.office_tables_maps.specs.PlaceFacts.{place_cmp, place_order}
+use Rattle.office_tables_maps.specs.declared.place.{LinePlace.LinePlace, RecordPlace.RecordPlace}
 use Rattle.office_tables_shelf.proofs.{CabinetLemmas.of_number, CellLemmas.cells_exact, KeyLemmas.timing_key_tells, TreeLemmas.number_order}
 use Rattle.office_tables_shelf.proofs.TreeLemmas.{ranged_cmp, then_last}
-use Rattle.office_tables_maps.proofs.TreeRows.{ranged_order, rows_kept}
-
--- ---- how places compare, as their cells do
-
-abbrev pub place_cmp : Place → Place → Ordering
-place_cmp a b = ordering_then (ranged_cmp a.inter b.inter) (key_cmp a.key b.key)
-
-pub place_order : (a b : Place) → cells_cmp (place_key a) (place_key b) ≡ place_cmp a b
-place_order a b =
-    (λ i. ordering_then (ranged_order a.inter b.inter i)
-    (ordering_then (number_order (kind_of a.key) (kind_of b.key) i)
-    (ordering_then (number_order (first_of a.key) (first_of b.key) i)
-    ((then_last _ ∙ number_order (second_of a.key) (second_of b.key)) i))))
+use Rattle.office_tables_maps.specs.PlaceFacts.{ranged_order}
+use Rattle.office_tables_maps.proofs.TreeRows.{rows_kept}
 
 pub place_ties : (a b : Place) → is_eq (cells_cmp (place_key a) (place_key b)) ≡ is_eq (place_cmp a b)
 place_ties a b = ap is_eq (place_order a b)
-
--- places that compare equal are one
-pub place_exact : (a b : Place) → place_cmp a b ≡ Equal → a ≡ b
-place_exact a b tie =
-    let same = cells_exact (place_key a) (place_key b) (place_order a b ∙ tie) in
-    let told = timing_key_tells a.inter b.inter a.key b.key same in
-    λ i. record { inter = told.0 i; key = told.1 i }
 
 -- ---- rows under their own keys
 
@@ -80,6 +64,12 @@ other_rows {X} columns id es =
 
 abbrev pub place_inter : Place → ℕ
 place_inter place = place.inter
+
+abbrev pub record_inter : RecordPlace → ℕ
+record_inter place = place.inter
+
+abbrev pub line_inter : LinePlace → ℕ
+line_inter place = place.inter
 
 abbrev pub under : {X Y : Type 0} → (Place × X → Y) → ℕ → List (Place × X) → List Y
 under f = under_by place_inter f

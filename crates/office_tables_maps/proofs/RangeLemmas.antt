@@ -30,9 +30,10 @@ use Rattle.office_tables_maps.specs.declared.place.{LinePlace.LinePlace, Place.P
 use Rattle.office_tables_maps.specs.declared.place.{RecordPlace.RecordPlace}
 use Rattle.office_tables_shelf.proofs.{CabinetLemmas.of_number, ListLemmas.cells_of}
 use Rattle.office_tables_shelf.proofs.{TreeLemmas.ranged_cmp, TreeLemmas.then_last}
-use Rattle.office_tables_maps.proofs.CabinetTrees.{record_cmp, line_cmp, line_inter, line_order}
-use Rattle.office_tables_maps.proofs.PlaceLemmas.{row_of, change_of, place_cmp, place_inter}
-use Rattle.office_tables_maps.proofs.PlaceLemmas.{place_order, of_place, draft_shows}
+use Rattle.office_tables_maps.specs.PlaceFacts.{record_cmp, line_cmp, line_order, place_cmp, place_order}
+use Rattle.office_tables_maps.proofs.PlaceLemmas.{line_inter}
+use Rattle.office_tables_maps.proofs.PlaceLemmas.{row_of, change_of, place_inter}
+use Rattle.office_tables_maps.proofs.PlaceLemmas.{of_place, draft_shows}
 use Rattle.office_tables_maps.proofs.TreeRows.{tree_entries}
 
 -- What a walk found is all that it finds of a tree, once none of the entries is left that it began

@@ -17,7 +17,8 @@ use Rattle.office_tables_maps.specs.MapCabinet.{inspection_place_key, with_inspe
 use Rattle.office_tables_maps.specs.MapCabinet.{IsInspectionAt, IsOrderAt, IsRecordAt}
 use Rattle.office_tables_maps.specs.Places.{all_records}
 use Rattle.office_tables_maps.specs.declared.place.RecordPlace.{RecordPlace}
-use Rattle.office_tables_maps.proofs.CabinetTrees.{inspection_order, record_cmp, record_inter}
+use Rattle.office_tables_maps.specs.PlaceFacts.{inspection_order, record_cmp}
+use Rattle.office_tables_maps.proofs.PlaceLemmas.{record_inter}
 use Rattle.office_tables_maps.proofs.RangeLemmas.{FindsUnder, ListsUnder, found_under, listed_under}
 use Rattle.office_tables_maps.proofs.RangeLemmas.{record_between}
 use Rattle.office_tables_maps.proofs.TreeRows.{tree_entries}

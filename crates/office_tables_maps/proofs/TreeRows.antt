@@ -1,32 +1,15 @@
 -- Trees of records: how the numbers of their keys compare, the rows in their order, those that pass a test, and each under its own key.
-use Rattle.std.proofs.Common.{◌≡◌, inl, inr, ℕ, pos, Bool, List, [], ◌∷◌, map, filter, cond, Option, Some, None, IfSome, Ordering, T, nat_cmp, refl, sym, ap, subst, subst₂, ◌∙◌}
+use Rattle.std.proofs.Common.{◌≡◌, inl, inr, Bool, List, [], ◌∷◌, map, filter, cond, Option, Some, None, IfSome, Ordering, T, refl, sym, ap, subst, subst₂, ◌∙◌}
 use Rattle.std.proofs.{lemmas.Bool.cases_Bool, lemmas.Map.Entries.entries_from_clone}
 use Rattle.std.specs.{BTreeMap.insert_entry, BTreeMap.is_at, FinMap.entries, FinMap.retain_keys, FinMap.get-retain_keys, FinMap.same_map}
 use Rattle.std.specs.{FinMap.Entries.is_sorted, FinMap.Entries.below_all, FinMap.Entries.find-where_key, List.AllByRecursion, List.AllZip}
 use Rattle.std.specs.{List.Sorted.IsStrictlySortedBy, Map.keys_of, Map.lookup, Ordering.is_eq, Ordering.is_lt, Ordering.match_ordering}
-use Rattle.std.specs.{Ordering.ordering_then, declared.cmp.Ordering.TheVariants.Less, declared.cmp.Ordering.TheVariants.Equal}
+use Rattle.std.specs.{declared.cmp.Ordering.TheVariants.Less, declared.cmp.Ordering.TheVariants.Equal}
 use Rattle.std.specs.declared.cmp.Ordering.TheVariants.{Greater}
 use Rattle.std.specs.FinMap as finite
-use Rattle.office_tables_shelf.specs.Cells.{Cell, number, rows_by, tree_rows, cell_cmp, cells_cmp}
+use Rattle.office_tables_shelf.specs.Cells.{Cell, rows_by, tree_rows, cells_cmp}
 use Rattle.office_tables_shelf.proofs.CellLemmas.{cells_total, cells_exact, find_entry, get_by, tied}
 use Rattle.office_tables_shelf.proofs.ListLemmas.{both, cells_of, entry, entries_filter, entries_in_order}
-use Rattle.office_tables_shelf.proofs.TreeLemmas.{number_order, ranged_cmp, then_last}
-
--- ---- how the numbers of keys compare
-
-pub ranged_order : (a b : ℕ) → cell_cmp (number (pos a)) (number (pos b)) ≡ ranged_cmp a b
-ranged_order a b = number_order a b ∙ sym (then_last (nat_cmp a b))
-
--- one that is the last or the only one of its key
-pub last_order : (a b : ℕ) → cells_cmp (number (pos a) ∷ []) (number (pos b) ∷ []) ≡ ranged_cmp a b
-last_order a b = λ i. ordering_then (number_order a b i) Equal
-
-pub number_exact : (a b : ℕ) → ranged_cmp a b ≡ Equal → a ≡ b
-number_exact a b tie =
-    let same = cells_exact (number (pos a) ∷ []) (number (pos b) ∷ []) (last_order a b ∙ tie) in cc
-
-pub last_ties : (a b : ℕ) → is_eq (cells_cmp (number (pos a) ∷ []) (number (pos b) ∷ [])) ≡ is_eq (ranged_cmp a b)
-last_ties a b = ap is_eq (last_order a b)
 
 -- ---- the entries of a tree, in its order
 

@@ -6,7 +6,7 @@ use Rattle.cabinet_core.specs.{Orders.is_open, Overdue.greater, Overdue.latest_d
 use Rattle.cabinet_core.specs.{declared.record.Inspection.Inspection, declared.record.Order.Order}
 use Rattle.office_tables_maps.specs.Places.{records_under}
 use Rattle.office_tables_maps.specs.declared.place.RecordPlace.{RecordPlace}
-use Rattle.office_tables_maps.proofs.CabinetTrees.{record_inter}
+use Rattle.office_tables_maps.proofs.PlaceLemmas.{record_inter}
 
 -- ---- the latest day
 

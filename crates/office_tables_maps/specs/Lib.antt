@@ -2,3 +2,4 @@ pub mod MapShelf
 pub mod MapCabinet
 pub mod Places
 pub mod Placed
+pub mod PlaceFacts

@@ -59,9 +59,6 @@ with_used es = record no_content { used_part = used_rows es }
 abbrev pub with_parts : List (List ℕ × ℕ) → Content
 with_parts es = record no_content { part = part_rows es }
 
-abbrev pub with_deliveries : List (DeliveryPlace × Delivery) → Content
-with_deliveries es = record no_content { delivery = delivery_rows es }
-
 -- ---- each record stands under its own key, within its limits
 
 -- a record within its limits stands under its own number and that of an intersection

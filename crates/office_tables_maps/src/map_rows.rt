@@ -1,62 +1,25 @@
-//! The tables in memory as trees of records: a row put, removed, found, and the rows listed.
-ghost use Rattle.std.specs.Prelude.{◌≡◌, OnOk, IfOk, IfSome};
+//! The tables of timing in memory as trees of records: the rows listed and removed, drafts put.
+ghost use Rattle.std.specs.Prelude.{◌≡◌, OnOk, IfOk};
 ghost use Rattle.std.specs.FinMap as finite;
 ghost use Rattle.std.specs.List.{AllByRecursion};
-ghost use Rattle.std.specs.Option.{option_map};
-ghost use Rattle.signal_records.specs.Row.{key_of};
 ghost use Rattle.signal_records.specs.Within.{IsRowWithin, current_limits};
 ghost use Rattle.draft_state.specs.ChangedRows.{changed_key, left_by};
 ghost use Rattle.office_tables_shelf.specs.Content.{rows_but};
-ghost use Rattle.office_tables_shelf.specs.Rows.{intersection_key, intersection_columns};
-ghost use Rattle.office_tables_shelf.specs.Rows.{timing_key, timing_columns, draft_key};
-ghost use Rattle.office_tables_shelf.specs.Rows.{draft_columns, IsIntersectionRow};
+ghost use Rattle.office_tables_shelf.specs.Rows.{timing_key, draft_key};
+ghost use Rattle.office_tables_shelf.specs.Rows.{draft_columns};
 ghost use Rattle.office_tables_shelf.specs.Shelf.{ListsIntersections, ListsTiming, ListsDraft};
 ghost use Rattle.office_tables_shelf.specs.Shelf.{CountsTiming, IsIntersectionWithin};
-ghost use Rattle.office_tables_maps.specs.MapShelf.{intersection_rows, timing_rows, draft_rows};
+ghost use Rattle.office_tables_maps.specs.MapShelf.{timing_rows, draft_rows};
 ghost use Rattle.office_tables_maps.specs.MapShelf.{change_at as left_at, AreRowsPlaced};
 ghost use Rattle.office_tables_maps.specs.MapShelf.{AreLeftPlaced, with_intersections};
 ghost use Rattle.office_tables_maps.specs.MapShelf.{with_timing, with_drafts};
 ghost use Rattle.office_tables_maps.specs.MapShelf.{AreIntersectionsWithin};
 
 use crate::place::Place;
-use office_tables_shelf::bounds::intersection_is_within;
 use office_tables_shelf::rows::IntersectionRow;
-use signal_records::{Change, InterId, Key, NoMemory, Row, key_is_within, row_is_within};
+use signal_records::{Change, InterId, Key, NoMemory, Row, key_is_within};
 use std::alloc::Global;
 use std::collections::BTreeMap;
-
-/// Puts the row of an intersection.
-pub(crate) fn put_intersection(
-    rows: &mut BTreeMap<InterId, IntersectionRow>,
-    id: InterId,
-    row: IntersectionRow,
-) -> Result<(), NoMemory>
-    ensures rows { OnOk result (intersection_rows rows.new.entries
-        ≡ finite.insert (intersection_rows rows.old.entries)
-        (intersection_key id) (intersection_columns row)) }
-    ensures within { AreIntersectionsWithin rows.old.entries →
-        AreIntersectionsWithin rows.new.entries }
-{
-    intersection_is_within(id, &row);
-    rows.insert(id, row)?;
-    Ok(())
-}
-
-/// The row of an intersection, if there is one.
-pub(crate) fn intersection_at(
-    rows: &BTreeMap<InterId, IntersectionRow>,
-    id: InterId,
-) -> Result<Option<IntersectionRow>, NoMemory>
-    ensures row { IfOk result (λ row. finite.get (intersection_rows rows.now.entries)
-        (intersection_key id) ≡ option_map intersection_columns row) }
-    ensures within { IfOk result (λ row. AreIntersectionsWithin rows.now.entries →
-        IfSome row IsIntersectionRow) }
-{
-    match rows.get(&id) {
-        Some(row) => Ok(Some(row.clone()?)),
-        None => Ok(None),
-    }
-}
 
 /// The rows of all intersections, by their numbers.
 pub(crate) fn all_intersections(
@@ -82,24 +45,6 @@ pub(crate) fn copied_intersections(
     ensures { IfOk result (λ copy. copy.entries ≡ rows.now.entries) }
 {
     rows.clone()
-}
-
-/// Puts a committed row under its own key.
-pub(crate) fn put_timing(
-    rows: &mut BTreeMap<Place, Row>,
-    inter: InterId,
-    row: Row,
-) -> Result<(), NoMemory>
-    ensures rows { OnOk result (timing_rows rows.new.entries
-        ≡ finite.insert (timing_rows rows.old.entries)
-        (timing_key inter (key_of row)) (timing_columns row)) }
-    ensures placed { AreRowsPlaced rows.old.entries → AreRowsPlaced rows.new.entries }
-{
-    row_is_within(&row);
-    key_is_within(row.key());
-    let key = row.key();
-    rows.insert(Place { inter, key }, row)?;
-    Ok(())
 }
 
 /// Removes the committed row under a key, if there is one.

@@ -3,10 +3,11 @@ ghost use Rattle.std.specs.Prelude.{◌≡◌, IfOk};
 ghost use Rattle.office_tables_shelf.specs.Content.{no_content};
 ghost use Rattle.office_tables_shelf.specs.Counts.{no_writes};
 
+use crate::kept::find;
 use crate::map_cabinet::{all_parts, inspections_of, lines_of, orders_of};
 use crate::map_open_orders::open_orders_of;
 use crate::map_overdue::last_days;
-use crate::map_rows::{all_intersections, count_of, draft_of, intersection_at, timing_of};
+use crate::map_rows::{all_intersections, count_of, draft_of, timing_of};
 use crate::maps::Maps;
 use cabinet_core::{Day, Delivery, Hand, Inspection, Order, PartCode, UsedLine};
 use office_tables_shelf::counts::WriteCounts;
@@ -110,7 +111,7 @@ impl Shelf for MapShelf {
         ensures unchanged { self.new ≡ self.old }
         ensures sound { IsFreeOfStore result }
     {
-        Ok(intersection_at(&self.now.intersection, id)?)
+        Ok(find(&self.now.intersection, &id)?)
     }
 
     fn intersections(

@@ -1,13 +1,10 @@
 //! The eight tables in memory, as maps of records.
 ghost use Rattle.std.specs.Prelude.{◌≡◌, OnOk, IfOk, IfSome};
 
-use crate::map_cabinet::{
-    copied_parts, delivery_at, hand_of, inspection_at, line_at, order_at, put_delivery,
-    put_inspection, put_line, put_order, put_part,
-};
+use crate::kept::{find, put};
+use crate::map_cabinet::{copied_parts, hand_of, put_part};
 use crate::map_rows::{
-    copied_drafts, copied_intersections, drop_drafts, put_draft, put_intersection, put_timing,
-    remove_draft, remove_timing,
+    copied_drafts, copied_intersections, drop_drafts, put_draft, remove_draft, remove_timing,
 };
 use crate::place::{DeliveryPlace, LinePlace, Place, RecordPlace};
 use cabinet_core::{Delivery, Hand, Inspection, Order, PartCode, UsedLine};
@@ -100,33 +97,21 @@ impl Maps {
         ensures { OnOk result (self.new ≡ changed self.old change.now) }
     {
         match change {
-            RowChange::AddIntersection(id, row) => {
-                put_intersection(&mut self.intersection, *id, row.clone()?)?;
-            }
-            RowChange::PutIntersection(id, row) => {
-                put_intersection(&mut self.intersection, *id, row.clone()?)?;
-            }
-            RowChange::AddTiming(id, row) => put_timing(&mut self.timing, *id, row.clone()?)?,
-            RowChange::PutTiming(id, row) => put_timing(&mut self.timing, *id, row.clone()?)?,
+            RowChange::AddIntersection(id, row) => put(&mut self.intersection, *id, row.clone()?)?,
+            RowChange::PutIntersection(id, row) => put(&mut self.intersection, *id, row.clone()?)?,
+            RowChange::AddTiming(id, row) => put(&mut self.timing, *id, row.clone()?)?,
+            RowChange::PutTiming(id, row) => put(&mut self.timing, *id, row.clone()?)?,
             RowChange::RemoveTiming(id, key) => remove_timing(&mut self.timing, *id, *key),
             RowChange::AddDraft(id, change) => put_draft(&mut self.draft, *id, change)?,
             RowChange::PutDraft(id, change) => put_draft(&mut self.draft, *id, change)?,
             RowChange::RemoveDraft(id, key) => remove_draft(&mut self.draft, *id, *key),
             RowChange::DropDraft(id) => drop_drafts(&mut self.draft, *id),
-            RowChange::AddInspection(id, inspection) => {
-                put_inspection(&mut self.inspection, *id, inspection.clone()?)?;
-            }
-            RowChange::AddOrder(id, order) => {
-                put_order(&mut self.work_order, *id, order.clone()?)?;
-            }
-            RowChange::PutOrder(id, order) => {
-                put_order(&mut self.work_order, *id, order.clone()?)?;
-            }
-            RowChange::AddLine(id, used) => put_line(&mut self.used_part, *id, used.clone()?)?,
+            RowChange::AddInspection(id, found) => put(&mut self.inspection, *id, found.clone()?)?,
+            RowChange::AddOrder(id, order) => put(&mut self.work_order, *id, order.clone()?)?,
+            RowChange::PutOrder(id, order) => put(&mut self.work_order, *id, order.clone()?)?,
+            RowChange::AddLine(id, used) => put(&mut self.used_part, *id, used.clone()?)?,
             RowChange::PutPart(part, hand) => put_part(&mut self.part, part.clone()?, *hand)?,
-            RowChange::AddDelivery(delivery) => {
-                put_delivery(&mut self.delivery, delivery.clone()?)?;
-            }
+            RowChange::AddDelivery(delivery) => put(&mut self.delivery, (), delivery.clone()?)?,
         }
         Ok(())
     }
@@ -148,7 +133,8 @@ impl Maps {
         ensures row { FindsAt self.now (place.Inspection id number) result }
         ensures within { IfOk result (λ found. IfSome found IsInspectionWithin) }
     {
-        inspection_at(&self.inspection, id, number)
+        let inter = id;
+        find(&self.inspection, &RecordPlace { inter, number })
     }
 
     /// The order on an intersection with a number, if there is one.
@@ -156,7 +142,8 @@ impl Maps {
         ensures row { FindsAt self.now (place.Order id number) result }
         ensures within { IfOk result (λ found. IfSome found IsOrderWithin) }
     {
-        order_at(&self.work_order, id, number)
+        let inter = id;
+        find(&self.work_order, &RecordPlace { inter, number })
     }
 
     /// The part used for an order on an intersection in a line, if there is one.
@@ -169,7 +156,8 @@ impl Maps {
         ensures row { FindsAt self.now (place.Line id order line) result }
         ensures within { IfOk result (λ found. IfSome found IsUsedLineWithin) }
     {
-        line_at(&self.used_part, id, order, line)
+        let inter = id;
+        find(&self.used_part, &LinePlace { inter, order, line })
     }
 
     /// The delivery of a part with a number, if there is one.
@@ -181,7 +169,8 @@ impl Maps {
         ensures row { FindsAt self.now (place.Delivery part.now number) result }
         ensures within { IfOk result (λ found. IfSome found IsDeliveryWithin) }
     {
-        delivery_at(&self.delivery, part, number)
+        let part = part.clone()?;
+        find(&self.delivery, &DeliveryPlace { part, number })
     }
 
     /// How many of a part are on hand, if there ever was a delivery of it.

@@ -3,6 +3,7 @@
 ghost use Rattle.std.specs.Prelude.{◌≡◌};
 ghost use Rattle.office_tables_maps.specs.Places.{all_places, all_records, all_lines};
 
+use crate::kept::TreePlace;
 use crate::under::OfIntersection;
 use cabinet_core::PartCode;
 use signal_records::{InterId, Key, LineNo, PatternNo, PhaseNo, RecordNo};
@@ -30,6 +31,17 @@ impl Place {
     }
 }
 
+impl TreePlace for Place {
+    ghost use Rattle.office_tables_maps.specs.MapShelf.{place_key};
+    ghost use Rattle.office_tables_maps.specs.PlaceFacts.{place_order, place_exact};
+
+    ghost cells = { place_key };
+
+    ghost ordered = { place_order };
+
+    ghost exact = { place_exact };
+}
+
 /// The place of an inspection or an order: its intersection, and its number there.
 #[derive(Clone, Copy, PartialEq, Eq, PartialOrd, Ord)]
 pub struct RecordPlace {
@@ -55,6 +67,17 @@ impl RecordPlace {
             }),
         )
     }
+}
+
+impl TreePlace for RecordPlace {
+    ghost use Rattle.office_tables_maps.specs.MapCabinet.{inspection_place_key};
+    ghost use Rattle.office_tables_maps.specs.PlaceFacts.{inspection_order, record_exact};
+
+    ghost cells = { inspection_place_key };
+
+    ghost ordered = { inspection_order };
+
+    ghost exact = { record_exact };
 }
 
 impl OfIntersection for RecordPlace {
@@ -86,6 +109,17 @@ impl LinePlace {
     }
 }
 
+impl TreePlace for LinePlace {
+    ghost use Rattle.office_tables_maps.specs.MapCabinet.{line_place_key};
+    ghost use Rattle.office_tables_maps.specs.PlaceFacts.{line_order, line_exact};
+
+    ghost cells = { line_place_key };
+
+    ghost ordered = { line_order };
+
+    ghost exact = { line_exact };
+}
+
 impl OfIntersection for LinePlace {
     ghost inter = { λ place. place.inter };
 
@@ -112,4 +146,26 @@ impl Clone for DeliveryPlace {
             number: self.number,
         })
     }
+}
+
+impl TreePlace for DeliveryPlace {
+    ghost use Rattle.office_tables_maps.specs.MapCabinet.{delivery_place_key};
+    ghost use Rattle.office_tables_maps.specs.PlaceFacts.{delivery_order, delivery_exact};
+
+    ghost cells = { delivery_place_key };
+
+    ghost ordered = { delivery_order };
+
+    ghost exact = { delivery_exact };
+}
+
+impl TreePlace for InterId {
+    ghost use Rattle.office_tables_shelf.specs.Rows.{intersection_key};
+    ghost use Rattle.office_tables_maps.specs.PlaceFacts.{last_order, number_exact};
+
+    ghost cells = { intersection_key };
+
+    ghost ordered = { last_order };
+
+    ghost exact = { number_exact };
 }

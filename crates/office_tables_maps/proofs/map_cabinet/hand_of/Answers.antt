@@ -3,7 +3,8 @@ use Rattle.std.proofs.lemmas.Option.{IfSome_then}
 use Rattle.std.specs.{Option.option_map, Ordering.is_eq}
 use Rattle.office_tables_shelf.specs.{CabinetReads.IsPartWithin, CabinetRows.part_key, CabinetRows.part_columns}
 use Rattle.office_tables_shelf.proofs.{CabinetLemmas.part_cmp, CabinetLemmas.part_order, TreeLemmas.entry_at, TreeLemmas.get_tree}
-use Rattle.office_tables_maps.proofs.{CabinetTrees.part_exact, TreeRows.standing_at}
+use Rattle.office_tables_maps.specs.PlaceFacts.{part_exact}
+use Rattle.office_tables_maps.proofs.TreeRows.{standing_at}
 use Rattle.office_tables_maps.proofs.map_cabinet.hand_of.Goals as goal
 
 pub returns-clause-row : goal.returns-clause-row

@@ -1,4 +1,5 @@
-use Rattle.office_tables_maps.proofs.{RangeLemmas.records_forward, RecordTrees.inspections_found}
+use Rattle.office_tables_maps.proofs.RangeLemmas.{records_forward}
+use Rattle.office_tables_maps.proofs.RecordTrees.{inspections_found}
 use Rattle.office_tables_maps.proofs.map_cabinet.inspections_of.Goals as goal
 
 pub range-entries-requires : goal.range-entries-requires

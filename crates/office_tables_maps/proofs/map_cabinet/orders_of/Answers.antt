@@ -1,4 +1,5 @@
-use Rattle.office_tables_maps.proofs.{RangeLemmas.records_forward, RecordTrees.orders_found}
+use Rattle.office_tables_maps.proofs.RangeLemmas.{records_forward}
+use Rattle.office_tables_maps.proofs.RecordTrees.{orders_found}
 use Rattle.office_tables_maps.proofs.map_cabinet.orders_of.Goals as goal
 
 pub range-entries-requires : goal.range-entries-requires

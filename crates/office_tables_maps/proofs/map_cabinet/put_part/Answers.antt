@@ -2,7 +2,8 @@ use Rattle.std.proofs.Common.{ap}
 use Rattle.std.specs.Ordering.{is_eq}
 use Rattle.office_tables_shelf.specs.{CabinetReads.IsPartWithin, CabinetRows.part_key, CabinetRows.part_columns}
 use Rattle.office_tables_shelf.proofs.{CabinetLemmas.part_cmp, CabinetLemmas.part_order, TreeLemmas.insert_tree}
-use Rattle.office_tables_maps.proofs.{CabinetTrees.part_exact, TreeRows.standing_put}
+use Rattle.office_tables_maps.specs.PlaceFacts.{part_exact}
+use Rattle.office_tables_maps.proofs.TreeRows.{standing_put}
 use Rattle.office_tables_maps.proofs.map_cabinet.put_part.Goals as goal
 
 pub returns-clause-rows : goal.returns-clause-rows

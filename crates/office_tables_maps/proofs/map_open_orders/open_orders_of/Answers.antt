@@ -3,7 +3,7 @@ use Rattle.std.proofs.Common.{sym, ap, subst, ◌∙◌}
 use Rattle.cabinet_core.specs.Orders.{is_open}
 use Rattle.office_tables_shelf.specs.OpenOrders.{orders_in}
 use Rattle.office_tables_maps.specs.Places.{records_under}
-use Rattle.office_tables_maps.proofs.CabinetTrees.{record_inter}
+use Rattle.office_tables_maps.proofs.PlaceLemmas.{record_inter}
 use Rattle.office_tables_maps.proofs.RecordTrees.{orders_listed, no_damaged_order}
 use Rattle.office_tables_maps.proofs.WalkLemmas.{OrdersWith, orders_more}
 use Rattle.office_tables_maps.proofs.map_open_orders.open_orders_of.Goals as goal

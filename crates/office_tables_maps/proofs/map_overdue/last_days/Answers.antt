@@ -2,7 +2,7 @@ use Rattle.std.proofs.Common.{◌∙◌, sym, ap}
 use Rattle.cabinet_core.specs.Overdue.{latest_day}
 use Rattle.office_tables_shelf.specs.Overdue.{last_day_in}
 use Rattle.office_tables_maps.specs.Places.{records_under}
-use Rattle.office_tables_maps.proofs.CabinetTrees.{record_inter}
+use Rattle.office_tables_maps.proofs.PlaceLemmas.{record_inter}
 use Rattle.office_tables_maps.proofs.RecordTrees.{inspections_listed, no_damaged_inspection}
 use Rattle.office_tables_maps.proofs.WalkLemmas.{latest_with, latest_with_none}
 use Rattle.office_tables_maps.proofs.map_overdue.last_days.Goals as goal

@@ -3,7 +3,8 @@ use Rattle.signal_records.specs.Within.{current_limits, IsKeyWithin}
 use Rattle.std.specs.FinMap.{insert}
 use Rattle.office_tables_maps.specs.MapShelf.{place_key, draft_rows, IsLeftAt}
 use Rattle.office_tables_shelf.specs.Rows.{timing_key, left_columns}
-use Rattle.office_tables_maps.proofs.PlaceLemmas.{left_stands, place_cmp, place_exact, place_ties}
+use Rattle.office_tables_maps.specs.PlaceFacts.{place_cmp, place_exact}
+use Rattle.office_tables_maps.proofs.PlaceLemmas.{left_stands, place_ties}
 use Rattle.office_tables_shelf.proofs.TreeLemmas.{insert_tree}
 use Rattle.office_tables_maps.proofs.TreeRows.{standing_put}
 use Rattle.office_tables_maps.proofs.map_rows.put_draft.Goals as goal

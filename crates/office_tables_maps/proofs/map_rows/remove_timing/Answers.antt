@@ -1,6 +1,7 @@
 use Rattle.office_tables_maps.specs.MapShelf.{place_key, IsRowAt}
 use Rattle.office_tables_shelf.specs.Rows.{timing_columns}
-use Rattle.office_tables_maps.proofs.PlaceLemmas.{standing_removed, place_cmp, place_ties}
+use Rattle.office_tables_maps.specs.PlaceFacts.{place_cmp}
+use Rattle.office_tables_maps.proofs.PlaceLemmas.{standing_removed, place_ties}
 use Rattle.office_tables_shelf.proofs.TreeLemmas.{remove_tree}
 use Rattle.office_tables_maps.proofs.map_rows.remove_timing.Goals as goal
 
