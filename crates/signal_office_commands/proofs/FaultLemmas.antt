@@ -135,10 +135,6 @@ shown_damage made tells tables asked result shows is = elim (tells shows.reply t
 
 -- ---- of an intersection
 
--- a fault of the database tells nothing
-pub store_tells : (office : Office) (id : ℕ) → TellsUnknown office id told.Store
-store_tells office id = record { unknown = λ e. cc; missing = λ none. inr refl }
-
 -- a fault from elsewhere tells nothing of an intersection that is there
 pub there_tells : (office : Office) (id : ℕ) (i : Intersection) → get office.intersections id ≡ Some i → TellsUnknown office id told.Memory
 there_tells office id i there = record { unknown = λ e. cc; missing = λ none. cc }
