@@ -30,10 +30,10 @@ use Rattle.office_tables_maps.specs.declared.place.{LinePlace.LinePlace, Place.P
 use Rattle.office_tables_maps.specs.declared.place.{RecordPlace.RecordPlace}
 use Rattle.office_tables_shelf.proofs.{CabinetLemmas.of_number, ListLemmas.cells_of}
 use Rattle.office_tables_shelf.proofs.{TreeLemmas.ranged_cmp, TreeLemmas.then_last}
-use Rattle.office_tables_maps.specs.PlaceFacts.{record_cmp, line_cmp, line_order, place_cmp, place_order}
-use Rattle.office_tables_maps.proofs.PlaceLemmas.{line_inter}
-use Rattle.office_tables_maps.proofs.PlaceLemmas.{row_of, change_of, place_inter}
-use Rattle.office_tables_maps.proofs.PlaceLemmas.{of_place, draft_shows}
+use Rattle.office_tables_maps.specs.PlaceFacts.{record_place_cmp, line_place_cmp, line_order, place_cmp}
+use Rattle.office_tables_maps.specs.PlaceFacts.{place_order}
+use Rattle.office_tables_maps.proofs.PlaceLemmas.{change_of, draft_shows, line_inter, of_place}
+use Rattle.office_tables_maps.proofs.PlaceLemmas.{place_inter, row_of}
 use Rattle.office_tables_maps.proofs.TreeRows.{tree_entries}
 
 -- What a walk found is all that it finds of a tree, once none of the entries is left that it began
@@ -106,14 +106,14 @@ place_between id place same h =
 
 pub record_between : (id : ℕ) (place : RecordPlace) → place.inter ≡ id
     → IsInRange 1 999_999 place.number
-    → range_contains record_cmp (all_records id).0 (all_records id).1 place ≡ true
+    → range_contains record_place_cmp (all_records id).0 (all_records id).1 place ≡ true
 record_between id place same h =
     within _ _ (not_after _ _ (same_up_to id place.inter same) (number_up_to 1 place.number h.0))
     (not_before _ _ (same_from id place.inter same) (number_from 999_999 place.number h.1))
 
 line_between : (id : ℕ) (place : LinePlace) → place.inter ≡ id
     → IsInRange 1 999_999 place.order → IsInRange 1 99 place.line
-    → range_contains line_cmp (all_lines id).0 (all_lines id).1 place ≡ true
+    → range_contains line_place_cmp (all_lines id).0 (all_lines id).1 place ≡ true
 line_between id place same order line =
     within _ _ (not_after _ _ (same_up_to id place.inter same)
     (not_after _ _ (number_up_to 1 place.order order.0) (number_up_to 1 place.line line.0)))
@@ -130,11 +130,11 @@ forward Greater h = absurd (true≢false (sym h))
 pub places_forward : (id : ℕ) → is_gt (place_cmp (first_place id) (last_place id)) ≡ false
 places_forward id = forward _ (not_after _ _ (same_up_to id id refl) refl)
 
-pub records_forward : (id : ℕ) → is_gt (record_cmp (first_record id) (last_record id)) ≡ false
+pub records_forward : (id : ℕ) → is_gt (record_place_cmp (first_record id) (last_record id)) ≡ false
 records_forward id =
     forward _ (not_after _ _ (same_up_to id id refl) (number_up_to 1 999_999 (omega arith)))
 
-pub lines_forward : (id : ℕ) → is_gt (line_cmp (first_line id) (last_line id)) ≡ false
+pub lines_forward : (id : ℕ) → is_gt (line_place_cmp (first_line id) (last_line id)) ≡ false
 lines_forward id =
     forward _ (not_after _ _ (same_up_to id id refl)
     (not_after (ranged_cmp 1 999_999) (ranged_cmp 1 99) (number_up_to 1 999_999 (omega arith))
@@ -265,15 +265,15 @@ draft_found =
     place_key left_columns (λ id change. (draft_key id change, draft_columns change)) place_order
     of_place (λ place left here. draft_shows place left here.0) (λ place left here. tt))
 
-pub used_found : FindsUnder line_inter (λ e. e.1) line_cmp all_lines IsUsedAt
+pub used_found : FindsUnder line_inter (λ e. e.1) line_place_cmp all_lines IsUsedAt
     (λ es. ListsUsed (with_used es)) IsUsedLineWithin
 used_found =
-    found_under line_inter (λ e. e.1) line_cmp all_lines IsUsedAt
+    found_under line_inter (λ e. e.1) line_place_cmp all_lines IsUsedAt
     (λ id place used here hit. line_between id place hit
     (subst (IsInRange 1 999_999) here.0 here.1.1.order)
     (subst (IsInRange 1 99) here.1.0 here.1.1.line)) (λ es. ListsUsed (with_used es))
     IsUsedLineWithin
-    (listed_under line_inter (λ e. e.1) line_cmp IsUsedAt IsUsedLineWithin line_place_key
+    (listed_under line_inter (λ e. e.1) line_place_cmp IsUsedAt IsUsedLineWithin line_place_key
     used_columns (λ id used. (used_key id used.order used.line, used_columns used)) line_order
     (λ id place. of_number id place.inter [])
     (λ place used here i. (used_key place.inter (here.0 i) (here.1.0 i), used_columns used))

@@ -17,11 +17,10 @@ use Rattle.office_tables_maps.specs.MapCabinet.{inspection_place_key, with_inspe
 use Rattle.office_tables_maps.specs.MapCabinet.{IsInspectionAt, IsOrderAt, IsRecordAt}
 use Rattle.office_tables_maps.specs.Places.{all_records}
 use Rattle.office_tables_maps.specs.declared.place.RecordPlace.{RecordPlace}
-use Rattle.office_tables_maps.specs.PlaceFacts.{inspection_order, record_cmp}
+use Rattle.office_tables_maps.specs.PlaceFacts.{inspection_order, record_place_cmp}
 use Rattle.office_tables_maps.proofs.PlaceLemmas.{record_inter}
 use Rattle.office_tables_maps.proofs.RangeLemmas.{FindsUnder, ListsUnder, found_under, listed_under}
-use Rattle.office_tables_maps.proofs.RangeLemmas.{record_between}
-use Rattle.office_tables_maps.proofs.TreeRows.{tree_entries}
+use Rattle.office_tables_maps.proofs.{RangeLemmas.record_between, TreeRows.tree_entries}
 
 -- a record beside the number of its intersection
 abbrev of_place : {X : Type 0} → RecordPlace × X → ℕ × X
@@ -39,19 +38,19 @@ module _ {X : Type 0} (Within : X → Type 0) (number : X → ℕ) (columns : X 
   abbrev Lists : List (RecordPlace × X) → ℕ → List X → Type 0
   Lists es id xs = map (shown id) xs ≡ rows_of id (tree_rows inspection_place_key columns es)
 
-  pub listed : ListsUnder record_inter (λ e. e.1) record_cmp (IsRecordAt Within number) Lists Within
+  pub listed : ListsUnder record_inter (λ e. e.1) record_place_cmp (IsRecordAt Within number) Lists Within
   listed =
-      listed_under record_inter (λ e. e.1) record_cmp (IsRecordAt Within number) Within
+      listed_under record_inter (λ e. e.1) record_place_cmp (IsRecordAt Within number) Within
       inspection_place_key columns shown inspection_order
       (λ id place. of_number id place.inter [])
       (λ place x here i. (inspection_key place.inter (here.0 i), columns x))
       (λ place x here. here.1.1)
 
   pub found : ((x : X) → Within x → IsInRange 1 999_999 (number x))
-      → FindsUnder record_inter (λ e. e.1) record_cmp all_records (IsRecordAt Within number) Lists
+      → FindsUnder record_inter (λ e. e.1) record_place_cmp all_records (IsRecordAt Within number) Lists
       Within
   found limits =
-      found_under record_inter (λ e. e.1) record_cmp all_records (IsRecordAt Within number)
+      found_under record_inter (λ e. e.1) record_place_cmp all_records (IsRecordAt Within number)
       (λ id place x here hit. record_between id place hit
       (subst (IsInRange 1 999_999) here.0 (limits x here.1.1))) Lists Within listed
 
@@ -70,28 +69,28 @@ module _ {X : Type 0} (Within : X → Type 0) (number : X → ℕ) (columns : X 
 
   pub whole : (t : Table) (tables : Content) (es : List (RecordPlace × X))
       → rows_at tables t ≡ tree_rows inspection_place_key columns es
-      → IsStrictlySortedBy record_cmp (keys_of es) → AreStanding es
+      → IsStrictlySortedBy record_place_cmp (keys_of es) → AreStanding es
       → ¬ HasDamagedRow t (IsOfOne Within) (λ e. inspection_key e.0 (number e.1))
       (λ e. columns e.1) tables None
   whole t tables es rows sorted h =
       listed_whole t (IsOfOne Within) (λ e. inspection_key e.0 (number e.1)) (λ e. columns e.1)
       tables None (map of_place es) (each_shown es h
-      ∙ sym (tree_entries record_cmp inspection_place_key columns inspection_order es sorted)
+      ∙ sym (tree_entries record_place_cmp inspection_place_key columns inspection_order es sorted)
       ∙ ap entries (sym rows) ∙ sym (where_all (entries (rows_at tables t)))) (each_within es h)
 
 -- ---- inspections
 
-pub inspections_listed : ListsUnder record_inter (λ e. e.1) record_cmp IsInspectionAt
+pub inspections_listed : ListsUnder record_inter (λ e. e.1) record_place_cmp IsInspectionAt
     (λ es. ListsInspections (with_inspections es)) IsInspectionWithin
 inspections_listed = listed IsInspectionWithin (λ x. x.number) inspection_columns
 
-pub inspections_found : FindsUnder record_inter (λ e. e.1) record_cmp all_records IsInspectionAt
+pub inspections_found : FindsUnder record_inter (λ e. e.1) record_place_cmp all_records IsInspectionAt
     (λ es. ListsInspections (with_inspections es)) IsInspectionWithin
 inspections_found =
     found IsInspectionWithin (λ x. x.number) inspection_columns (λ x within. within.number)
 
 pub no_damaged_inspection : (es : List (RecordPlace × Inspection))
-    → IsStrictlySortedBy record_cmp (keys_of es)
+    → IsStrictlySortedBy record_place_cmp (keys_of es)
     → AllByRecursion (λ e. IsInspectionAt e.0 e.1) es
     → ¬ HasAnyDamagedInspection (with_inspections es)
 no_damaged_inspection es =
@@ -100,16 +99,16 @@ no_damaged_inspection es =
 
 -- ---- orders
 
-pub orders_listed : ListsUnder record_inter (λ e. e.1) record_cmp IsOrderAt
+pub orders_listed : ListsUnder record_inter (λ e. e.1) record_place_cmp IsOrderAt
     (λ es. ListsOrders (with_orders es)) IsOrderWithin
 orders_listed = listed IsOrderWithin (λ x. x.number) order_columns
 
-pub orders_found : FindsUnder record_inter (λ e. e.1) record_cmp all_records IsOrderAt
+pub orders_found : FindsUnder record_inter (λ e. e.1) record_place_cmp all_records IsOrderAt
     (λ es. ListsOrders (with_orders es)) IsOrderWithin
 orders_found = found IsOrderWithin (λ x. x.number) order_columns (λ x within. within.number)
 
 pub no_damaged_order : (es : List (RecordPlace × Order))
-    → IsStrictlySortedBy record_cmp (keys_of es) → AllByRecursion (λ e. IsOrderAt e.0 e.1) es
+    → IsStrictlySortedBy record_place_cmp (keys_of es) → AllByRecursion (λ e. IsOrderAt e.0 e.1) es
     → ¬ HasAnyDamagedOrder (with_orders es)
 no_damaged_order es =
     whole IsOrderWithin (λ x. x.number) order_columns table.WorkOrder (with_orders es) es refl

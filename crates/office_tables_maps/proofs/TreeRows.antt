@@ -1,7 +1,7 @@
 -- Trees of records: how the numbers of their keys compare, the rows in their order, those that pass a test, and each under its own key.
 use Rattle.std.proofs.Common.{◌≡◌, inl, inr, Bool, List, [], ◌∷◌, map, filter, cond, Option, Some, None, IfSome, Ordering, T, refl, sym, ap, subst, subst₂, ◌∙◌}
 use Rattle.std.proofs.{lemmas.Bool.cases_Bool, lemmas.Map.Entries.entries_from_clone}
-use Rattle.std.specs.{BTreeMap.insert_entry, BTreeMap.is_at, FinMap.entries, FinMap.retain_keys, FinMap.get-retain_keys, FinMap.same_map}
+use Rattle.std.specs.{BTreeMap.insert_entry, BTreeMap.is_at, FinMap.entries, FinMap.get, Option.option_map, FinMap.retain_keys, FinMap.get-retain_keys, FinMap.same_map}
 use Rattle.std.specs.{FinMap.Entries.is_sorted, FinMap.Entries.below_all, FinMap.Entries.find-where_key, List.AllByRecursion, List.AllZip}
 use Rattle.std.specs.{List.Sorted.IsStrictlySortedBy, Map.keys_of, Map.lookup, Ordering.is_eq, Ordering.is_lt, Ordering.match_ordering}
 use Rattle.std.specs.{declared.cmp.Ordering.TheVariants.Less, declared.cmp.Ordering.TheVariants.Equal}
@@ -9,6 +9,7 @@ use Rattle.std.specs.declared.cmp.Ordering.TheVariants.{Greater}
 use Rattle.std.specs.FinMap as finite
 use Rattle.office_tables_shelf.specs.Cells.{Cell, rows_by, tree_rows, cells_cmp}
 use Rattle.office_tables_shelf.proofs.CellLemmas.{cells_total, cells_exact, find_entry, get_by, tied}
+use Rattle.office_tables_shelf.proofs.TreeLemmas.{entry_at, get_tree}
 use Rattle.office_tables_shelf.proofs.ListLemmas.{both, cells_of, entry, entries_filter, entries_in_order}
 
 -- ---- the entries of a tree, in its order
@@ -26,6 +27,10 @@ module _ {K X : Type 0} (R : K → K → Ordering) (key : K → List Cell) (colu
   -- the entries of the map that a tree stands for are its own, in its order
   pub tree_entries : (es : List (K × X)) → IsStrictlySortedBy R (keys_of es) → entries (tree_rows key columns es) ≡ map (cells_of key columns) es
   tree_entries es h = entries_in_order (map (cells_of key columns) es) (rising es h)
+
+  -- what the map has under the cells of a key is what the tree has there
+  pub stored_at : (es : List (K × X)) (k : K) (found : Option X) → entry_at R key columns es k ≡ found → get (tree_rows key columns es) (key k) ≡ option_map columns found
+  stored_at es k found here = get_tree R key columns (λ a b. ap is_eq (order a b)) es k ∙ ap (option_map columns) here
 
 -- clones that are equal to their sources are the sources
 pub same_clones : {K X : Type 0} (es copies : List (K × X)) → AllZip (λ e f. (f.0 ≡ e.0) × (f.1 ≡ e.1)) es copies → copies ≡ es

@@ -54,26 +54,26 @@ place_exact a b tie =
 
 -- ---- of an inspection, or an order
 
-abbrev pub record_cmp : RecordPlace → RecordPlace → Ordering
-record_cmp a b = ordering_then (ranged_cmp a.inter b.inter) (ranged_cmp a.number b.number)
+abbrev pub record_place_cmp : RecordPlace → RecordPlace → Ordering
+record_place_cmp a b = ordering_then (ranged_cmp a.inter b.inter) (ranged_cmp a.number b.number)
 
-pub inspection_order : (a b : RecordPlace) → cells_cmp (inspection_place_key a) (inspection_place_key b) ≡ record_cmp a b
+pub inspection_order : (a b : RecordPlace) → cells_cmp (inspection_place_key a) (inspection_place_key b) ≡ record_place_cmp a b
 inspection_order a b = λ i. ordering_then (ranged_order a.inter b.inter i) (last_order a.number b.number i)
 
-pub record_exact : CmpEqualImpliesEq record_cmp
+pub record_exact : CmpEqualImpliesEq record_place_cmp
 record_exact a b tie =
     ap (λ (p : ℕ × ℕ). record { inter = p.0; number = p.1 })
     (numbers_exact (a.inter, a.number) (b.inter, b.number) tie)
 
 -- ---- of a used part
 
-abbrev pub line_cmp : LinePlace → LinePlace → Ordering
-line_cmp a b = ordering_then (ranged_cmp a.inter b.inter) (ordering_then (ranged_cmp a.order b.order) (ranged_cmp a.line b.line))
+abbrev pub line_place_cmp : LinePlace → LinePlace → Ordering
+line_place_cmp a b = ordering_then (ranged_cmp a.inter b.inter) (ordering_then (ranged_cmp a.order b.order) (ranged_cmp a.line b.line))
 
-pub line_order : (a b : LinePlace) → cells_cmp (line_place_key a) (line_place_key b) ≡ line_cmp a b
+pub line_order : (a b : LinePlace) → cells_cmp (line_place_key a) (line_place_key b) ≡ line_place_cmp a b
 line_order a b = λ i. ordering_then (ranged_order a.inter b.inter i) (ordering_then (ranged_order a.order b.order i) (last_order a.line b.line i))
 
-pub line_exact : CmpEqualImpliesEq line_cmp
+pub line_exact : CmpEqualImpliesEq line_place_cmp
 line_exact a b tie =
     ap (λ (p : ℕ × (ℕ × ℕ)). record { inter = p.0; order = p.1.0; line = p.1.1 })
     (exact_pairs ranged_cmp (λ (x y : ℕ × ℕ). ordering_then (ranged_cmp x.0 y.0) (ranged_cmp x.1 y.1)) number_exact numbers_exact
@@ -84,13 +84,13 @@ line_exact a b tie =
 pub part_exact : CmpEqualImpliesEq part_cmp
 part_exact = slice_cmp-IsAntisymmetric exact_unsigned
 
-abbrev pub delivery_cmp : DeliveryPlace → DeliveryPlace → Ordering
-delivery_cmp a b = ordering_then (part_cmp a.part b.part) (ranged_cmp a.number b.number)
+abbrev pub delivery_place_cmp : DeliveryPlace → DeliveryPlace → Ordering
+delivery_place_cmp a b = ordering_then (part_cmp a.part b.part) (ranged_cmp a.number b.number)
 
-pub delivery_order : (a b : DeliveryPlace) → cells_cmp (delivery_place_key a) (delivery_place_key b) ≡ delivery_cmp a b
+pub delivery_order : (a b : DeliveryPlace) → cells_cmp (delivery_place_key a) (delivery_place_key b) ≡ delivery_place_cmp a b
 delivery_order a b = λ i. ordering_then (text_order a.part b.part i) (last_order a.number b.number i)
 
-pub delivery_exact : CmpEqualImpliesEq delivery_cmp
+pub delivery_exact : CmpEqualImpliesEq delivery_place_cmp
 delivery_exact a b tie =
     ap (λ (p : List ℕ × ℕ). record { part = p.0; number = p.1 })
     (exact_pairs part_cmp ranged_cmp part_exact number_exact (a.part, a.number) (b.part, b.number) tie)

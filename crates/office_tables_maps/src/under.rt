@@ -3,6 +3,7 @@
 ghost use Rattle.std.specs.Prelude.{◌≡◌, ℕ, IfOk};
 ghost use Rattle.office_tables_maps.specs.Places.{records_under};
 
+use crate::kept::Kept;
 use signal_records::{InterId, NoMemory};
 use std::alloc::Global;
 use std::collections::btree_map::Range;
@@ -17,18 +18,19 @@ pub(crate) trait OfIntersection {
 }
 
 /// Copies of the records of an intersection among these entries, in their order.
-pub(crate) fn copied_under<P: OfIntersection, T: Clone + Drop>(
+pub(crate) fn copied_under<T: Kept>(
     alloc: Global,
-    entries: Range<'_, P, T>,
+    entries: Range<'_, T::Place, T>,
     inter: InterId,
 ) -> Result<Vec<T>, NoMemory>
-    requires { (x copy : T) → T.is_clone x copy → copy ≡ x }
-    ensures { IfOk result (λ list. list.items ≡ records_under P.inter inter entries.entry) }
+where
+    T::Place: OfIntersection,
+    ensures { IfOk result (λ list. list.items ≡ records_under T.Place.inter inter entries.entry) }
 {
     let mut list = Vec::new(alloc);
-    for (place, record) in entries {
+    for (place, kept) in entries {
         if place.inter() == inter {
-            list.push(record.clone()?)?;
+            list.push(kept.clone()?)?;
         }
     }
     Ok(list)

@@ -11,8 +11,8 @@ returns-clause-rows g c =
     insert_tree g.T.Place.Ord.cmp cells g.T.Kept.columns
     (λ a b. ap is_eq (g.met.T.Place.TreePlace.ordered a b)) c.args.rows.now.entries
     c.insert.new.self.entries c.in_ok-place.place c.args.kept c.in_ok-insert.ensures.updates.0
-    ∙ ap (λ at. insert (tree_rows cells g.T.Kept.columns c.args.rows.now.entries) (cells at)
-    (g.T.Kept.columns c.args.kept)) c.in_ok-place.ensures.place
+    ∙ (λ i. insert (tree_rows cells g.T.Kept.columns c.args.rows.now.entries)
+    (cells (c.in_ok-place.ensures.place i)) (g.T.Kept.columns c.args.kept))
 
 pub returns-clause-placed : goal.returns-clause-placed
 returns-clause-placed g c = λ placed.

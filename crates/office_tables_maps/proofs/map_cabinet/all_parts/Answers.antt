@@ -2,8 +2,7 @@ use Rattle.std.proofs.Common.{map, refl, sym, ap, subst, ◌∙◌}
 use Rattle.std.specs.List.{AllByRecursion}
 use Rattle.office_tables_shelf.specs.{CabinetReads.IsPartWithin, CabinetRows.part_key, CabinetRows.part_columns}
 use Rattle.office_tables_shelf.proofs.CabinetLemmas.{part_cmp, part_order}
-use Rattle.office_tables_maps.proofs.RangeLemmas.{walked}
-use Rattle.office_tables_maps.proofs.TreeRows.{tree_entries}
+use Rattle.office_tables_maps.proofs.{RangeLemmas.walked, TreeRows.tree_entries}
 use Rattle.office_tables_maps.proofs.map_cabinet.all_parts.Goals as goal
 
 pub returns-clause-rows : goal.returns-clause-rows

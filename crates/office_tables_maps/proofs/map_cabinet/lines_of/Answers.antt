@@ -4,9 +4,6 @@ use Rattle.office_tables_maps.proofs.map_cabinet.lines_of.Goals as goal
 pub range-entries-requires : goal.range-entries-requires
 range-entries-requires c = rw c.all_of.ensures (lines_forward c.args.inter)
 
-pub copied_under-requires : goal.copied_under-requires
-copied_under-requires c = λ there copy same. same
-
 pub returns-clause-rows : goal.returns-clause-rows
 returns-clause-rows c = λ placed.
     rw c.in_ok-list.ensures (used_found c.args.inter c.args.rows.now.entries _ _

@@ -1,12 +1,8 @@
-use Rattle.office_tables_maps.proofs.RangeLemmas.{records_forward}
-use Rattle.office_tables_maps.proofs.RecordTrees.{orders_found}
+use Rattle.office_tables_maps.proofs.{RangeLemmas.records_forward, RecordTrees.orders_found}
 use Rattle.office_tables_maps.proofs.map_cabinet.orders_of.Goals as goal
 
 pub range-entries-requires : goal.range-entries-requires
 range-entries-requires c = rw c.all_of.ensures (records_forward c.args.inter)
-
-pub copied_under-requires : goal.copied_under-requires
-copied_under-requires c = λ there copy same. same
 
 pub returns-clause-rows : goal.returns-clause-rows
 returns-clause-rows c = λ placed.

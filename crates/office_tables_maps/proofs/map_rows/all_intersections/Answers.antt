@@ -3,8 +3,7 @@ use Rattle.std.specs.List.{AllByRecursion}
 use Rattle.office_tables_shelf.specs.{Rows.intersection_key, Rows.intersection_columns, Shelf.IsIntersectionWithin}
 use Rattle.office_tables_shelf.proofs.TreeLemmas.{ranged_cmp}
 use Rattle.office_tables_maps.specs.PlaceFacts.{last_order}
-use Rattle.office_tables_maps.proofs.RangeLemmas.{walked}
-use Rattle.office_tables_maps.proofs.TreeRows.{tree_entries}
+use Rattle.office_tables_maps.proofs.{RangeLemmas.walked, TreeRows.tree_entries}
 use Rattle.office_tables_maps.proofs.map_rows.all_intersections.Goals as goal
 
 pub returns-clause-rows : goal.returns-clause-rows
