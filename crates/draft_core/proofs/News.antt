@@ -2,18 +2,18 @@
 use Rattle.std.proofs.Common.{◌≡◌, ◌⊎◌, ℕ, true, false, cond, List, [], ◌∷◌, map, Option}
 use Rattle.std.proofs.Common.{arith, refl, ap, sym, subst, ◌∙◌, inl, inr}
 use Rattle.std.proofs.lemmas.Bool.{cases_Bool}
-use Rattle.std.specs.{FinMap.get, List.AllByRecursion, List.Sorted.IsStrictlySortedBy, Ordering.eq_by_cmp}
+use Rattle.std.specs.{Cmp.tied_itself, FinMap.get, List.AllByRecursion, List.Sorted.IsStrictlySortedBy, Ordering.eq_by_cmp}
 use Rattle.std.specs.{Ordering.is_eq, declared.cmp.Ordering.TheVariants.Less}
-use Rattle.signal_records.specs.{Key.key_cmp, TimingSet.Rows, declared.key.Key.Key, declared.record.Row.Row}
-use Rattle.signal_records.specs.{declared.record.Change.Change}
+use Rattle.signal_records.specs.{Key.key_cmp, KeyOrder.key_total, TimingSet.Rows, declared.key.Key.Key, declared.record.Row.Row}
+use Rattle.signal_records.specs.{declared.record.Change.Change, declared.record.Change.TheVariants.Put}
 use Rattle.draft_core.specs.{declared.step.Step.Step, declared.timing.Move.Move, declared.timing.Reach.Reach, Drafting.AreAmong, Moves.move_to}
 use Rattle.draft_core.specs.{declared.timing.Timing.Timing, DraftRows.Said, DraftRows.silent, DraftRows.said_by, DraftRows.later_of}
-use Rattle.draft_core.specs.{DraftRows.overlaid, DraftRows.row_at, Moves.committed_by, Moves.said_after, News.AddsOnlyNew}
-use Rattle.draft_core.specs.{News.AreInOrder, News.AreNewAt, Steps.StepWrites, Steps.asked_changes, Steps.reach_of, Writes.settled_by, Writes.settling}
+use Rattle.draft_core.specs.{DraftRows.overlaid, DraftRows.row_at, Drafting.is_said, Moves.committed_by, Moves.said_after, News.AddsOnlyNew}
+use Rattle.draft_core.specs.{News.AreInOrder, News.AreNewAt, News.IsNewAt, Steps.StepWrites, Steps.asked_changes, Steps.reach_of, Writes.settled_by, Writes.settling}
 use Rattle.draft_core.specs.declared.timing.Reach.TheVariants as reach
 use Rattle.draft_state.specs.{ChangedRows.changed_key, declared.state.Holding.Holding, declared.state.Verdict.Verdict}
 use Rattle.draft_core.proofs.{OnlyChanges.same_key, Pushed.later_of-silent}
-use Rattle.draft_core.proofs.Written.{committing, settled_commits}
+use Rattle.draft_core.proofs.Written.{committing, settled_commits, settled_either}
 
 -- ---- of which keys changes say something
 
@@ -27,11 +27,37 @@ unsaid key (change ∷ changes) above =
     ap (λ b. later_of (row_at changes key) (cond b (said_by change) silent)) apart
     ∙ later_of-silent (row_at changes key) ∙ unsaid key changes above.1
 
+later_said : (later : Said) (change : Change) → is_said (later_of later (said_by change)) ≡ true
+later_said silent (Put row) = refl
+later_said _ change = refl
+
+-- of each that they name
+said_of : (change : Change) (changes : List Change)
+    → is_said (row_at (change ∷ changes) (changed_key change)) ≡ true
+said_of change changes =
+    let key = changed_key change in
+    let tied : eq_by_cmp key_cmp key key ≡ true = ap is_eq (tied_itself key_total key) in
+    ap (λ b. is_said (later_of (row_at changes key) (cond b (said_by change) silent))) tied
+    ∙ later_said (row_at changes key) change
+
+not_silent : (change : Change) (changes : List Change) (key : Key) → key ≡ changed_key change
+    → row_at (change ∷ changes) key ≡ silent → ⊥
+not_silent change changes key here none =
+    let told : is_said (row_at (change ∷ changes) key) ≡ true =
+    ap (λ k. is_said (row_at (change ∷ changes) k)) here ∙ said_of change changes in
+    let f : true ≡ false = sym told ∙ ap is_said none in cc
+
 -- ---- each row that is added is new
 
 module _ (set : Rows) (change : Change) (changes : List Change) (key : Key)
     (committed : Option Row)
     (start : (row_at (change ∷ changes) key ≡ silent → ⊥) → committed ≡ get set key) where
+  first_new : (said : Said) → IsNewAt (settled_by set change) key committed said
+  first_new said =
+      settled_either (λ one. IsNewAt one key committed said) set change tt (λ row is none here.
+      start (not_silent change changes key (here ∙ ap changed_key (sym is)))
+      ∙ ap (get set) here ∙ none)
+
   -- what later changes name is as it was
   later_start : AllByRecursion (λ k. key_cmp (changed_key change) k ≡ Less)
       (map changed_key changes)
