@@ -9,7 +9,7 @@ ghost use Rattle.cabinet_core.specs.Day.{day_text, IsDay, SpellsDay};
 
 use jiff::civil::Date as CivilDate;
 use jiff_core::civil;
-use signal_values::{Interval, NoMemory};
+use signal_values::NoMemory;
 use std::alloc::{AllocError, Global};
 use std::fmt::Write;
 use std::marker::Model;
@@ -76,7 +76,7 @@ impl Day {
 /// number of days since 1970-01-01, 0 to 87,655.
 #[derive(Clone, Copy, PartialEq, Eq, PartialOrd, Ord)]
 pub struct Date {
-    number: u32,
+    pub(crate) number: u32,
 }
 
 impl Model for Date {
@@ -163,14 +163,4 @@ pub fn write_day(alloc: Global, day: Day) -> Result<String, NoMemory>
     ensures { IfOk result (λ text. string_bytes text ≡ day_text day) }
 {
     write_date(alloc, day.date())
-}
-
-/// The day on which the next inspection falls due: so many days after the last one. It may lie
-/// past 2199-12-31.
-pub fn due(last: Day, interval: Interval) -> Date
-    ensures { result ≡ last + interval }
-{
-    Date {
-        number: last.number + interval.get(),
-    }
 }

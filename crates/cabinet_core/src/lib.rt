@@ -17,11 +17,11 @@ pub use bounds::{
     used_line_is_within,
 };
 pub use command::RecordCommand;
-pub use day::{Date, Day, due, push_date, read_day, write_date, write_day};
+pub use day::{Date, Day, push_date, read_day, write_date, write_day};
 pub use decide::{CabinetChange, Recorded, close_order, inspect, open_order, receive, use_part};
 pub use open_orders::open_count;
 pub use ordered::{Ordered, Placed};
-pub use overdue_inspections::{OverdueRow, Seen, later, latest, overdue, overdue_row};
+pub use overdue_inspections::{OverdueRow, Seen, due, later, latest, overdue, overdue_row};
 pub use part::{Hand, MOST_ON_HAND, PartCode};
 pub use record::{CabinetView, Closing, Delivery, Inspection, Opening, Order, UsedLine};
 pub use refusal::CabinetRefusal;

@@ -1,10 +1,10 @@
-//! Inspections that are overdue.
+//! When an inspection falls due, and inspections that are overdue.
 
-ghost use Rattle.std.specs.Prelude.{◌≡◌, map, option_map, IfOk};
+ghost use Rattle.std.specs.Prelude.{◌≡◌, ◌+◌, map, option_map, IfOk};
 ghost use Rattle.cabinet_core.specs.Overdue.{greater, latest_day, overdue_list, listed_of};
 ghost use Rattle.cabinet_core.specs.Overdue.{lateness};
 
-use crate::day::{Date, Day, due};
+use crate::day::{Date, Day};
 use crate::record::Inspection;
 use signal_values::{InterId, Interval, NoMemory, Words};
 use std::alloc::Global;
@@ -48,6 +48,16 @@ pub fn latest(inspections: &[Inspection]) -> Option<Day>
         latest = Some(later(inspection.day, latest));
     }
     latest
+}
+
+/// The day on which the next inspection falls due: so many days after the last one. It may lie
+/// past 2199-12-31.
+pub fn due(last: Day, interval: Interval) -> Date
+    ensures { result ≡ last + interval }
+{
+    Date {
+        number: last.number() + interval.get(),
+    }
 }
 
 /// The row of an intersection that is overdue on the day: that was never inspected, or whose

@@ -4,7 +4,7 @@ use Rattle.std.specs.{Option.option_map, Result.IsErrAnd, Result.result_err, Str
 use Rattle.signal_rules.specs.declared.violation.Violation.{Violation}
 use Rattle.draft_state.specs.{declared.revision.TheConstants.LAST_REVISION, declared.state.Stage.Stage, declared.state.Holder.Holder}
 use Rattle.draft_core.specs.{declared.timing.Timing.Timing, declared.timing.Reach.Reach, declared.timing.Move.Move}
-use Rattle.draft_core.specs.{declared.refusal.DraftRefusal.DraftRefusal, Writes.next_revision}
+use Rattle.draft_core.specs.{declared.refusal.DraftRefusal.DraftRefusal, Transaction.next_revision}
 use Rattle.draft_core.specs.declared.refusal.DraftRefusal.TheVariants.{NotOwner, RevisionFull, VerifyFailed}
 use Rattle.draft_core.specs.Transaction.{TimingSide, Draft, holder_of, is_stage, owned, refused_by, committed_with}
 use Rattle.draft_core.specs.{DraftRows.RowsByKey, DraftRows.Stands, Moves.Makes, Moves.Follows}

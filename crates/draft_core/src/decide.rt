@@ -2,6 +2,7 @@
 
 ghost use Rattle.std.specs.Prelude.{◌≡◌, [], Some, IfErr, IfOk, List, ℕ};
 ghost use Rattle.signal_rules.specs.Violations.{violations_of};
+ghost use Rattle.draft_core.specs.Transaction as table;
 ghost use Rattle.draft_core.specs.Transaction.{TimingSide, Draft, committed_with};
 ghost use Rattle.draft_core.specs.Drafting.{KeepsOnlyChanges};
 ghost use Rattle.draft_core.specs.DraftRows.{RowsByKey, Stands};
@@ -11,7 +12,7 @@ ghost use Rattle.draft_core.specs.Steps.{IsUnsettled, StepWrites, Takes};
 
 use crate::drafting::drafting;
 use crate::holding::{refused_by, state_after};
-use crate::judging::{next_revision, verdict_on};
+use crate::judging::verdict_on;
 use crate::overlaying::violations_after;
 use crate::refusal::DraftRefusal;
 use crate::revision::Revision;
@@ -20,6 +21,7 @@ use crate::step::Step;
 use crate::timing::{Move, Reach, Timing, TimingChanges};
 use crate::writes::{dropping, settling};
 use signal_records::{Change, Words};
+use signal_rules::Violation;
 use std::alloc::Global;
 
 /// A move to the state that follows from who holds the draft.
@@ -121,6 +123,17 @@ pub fn commit(alloc: Global, timing: &Timing, clerk: &Words<40>) -> Result<Move,
         return Err(refusal);
     }
     settled(alloc, timing)
+}
+
+/// The next revision, or why a draft with these violations is not committed: the violations come
+/// before the last revision.
+fn next_revision(revision: Revision, found: &[Violation]) -> Result<Revision, DraftRefusal>
+    ensures { result ≡ table.next_revision revision found.now }
+{
+    if !found.is_empty() {
+        return Err(DraftRefusal::VerifyFailed(found.len()));
+    }
+    revision.next().ok_or(DraftRefusal::RevisionFull)
 }
 
 /// Commits a draft that its owner may commit.

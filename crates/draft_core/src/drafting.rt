@@ -3,8 +3,9 @@
 ghost use Rattle.std.specs.Prelude.{◌≡◌, IfOk, IsTrue};
 ghost use Rattle.draft_core.specs.Drafting.{AreNamed, DraftsChanges, SaysCommitted, drafted_as};
 
-use crate::overlaying::{changed_key, copy_change};
+use crate::overlaying::copy_change;
 use crate::timing::{Timing, TimingChange, TimingChanges};
+use draft_state::changed_key;
 use signal_records::{Change, Key, NoMemory, TimingSet};
 use std::alloc::Global;
 use std::collections::BTreeSet;

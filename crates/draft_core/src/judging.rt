@@ -1,16 +1,13 @@
-//! What is known of a draft's consistency, and whether it may be committed.
+//! What is known of a draft's consistency.
 
 ghost use Rattle.std.specs.Prelude.{◌≡◌, [], IfOk};
 ghost use Rattle.signal_rules.specs.Violations.{violations_of};
 ghost use Rattle.draft_core.specs.Transaction as table;
 ghost use Rattle.draft_core.specs.Transaction.{TimingSide};
 ghost use Rattle.draft_core.specs.DraftRows.{RowsByKey, Stands};
-ghost use Rattle.draft_core.specs.Writes as writes;
 ghost use Rattle.draft_state.specs.declared.state.Stage.TheVariants as stage;
 
 use crate::overlaying::violations_after;
-use crate::refusal::DraftRefusal;
-use crate::revision::Revision;
 use crate::state::{Holder, Stage, Verdict};
 use crate::timing::{Reach, Timing};
 use signal_records::NoMemory;
@@ -45,18 +42,4 @@ pub(crate) fn verdict_on(found: &[Violation]) -> Verdict
         [] => Verdict::DoneWithNoError,
         _ => Verdict::DoneWithError,
     }
-}
-
-/// The next revision, or why a draft with these violations is not committed: the violations come
-/// before the last revision.
-pub(crate) fn next_revision(
-    revision: Revision,
-    found: &[Violation],
-) -> Result<Revision, DraftRefusal>
-    ensures { result ≡ writes.next_revision revision found.now }
-{
-    if !found.is_empty() {
-        return Err(DraftRefusal::VerifyFailed(found.len()));
-    }
-    revision.next().ok_or(DraftRefusal::RevisionFull)
 }

@@ -19,7 +19,7 @@ pub use draft_state::{
 };
 pub use holding::next_holder;
 pub use judging::verdict;
-pub use overlaying::{changed_key, copy_change, overlay};
+pub use overlaying::{copy_change, overlay};
 pub use refusal::DraftRefusal;
 pub use step::Step;
 pub use timing::{Move, Reach, Timing, TimingChange, TimingChanges};

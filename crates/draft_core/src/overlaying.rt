@@ -5,6 +5,7 @@ ghost use Rattle.signal_records.specs.TimingSet.{after_changes};
 ghost use Rattle.signal_rules.specs.Violations.{violations_of};
 ghost use Rattle.draft_state.specs.ChangedRows as rows;
 
+use draft_state::changed_key;
 use signal_records::{Change, Key, NoMemory, TimingSet};
 use signal_rules::{Tally, Violation, violations_touched};
 use std::alloc::Global;
@@ -28,16 +29,6 @@ pub fn copy_change(change: &Change) -> Result<Change, NoMemory>
         Change::Put(row) => Change::Put(row.clone()?),
         Change::Remove(key) => Change::Remove(*key),
     })
-}
-
-/// The key that a change names.
-pub fn changed_key(change: &Change) -> Key
-    ensures { result ≡ rows.changed_key change.now }
-{
-    match change {
-        Change::Put(row) => row.key(),
-        Change::Remove(key) => *key,
-    }
 }
 
 /// The keys that changes name.

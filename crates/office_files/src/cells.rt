@@ -31,7 +31,7 @@ pub(crate) fn push_tenths(text: &mut String, number: u32) -> Result<(), AllocErr
 }
 
 /// Appends the numbers of the phases, each after a space, or a dash where there is none.
-pub(crate) fn push_list(text: &mut String, phases: &[PhaseNo]) -> Result<(), AllocError>
+pub fn push_numbers(text: &mut String, phases: &[PhaseNo]) -> Result<(), AllocError>
     ensures { OnOk result (string_bytes text.new ≡ string_bytes text.old
         ++ numbers_text phases.now) }
 {

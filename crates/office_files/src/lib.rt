@@ -21,6 +21,7 @@ mod writing;
 
 pub use cabinet::{read_records_csv, records_csv};
 pub use cabinet_core::OverdueRow;
+pub use cells::push_numbers;
 pub use change_writing::changes_csv;
 pub use changes::read_timing_csv;
 pub use fault::{BadRow, CsvFault, told_of_record};

@@ -7,7 +7,7 @@ ghost use Rattle.office_files.specs.Sheet.{sequences_section, splits_section, pa
 ghost use Rattle.office_files.specs.Sheet.{sections, title, phase_line, sequence_line, split_line};
 ghost use Rattle.office_files.specs.Sheet.{pattern_line, sheet_text};
 
-use crate::cells::{push_flag, push_list, push_number, push_tenths};
+use crate::cells::{push_flag, push_number, push_numbers, push_tenths};
 use draft_state::revision::Revision;
 use signal_records::{InterId, NoMemory, Ped, Phase, PhaseNo, Row, TimingSet, Words, mode_code};
 use std::alloc::Global;
@@ -51,7 +51,7 @@ fn push_phase(text: &mut String, row: &Row) -> Result<(), NoMemory>
     };
     push_intervals(text, *p, phase)?;
     push_ped(text, &phase.ped)?;
-    push_list(text, phase.mates.as_slice())?;
+    push_numbers(text, phase.mates.as_slice())?;
     text.push_str("\n")
 }
 
@@ -64,7 +64,7 @@ fn push_sequence(text: &mut String, row: &Row) -> Result<(), NoMemory>
     };
     push_number(text, n.get())?;
     push_number(text, ring.get())?;
-    push_list(text, seq.list.as_slice())?;
+    push_numbers(text, seq.list.as_slice())?;
     text.push_str("\n")
 }
 

@@ -1,4 +1,5 @@
--- The command that a request asks.
+-- The command that a request asks, or the first of its faults, in this order: no route, another
+-- method, a field of the path from the left, no JSON object, a key of the body by name, a bad row.
 use Rattle.std.specs.Prelude.{◌⊎◌, ℕ, List, Result, Ok, Err, IsTrue, bytes_eq, codes, if◌then◌else◌}
 use Rattle.serde_json.specs.Data.{Data}
 use Rattle.signal_records.specs.declared.record.Change.{Change}

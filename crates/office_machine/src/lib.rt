@@ -1,5 +1,6 @@
 //! The office machine: what is asked of the office, what it answers, and what each command means.
-//! The desk and the wire stand on it, and neither of these on the other.
+//! The desk stands on it, and so do the readers of requests and the writers of answers, which know
+//! no desk.
 #![tactic(auto)]
 
 pub mod command;

@@ -5,21 +5,16 @@ use Rattle.std.specs.Ordering.{eq_by_cmp}
 use Rattle.office_files.specs.Changes.{changes_of}
 use Rattle.office_files.specs.declared.fault.CsvFault.{CsvFault}
 use Rattle.signal_records.specs.Key.{key_cmp}
-use Rattle.signal_records.specs.Row.{key_of}
+use Rattle.draft_state.specs.ChangedRows.{changed_key}
 use Rattle.signal_records.specs.declared.key.Key.{Key}
 use Rattle.signal_records.specs.declared.key.Key.TheVariants as key
 use Rattle.signal_records.specs.declared.record.Change.{Change}
 use Rattle.signal_records.specs.declared.record.Change.TheVariants.{Put, Remove}
 
--- the key that a change puts a row under, or removes
-abbrev pub key_for : Change → Key
-key_for (Put row) = key_of row
-key_for (Remove key) = key
-
 -- there is a change, and it is of this key
 abbrev pub is_for : Key → Option Change → Bool
 is_for key None = false
-is_for key (Some change) = eq_by_cmp key_cmp (key_for change) key
+is_for key (Some change) = eq_by_cmp key_cmp (changed_key change) key
 
 -- of the first so many changes, the number of the last one of this key
 abbrev pub last_within : Key → List Change → ℕ → Option ℕ
@@ -47,13 +42,13 @@ record_word false = codes "record "
 abbrev pub note_on : (other : Bool) → (number : ℕ) → Change → (earlier : Option ℕ) → List ℕ
 note_on other number change None = []
 note_on other number change (Some earlier) =
-    codes "note: " ++ record_word other ++ decimal number ++ codes " " ++ deed change ++ codes " " ++ key_words (key_for change)
+    codes "note: " ++ record_word other ++ decimal number ++ codes " " ++ deed change ++ codes " " ++ key_words (changed_key change)
     ++ codes " again, after record " ++ decimal earlier ++ codes "\n"
 
 -- the note on the change at a place, counted from 0: the latest one before it of its key
 abbrev pub note_at : (other : Bool) → List Change → (place : ℕ) → Option Change → List ℕ
 note_at other changes place None = []
-note_at other changes place (Some change) = note_on other (suc place) change (last_within (key_for change) changes place)
+note_at other changes place (Some change) = note_on other (suc place) change (last_within (changed_key change) changes place)
 
 -- the notes on the first so many changes
 abbrev pub notes_within : (other : Bool) → List Change → ℕ → List ℕ

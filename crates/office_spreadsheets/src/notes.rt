@@ -1,24 +1,15 @@
 //! Notes on records that put or remove a key again.
 
 ghost use Rattle.std.specs.Prelude.{◌≡◌, ◌++◌, length, IfOk, OnOk, string_bytes};
-ghost use Rattle.office_spreadsheets.specs.Notes.{deed, key_for, key_words, note_on, notes_in};
+ghost use Rattle.office_spreadsheets.specs.Notes.{deed, key_words, note_on, notes_in};
 ghost use Rattle.office_spreadsheets.specs.Notes.{notes_within, record_word};
 
+use draft_state::changed_key;
 use office_files::{CsvFault, read_timing_csv};
 use signal_records::{Change, Key, NoMemory};
 use std::alloc::{AllocError, Global};
 use std::collections::BTreeMap;
 use std::fmt::Write;
-
-/// The key that a change puts a row under, or removes.
-fn key_for(change: &Change) -> Key
-    ensures { result ≡ key_for change.now }
-{
-    match change {
-        Change::Put(row) => row.key(),
-        Change::Remove(key) => *key,
-    }
-}
 
 /// What a change does to its key.
 fn deed(change: &Change) -> &'static str
@@ -66,7 +57,7 @@ fn push_note(
     let record = record_word(other);
     let deed = deed(change);
     write!(text, "note: {record}{number} {deed} ")?;
-    push_key(text, key_for(change))?;
+    push_key(text, changed_key(change))?;
     writeln!(text, " again, after record {earlier}")
 }
 
@@ -78,7 +69,7 @@ fn notes_on(alloc: Global, other: bool, changes: &[Change]) -> Result<String, No
     let mut text = String::new(alloc);
     let mut latest = BTreeMap::new(alloc);
     for (place, change) in changes.iter().enumerate() {
-        let earlier = latest.insert(key_for(change), place + 1)?;
+        let earlier = latest.insert(changed_key(change), place + 1)?;
         push_note(&mut text, other, place + 1, change, earlier)?;
     }
     Ok(text)

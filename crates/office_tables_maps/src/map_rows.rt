@@ -3,7 +3,7 @@ ghost use Rattle.std.specs.Prelude.{◌≡◌, OnOk, IfOk};
 ghost use Rattle.std.specs.FinMap as finite;
 ghost use Rattle.std.specs.List.{AllByRecursion};
 ghost use Rattle.signal_records.specs.Within.{IsRowWithin, current_limits};
-ghost use Rattle.draft_state.specs.ChangedRows.{changed_key, left_by};
+ghost use Rattle.draft_state.specs.ChangedRows.{left_by};
 ghost use Rattle.office_tables_shelf.specs.Content.{rows_but};
 ghost use Rattle.office_tables_shelf.specs.Rows.{timing_key, draft_key, draft_columns};
 ghost use Rattle.office_tables_shelf.specs.Shelf.{ListsIntersections, ListsTiming, ListsDraft};
@@ -15,6 +15,7 @@ ghost use Rattle.office_tables_maps.specs.MapShelf.{with_timing, with_drafts};
 ghost use Rattle.office_tables_maps.specs.MapShelf.{AreIntersectionsWithin};
 
 use crate::place::Place;
+use draft_state::changed_key;
 use office_tables_shelf::rows::IntersectionRow;
 use signal_records::{Change, InterId, Key, NoMemory, Row, key_is_within};
 use std::alloc::Global;
@@ -89,16 +90,6 @@ pub(crate) fn count_of(rows: &BTreeMap<Place, Row>, inter: InterId) -> usize
     count
 }
 
-/// The key that a change names.
-fn key_of_change(change: &Change) -> Key
-    ensures { result ≡ changed_key change.now }
-{
-    match change {
-        Change::Put(row) => row.key(),
-        Change::Remove(key) => *key,
-    }
-}
-
 /// The row that a change leaves at its key.
 fn left_by_change(change: &Change) -> Result<Option<Row>, NoMemory>
     ensures { IfOk result (λ left. left ≡ left_by change.now) }
@@ -120,8 +111,8 @@ pub(crate) fn put_draft(
         (draft_key inter change.now) (draft_columns change.now)) }
     ensures placed { AreLeftPlaced rows.old.entries → AreLeftPlaced rows.new.entries }
 {
-    key_is_within(key_of_change(change));
-    let key = key_of_change(change);
+    key_is_within(changed_key(change));
+    let key = changed_key(change);
     let left = left_by_change(change)?;
     rows.insert(Place { inter, key }, left)?;
     Ok(())

@@ -5,20 +5,20 @@ ghost use Rattle.sqlite.specs.Held.{state};
 ghost use Rattle.sqlite.specs.State.{HasCleanDisk, Survives};
 ghost use Rattle.sqlite.specs.Values.{bound_value};
 ghost use Rattle.sqlite_value.specs.Value.{owned};
-ghost use Rattle.draft_state.specs.ChangedRows.{changed_key};
 ghost use Rattle.office_tables_shelf.specs.Rows.{draft_columns};
 ghost use Rattle.office_tables_statements.specs.Calls.{IsHonest, StandsOn, TurnsTo};
 ghost use Rattle.office_tables_statements.specs.Stored.{content_now};
 ghost use Rattle.office_tables_statements.specs.Tables.{drop_in, values_of};
 
 use crate::stored_row::{StoredRow, Texts, TimingKeyed};
+use draft_state::changed_key;
 use office_tables_shelf::rows::Table;
 use office_tables_shelf::shelf::ShelfFault;
 use office_tables_statements::body::write_body;
 use office_tables_statements::body_reading::Version;
 use office_tables_statements::listed::{body_at, check_key, read_key};
 use office_tables_statements::statement::{SqlFault, write};
-use signal_records::{Change, InterId, Key, NoMemory};
+use signal_records::{Change, InterId, NoMemory};
 use sqlite::types::{ToSql, ValueRef};
 use sqlite::{Alter, Row as SqlRow, Transaction, params};
 use std::alloc::Global;
@@ -37,16 +37,6 @@ const INSERT: &str = "INSERT INTO draft (inter, kind, a, b, body) VALUES (?1, ?2
 const REMOVE: &str = "DELETE FROM draft WHERE inter = ?1 AND kind = ?2 AND a = ?3 AND b = ?4";
 
 const DROP: &str = "DELETE FROM draft WHERE inter = ?1";
-
-/// The key that the change names.
-fn key_of(change: &Change) -> Key
-    ensures { result ≡ changed_key change.now }
-{
-    match change {
-        Change::Put(row) => row.key(),
-        Change::Remove(key) => *key,
-    }
-}
 
 /// What is kept for the change: the text that is made of a row, and NULL for a removal.
 fn left_body<'a>(
@@ -116,7 +106,7 @@ impl StoredRow for Change {
         id: InterId,
         text: &'a mut String,
     ) -> Result<Vec<ValueRef<'a>>, NoMemory> {
-        let key = key_of(self);
+        let key = changed_key(self);
         let id = id.get().to_sql();
         let kind = key.kind().to_sql();
         let first = key.first().to_sql();

@@ -1,7 +1,6 @@
 //! The table of the intersections, each with the link to its page.
 
 ghost use Rattle.std.specs.Prelude.{◌≡◌, ◌++◌, OnOk, flat_map, string_bytes};
-ghost use Rattle.office_listings.specs.Intersections.{stage_word, state_word};
 ghost use Rattle.signal_page_tables.specs.Cells.{number_cell};
 ghost use Rattle.signal_page_tables.specs.Tables.{rows_or_none};
 ghost use Rattle.signal_index.specs.Overdue.{is_past_due, is_overdue};
@@ -13,7 +12,8 @@ ghost use Rattle.signal_index.specs.Rows.{standing_headings};
 
 use crate::shown::IndexEntry;
 use cabinet_core::{Day, due};
-use draft_state::state::{Holder, Stage};
+use draft_state::state::Holder;
+use office_listings::state_word;
 use signal_page::{push_due, push_last};
 use signal_page_tables::{
     begin_rows, end_table, open_table, push_heading, push_markup, push_none_since, push_number,
@@ -49,27 +49,6 @@ fn push_link(text: &mut String, id: InterId) -> Result<(), AllocError>
 {
     let id = id.get();
     write!(text, "<th scope='row'><a href='{id}.html'>{id}</a></th>")
-}
-
-/// The word for a state in which a clerk holds the draft.
-fn stage_word(stage: Stage) -> &'static str
-    ensures { result.now ≡ stage_word stage }
-{
-    match stage {
-        Stage::Transaction => "transaction",
-        Stage::Verify => "verify",
-        Stage::Done => "done",
-    }
-}
-
-/// The word for the state of a transaction.
-fn state_word(holder: &Option<Holder>) -> &'static str
-    ensures { result.now ≡ state_word holder.now }
-{
-    match holder {
-        None => "normal",
-        Some(holder) => stage_word(holder.stage),
-    }
 }
 
 /// Appends who holds the draft.

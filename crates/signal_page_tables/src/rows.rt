@@ -9,7 +9,7 @@ ghost use Rattle.signal_page_tables.specs.Rows.{row_beside, columns, is_of_kind,
 
 use crate::cells::push_row_heading;
 use crate::needs::{need_at, need_value, push_coordinated_beside, spare_value};
-use crate::rules::{push_reasons_below, subject_of};
+use crate::rules::push_reasons_below;
 use crate::values::{CellValue, push_cells_beside, push_phases_beside};
 use crate::words::push_markup;
 use signal_reasons::Explained;
@@ -17,6 +17,7 @@ use signal_records::{
     NoMemory, Pattern, PatternNo, Ped, Phase, PhaseNo, RingNo, Row, SeqNo, SeqRow, Split, SplitNo,
     TimingSet,
 };
+use signal_rules::subject_of;
 use std::alloc::{AllocError, Global};
 
 /// The kinds of rows, each of which has a table.

@@ -1,27 +1,13 @@
 //! The rules that a row breaks, below it.
 
 ghost use Rattle.std.specs.Prelude.{◌≡◌, ◌++◌, OnOk, string_bytes};
-ghost use Rattle.signal_rules.specs.RowWalk.{subject_of};
 ghost use Rattle.signal_page_tables.specs.Rules.{is_same_subject, reason_note, reason_opening};
 ghost use Rattle.signal_page_tables.specs.Rules.{reason_row, reason_below, reasons_below};
 
 use signal_reasons::Explained;
-use signal_records::Row;
 use signal_rules::Subject;
 use std::alloc::AllocError;
 use std::fmt::Write;
-
-/// What a row is judged as: the rows of a sequence together, each other one alone.
-pub(crate) fn subject_of(row: &Row) -> Subject
-    ensures { result ≡ subject_of row.now }
-{
-    match row {
-        Row::Phase(p, _) => Subject::Phase(*p),
-        Row::Seq(n, _, _) => Subject::Seq(*n),
-        Row::Split(n, p, _) => Subject::Split(*n, *p),
-        Row::Pattern(n, _) => Subject::Pattern(*n),
-    }
-}
 
 /// Whether two subjects are one.
 fn is_same(a: &Subject, b: &Subject) -> bool

@@ -2,12 +2,13 @@
 
 ghost use Rattle.std.specs.Prelude.{◌≡◌, ◌++◌, OnOk, true, string_bytes};
 ghost use Rattle.std.specs.Str.{bytes_eq};
-ghost use Rattle.office_files.specs.Cells.{tenths, numbers_text};
+ghost use Rattle.office_files.specs.Cells.{tenths};
 ghost use Rattle.signal_page_tables.specs.Values.{mode_words, flag_words, value_text, cell_opening};
 ghost use Rattle.signal_page_tables.specs.Values.{shows_same, mark_opening, mark_end, cell_beside};
 ghost use Rattle.signal_page_tables.specs.Values.{phases_beside, cells_beside};
 
 use crate::words::push_markup;
+use office_files::push_numbers;
 use signal_records::{PhaseNo, SplitMode};
 use std::alloc::AllocError;
 use std::fmt::Write;
@@ -55,21 +56,6 @@ fn push_tenths(text: &mut String, n: u32) -> Result<(), AllocError>
     let whole = n / 10;
     let tenth = n % 10;
     write!(text, "{whole}.{tenth}")
-}
-
-/// Appends the numbers of the phases, each after a space, or a dash where there is none.
-fn push_numbers(text: &mut String, phases: &[PhaseNo]) -> Result<(), AllocError>
-    ensures { OnOk result (string_bytes text.new
-        ≡ string_bytes text.old ++ numbers_text phases.now) }
-{
-    if phases.is_empty() {
-        text.push_str(" -")?;
-    }
-    for phase in phases {
-        let n = phase.get();
-        write!(text, " {n}")?;
-    }
-    Ok(())
 }
 
 /// Appends what a cell shows.

@@ -26,4 +26,5 @@ pub use pattern::{is_coordinated, used_rings, without_split};
 pub use phase::clearance;
 pub use reach::touched;
 pub use sequence::has_sequence;
+pub use subjects::subject_of;
 pub use violation::{Rule, Subject, Violation};

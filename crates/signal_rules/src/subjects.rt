@@ -74,7 +74,8 @@ fn add_row(row: &Row, kind: u32, subjects: &mut Vec<Subject>) -> Result<(), NoMe
     Ok(())
 }
 
-fn subject_of(row: &Row) -> Subject
+/// What a row is judged as: the rows of a sequence together, each other one alone.
+pub fn subject_of(row: &Row) -> Subject
     ensures { result ≡ subject_of row.now }
 {
     match row {

@@ -3,7 +3,8 @@ use Rattle.std.specs.BTreeMap.{get}
 use Rattle.std.specs.Prelude.{Option}
 use Rattle.office_spreadsheets.proofs.NoteLemmas.{latest_more, next_note}
 use Rattle.office_spreadsheets.proofs.notes.notes_on.Goals as goal
-use Rattle.office_spreadsheets.specs.Notes.{key_for, note_on}
+use Rattle.draft_state.specs.ChangedRows.{changed_key}
+use Rattle.office_spreadsheets.specs.Notes.{note_on}
 use Rattle.signal_records.specs.Key.{key_cmp}
 use Rattle.signal_records.specs.declared.key.Key.{Key}
 
@@ -13,8 +14,8 @@ loop-place-preserved c =
     let changes = c.args.changes.now in
     let place = c.loop-place.place in
     let change = c.index-changes-place.result in
-    let key_is = c.key_for.ensures in
-    let earlier_is = c.in_ok-earlier.ensures.old ∙ ap (λ (k : Key). get key_cmp c.loop-place.latest k) key_is ∙ so_far.known (key_for change) in
+    let key_is = c.changed_key.ensures in
+    let earlier_is = c.in_ok-earlier.ensures.old ∙ ap (λ (k : Key). get key_cmp c.loop-place.latest k) key_is ∙ so_far.known (changed_key change) in
     record {
       told = c.in_ok-push_note.ensures ∙ ap₂ (λ (text : List ℕ) (earlier : Option ℕ). text ++ note_on c.args.other (place + 1) change earlier) so_far.told earlier_is
           ∙ sym (next_note c.args.other changes place change c.loop-place-test.true c.index-changes-place.is);

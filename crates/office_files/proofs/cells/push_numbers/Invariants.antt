@@ -1,6 +1,6 @@
 use Rattle.std.proofs.Common.{◌≡◌, ◌++◌, codes, decimal, string_bytes, take, flat_map}
 use Rattle.office_files.specs.Cells.{when_empty}
-use Rattle.signal_page_tables.proofs.values.push_numbers.Given as goal
+use Rattle.office_files.proofs.cells.push_numbers.Given as goal
 
 abbrev pub invariant-loop-phase : goal.invariant-loop-phase
 invariant-loop-phase l =
