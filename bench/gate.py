@@ -1,10 +1,11 @@
 """Runs the gate and says what it costs, crate by crate, in processor seconds.
 
-    python3 bench/gate.py RECORD [--write]
+    python3 bench/gate.py RECORD [--on] [--write]
 
 If there is no file RECORD, it runs `rt ci` at the top of the repository (with --anew if the kit has
 it, so that nothing is taken from earlier runs), passes on what that prints, and writes RECORD: a
 line for each crate with the seconds of its proofs, tests and programs, and of its must-fail edits.
+With --on it runs `rt ci` over what the run of RECORD proved before it was stopped, and adds to it.
 With --write the table of RECORD goes into docs/MEASUREMENTS.md. Needs /proc, as Linux has it.
 """
 import collections
@@ -79,17 +80,19 @@ def watch(top, known, seconds, is_over):
             seconds[place] = max(seconds[place], now[place])
 
 
-def words():
-    """The gate's command, by which it takes nothing from earlier runs."""
+def words(goes_on):
+    """The gate's command, by which it takes nothing from earlier runs unless it goes on."""
     told = subprocess.run(["rt", "help"], capture_output=True, text=True)
-    return ["rt", "ci", *(["--anew"] if "--anew" in told.stdout + told.stderr else [])]
+    is_anew = not goes_on and "--anew" in told.stdout + told.stderr
+    return ["rt", "ci", *(["--anew"] if is_anew else [])]
 
 
-def run(path):
-    """Runs the gate and writes the record."""
+def run(path, earlier):
+    """Runs the gate and writes the record. What an earlier run took is that of each proof, and of
+    each crate's edits, that this one takes from it."""
     known, seconds = {}, collections.Counter()
     is_over, begun, ticks = threading.Event(), time.monotonic(), measured.ticks()
-    gate = subprocess.Popen(words(), cwd=TOP, stdout=subprocess.PIPE, text=True)
+    gate = subprocess.Popen(words(earlier), cwd=TOP, stdout=subprocess.PIPE, text=True)
     watcher = threading.Thread(target=watch, args=(gate.pid, known, seconds, is_over))
     watcher.start()
     last = ""
@@ -104,12 +107,19 @@ def run(path):
     for place, took in seconds.items():
         sums[known[place]] += took
     whole, minutes = usage.ru_utime + usage.ru_stime, (time.monotonic() - begun) / 60
+    sums[REST, False] = whole - sum(sums.values())
+    if earlier:
+        heading, rows = earlier
+        minutes += int(heading[2].split()[0])
+        for name, *took in rows:
+            for is_edits in (False, True):
+                sums[name, is_edits] = sums[name, is_edits] or took[is_edits]
     with open(path, "w") as record:
         machine = measured.machine(ticks)
         print(f"# {measured.state()}; {machine}; {minutes:.0f} min; {last}", file=record)
         for name in dict.fromkeys(name for name, _ in sums):
-            print(f"{name} {sums[name, False]:.0f} {sums[name, True]:.0f}", file=record)
-        print(f"{REST.replace(' ', '_')} {whole - sum(sums.values()):.0f} 0", file=record)
+            row = f"{sums[name, False]:.0f} {sums[name, True]:.0f}"
+            print(name.replace(" ", "_"), row, file=record)
 
 
 def of_record(text):
@@ -131,11 +141,12 @@ def longest_chain(seconds):
 
 
 def main():
-    words = [it for it in sys.argv[1:] if it != "--write"]
+    words = [it for it in sys.argv[1:] if it not in ("--on", "--write")]
     if len(words) != 1:
-        sys.exit("usage: python3 bench/gate.py RECORD [--write]")
-    if not os.path.exists(words[0]):
-        run(words[0])
+        sys.exit("usage: python3 bench/gate.py RECORD [--on] [--write]")
+    is_there = os.path.exists(words[0])
+    if "--on" in sys.argv or not is_there:
+        run(words[0], of_record(pathlib.Path(words[0]).read_text()) if is_there else None)
     heading, rows = of_record(pathlib.Path(words[0]).read_text())
     state, machine, clock, last = heading
     order = [*drawing.crates()[0]]
