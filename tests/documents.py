@@ -31,8 +31,9 @@ FILE = r"`(\w+/(?:specs|src)/[\w/.{},]+)`"
 
 def words():
     """All words of the sources, and the names of their files and crates."""
-    paths = [path for kind in ("rt", "antt", "row") for path in (TOP / "crates").rglob(f"*.{kind}")]
-    paths += [TOP / "HANDLES", TOP / "crates.txt", *(TOP / "tests").rglob("*.py")]
+    paths = [path for kind in ("rt", "antt") for path in (TOP / "crates").rglob(f"*.{kind}")]
+    paths += [path for kind in ("py", "row") for path in (TOP / "tests").rglob(f"*.{kind}")]
+    paths += [TOP / "HANDLES", TOP / "crates.txt"]
     found = {word for path in paths for word in re.findall(r"\w+", path.read_text())}
     return found | {path.stem for path in paths} | {it.name for it in (TOP / "crates").iterdir()}
 
