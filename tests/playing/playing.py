@@ -7,7 +7,7 @@ import sqlite3
 import tempfile
 import time
 
-from .reading import Alter, File, Folder, Holds, Lacks, Opening, Sql, Talk
+from .reading import Alter, File, Folder, Holds, Lacks, Opening, Sql, Talk, Told
 from .running import Off, Runner
 
 OFFICE = "office.db"
@@ -37,10 +37,17 @@ def compare(line, told, came):
         differ(line, "nothing more", shown(came))
 
 
-def compare_end(line, status, err, came):
-    """Compares how a run ended."""
-    if (came.status, came.err) != (status, err):
-        differ(line, f"status {status} and {err!r}", f"status {came.status} and {shown(came.err)}")
+def compare_status(line, told, came):
+    if told != came:
+        differ(line, f"status {told}", f"status {came}")
+
+
+def compare_stream(line, out, fault, came):
+    """Compares what came of a run over a stream, which tells a fault or ends in order."""
+    told = [(line, f"fault: {fault}\n".encode())] if fault else []
+    compare(line, Told(told), came.err)
+    compare(line, out, came.out)
+    compare_status(line, 1 if fault else 0, came.status)
 
 
 def alter(path, line, sql):
@@ -79,7 +86,7 @@ class ByProgram:
             came = self.runner.run(talk.words, talk.sent, talk.breaks, talk.room)
         compare(talk.line, talk.err, came.err)
         compare(talk.line, talk.out, came.out)
-        compare_end(talk.line, talk.status, came.err, came)
+        compare_status(talk.line, talk.status, came.status)
 
     def file(self, step):
         (self.folder / step.name).write_bytes(step.text.encode())
@@ -120,14 +127,10 @@ class OverFile:
 
     def talk(self, talk):
         came = self.ran(talk.sent, talk.breaks, talk.room)
-        compare(talk.line, talk.out, came.out)
-        told = f"fault: {talk.failed}\n".encode() if talk.failed else b""
-        compare_end(talk.line, 1 if talk.failed else 0, told, came)
+        compare_stream(talk.line, talk.out, talk.failed, came)
 
     def opening(self, step):
-        came = self.ran()
-        told = f"fault: {step.fault}\n".encode() if step.fault else b""
-        compare_end(step.line, 1 if step.fault else 0, told, came)
+        compare_stream(step.line, Told(), step.fault, self.ran())
 
     def sql(self, step):
         alter(os.path.join(self.runner.folder, OFFICE), step.line, step.sql)
@@ -158,9 +161,7 @@ class InMemory:
 
     def play_one(self, talk):
         came = self.runner.run(["batch"], talk.sent, talk.breaks, talk.room)
-        compare(talk.line, talk.out, came.out)
-        told = f"fault: {talk.failed}\n".encode() if talk.failed else b""
-        compare_end(talk.line, 1 if talk.failed else 0, told, came)
+        compare_stream(talk.line, talk.out, talk.failed, came)
 
 
 def ways(row):

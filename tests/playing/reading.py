@@ -116,10 +116,8 @@ class Row:
         return any(it.words is not None for it in self.talks())
 
     def needs_file(self):
-        """Whether it does something that tables in memory have no place for."""
-        others = any(isinstance(it, Sql) or it.fault for it in self.steps
-                     if isinstance(it, (Sql, Opening)))
-        return self.is_bare or others
+        """Whether it begins without any table, or another tool changes the tables."""
+        return self.is_bare or any(isinstance(it, Sql) for it in self.steps)
 
 
 def number(text, most):
@@ -228,8 +226,14 @@ class Reader:
             raise Unread("there is no file to which it belongs")
         self.last().text += f"{rest}\n"
 
-    def set(self, talk, name, value):
-        setattr(talk, name, value)
+    def room(self, rest):
+        self.talk().room = number(rest, 2**31 - 1)
+
+    def taken(self, rest):
+        self.run().taken = number(rest, 65_535)
+
+    def status(self, rest):
+        self.run().status = number(rest, 255)
 
     TAKES = {
         ">": lambda it, rest: it.send(request(rest), 1),
@@ -238,9 +242,9 @@ class Reader:
         "<<": lambda it, rest: it.come(it.talk().out, unescaped(rest)),
         "out": lambda it, rest: it.print(it.run().out, rest),
         "err": lambda it, rest: it.print(it.run().err, rest),
-        "status": lambda it, rest: it.set(it.run(), "status", number(rest, 255)),
-        "taken": lambda it, rest: it.set(it.run(), "taken", number(rest, 65_535)),
-        "room": lambda it, rest: it.set(it.talk(), "room", number(rest, 2**31 - 1)),
+        "status": status,
+        "taken": taken,
+        "room": room,
         "breaks": breaks,
         "served": lambda it, rest: it.end(None, rest),
         "fails": fail,
