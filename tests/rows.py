@@ -21,9 +21,9 @@ import sys
 import tempfile
 import time
 
-from playing.playing import play
 from playing.reading import read_row
 from playing.running import ENDS
+from playing.ways import play
 from playing.wording import Unread
 from preloaded import built
 from program import found

@@ -1,2 +1,2 @@
-"""Row files: what they say (`reading`, `wording`), the runs of the program that they ask for
-(`running`), and how a row is played (`playing`)."""
+"""Row files: the bytes that their lines stand for (`wording`), what they say (`reading`), the runs
+of the program that they ask for (`running`), and the ways in which a row is played (`ways`)."""

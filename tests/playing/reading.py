@@ -172,7 +172,7 @@ class Reader:
     def come(self, told, text):
         told.pieces.append((self.line, text))
 
-    def print(self, told, rest):
+    def print_line(self, told, rest):
         """A line that the program prints, or any text."""
         if told.is_any or rest == "*" and told.pieces:
             raise Unread("any text, and more of it")
@@ -200,7 +200,7 @@ class Reader:
             raise Unread(f"no fault of an opening: {rest}")
         self.add(Opening(self.line, FAULTS[rest]))
 
-    def open(self, rest):
+    def open_again(self, rest):
         alone(rest)
         self.add(Opening(self.line))
 
@@ -240,8 +240,8 @@ class Reader:
         ">>": lambda it, rest: it.send(unescaped(rest), 0),
         "<": lambda it, rest: it.come(it.talk().out, answer(rest)),
         "<<": lambda it, rest: it.come(it.talk().out, unescaped(rest)),
-        "out": lambda it, rest: it.print(it.run().out, rest),
-        "err": lambda it, rest: it.print(it.run().err, rest),
+        "out": lambda it, rest: it.print_line(it.run().out, rest),
+        "err": lambda it, rest: it.print_line(it.run().err, rest),
         "status": status,
         "taken": taken,
         "room": room,
@@ -250,7 +250,7 @@ class Reader:
         "fails": fail,
         "run": lambda it, rest: it.add(Talk(it.line, words_of(rest))),
         "sql": lambda it, rest: it.add(Sql(it.line, named(rest))),
-        "opens": open,
+        "opens": open_again,
         "refuses": refuse,
         "bare": bare,
         "file": lambda it, rest: it.add(File(it.line, named(rest))),

@@ -175,7 +175,7 @@ class Runner:
         """A run that has begun."""
         return subprocess.Popen(
             [NAME, *words], executable=self.program, cwd=self.folder, env=self.env(ends),
-            stdin=stdin, stdout=stdout, stderr=subprocess.PIPE)
+            bufsize=0, stdin=stdin, stdout=stdout, stderr=subprocess.PIPE)
 
     def run(self, words, sent=b"", breaks=False, room=None):
         """What came of a run that was sent these bytes. An output without any room is a pipe that
