@@ -119,7 +119,7 @@ int accept4(int fd, struct sockaddr *address, socklen_t *length, int flags) {
 }
 """
 NAME = "signal_office"
-PATIENCE = 60  # seconds after which a run that has not ended is killed
+PATIENCE = 120  # seconds after which a run that has not ended is killed
 TRIES = 5  # for a port that another program takes meanwhile
 
 

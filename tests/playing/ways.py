@@ -59,20 +59,25 @@ def alter(path, line, sql):
         differ(line, sql, it)
 
 
+def listener(port):
+    """Listens on a port, once no other does; none where another does so for long."""
+    until = time.monotonic() + HELD
+    while time.monotonic() < until:
+        with contextlib.suppress(OSError):
+            return socket.create_server(("127.0.0.1", port))
+        time.sleep(0.1)
+    return None
+
+
 @contextlib.contextmanager
 def listening(port):
-    """Another program listens on a port, unless one does so already."""
-    until = time.monotonic() + HELD
-    while port is not None:
-        try:
-            with socket.create_server(("127.0.0.1", port)):
-                yield
-            return
-        except OSError:
-            if time.monotonic() > until:
-                break
-            time.sleep(0.1)
-    yield
+    """Another program listens on a port, if one is named."""
+    other = None if port is None else listener(port)
+    try:
+        yield
+    finally:
+        if other:
+            other.close()
 
 
 class ByProgram:
