@@ -127,7 +127,7 @@ def deliver(port, number):
             caller.abandon(request[: len(request) // 2] if how == "half" else request)
         came = json.loads(caller.call("POST", "/deliveries", keys))["result"]
         if came != "added" and (how, came) != ("unread", "same"):
-            raise Off(f"delivery {each} of {part} was {came}: it was done before, without an answer")
+            raise Off(f"delivery {each} of {part} was {came}: it was done without an answer")
         if how == "close late":
             caller.close_late()
         elif how == "drop":
@@ -171,7 +171,8 @@ def side_by_side(port, *works):
     """Runs each in a process of its own, all at once; then all of the deliveries are there."""
     context = multiprocessing.get_context("fork")
     with concurrent.futures.ProcessPoolExecutor(len(works), mp_context=context) as pool:
-        results = [it.result() for it in [pool.submit(work, port, *words) for work, *words in works]]
+        running = [pool.submit(work, port, *words) for work, *words in works]
+        results = [it.result() for it in running]
     with Wire(port) as wire:
         expect("on hand", on_hand(wire.ask()), {f"P{it}": CALLS for it in range(CLIENTS)})
     again, worst = sum(it[0] for it in results), max(it[1] for it in results)
@@ -213,7 +214,7 @@ def get_thrice(port):
 def turns(port):
     tried = []
     for call in (take_turns, get_thrice) if requests else (take_turns,):
-        took = fastest(3, call, port)
+        took = fastest(5, call, port)
         tried.append(f"{took:.3f} s")
         if took > 0.1:
             raise Off(f"three calls took {took:.2f} s, and may take 0.1 s")
@@ -328,22 +329,24 @@ def late(port):
     return "it was not done, and its client saw an end"
 
 
-def shown(block):
-    """What an example prints, by the comments behind its calls of `print`."""
-    return [line.partition("  # ")[2] for line in block if line.startswith("print(")]
+def shown(text):
+    """The lines that an example prints, by the comments behind its calls of `print`."""
+    prints = (line for line in text.splitlines() if line.startswith("print("))
+    return (line.partition("  # ")[2] for line in prints)
 
 
 def examples(port):
     add = {"id": 12, "interval": 365, "name": "Main St"}
-    tried = [it for it in blocks(REFERENCE.read_text()) if it and it[0].startswith("import ")]
+    texts = ["\n".join(block).strip() for block in blocks(REFERENCE.read_text())]
+    tried = [it for it in texts if it.startswith("import ")]
     expect("examples in Python", len(tried), 2)
-    tried = [it for it in tried if requests or "import requests" not in it]
+    tried = [it for it in tried if requests or not it.startswith("import requests")]
     with Wire(port) as wire:
         expect("an intersection", wire.ask(spelled("/intersections", add)), b'{"result":"added"}')
-        for block in tried:
-            words = [sys.executable, "-c", "\n".join(block).replace(PORT, str(port))]
+        for text in tried:
+            words = [sys.executable, "-c", text.replace(PORT, str(port))]
             ran = subprocess.run(words, capture_output=True, text=True, timeout=PATIENCE)
-            expect(f"{block[0]}, {ran.stderr[-300:]}", ran.stdout.splitlines(), shown(block))
+            expect(f"example, {ran.stderr[-300:]}", ran.stdout.splitlines(), [*shown(text)])
     return f"{len(tried)} examples"
 
 
@@ -357,9 +360,9 @@ def comes_of(program, part):
         with served(program) as port:
             print(part(port), flush=True)
         return True
-    except TimeoutError:
+    except (TimeoutError, subprocess.TimeoutExpired):
         print(f"FAILED, nothing came for {PATIENCE} seconds", flush=True)
-    except (Off, OSError, subprocess.TimeoutExpired) as it:
+    except (Off, OSError) as it:
         print(f"FAILED, {type(it).__name__}: {it}", flush=True)
     return False
 
