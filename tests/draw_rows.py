@@ -1,10 +1,10 @@
 #!/usr/bin/env python3
 """Draws requests, has the second office (tests/model) answer them, and writes both as row files,
-which crates/office_rows plays.
+which tests/rows.py plays.
 
     tests/draw_rows.py                          checks that the stored rows are what is drawn today
     tests/draw_rows.py SEED COUNT               says what would be drawn, and how often
-    tests/draw_rows.py SEED COUNT --write       writes crates/office_rows/data/drawn_*.row
+    tests/draw_rows.py SEED COUNT --write       writes tests/rows/drawn_*.row
 
 Each route must be answered, and each refusal but 18, each fault of a row and each broken rule must
 come up; if one does not, it says so and ends with status 1. Builds nothing; needs no program.

@@ -37,6 +37,7 @@ asks_told told limit first (suc calls) given source asks = (
   asks.4,
   record { reads = asks.5.reads; calls = asks.5.calls },
   asks.6,
+  asks.7,
 )
 
 pub asks_connection : {Source : Type 0} (told : Source → Told) (old new : Source) (sink sink' : Told) → (told old).counts ≡ no_calls → OnlyAsks told connection_limit old new

@@ -4,12 +4,15 @@ ghost use Rattle.std.specs.Prelude.{◌≡◌, IfOk};
 ghost use Rattle.office_http_framing.specs.Ends.{no_calls};
 ghost use Rattle.office_http.specs.Listening.{no_listening};
 
+use crate::connection_reader::ConnectionReader;
+use crate::ended::Ended;
 use crate::listening::{Connection, Listen, ListenCounts};
 use crate::waiting::WaitsOnce;
-use office_http_framing::ends::{FromRead, ToWrite};
+use office_http_framing::ends::ToWrite;
 use std::io;
 use std::marker::Model;
 use std::net::{TcpListener, TcpStream};
+use std::os::fd::{AsRawFd, RawFd};
 use std::time::Duration;
 
 /// How many seconds one read or one write of a connection may wait. After that it has failed.
@@ -21,6 +24,7 @@ const LONGEST_WAIT: u64 = 30;
 pub struct FromListener {
     listener: TcpListener,
     counts: ListenCounts,
+    ended: Ended,
 }
 
 impl Model for FromListener {
@@ -38,6 +42,7 @@ impl FromListener {
         FromListener {
             listener,
             counts: ListenCounts::default(),
+            ended: Ended::new(),
         }
     }
 
@@ -53,7 +58,8 @@ impl FromListener {
 /// held back for a moment, and no more.
 fn opened(
     stream: TcpStream,
-) -> io::Result<Connection<FromRead<TcpStream>, ToWrite<WaitsOnce<TcpStream>>>>
+    listener: RawFd,
+) -> io::Result<Connection<ConnectionReader, ToWrite<WaitsOnce<TcpStream>>>>
     ensures { IfOk result (λ c. (c.reader.counts ≡ no_calls) × (c.writer.counts ≡ no_calls)) }
 {
     let wait = Duration::from_secs(LONGEST_WAIT);
@@ -61,7 +67,7 @@ fn opened(
     stream.set_write_timeout(Some(wait))?;
     let _ = stream.set_nodelay(true);
     let writer = ToWrite::new(WaitsOnce::new(stream.try_clone()?));
-    let reader = FromRead::new(stream);
+    let reader = ConnectionReader::new(stream, listener);
     Ok(Connection { reader, writer })
 }
 
@@ -70,7 +76,7 @@ impl Listen for FromListener {
     ghost use Rattle.office_http_framing.specs.Serve.{ends_of};
     ghost use Rattle.office_http.specs.Listening.{GrewBy, counts_alone};
 
-    type Reader = FromRead<TcpStream>;
+    type Reader = ConnectionReader;
 
     type Writer = ToWrite<WaitsOnce<TcpStream>>;
 
@@ -78,19 +84,16 @@ impl Listen for FromListener {
 
     fn accept(
         &mut self,
-    ) -> io::Result<Connection<FromRead<TcpStream>, ToWrite<WaitsOnce<TcpStream>>>> {
+    ) -> io::Result<Connection<ConnectionReader, ToWrite<WaitsOnce<TcpStream>>>> {
         let outcome = match self.listener.accept() {
-            Ok((stream, _)) => opened(stream),
+            Ok((stream, _)) => opened(stream, self.listener.as_raw_fd()),
             Err(error) => Err(error),
         };
         self.counts.count(&outcome);
         outcome
     }
 
-    fn take_back(
-        &mut self,
-        connection: Connection<FromRead<TcpStream>, ToWrite<WaitsOnce<TcpStream>>>,
-    )
+    fn take_back(&mut self, connection: Connection<ConnectionReader, ToWrite<WaitsOnce<TcpStream>>>)
         ensures counts { self.new ≡ self.old }
         ensures given { GrewBy None None [] }
         ensures returned { GrewBy None None (ends_of
@@ -98,7 +101,7 @@ impl Listen for FromListener {
             (record { bytes = None; counts = connection.writer.counts }) ∷ []) }
     {
         let Connection { reader, writer } = connection;
-        drop(reader);
         drop(writer);
+        self.ended.add(reader.end());
     }
 }

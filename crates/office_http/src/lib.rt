@@ -5,12 +5,15 @@
 //! handed on here.
 #![tactic(auto)]
 
+mod connection_reader;
+mod ended;
 mod from_listener;
 mod listening;
 mod machine;
 mod service;
 mod waiting;
 
+pub use connection_reader::ConnectionReader;
 pub use from_listener::FromListener;
 pub use listening::{Connection, Listen, ListenCounts, ServeStop, serve_each};
 pub use office_http_framing::ends::{

@@ -1,8 +1,11 @@
 -- How the source is asked while a stream is served.
-use Rattle.std.proofs.Common.{◌≡◌, ℕ, suc, ◌<◌, List, [], ◌∷◌, ◌++◌, drop, refl, subst, sym}
+use Rattle.std.proofs.Common.{◌≡◌, ℕ, suc, ◌<◌, List, [], ◌∷◌, ◌++◌, drop, length, refl, subst, sym, inl, inr, arith}
+use Rattle.std.proofs.lemmas.Bool.Decides.{nat_tests}
+use Rattle.std.specs.Prelude.{nat_lt, if◌then◌else◌}
 use Rattle.std.specs.Io.KnownBytes.{Consumes}
-use Rattle.office_http_framing.specs.{Asks.Asks, Asks.OnlyAsks, Ends.Told, Ends.raised, Front.PlainRequest, Front.BeginsWithRequest}
+use Rattle.office_http_framing.specs.{Asks.Asks, Asks.OnlyAsks, Asks.GivesWayBetween, Ends.Told, Ends.raised, Front.PlainRequest, Front.BeginsWithRequest}
 use Rattle.office_http_framing.specs.{Front.IsIncomplete, Stream.left_after, Stream.BeginsWith}
+use Rattle.office_http_framing.specs.declared.ends.Counts.{Counts}
 use Rattle.office_http_framing.proofs.StreamLemmas.{BeginsWith-append, BeginsWith-next}
 
 -- the calls so far gave bytes that begin with some requests and then `held`, and so many more may come
@@ -16,6 +19,11 @@ pub record AsksSoFar {Source : Type 0} (told : Source → Told) (limit left : �
 -- nothing was asked yet
 pub asks-start : {Source : Type 0} (told : Source → Told) (limit : ℕ) (first : Source) → AsksSoFar told limit limit [] first first
 asks-start told limit first = record { calls = 0; given = []; requests = []; asks = (refl, refl); begins = (refl, refl) }
+
+begins-between : (limit left : ℕ) (given held : List ℕ) (requests : List PlainRequest) (old new : Counts) → BeginsWith limit given requests held left
+    → new.next_reads ≡ (if nat_lt 0 (length held) then old.next_reads else raised old.next_reads) → GivesWayBetween limit given old new
+begins-between limit left given [] requests old new begins counts = inr (requests, left, begins)
+begins-between limit left given (x ∷ xs) requests old new begins counts = inl (grind (arith, nat_tests, counts))
 
 module _ {Source : Type 0} (told : Source → Told) (limit left : ℕ) (held : List ℕ) (first source : Source) (so_far : AsksSoFar told limit left held first source) where
   -- a request was taken off
@@ -34,8 +42,9 @@ module _ {Source : Type 0} (told : Source → Told) (limit left : ℕ) (held : L
 
   -- one call more, while a request is awaited
   pub asks-more : (next : Source) (piece held' : List ℕ) → 0 < left → IsIncomplete held → Consumes (told source).bytes (told next).bytes piece
-      → (told next).counts.calls ≡ raised (told source).counts.calls → held' ≡ held ++ piece → AsksSoFar told limit left held' first next
-  asks-more next piece held' some incomplete reads counts same_held =
+      → (told next).counts.calls ≡ raised (told source).counts.calls
+      → (told next).counts.next_reads ≡ (if nat_lt 0 (length held) then (told source).counts.next_reads else raised (told source).counts.next_reads) → held' ≡ held ++ piece → AsksSoFar told limit left held' first next
+  asks-more next piece held' some incomplete reads counts next_reads same_held =
       subst (λ h. AsksSoFar told limit left h first next) (sym same_held)
       (record {
         calls = suc so_far.calls;
@@ -49,6 +58,7 @@ module _ {Source : Type 0} (told : Source → Told) (limit left : ℕ) (held : L
           (so_far.requests, record { rest = held; left = left; begins = so_far.begins; ends = (some, incomplete) }),
           record { reads = reads; calls = counts },
           refl,
+          begins-between limit left so_far.given held so_far.requests (told source).counts (told next).counts so_far.begins next_reads,
         );
         begins = BeginsWith-append limit so_far.given piece so_far.requests held left so_far.begins;
       })

@@ -1,9 +1,10 @@
 //! The bytes that were read and are not yet dealt with.
 
 ghost use Rattle.std.specs.Prelude.{◌≡◌, ◌<◌, ◌≤◌, ◌-◌, ◌++◌, ℕ, List, [], length, drop, take};
-ghost use Rattle.std.specs.Prelude.{slice_range, vec_len, IfOk, MatchResult};
-ghost use Rattle.std.specs.Io.KnownBytes.{Consumes, Keeps};
-ghost use Rattle.office_http_framing.specs.Ends.{tallied};
+ghost use Rattle.std.specs.Prelude.{slice_range, vec_len, nat_lt, IfOk, MatchResult};
+ghost use Rattle.std.specs.Io.{ReadsAtMost};
+ghost use Rattle.std.specs.Io.KnownBytes.{Consumes, Keeps, ReadConsumes};
+ghost use Rattle.office_http_framing.specs.Ends.{tallied_at};
 
 use crate::ends::Source;
 use std::alloc::{AllocError, Global};
@@ -45,6 +46,22 @@ fn move_to_front(bytes: &mut Vec<u8>, start: usize, end: usize)
     }
 }
 
+/// One read of the source: of a request of which bytes are buffered already, or of the next one.
+fn read_from<R: Source>(source: &mut R, buf: &mut [u8], is_begun: bool) -> io::Result<usize>
+    requires { 0 < length buf.old }
+    ensures bound { ReadsAtMost result buf.new }
+    ensures bytes { ReadConsumes (R.told source.old).bytes (R.told source.new).bytes result
+        buf.new }
+    ensures counts { (R.told source.new).counts
+        ≡ tallied_at is_begun result (R.told source.old).counts }
+{
+    if is_begun {
+        source.read(buf)
+    } else {
+        source.read_next(buf)
+    }
+}
+
 impl Buffer {
     pub(crate) fn new(alloc: Global) -> Result<Buffer, AllocError>
         ensures { IfOk result (λ buffer. buffer ≡ []) }
@@ -80,12 +97,14 @@ impl Buffer {
             (λ _. (self.new ≡ self.old)
             × Keeps (R.told source.old).bytes (R.told source.new).bytes) }
         ensures bound { length self.new ≤ BUFFER_LEN }
-        ensures counts { (R.told source.new).counts ≡ tallied result (R.told source.old).counts }
+        ensures counts { (R.told source.new).counts
+            ≡ tallied_at (nat_lt 0 (length self.old)) result (R.told source.old).counts }
     {
         move_to_front(&mut self.bytes, self.start, self.end);
         self.end -= self.start;
         self.start = 0;
-        match source.read(&mut self.bytes[self.end..]) {
+        let is_begun = self.end > 0;
+        match read_from(source, &mut self.bytes[self.end..], is_begun) {
             Ok(n) => {
                 self.end += n;
                 Ok(n)

@@ -16,10 +16,21 @@ pub struct Counts {
     pub failures: u64,
     /// The calls that answered 0 bytes.
     pub empties: u64,
+    /// The reads of a next request, at which a source may give way: `Source::read_next`.
+    pub next_reads: u64,
 }
 
 impl Counts {
-    ghost use Rattle.office_http_framing.specs.Ends.{tallied};
+    ghost use Rattle.office_http_framing.specs.Ends.{tallied, tallied_at};
+    ghost use Rattle.std.specs.Prelude.{false};
+
+    /// Counts one more read of a next request.
+    pub fn count_next(&mut self, outcome: &io::Result<usize>)
+        ensures { self.new ≡ tallied_at false outcome.now self.old }
+    {
+        self.count(outcome);
+        self.next_reads = self.next_reads.saturating_add(1);
+    }
 
     /// Counts one more call.
     pub fn count(&mut self, outcome: &io::Result<usize>)
@@ -36,7 +47,8 @@ impl Counts {
 
 /// Where the bytes of a stream come from, seen as those bytes and as the counts of its calls.
 pub trait Source {
-    ghost use Rattle.office_http_framing.specs.Ends.{Told, tallied};
+    ghost use Rattle.std.specs.Prelude.{false};
+    ghost use Rattle.office_http_framing.specs.Ends.{Told, tallied, tallied_at};
 
     // The bytes that reads will give from here on, where they are known, and the counts.
     ghost told: { Self → Told };
@@ -48,6 +60,15 @@ pub trait Source {
         ensures bound { ReadsAtMost result buf.new }
         ensures bytes { ReadConsumes (told self.old).bytes (told self.new).bytes result buf.new }
         ensures counts { (told self.new).counts ≡ tallied result (told self.old).counts };
+
+    /// Reads the first bytes of the next request, none of which is buffered: as `read`, but here a
+    /// source may give way to another client, and answers 0 bytes then.
+    fn read_next(&mut self, buf: &mut [u8]) -> io::Result<usize>
+        requires { 0 < length buf.old }
+        ensures bound { ReadsAtMost result buf.new }
+        ensures bytes { ReadConsumes (told self.old).bytes (told self.new).bytes result buf.new }
+        ensures counts { (told self.new).counts
+            ≡ tallied_at false result (told self.old).counts };
 }
 
 /// Where the answers go, seen as the bytes that it took and as the counts of its calls.
@@ -91,6 +112,12 @@ impl<R: Read> Source for FromRead<R> {
     fn read(&mut self, buf: &mut [u8]) -> io::Result<usize> {
         let outcome = self.reader.read(buf);
         self.counts.count(&outcome);
+        outcome
+    }
+
+    fn read_next(&mut self, buf: &mut [u8]) -> io::Result<usize> {
+        let outcome = self.reader.read(buf);
+        self.counts.count_next(&outcome);
         outcome
     }
 }

@@ -7,5 +7,6 @@ pub mod ends;
 pub mod engine;
 mod fields;
 pub mod front;
+pub mod giving_way;
 pub mod laws;
 pub mod machine;

@@ -146,7 +146,7 @@ loop-left-preserved g c =
             Progress-as _ _ _ _ _ _ _ _ _ _ _ refl (sym bytes.2)
                 (Progress-more _ c.args.max_requests c.loop-left.requests c.loop-left.left c.loop-left.buffer (g.R.Source.told c.args.reader.now).bytes (g.R.Source.told c.loop-left.reader).bytes (g.W.Sink.told c.args.writer.now).bytes (g.W.Sink.told c.loop-left.writer).bytes so_far.2 bytes.0 (g.R.Source.told c.fill.new.source).bytes bytes.3),
           );
-      asks = asks-more _ _ _ c.loop-left.buffer _ _ c.loop-left.invariant.asks c.fill.new.source bytes.0 c.fill.new.self c.loop-left-test.true incomplete bytes.3 (ap (λ k. k.calls) c.in-Ok-fill.ensures.counts) bytes.2;
+      asks = asks-more _ _ _ c.loop-left.buffer _ _ c.loop-left.invariant.asks c.fill.new.source bytes.0 c.fill.new.self c.loop-left-test.true incomplete bytes.3 (ap (λ k. k.calls) c.in-Ok-fill.ensures.counts) (ap (λ k. k.next_reads) c.in-Ok-fill.ensures.counts) bytes.2;
       room = c.loop-left.invariant.room;
       held = c.in-Ok-fill.ensures.bound;
       reads = omega (arith, c.loop-left.invariant.reads, longer, some, calls);
@@ -162,12 +162,12 @@ pub returns-in-Ok-eq0-clause-asks : goal.returns-in-Ok-eq0-clause-asks
 returns-in-Ok-eq0-clause-asks g c =
     let incomplete : IsIncomplete c.loop-left.buffer = subst IsIncomplete c.held.ensures.bytes c.in-More.ensures in
     let bytes = c.in-Ok-eq0.ensures.bytes in
-    only_asks _ _ _ _ _ _ (asks-more _ _ _ c.loop-left.buffer _ _ c.loop-left.invariant.asks c.fill.new.source bytes.0 _ c.loop-left-test.true incomplete bytes.3 (ap (λ k. k.calls) c.in-Ok-eq0.ensures.counts) refl)
+    only_asks _ _ _ _ _ _ (asks-more _ _ _ c.loop-left.buffer _ _ c.loop-left.invariant.asks c.fill.new.source bytes.0 _ c.loop-left-test.true incomplete bytes.3 (ap (λ k. k.calls) c.in-Ok-eq0.ensures.counts) (ap (λ k. k.next_reads) c.in-Ok-eq0.ensures.counts) refl)
 
 pub returns-in-Err-clause-asks : goal.returns-in-Err-clause-asks
 returns-in-Err-clause-asks g c =
     let incomplete : IsIncomplete c.loop-left.buffer = subst IsIncomplete c.held.ensures.bytes c.in-More.ensures in
-    only_asks _ _ _ _ _ _ (asks-more _ _ _ c.loop-left.buffer _ _ c.loop-left.invariant.asks c.fill.new.source [] _ c.loop-left-test.true incomplete (Consumes-from_Keeps _ _ c.in-Err.ensures.bytes.1) (ap (λ k. k.calls) c.in-Err.ensures.counts) refl)
+    only_asks _ _ _ _ _ _ (asks-more _ _ _ c.loop-left.buffer _ _ c.loop-left.invariant.asks c.fill.new.source [] _ c.loop-left-test.true incomplete (Consumes-from_Keeps _ _ c.in-Err.ensures.bytes.1) (ap (λ k. k.calls) c.in-Err.ensures.counts) (ap (λ k. k.next_reads) c.in-Err.ensures.counts) refl)
 
 -- the last request was answered
 pub returns-clause-did : goal.returns-clause-did

@@ -1,0 +1,19 @@
+//! When a connection gives way to another client.
+
+ghost use Rattle.std.specs.Prelude.{◌≡◌, ◌↔◌, true, false, IsTrue};
+
+/// What is ready while a connection awaits its next request, of which no byte is buffered.
+#[derive(Clone, Copy)]
+pub struct Ready {
+    /// A read of the connection returns at once: with bytes, the end, or a failure.
+    pub is_readable: bool,
+    /// Another client waits to be accepted.
+    pub is_awaited: bool,
+}
+
+/// Whether the connection ends for the other client: one waits, and no request is under way.
+pub fn gives_way(ready: Ready) -> bool
+    ensures { IsTrue result ↔ ((ready.is_awaited ≡ true) × (ready.is_readable ≡ false)) }
+{
+    ready.is_awaited && !ready.is_readable
+}
