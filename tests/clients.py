@@ -37,6 +37,7 @@ import multiprocessing
 import os
 import random
 import select
+import signal
 import socket
 import struct
 import subprocess
@@ -345,7 +346,7 @@ def examples(port):
         expect("an intersection", wire.ask(spelled("/intersections", add)), b'{"result":"added"}')
         for text in tried:
             words = [sys.executable, "-c", text.replace(PORT, str(port))]
-            ran = subprocess.run(words, capture_output=True, text=True, timeout=PATIENCE)
+            ran = subprocess.run(words, capture_output=True, text=True, timeout=3 * PATIENCE)
             expect(f"example, {ran.stderr[-300:]}", ran.stdout.splitlines(), [*shown(text)])
     return f"{len(tried)} examples"
 
@@ -369,6 +370,7 @@ def comes_of(program, part):
 
 def main():
     program, names = found(sys.argv[1:2]), sys.argv[2:]
+    signal.signal(signal.SIGTERM, lambda *_: sys.exit(1))  # ends the server too
     os.environ["NO_PROXY"] = "*"
     parts = [it for it in PARTS if not names or it.__name__ in names]
     failed = [it.__name__ for it in parts if not comes_of(program, it)]

@@ -7,6 +7,7 @@ import subprocess
 import time
 
 PATIENCE = 5  # seconds after which a client gives up
+TRIES = 5  # for a port that another program takes meanwhile
 STOCK = b"GET /stock HTTP/1.1\r\n\r\n"
 ANSWER = re.compile(rb"HTTP/1\.1 (\d+) [^\r]*\r\n(?:[^\r]+\r\n)*?Content-Length: (\d+)\r\n\r\n")
 
@@ -15,17 +16,27 @@ class Off(Exception):
     """What came is not what has to come."""
 
 
+def started(program):
+    """A server and its port, on which it listens. Where another program took the port meanwhile,
+    it is tried again with another."""
+    for _ in range(TRIES):
+        with socket.create_server(("127.0.0.1", 0)) as free:
+            port = free.getsockname()[1]
+        words = [program, "serve", "--port", str(port)]
+        server = subprocess.Popen(words, stdin=subprocess.DEVNULL, stdout=subprocess.PIPE)
+        line = server.stdout.readline()
+        if line == b"listening on 127.0.0.1:%d\n" % port:
+            return server, port
+        server.kill()
+        server.communicate()
+    raise Off(f"the server printed {line!r}")
+
+
 @contextlib.contextmanager
 def served(program):
     """The port of a server, which is ended afterwards."""
-    with socket.create_server(("127.0.0.1", 0)) as free:
-        port = free.getsockname()[1]
-    words = [program, "serve", "--port", str(port)]
-    server = subprocess.Popen(words, stdin=subprocess.DEVNULL, stdout=subprocess.PIPE)
+    server, port = started(program)
     try:
-        line = server.stdout.readline()
-        if line != b"listening on 127.0.0.1:%d\n" % port:
-            raise Off(f"the server printed {line!r}")
         yield port
         if server.poll() is not None:
             raise Off(f"the server ended with status {server.returncode}")
