@@ -10,7 +10,8 @@ Each part has a server of its own on 127.0.0.1, over tables in memory, and ends 
   dropped; beside them a dashboard polls every 50 ms over one connection. A call whose connection
   ended before a byte of its answer is sent again. None is lost, none was done without an answer,
   none takes over a second.
-- `sessions`: three sessions of `requests` do the same, with retries as REFERENCE shows them.
+- `sessions`: three sessions of `requests` do the same, with retries as REFERENCE shows them, but
+  no pauses before a retry.
 - `turns`: three calls in turn, of which the earlier connections are still open, take under 0.1 s
   together; of `requests.get` too.
 - `half`: a client that sent half a request is ended after 30 seconds while three others wait. Then
@@ -153,7 +154,7 @@ def watch(port):
 def post_session(port, number):
     """A process with a session of `requests`, which sends again what had no answer."""
     session, office = requests.Session(), f"http://127.0.0.1:{port}"
-    retry = requests.packages.urllib3.util.Retry(total=5, allowed_methods=None, backoff_factor=0.1)
+    retry = requests.packages.urllib3.util.Retry(total=5, allowed_methods=None)
     session.trust_env = False
     session.mount(office, requests.adapters.HTTPAdapter(max_retries=retry))
     dice, again, worst = random.Random(f"session {number}"), 0, 0
