@@ -23,7 +23,7 @@ import drawing
 
 TOP = pathlib.Path(__file__).resolve().parent.parent
 DOCUMENTS = [TOP / "README.md", TOP / "CONTRIBUTING.md", TOP / "CHANGELOG.md"]
-DOCUMENTS += sorted((TOP / "docs").glob("*.md"))
+DOCUMENTS += [*sorted((TOP / "docs").glob("*.md")), TOP / "examples" / "README.md"]
 COLUMNS, README_LINES = 100, 200
 NAME = re.compile(r"`([^`]+)`")
 FILE = r"`(\w+/(?:specs|src)/[\w/.{},]+)`"
