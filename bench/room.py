@@ -73,13 +73,13 @@ def worked(number, year, month):
 
 
 def passing(year):
-    """A year's requests: each intersection's records of a month come as one import."""
+    """A year's requests: the records of each month come as one import."""
+    city = range(1, INTERSECTIONS + 1)
     for month in range(12):
-        yield post("/import", csv="\n".join(delivered(year, month)))
-        for number in range(1, INTERSECTIONS + 1):
-            records = list(worked(number, year, month))
-            if records:
-                yield post("/import", csv="\n".join(records))
+        records = [*delivered(year, month)]
+        records += [record for number in city for record in worked(number, year, month)]
+        yield post("/import", csv="\n".join(records))
+        for number in city:
             if month % (12 // CHANGES) == number % (12 // CHANGES):
                 offset = (12 * year + month) % 60
                 yield from committing(number, f"pattern,1,100,{offset + 1},1,1\n")
