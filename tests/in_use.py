@@ -146,7 +146,7 @@ def waits(folder):
     case("list, when the lock goes", (status, out[:3], err), (0, "12,", note))
     with tempfile.TemporaryFile() as sent:
         sent.write(STATE)
-        os.lseek(sent.fileno(), 0, os.SEEK_SET)
+        sent.seek(0)
         status, out, err = ended(until_free("batch", path, ["batch", "--db", path], sent))
         case("batch, when the lock goes", (status, out[:15], err), (0, "HTTP/1.1 200 OK", note))
     late = ["list", "--db", path, "--wait", "1"]
