@@ -166,7 +166,10 @@ def serves(folder):
     path = office(folder, "late.db")
     words = ["serve", "--port", free_port(), "--count", 1, "--db", path]
     run = until_free("serve", path, words)
-    port = int(run.stdout.readline().rsplit(":", 1)[1])
+    line = run.stdout.readline()
+    if not line:
+        return case("serve, when the lock goes", ended(run), "that it listens")
+    port = int(line.rsplit(":", 1)[1])
     with socket.create_connection(("127.0.0.1", port), timeout=PATIENCE) as wire:
         wire.sendall(STATE)
         wire.shutdown(socket.SHUT_WR)
