@@ -131,19 +131,20 @@ fn runs_go_on_from_one_another(host: HostRuntime) -> Result<(), Fail> {
     Ok(())
 }
 
-/// The database file fails as it is closed, at one of its calls, and the second run shows what was
-/// added before that.
+/// The database file fails as it is closed, at some call, and the second run shows what was added
+/// before that.
 #[test]
 fn runs_go_on_from_files_that_are_not_closed(host: HostRuntime) {
     let rt = (&host, host.alloc());
     for (life, end) in [(Life::Unclosed, 93), (Life::AfterAnUnclosedCommand, 0)] {
-        let mut count = 0u32;
+        let mut is_shown = false;
         for calls in 0..64 {
             let lived = live(&host, life, stopping(&rt, &[], false, calls), end);
-            if matches!(lived, Some((_, came)) if came.as_slice() == answered(89, 273)) {
-                count = count.saturating_add(1);
+            is_shown = matches!(lived, Some((_, came)) if came.as_slice() == answered(89, 273));
+            if is_shown {
+                break;
             }
         }
-        assert!(rt; count > 0, "a run over files that were not closed");
+        assert!(rt; is_shown, "a run over files that were not closed");
     }
 }
