@@ -34,7 +34,9 @@ SOURCE = '''//! The {name} half of packed rows. It is written by tests/draw_rows
 
 /// The packed lines.
 pub(crate) fn packed() -> &'static str {{
-    r##"{lines}"##
+    r##"
+{lines}
+"##
 }}
 '''
 

@@ -2,7 +2,8 @@
 
 /// The packed lines.
 pub(crate) fn packed() -> &'static str {
-    r##"> POST /intersections {"id":12,"interval":365,"name":"Main St"}`< 200 OK {"result":"added"}`> GE
+    r##"
+> POST /intersections {"id":12,"interval":365,"name":"Main St"}`< 200 OK {"result":"added"}`> GE
 ~()02/12~((\.~()<H,"owner":null,"revision":0,"rows":0,"state":"normal","verify":"notDone"}`~(*p7/1
 2/begin {"clerk":"Ana~(*_2~()I-~()@*transaction~()EQedit-csv~()H1,"csv":"phase,2,1,8,20,40,40,15,6
 ,7,12,490,60,0,0\n~((S(4~((S38~((C*6,2~((C12~((C*8~((C34\nseq,1,1,2 ~((5+2,6 8\nsplit,1,2,35,2,1
@@ -268,5 +269,6 @@ ot Found~()z-UnknownI~((o-~(*,.~),?.~(*-1~(T,z~()D9~(*[<~(,Y:~)9,(~(*P.~)+Y;3~(*
 ~(3\)~(/aC~(32`~(Ci*~1S(8~(2+E~(iqz~(96z~(96z~(96z~(96w~(.,G~(/vG~(93z~(93z~1+-z~(gr@~4:Pz~(:*d
 ~(gre~4E3S~)oj_~..L4~(MtD~*Osz~(+83~(grz~(;rZ~(6>z~(6>z~(GL8~(9Vu~(;(G~(Hqa~(7)v~(8UM~(9?4~(7fC
 ~(0:z~(7Mz~(7Mz~(IOz~(fCh~4IuT~(D+z~(D+z~(5hz~(U9z~(U9z~(D.z~(4C;~(dg@~.5Bx2~.5Bz~()F=~(dgG32~3sS)
-~2Ln1~-\v(~)yj-32~2u4+~(ab,13,~5OEz~(*M/~2,7S~(m9*~5?7:~1QO=~(/D.~0Y-+~(yz:~(sT(~(\TX~./Nz~()B9"##
+~2Ln1~-\v(~)yj-32~2u4+~(ab,13,~5OEz~(*M/~2,7S~(m9*~5?7:~1QO=~(/D.~0Y-+~(yz:~(sT(~(\TX~./Nz~()B9
+"##
 }

@@ -2,7 +2,8 @@
 
 /// The packed lines.
 pub(crate) fn packed() -> &'static str {
-    r##"~(\Tz~()G=~(\Tz~(2Ia~(@Kf~-qsK~(/m<~(;r(~(/8:~(UO*~..k2~-qa*~(0j;~([Kz~(2s\~(*1?~(2sn~(+c.~(VAz
+    r##"
+~(\Tz~()G=~(\Tz~(2Ia~(@Kf~-qsK~(/m<~(;r(~(/8:~(UO*~..k2~-qa*~(0j;~([Kz~(2s\~(*1?~(2sn~(+c.~(VAz
 ~(VA?~-r^z~(3jd~(VAe~.,VS~(VA_~.,V4~(?ND~(VAE~+^Nd25~++8z~(2]8~)xYD~(?wn~(D1@~-t:x2~-t:z~()E<~4J@G
 ~0cE360,2~-bO+2~-zD(~(,R-12,7,9,373,143~26W/~4=R*~).f+9~0IW,9~((p)~-z@-1,4~,l_)53~;tw(~5^V,~)/Z0
 ~),?)07,4~5^V)~)-p,2 1~+x,,2,21 9 6~,kY-2~4<f2~4<y5,11,26~2kC2~0bf1,~).T,~*+B-7,0~,l*z~(-T.~*eaQ
@@ -268,5 +269,6 @@ RELAY~)==[~.qge~))<w~KjS^~(pe2~T8(-~(e6z~(rv]~Kb=:~(JA(~(R]X~)*;H~(=oB~)*;7~0EEL
 ~+Z<z~)S<z~,/+z~2r=B~+Tp(~+*iL~.*Fz~*y^H~RWN-~(Y1z~)<dK~(ElX~/8pp~(;[X~/:d\~(c@N9~*@hu~(]t8~:F/5
 ~-Ier~(Cc/~+y?R~(1CJ9~A5_4~()@S~(F.J~.6.z~Y*-T~AF-2~*PB(~-fy-~*PB24 ~.Hkz~*>h:~(-14~*>rs~3nG>1
 ~*Abz~(Yq>~(.Wz ~(rT+~A9Mj~*HU80~5`j5~.CZa~-FFT~2daN~-,+z~(0J/~@t)5\tB~+2sz~,lvJ~.V^W~)-zL~(?i-
-~;H7d~(>-s~G)lB~*\>]~(3(1"##
+~;H7d~(>-s~G)lB~*\>]~(3(1
+"##
 }

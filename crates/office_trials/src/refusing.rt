@@ -155,7 +155,7 @@ impl Shelf for Refusing<'_> {
     ghost honest_is_clean = { λ _ honest. honest };
 }
 
-/// Makes steps by a new office over a shelf that refuses one of its calls. The step in which it does
+/// Makes steps by a new office over a shelf that refuses one of its calls. The step of the call
 /// is answered as unavailable, and leaves all as it was before; it and the others are done after
 /// that. Tells whether there is such a call.
 fn is_refused(rt: &Bench<impl Abort>, steps: &[Step<'_>], states: &[Vec<u8>], left: &Left) -> bool {
