@@ -136,26 +136,38 @@ fn stop_each(
     assert!(rt; stopped > 0 && stopped < 10_000, "{stopped} stops");
 }
 
-/// A stream that adds and shows an intersection and begins a transaction, and one that commits a
-/// plan too, abandons a draft, and imports records: each from files that are empty.
-#[test]
-fn streams_are_stopped(host: HostRuntime) {
-    let rt = (&host, host.alloc());
-    let rows = rows(&rt);
-    let steps = steps(&rt, rows.as_str(), LIST);
-    for count in [3, 16] {
+/// Files with the tables of a new office.
+fn new_files(rt: &Bench<impl Abort>) -> Pair {
+    let empty = stopping(rt, &[], true, u64::MAX);
+    let (_, _, files) = serve_in(rt, empty, &[]).expect(rt, "new tables");
+    files
+}
+
+/// Stops a stream that adds and shows an intersection and begins a transaction, from files that are
+/// empty; and from new tables one that commits a plan too, abandons a draft, and imports records.
+fn stop_streams(rt: &Bench<impl Abort>, is_log: bool) {
+    let rows = rows(rt);
+    let steps = steps(rt, rows.as_str(), LIST);
+    let new = new_files(rt);
+    for (count, start) in [(3, b"".as_slice()), (16, new.db.inner().bytes())] {
         let steps = steps.get(..count).unwrap_or(&[]);
-        let states = states(&rt, steps);
-        stop_each(&rt, &[], Some(steps), &states, true);
-        stop_each(&rt, &[], Some(steps), &states, false);
+        stop_each(rt, start, Some(steps), &states(rt, steps), is_log);
     }
+}
+
+#[test]
+fn streams_are_stopped_at_the_log(host: HostRuntime) {
+    stop_streams(&(&host, host.alloc()), true);
+}
+
+#[test]
+fn streams_are_stopped_at_the_database(host: HostRuntime) {
+    stop_streams(&(&host, host.alloc()), false);
 }
 
 /// Files with tables of version 1.
 pub(crate) fn former_files(rt: &Bench<impl Abort>) -> Pair {
-    let new = stopping(rt, &[], true, u64::MAX);
-    let (_, _, files) = serve_in(rt, new, &[]).expect(rt, "new tables");
-    put_former(rt.1, files).expect(rt, "tables of version 1")
+    put_former(rt.1, new_files(rt)).expect(rt, "tables of version 1")
 }
 
 /// What is shown once tables of version 1 are migrated.
