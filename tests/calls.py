@@ -2,7 +2,8 @@
 """Writes docs/CALLS.md from the sources: each public call of a library, its clauses, and the files
 of the definitions that these name.
 
-    tests/calls.py             checks that the page is what the sources say
+    tests/calls.py             checks that the page is what the sources say, and says how many
+                               calls have no clause, and which
     tests/calls.py --write     writes it
 
 A call is a `pub fn`, a method of a `pub trait`, or a method of an impl of a trait that states a
@@ -138,6 +139,14 @@ def written(text):
     return before + BEGIN + "\n" + "".join(table()) + END + rest.partition(END)[2]
 
 
+def without_clause():
+    """How many calls have no clause, of how many, and which."""
+    crates = [it for it in drawing.crates()[0] if it not in drawing.TESTS and it != PROGRAM]
+    found = [item for crate in crates for item in found_in(crate).items()]
+    none = ["::".join(filter(None, key)) for key, said in found if said == "none"]
+    return f"{len(none)} of {len(found)} calls have no clause: {', '.join(none)}"
+
+
 def is_written():
     return written(PAGE.read_text()) == PAGE.read_text()
 
@@ -152,6 +161,7 @@ def main():
         PAGE.write_text(written(text))
     elif not is_written():
         sys.exit(f"{PAGE.name} is not what the sources say: tests/calls.py --write")
+    print(without_clause())
     print("ok")
 
 
