@@ -8,7 +8,8 @@
   sources, and each file or definition is where it is said to be.
 - In all documents: each link leads somewhere, each file named by its path is there, no line passes
   100 columns but in tables, and nothing is named that a reader does not have. README.md has at most
-  200 lines, and README.md and docs/PROOF.md have one headline.
+  200 lines. README.md and docs/PROOF.md have one headline, and where its exact sentence stands it
+  is that of docs/PROOF.md.
 - What `--version` prints is the newest heading of CHANGELOG.md.
 - No line of crates.txt names a crate of this repository that its crate does not use.
 
@@ -25,6 +26,7 @@ TOP = pathlib.Path(__file__).resolve().parent.parent
 DOCUMENTS = [TOP / "README.md", TOP / "CONTRIBUTING.md", TOP / "CHANGELOG.md"]
 DOCUMENTS += [*sorted((TOP / "docs").glob("*.md")), TOP / "examples" / "README.md"]
 COLUMNS, README_LINES = 100, 200
+HEADLINE, EXACT = "The answers and the stored", "For every stream"  # how the two sentences begin
 NAME = re.compile(r"`([^`]+)`")
 FILE = r"`(\w+/(?:specs|src)/[\w/.{},]+)`"
 
@@ -102,18 +104,31 @@ def wrong_lines():
                         for it in private.findall(line))
 
 
-def headline(document):
-    """The first sentence in bold, without its breaks."""
-    found = re.search(r"\*\*(For every stream.*?)\*\*", (TOP / document).read_text(), re.DOTALL)
-    return found and found[1].split()
+def in_bold(document):
+    """The headline and its exact sentence, as far as a document has them, without their breaks."""
+    text = (TOP / document).read_text()
+    found = (re.search(rf"\*\*({it}.*?)\*\*", text, re.DOTALL) for it in (HEADLINE, EXACT))
+    return [it and it[1].split() for it in found]
 
 
 def wrong_sizes():
     lines = (TOP / "README.md").read_text().count("\n")
     if lines > README_LINES:
         yield f"README.md has {lines} lines"
-    if not headline("README.md") or headline("README.md") != headline("docs/PROOF.md"):
-        yield "README.md and docs/PROOF.md have different headlines"
+
+
+def wrong_headlines():
+    """README.md and docs/PROOF.md have one headline, and docs/PROOF.md has its exact sentence too:
+    no other document has a headline of its own."""
+    headline, exact = in_bold("docs/PROOF.md")
+    if not headline or not exact:
+        yield "docs/PROOF.md lacks the headline or its exact sentence"
+    if not in_bold("README.md")[0]:
+        yield "README.md lacks the headline"
+    for document in DOCUMENTS:
+        for found, wanted in zip(in_bold(document), (headline, exact)):
+            if found and found != wanted:
+                yield f"{document.name} and PROOF.md have different headlines"
 
 
 def wrong_version():
@@ -147,7 +162,8 @@ def main():
         sys.exit("documents.py: it takes no words")
     known = words()
     wrong = [*missing_names("PROOF.md", known), *missing_names("ARCHITECTURE.md", known)]
-    wrong += [*missing_links(), *missing_files(), *wrong_lines(), *wrong_sizes()]
+    wrong += [*missing_links(), *missing_files(), *wrong_lines(), *wrong_sizes(),
+              *wrong_headlines()]
     wrong += [*written_by_scripts(), *wrong_version()]
     wrong += unused_crates()
     print("\n".join(wrong) if wrong else "ok")
