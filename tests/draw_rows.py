@@ -4,7 +4,8 @@ which tests/rows.py plays, and packed into sources of crates/office_trials, whic
 a stream.
 
     tests/draw_rows.py                          checks that the stored rows are what is drawn today
-    tests/draw_rows.py SEED COUNT               says what would be drawn, and how often
+    tests/draw_rows.py SEED COUNT               prints how often each answer, refusal, fault and
+                                                broken rule would come, and the bytes of each file
     tests/draw_rows.py SEED COUNT --write       writes tests/rows/drawn_*.row and packed_*.rt
 
 Each route must be answered, and each refusal but 18, each fault of a row and each broken rule must
