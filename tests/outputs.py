@@ -153,7 +153,7 @@ def held(folder):
 
 
 def make(program, folder):
-    """An office with a plan that runs, a draft, and records; and CSV files."""
+    """An office with a committed plan, a draft, and records; and CSV files."""
     plan = pathlib.Path(PLAN).read_text()
     texts = {"plan.csv": plan, "changed.csv": plan.replace("split,1,2,35", "split,1,2,34"),
              "records.csv": RECORDS, "more.csv": "delivery,RELAY,2,2026-06-01,5\n"}

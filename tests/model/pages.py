@@ -213,7 +213,7 @@ def fact(name, value):
 
 def links(has_draft):
     """Links to the parts of the page."""
-    parts = [("plan", "The plan that runs"), ("draft", "The draft"), ("cabinet", "The cabinet")]
+    parts = [("plan", "The committed plan"), ("draft", "The draft"), ("cabinet", "The cabinet")]
     lines = [f"<li><a href='#{at}'>{name}</a></li>\n" for at, name in parts
              if has_draft or at != "draft"]
     return f"<nav aria-label='Parts of this page'>\n<ul>\n{''.join(lines)}</ul>\n</nav>\n"
@@ -226,9 +226,9 @@ def facts(office, id):
     told = {"Last inspection": max(inspected, default="none"),
             "Next inspection due": office.register.due(id, it.interval) or "never inspected",
             "Open orders": len(office.open_orders(id)["open"]),
-            "State": it.state, "Draft held by": isolated(it.owner) if it.owner else "nobody",
+            "State": it.state, "Draft of": isolated(it.owner) if it.owner else "nobody",
             "Verify status": VERDICTS[it.verdict()], "Revision": it.revision,
-            "Rows that run": len(it.committed)}
+            "Committed rows": len(it.committed)}
     return (f"<dl>\n{''.join(fact(*pair) for pair in told.items())}</dl>\n"
             f"{links(it.draft is not None)}")
 
@@ -238,7 +238,7 @@ def changes(before, after):
     yield "<div class='changes'>\n<h3>What it changes</h3>\n"
     keys = [key for key in sorted({*before, *after}) if before.get(key) != after.get(key)]
     if not keys:
-        yield "<p>It changes nothing of the plan that runs.</p>\n"
+        yield "<p>It changes nothing of the committed plan.</p>\n"
     for name, (kind, names) in TABLES.items():
         rows = [row for key in keys if isinstance(before.get(key, after.get(key)), kind)
                 for row in changed(key, before, after)]
@@ -328,8 +328,8 @@ def page(office, id):
     head = HEAD.format(
         title=f"Intersection {id}: {quoted(it.name)}", style=STYLE,
         heading=f"Intersection {id}: {isolated(it.name)}", facts=facts(office, id))
-    runs = plan_part(it.committed, " of the plan that runs")
-    parts = [section("plan", "The plan that runs", runs)]
+    runs = plan_part(it.committed, " of the committed plan")
+    parts = [section("plan", "The committed plan", runs)]
     if it.draft is not None:
         parts.append(section("draft", "The draft", draft_part(it)))
     cabinet = "".join(cabinet_part(office.register, id, it.interval))

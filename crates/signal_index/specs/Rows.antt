@@ -53,8 +53,8 @@ entry_row late entry =
 unfoldable pub standing_headings : List ℕ
 standing_headings =
     heading (codes "No") ++ words_heading (codes "Name") ++ words_heading (codes "State")
-    ++ words_heading (codes "Draft held by") ++ heading (codes "Revision")
-    ++ heading (codes "Rows that run")
+    ++ words_heading (codes "Draft of") ++ heading (codes "Revision")
+    ++ heading (codes "Committed rows")
 
 unfoldable pub due_headings : List ℕ
 due_headings =

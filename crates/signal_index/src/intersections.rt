@@ -231,9 +231,9 @@ fn push_plan_headings(text: &mut String) -> Result<(), AllocError>
     push_heading(text, "No")?;
     push_words_heading(text, "Name")?;
     push_words_heading(text, "State")?;
-    push_words_heading(text, "Draft held by")?;
+    push_words_heading(text, "Draft of")?;
     push_heading(text, "Revision")?;
-    push_heading(text, "Rows that run")
+    push_heading(text, "Committed rows")
 }
 
 /// Appends the headings of what is told of the cabinet.

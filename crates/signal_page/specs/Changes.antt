@@ -1,4 +1,4 @@
--- What a draft changes of the plan that runs, told by words.
+-- What a draft changes of the committed plan, told by words.
 use Rattle.std.specs.Prelude.{ℕ, Bool, if◌then◌else◌, List, [], ◌++◌, flat_map, codes}
 use Rattle.std.specs.List.{list_any}
 use Rattle.office_files.specs.Cells.{when_empty}
@@ -60,7 +60,7 @@ change_table kind runs draft differences =
 unfoldable pub changes_part : Rows → Rows → List Difference → List ℕ
 changes_part runs draft differences =
     codes "<div class='changes'>\n<h3>What it changes</h3>\n"
-    ++ when_empty differences (codes "<p>It changes nothing of the plan that runs.</p>\n")
+    ++ when_empty differences (codes "<p>It changes nothing of the committed plan.</p>\n")
     ++ change_table Patterns runs draft differences
     ++ change_table Sequences runs draft differences
     ++ change_table Splits runs draft differences ++ change_table Phases runs draft differences

@@ -50,7 +50,7 @@ index_link false = []
 unfoldable pub links : (linked : Bool) → Option Rows → List ℕ
 links linked draft =
     codes "<nav aria-label='Parts of this page'>\n<ul>\n" ++ index_link linked
-    ++ codes "<li><a href='#plan'>The plan that runs</a></li>\n"
+    ++ codes "<li><a href='#plan'>The committed plan</a></li>\n"
     ++ draft_link draft ++ codes "<li><a href='#cabinet'>The cabinet</a></li>\n</ul>\n</nav>\n"
 
 unfoldable pub header : (linked : Bool) → IntersectionShown → List ℕ
@@ -65,7 +65,7 @@ header linked shown =
 unfoldable pub plan_section : Rows → List ℕ
 plan_section committed =
     codes "<section id='plan' aria-labelledby='plan-title'>\n"
-    ++ codes "<h2 id='plan-title'>The plan that runs</h2>\n" ++ plan_part (codes " of the plan that runs") [] committed
+    ++ codes "<h2 id='plan-title'>The committed plan</h2>\n" ++ plan_part (codes " of the committed plan") [] committed
     ++ codes "</section>\n"
 
 unfoldable pub open_draft_section : Rows → Rows → List Difference → List Explained → List ℕ

@@ -43,10 +43,10 @@ fact name value =
 unfoldable pub draft_facts : IntersectionState → List ℕ
 draft_facts state =
     fact (codes "State") (state_name state.state)
-    ++ fact (codes "Draft held by") (owner_text state.owner)
+    ++ fact (codes "Draft of") (owner_text state.owner)
     ++ fact (codes "Verify status") (verdict_words state.verify)
     ++ fact (codes "Revision") (decimal state.revision)
-    ++ fact (codes "Rows that run") (decimal state.rows)
+    ++ fact (codes "Committed rows") (decimal state.rows)
 
 unfoldable pub cabinet_facts : ℕ → Option ℕ → List Order → List ℕ
 cabinet_facts interval latest orders =

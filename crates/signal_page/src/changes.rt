@@ -1,4 +1,4 @@
-//! What a draft changes of the plan that runs.
+//! What a draft changes of the committed plan.
 
 ghost use Rattle.std.specs.Prelude.{◌≡◌, ◌++◌, OnOk, codes, flat_map, string_bytes};
 ghost use Rattle.std.specs.List.{list_any};
@@ -186,10 +186,10 @@ fn push_whole_change_table(
 fn push_no_changes(text: &mut String, differences: &[Difference]) -> Result<(), AllocError>
     ensures { OnOk result (string_bytes text.new ≡ string_bytes text.old
         ++ when_empty differences.now
-        (codes "<p>It changes nothing of the plan that runs.</p>\n")) }
+        (codes "<p>It changes nothing of the committed plan.</p>\n")) }
 {
     if differences.is_empty() {
-        text.push_str("<p>It changes nothing of the plan that runs.</p>\n")
+        text.push_str("<p>It changes nothing of the committed plan.</p>\n")
     } else {
         Ok(())
     }

@@ -94,7 +94,7 @@ fn push_links(text: &mut String, linked: bool, draft: &Option<TimingSet>) -> Res
 {
     push_markup(text, "<nav aria-label='Parts of this page'>\n<ul>\n")?;
     push_index_link(text, linked)?;
-    push_markup(text, "<li><a href='#plan'>The plan that runs</a></li>\n")?;
+    push_markup(text, "<li><a href='#plan'>The committed plan</a></li>\n")?;
     push_draft_link(text, draft)?;
     push_markup(
         text,
@@ -124,7 +124,7 @@ fn push_header(text: &mut String, linked: bool, shown: &IntersectionShown) -> Re
     push_markup(text, "</header>\n<main id='main'>\n")
 }
 
-/// Appends the plan that runs.
+/// Appends the committed plan.
 fn push_plan_section(
     alloc: Global,
     text: &mut String,
@@ -134,8 +134,8 @@ fn push_plan_section(
         ≡ string_bytes text.old ++ plan_section committed.now) }
 {
     push_markup(text, "<section id='plan' aria-labelledby='plan-title'>\n")?;
-    push_markup(text, "<h2 id='plan-title'>The plan that runs</h2>\n")?;
-    push_plan(alloc, text, " of the plan that runs", &[], committed)?;
+    push_markup(text, "<h2 id='plan-title'>The committed plan</h2>\n")?;
+    push_plan(alloc, text, " of the committed plan", &[], committed)?;
     push_markup(text, "</section>\n")
 }
 
@@ -248,7 +248,7 @@ fn whole_page(
     Ok(text.into_bytes())
 }
 
-/// The page of an intersection: how it stands, the pictures and tables of the plan that runs, its
+/// The page of an intersection: how it stands, the pictures and tables of the committed plan, its
 /// draft with what it changes and the rules that it breaks, each with its reason below its row, and
 /// the register of its cabinet, open orders first. It is one HTML text, which needs nothing else,
 /// and has a link to `index.html` beside it where that is wanted.

@@ -161,10 +161,10 @@ pub(crate) fn push_draft_facts(
         ≡ string_bytes text.old ++ draft_facts state.now) }
 {
     push_words_fact(text, "State", state_name(state.state))?;
-    push_owner_fact(text, "Draft held by", &state.owner)?;
+    push_owner_fact(text, "Draft of", &state.owner)?;
     push_words_fact(text, "Verify status", verdict_words(state.verify))?;
     push_number_fact(text, "Revision", state.revision.get() as usize)?;
-    push_number_fact(text, "Rows that run", state.rows)
+    push_number_fact(text, "Committed rows", state.rows)
 }
 
 /// Appends how the cabinet stands.

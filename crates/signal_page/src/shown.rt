@@ -7,7 +7,7 @@ use signal_records::TimingSet;
 #[derive(Drop)]
 pub struct IntersectionShown {
     pub state: IntersectionState,
-    /// The plan that runs.
+    /// The committed plan.
     pub committed: TimingSet,
     /// The draft, where a clerk holds one.
     pub draft: Option<TimingSet>,
