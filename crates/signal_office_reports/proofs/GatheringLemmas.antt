@@ -1,5 +1,6 @@
 -- What is gathered of the intersections, one after the other.
-use Rattle.std.proofs.Common.{◌≡◌, ◌++◌, inl, inr, ℕ, List, [], ◌∷◌, map, filter, flat_map, Option, Some, None, Result, Ok, Err, refl, ap, sym, subst, ◌∙◌, append_assoc}
+use Rattle.std.proofs.Common.{◌≡◌, ◌++◌, inl, inr, ℕ, List, [], ◌∷◌, arith, length, map, filter, flat_map, Option, Some, None, Result, Ok, Err, refl, ap, sym, subst, ◌∙◌}
+use Rattle.std.proofs.lemmas.List.{append_assoc}
 use Rattle.std.specs.Prelude.{Bool, true, false, cond, Vec}
 use Rattle.std.specs.{FinMap.entries, FinMap.get, List.AllByRecursion, Option.IsSome}
 use Rattle.cabinet_core.specs.{Orders.is_open, Register.records_at, declared.record.Order.Order}
@@ -9,7 +10,6 @@ use Rattle.office_desk_timing.specs.Listing.{ListsEachIntersection, listed_in}
 use Rattle.office_listings.specs.{Orders.order_named, declared.orders.NamedOrder.NamedOrder}
 use Rattle.office_machine.specs.declared.command.Command.TheVariants as command
 use Rattle.office_machine.specs.declared.intersections.ListedIntersection.{ListedIntersection}
-use Rattle.office_machine.specs.declared.refusal.Refusal.TheVariants as refusal
 use Rattle.office_machine.specs.declared.reply.CabinetShown.{CabinetShown}
 use Rattle.office_machine.specs.declared.reply.Reply.TheVariants as reply
 use Rattle.office_machine.specs.{Listed.intersection_listed, Listed.intersections_of, Office.Intersection, Office.Office}
@@ -20,7 +20,7 @@ use Rattle.signal_office_faults.specs.declared.fault.Fault.{Fault}
 use Rattle.signal_office_faults.specs.declared.fault.Fault.TheVariants as told
 use Rattle.signal_office_reports.specs.Gathering.{AreWhole, SeesCabinet, cabinet_of, filed_in}
 use Rattle.signal_office_reports.specs.Listing.{AreOpenOf, named_from, named_in, named_on}
-use Rattle.signal_office_reports.specs.Seen.{IsAnswer, Meets, OfOffice, SeesAs, cabinet_listed}
+use Rattle.signal_office_reports.specs.Seen.{Meets, OfOffice, cabinet_listed}
 use Rattle.signal_office_reports.specs.declared.seen.ListedCabinet.{ListedCabinet}
 use Rattle.signal_office_reports.specs.declared.seen.Query.TheVariants as query
 use Rattle.signal_office_reports.specs.declared.seen.Seen.{Seen}
@@ -80,13 +80,17 @@ sees_cabinet tables id it (Err why) shows sound is =
     let store : why ≡ told.Store = unfiled it why (sym is) in
     (inr (inl store), λ e. let same : told.Store ≡ told.Damaged = sym store ∙ e in cc)
 
+pub none_left : {A : Type 0} (xs : List A) → length xs ≡ 0 → xs ≡ []
+none_left [] empty = refl
+none_left (x ∷ xs) empty = absurd (omega arith)
+
 -- what one more gives, before those that are left
 pub cabinets_more : (office : Office) (found new : List ListedCabinet) (listed : ListedIntersection) (rest : List ListedIntersection) (cabinet : CabinetShown) (all : List ListedCabinet)
     → cabinet ≡ cabinet_shown office.register listed.id → new ≡ found ++ record { listed = listed; cabinet = cabinet } ∷ []
     → found ++ map (cabinet_of office) (listed ∷ rest) ≡ all → new ++ map (cabinet_of office) rest ≡ all
 cabinets_more office found new listed rest cabinet all holds is before =
     ap (λ (xs : List ListedCabinet). xs ++ map (cabinet_of office) rest) is
-    ∙ append_assoc {xs = found} {ys = record { listed = listed; cabinet = cabinet } ∷ []} {zs = map (cabinet_of office) rest}
+    ∙ append_assoc found (record { listed = listed; cabinet = cabinet } ∷ []) (map (cabinet_of office) rest)
     ∙ ap (λ (c : CabinetShown). found ++ record { listed = listed; cabinet = c } ∷ map (cabinet_of office) rest) holds ∙ before
 
 -- those of all that are listed are those of the office

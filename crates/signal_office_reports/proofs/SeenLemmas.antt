@@ -1,12 +1,11 @@
 -- What one query sees, from what the office answers.
-use Rattle.std.proofs.Common.{◌≡◌, ◌≢◌, ◌⊎◌, ◌∙◌, inl, inr, ℕ, true, [], ◌∷◌, Option, Some, None, Result, Ok, Err, refl, sym, ap, subst}
+use Rattle.std.proofs.Common.{◌≡◌, ◌⊎◌, ◌∙◌, inl, inr, ℕ, true, Option, Some, None, Result, Ok, Err, refl, sym, ap, subst}
 use Rattle.std.specs.{FinMap.get, Result.IsErrAnd}
 use Rattle.draft_core.specs.Transaction.{Draft, in_stage, state_of}
 use Rattle.draft_core.specs.declared.refusal.DraftRefusal.TheVariants as draft
 use Rattle.draft_state.specs.declared.state.Stage.{Stage}
 use Rattle.draft_state.specs.declared.state.Stage.TheVariants as stage
 use Rattle.office_desk.specs.{Answers.AnswersAny, Changes.IsQueryCommand, Damage.IsImport, Damage.IsTurnedAway, Damage.MeetsDamage, Named.IsNamedFor, Running.HoldsTables}
-use Rattle.office_desk.specs.StandFor.{StandForSound}
 use Rattle.office_machine.specs.{Office.Intersection, Office.Office, Step.Step, Step.answered, Step.draft_shown, Step.shown, Step.state_shown}
 use Rattle.office_machine.specs.{declared.command.Command.Command, declared.reply.Reply.Reply}
 use Rattle.office_machine.specs.declared.command.Command.TheVariants as command

@@ -1,12 +1,12 @@
 -- What is gathered of all intersections, step by step.
-use Rattle.std.specs.Prelude.{◌≡◌, ℕ, List, map, Result, Ok, Err, Vec}
+use Rattle.std.specs.Prelude.{ℕ, List, map, Result, Ok, Err, Vec}
 use Rattle.std.specs.List.{AllByRecursion}
 use Rattle.cabinet_core.specs.declared.record.Order.{Order}
 use Rattle.office_desk.specs.Damage.{MeetsDamage}
 use Rattle.office_desk_timing.specs.Listing.{ListsEachIntersection}
 use Rattle.office_machine.specs.Listed.{intersections_of}
 use Rattle.office_machine.specs.Office.{Office}
-use Rattle.office_machine.specs.Step.{answered, cabinet_shown}
+use Rattle.office_machine.specs.Step.{cabinet_shown}
 use Rattle.office_machine.specs.declared.command.Command.TheVariants as command
 use Rattle.office_machine.specs.declared.intersections.ListedIntersection.{ListedIntersection}
 use Rattle.office_machine.specs.declared.reply.CabinetShown.{CabinetShown}
@@ -17,7 +17,7 @@ use Rattle.office_tables_shelf.specs.Damage.{HasAnyDamagedIntersection}
 use Rattle.signal_office_faults.specs.declared.fault.Fault.{Fault}
 use Rattle.signal_office_faults.specs.declared.fault.Fault.TheVariants as told
 use Rattle.signal_office_reports.specs.Listing.{AreOpenOf}
-use Rattle.signal_office_reports.specs.Seen.{IsUnseen, OfOffice, SeesAs}
+use Rattle.signal_office_reports.specs.Seen.{OfOffice, SeesAs}
 use Rattle.signal_office_reports.specs.declared.seen.ListedCabinet.{ListedCabinet}
 use Rattle.signal_office_reports.specs.declared.seen.Seen.{Seen}
 use Rattle.signal_office_reports.specs.declared.seen.Seen.TheVariants as seen

@@ -117,8 +117,7 @@ Looks tables queries (Err why) = IsUnseen (MeetsAny tables queries) why
 
 -- the same of a list that is made
 abbrev pub Gives : {T A : Type 0} → (Result (List T) Fault → Type 0) → Result (Vec T A) Fault → Type 0
-Gives says (Ok list) = says (Ok list.items)
-Gives says (Err why) = says (Err why)
+Gives says result = MatchResult result (λ list. says (Ok list.items)) (λ why. says (Err why))
 
 -- what is made of what some queries see, or why nothing is seen
 abbrev pub IsMadeOf : {A : Type 0} → List Query → (List Seen → Result A Fault → Type 0) → Content → Result A Fault → Type 0

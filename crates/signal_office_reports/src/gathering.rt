@@ -141,7 +141,7 @@ fn add_cabinet(
     cabinet: CabinetShown,
 ) -> Result<(), NoMemory>
     ensures { OnOk result (found.new.items
-        ≡ found.old.items ++ ListedCabinet {listed, cabinet} ∷ []) }
+        ≡ found.old.items ++ with_cabinet listed cabinet ∷ []) }
 {
     found.push(ListedCabinet { listed, cabinet })?;
     Ok(())

@@ -1,9 +1,7 @@
-use Rattle.std.proofs.Common.{◌∙◌, ap, sym, subst, ◌++◌, map, ◌∷◌}
+use Rattle.std.proofs.Common.{◌≡◌, ◌∙◌, ◌++◌, [], ap, append-nil, arith, map, subst, sym}
 use Rattle.std.specs.Vec.Iter.{into_iter_items}
-use Rattle.signal_office_faults.specs.declared.fault.Fault.TheVariants as told
-use Rattle.signal_office_reports.proofs.GatheringLemmas.{cabinets_more}
-use Rattle.signal_office_reports.proofs.LookLemmas.{kept_same}
-use Rattle.signal_office_reports.proofs.SeenLemmas.{◌then◌, handed, still_held, unseen_memory, unseen_so}
+use Rattle.signal_office_reports.proofs.GatheringLemmas.{cabinets_more, none_left}
+use Rattle.signal_office_reports.proofs.SeenLemmas.{◌then◌, handed, still_held, unseen_so}
 use Rattle.signal_office_reports.specs.Gathering.{AreWhole, SeesCabinets, cabinet_of}
 use Rattle.signal_office_reports.specs.Seen.{Gives}
 use Rattle.signal_office_reports.proofs.gathering.cabinets_of.Goals as goal
@@ -23,3 +21,14 @@ loop-listed-preserved g c =
       kept = so_far.kept then c.cabinet_asked.ensures.kept;
       clean = λ clean. so_far.clean (back clean);
     }
+
+pub returns-clause-sees : goal.returns-clause-sees
+returns-clause-sees g c = λ clean tables held.
+    let none : into_iter_items c.loop-listed.listed-iterator ≡ [] = none_left (into_iter_items c.loop-listed.listed-iterator) (omega (arith, c.in-None.ensures.steps.0)) in
+    (λ office stands. sym (append-nil c.loop-listed.found.items) ∙ ap (λ rest. c.loop-listed.found.items ++ map (cabinet_of office) rest) (sym none) ∙ c.loop-listed.invariant.sees clean tables held office stands,
+     c.loop-listed.invariant.whole clean tables held (subst (AreWhole tables) (sym none) tt))
+
+pub returns-in_err-cabinet-clause-sees : goal.returns-in_err-cabinet-clause-sees
+returns-in_err-cabinet-clause-sees g c = λ clean tables held.
+    handed c.from_residual.result c.in_err-cabinet.field-0.0 (Gives (SeesCabinets tables c.args.list.items)) c.from_residual.ensures.1
+    (unseen_so _ (λ meets. (c.in-Some.listed.id, meets)) (c.in_err-cabinet.ensures.sees clean tables (still_held g.S.Shelf _ _ tables c.loop-listed.invariant.kept held)))

@@ -1,4 +1,4 @@
-use Rattle.std.proofs.Common.{[], Ok, Err, List, arith, refl, sym, subst}
+use Rattle.std.proofs.Common.{[], Ok, List, arith, refl, sym, subst}
 use Rattle.std.proofs.lemmas.List.{take_all}
 use Rattle.signal_office_reports.proofs.SeenLemmas.{◌then◌, handed, still_held, unseen_memory}
 use Rattle.signal_office_faults.specs.declared.fault.Fault.TheVariants as told

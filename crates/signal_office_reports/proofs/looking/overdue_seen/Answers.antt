@@ -1,4 +1,4 @@
-use Rattle.std.proofs.Common.{Ok, Err, ap, ◌∙◌, ◌<◌, ◌≡◌, arith, length}
+use Rattle.std.proofs.Common.{Ok, Err, ap, ◌∙◌, ◌≡◌, arith, length}
 use Rattle.std.proofs.lemmas.List.{length-map}
 use Rattle.cabinet_core.specs.Overdue.{listed_of}
 use Rattle.office_machine.specs.declared.refusal.Refusal.{Refusal}

@@ -1,4 +1,4 @@
-use Rattle.std.proofs.Common.{Ok, Err, refl}
+use Rattle.std.proofs.Common.{Err, refl}
 use Rattle.signal_office_reports.proofs.LookLemmas.{made_of_seen}
 use Rattle.signal_office_reports.proofs.SeenLemmas.{handed}
 use Rattle.signal_office_reports.specs.Reports.{IsMade, IsShown, queries_of}
