@@ -1,12 +1,14 @@
-"""Runs the gate and says what it costs, crate by crate, in processor seconds.
+"""Runs all tests and says what they cost in processor seconds: the gate crate by crate, and the
+scripts together.
 
     python3 bench/gate.py RECORD [--on] [--write]
 
-If there is no file RECORD, it runs `rt ci` at the top of the repository (with --anew if the kit has
-it, so that nothing is taken from earlier runs), passes on what that prints, and writes RECORD: a
-line for each crate with the seconds of its proofs, tests and programs, and of its must-fail edits.
-With --on it runs `rt ci` over what the run of RECORD proved before it was stopped, and adds to it.
-With --write the table of RECORD goes into docs/MEASUREMENTS.md. Needs /proc, as Linux has it.
+If there is no file RECORD, it runs `./office-tests` (with --anew if the kit's gate has it, so that
+nothing is taken from earlier runs), passes on what that prints, and writes RECORD: a line for each
+crate with the seconds of its proofs, tests and programs, and of its must-fail edits, and one for
+the scripts. With --on it runs the gate over what the run of RECORD proved before it was stopped,
+and adds to it. With --write the table of RECORD goes into docs/MEASUREMENTS.md. Needs /proc, as
+Linux has it.
 """
 import collections
 import os
@@ -26,6 +28,7 @@ PAUSE = 0.2  # seconds between two looks at the processes
 HEAD = ["crate", "proof, s", "edits, s"]
 STATE = ["State", "Proofs, min", "Edits, min", "All, min", "By the clock, min", "Machine"]
 REST = "linking, runs, all else"
+SCRIPTS = "scripts, over the program"
 
 
 def looked():
@@ -42,13 +45,16 @@ def looked():
     return found
 
 
-def crate_of(process):
-    """The crate that a process checks, and whether with an edit; None of any other process."""
+def subject_of(process):
+    """The crate that a process checks, and whether with an edit; that it is one of the scripts; None
+    of any other process."""
     try:
         words = pathlib.Path("/proc", str(process), "cmdline").read_text().split("\0")
         folder = os.readlink(f"/proc/{process}/cwd")
     except OSError:
         return None
+    if any(word.startswith(f"{TOP}/tests/") for word in words[:3]):
+        return SCRIPTS, False
     if "--crate-name" not in words[:-1]:
         return None
     name = words[words.index("--crate-name") + 1]
@@ -56,22 +62,22 @@ def crate_of(process):
 
 
 def check_above(process, top, found, known):
-    """The highest check among a process and those above it, up to the gate; None where it is none
-    of the gate's."""
+    """The highest check or script among a process and those above it, up to the command; None where
+    it is none of these."""
     highest = None
     while process in found and process != top:
         parent, start, _ = found[process]
         place = process, start
-        if place not in known and (crate := crate_of(process)):
-            known[place] = crate
+        if place not in known and (subject := subject_of(process)):
+            known[place] = subject
         highest = place if place in known else highest
         process = parent
     return highest if process == top else None
 
 
 def watch(top, known, seconds, is_over):
-    """Notes what the checks below a process took, until it is over: the most that was seen of each,
-    with what those took that it forked."""
+    """Notes what the checks and scripts below a process took, until it is over: the most that was
+    seen of each, with what those took that it forked."""
     while not is_over.wait(PAUSE):
         found, now = looked(), collections.Counter()
         for process, (_, _, ticks) in found.items():
@@ -81,14 +87,14 @@ def watch(top, known, seconds, is_over):
 
 
 def words(goes_on):
-    """The gate's command, by which it takes nothing from earlier runs unless it goes on."""
+    """The command, by which the gate takes nothing from earlier runs unless it goes on."""
     told = subprocess.run(["rt", "help"], capture_output=True, text=True)
     is_anew = not goes_on and "--anew" in told.stdout + told.stderr
-    return ["rt", "ci", *(["--anew"] if is_anew else [])]
+    return [TOP / "office-tests", *(["--anew"] if is_anew else [])]
 
 
 def run(path, earlier):
-    """Runs the gate and writes the record. What an earlier run took is that of each proof, and of
+    """Runs all tests and writes the record. What an earlier run took is that of each proof, and of
     each crate's edits, that this one takes from it."""
     known, seconds = {}, collections.Counter()
     is_over, begun, ticks = threading.Event(), time.monotonic(), measured.ticks()
@@ -151,11 +157,13 @@ def main():
     state, machine, clock, last = heading
     order = [*drawing.crates()[0]]
     rows.sort(key=lambda it: order.index(it[0]) if it[0] in order else len(order))
-    proofs, edits = (sum(row[column] for row in rows) for column in (1, 2))
+    of_gate = [row for row in rows if row[0] != SCRIPTS]
+    proofs, edits = (sum(row[column] for row in of_gate) for column in (1, 2))
+    rows = [*of_gate, ("together", proofs, edits), *(row for row in rows if row[0] == SCRIPTS)]
     cells = [[name, f"{proof:,}", f"{edit:,}" if edit else ""] for name, proof, edit in rows]
-    text = measured.block(HEAD, [*cells, ["together", f"{proofs:,}", f"{edits:,}"]])
+    text = measured.block(HEAD, cells)
     text = measured.paragraph(f"{state}; {machine}; {last}:") + "\n" + text
-    took, chain = longest_chain({name: proof for name, proof, _ in rows})
+    took, chain = longest_chain({name: proof for name, proof, _ in of_gate})
     names = ", ".join(f"`{it}`" for it in chain)
     told = f"The longest chain of crates takes {took / 60:.0f} minutes by itself: {names}."
     text += "\n" + measured.paragraph(told)

@@ -8,7 +8,7 @@
   sources, and each file or definition is where it is said to be.
 - In all documents: each link leads somewhere, each file named by its path is there, no line passes
   100 columns but in tables, and nothing is named that a reader does not have. README.md has at most
-  150 lines, all have at most 24,000 words, and README.md and docs/PROOF.md have one headline.
+  200 lines, and README.md and docs/PROOF.md have one headline.
 - What `--version` prints is the newest heading of CHANGELOG.md.
 - No line of crates.txt names a crate of this repository that its crate does not use.
 
@@ -23,16 +23,17 @@ import drawing
 
 TOP = pathlib.Path(__file__).resolve().parent.parent
 DOCUMENTS = [TOP / "README.md", TOP / "CONTRIBUTING.md", TOP / "CHANGELOG.md"]
-DOCUMENTS += sorted((TOP / "docs").glob("*.md"))
-COLUMNS, README_LINES, WORDS = 100, 150, 24_000
+DOCUMENTS += [*sorted((TOP / "docs").glob("*.md")), TOP / "examples" / "README.md"]
+COLUMNS, README_LINES = 100, 200
 NAME = re.compile(r"`([^`]+)`")
 FILE = r"`(\w+/(?:specs|src)/[\w/.{},]+)`"
 
 
 def words():
     """All words of the sources, and the names of their files and crates."""
-    paths = [path for kind in ("rt", "antt", "row") for path in (TOP / "crates").rglob(f"*.{kind}")]
-    paths += [TOP / "HANDLES", TOP / "crates.txt", *(TOP / "tests").rglob("*.py")]
+    paths = [path for kind in ("rt", "antt") for path in (TOP / "crates").rglob(f"*.{kind}")]
+    paths += [path for kind in ("py", "row") for path in (TOP / "tests").rglob(f"*.{kind}")]
+    paths += [TOP / "HANDLES", TOP / "crates.txt"]
     found = {word for path in paths for word in re.findall(r"\w+", path.read_text())}
     return found | {path.stem for path in paths} | {it.name for it in (TOP / "crates").iterdir()}
 
@@ -111,9 +112,6 @@ def wrong_sizes():
     lines = (TOP / "README.md").read_text().count("\n")
     if lines > README_LINES:
         yield f"README.md has {lines} lines"
-    many = sum(len(document.read_text().split()) for document in DOCUMENTS)
-    if many > WORDS:
-        yield f"the documents have {many} words"
     if not headline("README.md") or headline("README.md") != headline("docs/PROOF.md"):
         yield "README.md and docs/PROOF.md have different headlines"
 

@@ -14,8 +14,7 @@ import sys
 TOP = pathlib.Path(__file__).resolve().parent.parent
 PICTURE = TOP / "docs" / "crates.svg"
 LAYERS_PICTURE = TOP / "docs" / "layers.svg"
-TESTS = {"signal_core_tests", "office_row_files", "office_trial_files", "office_row_tables"}
-TESTS |= {"office_trials", "office_file_trials", "office_rows"}
+TESTS = {"signal_core_tests", "office_trials"}
 MOST = 4  # crates side by side
 LETTER, EDGE, HEIGHT, STEP = 7.3, 9, 26, 58  # of a name, beside it, of a box, of a layer, in pixels
 APART, NEAR, MARGIN = 22, 12, 10  # between boxes, beside a line, around all
@@ -114,7 +113,7 @@ def layers(arrows):
     """The layer of each crate, counted from below: as high as those above it let it stand, and few
     to a layer. A test that nothing stands on stands right above what it tests."""
     above = {name: [it for it in arrows if name in arrows[it]] for name in arrows}
-    alone = [it for it in arrows if it in TESTS and not above[it] and it != "office_rows"]
+    alone = [it for it in arrows if it in TESTS and not above[it]]
     length, rows, left = chain(arrows), [], [it for it in arrows if it not in alone]
     while left:
         ready = [it for it in left if not any(x in left for x in above[it])]

@@ -140,9 +140,12 @@ same "what a migration makes of an empty file" \
   "$(find "$folder" -name 'empty.db*' -size -1c | wc -l)" 1
 same "what a migration makes beside it" "$(find "$folder" -name 'empty.db*' | wc -l)" 1
 faulty "a folder" overdue --db "$folder" 2027-03-02
-same "the fault over a folder" "$(cat "$folder/errors")" "fault: store"
+same "the fault over a folder" "$(cat "$folder/errors")" "note: $folder is a folder
+fault: store"
 { echo "this is no database"; head -c 8192 /dev/zero; } >"$folder/text.db"
 faulty "a file of another kind" sheet --db "$folder/text.db" 12
-same "the fault over a file of another kind" "$(cat "$folder/errors")" "fault: store"
+same "the fault over a file of another kind" "$(cat "$folder/errors")" \
+  "note: $folder/text.db is no database
+fault: store"
 
 echo ok

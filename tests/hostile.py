@@ -47,6 +47,7 @@ ON_FILES = (
     ["page", "12"],
 )
 MAKERS = ("batch", "add")  # they make the file where there is none
+STORE = b"fault: store\n"
 failed = []
 
 
@@ -67,6 +68,11 @@ def case(name, found, wanted):
         failed.append(name)
 
 
+def without_notes(err):
+    """What was said on standard error, without notes."""
+    return b"".join(it for it in err.splitlines(True) if not it.startswith(b"note: "))
+
+
 def held(path):
     if not os.path.isfile(path):
         return None
@@ -74,14 +80,16 @@ def held(path):
         return file.read()
 
 
-def refused(name, path, line=b"fault: store\n", migrate=None, making=None, **how):
-    """The commands on a file refuse it with the same line, `migrate` and those that make a file
-    perhaps with another, and leave it as it was."""
+def refused(name, path, line=STORE, note="", migrate=None, making=None, **how):
+    """The commands on a file, which do not wait for it, refuse it with the same line, `migrate` and
+    those that make a file perhaps with another, and leave it as it was. Where the store refuses it
+    there is a note before."""
     before = held(path)
     for words in ON_FILES:
-        status, out, err = run([words[0], "--db", path, *words[1:]], ADD, **how)
-        other = {"migrate": migrate, **dict.fromkeys(MAKERS, making)}.get(words[0])
-        case(f"{name}, {words[0]}", (status, out, err), (1, b"", other or line))
+        came = run([words[0], "--db", path, "--wait", "0", *words[1:]], ADD, **how)
+        told = {"migrate": migrate, **dict.fromkeys(MAKERS, making)}.get(words[0]) or line
+        wanted = f"note: {note}\n".encode() + told if told == STORE else told
+        case(f"{name}, {words[0]}", came, (1, b"", wanted))
     case(f"{name}, the file", held(path), before)
 
 
@@ -133,26 +141,29 @@ def stored(path):
 
 
 def other_files(folder):
-    refused("a directory", folder)
+    refused("a directory", folder, note=f"{folder} is a folder")
+    away = os.path.join(folder, "none", "office.db")
     refused(
-        "a file in a folder that is not there", os.path.join(folder, "none", "office.db"),
-        b"fault: file\n", migrate=b"fault: version\n", making=b"fault: store\n",
+        "a file in a folder that is not there", away, b"fault: file\n",
+        f"the system refuses {away}: No such file or directory (os error 2)",
+        migrate=b"fault: version\n", making=STORE,
     )
     makes_none("a file that is not there", os.path.join(folder, "typo.db"))
     text = os.path.join(folder, "text.db")
     with open(text, "wb") as file:
         file.write(b"phase,2,1,8,20,40,40,15\n" * 400)
-    refused("a text", text)
+    refused("a text", text, note=f"{text} is no database")
     noise = os.path.join(folder, "noise.db")
     with open(noise, "wb") as file:
         file.write(random.Random(1).randbytes(8192))
-    refused("random bytes as a file", noise)
+    refused("random bytes as a file", noise, note=f"{noise} is no database")
     others = os.path.join(folder, "others.db")
     with sqlite3.connect(others) as db:
         db.execute("CREATE TABLE t (a)")
         db.execute("INSERT INTO t VALUES (1)")
     db.close()
-    refused("another's database", others, migrate=b"fault: version\n")
+    note = f"{others} is a database in which no office can be opened"
+    refused("another's database", others, note=note, migrate=b"fault: version\n")
     empty = os.path.join(folder, "empty.db")
     open(empty, "wb").close()
     makes_none("an empty file", empty)
@@ -186,7 +197,7 @@ def another_process(folder):
     first = subprocess.Popen([PROGRAM, "batch", "--db", path], **how)
     first.stdin.write(STATE)
     first.stdout.read(1)
-    refused("a file that another process holds", path)
+    refused("a file that another process holds", path, note=f"another run has {path} open")
     out, _ = first.communicate(STATE, timeout=30)
     case("the process that holds it", (first.returncode, out.count(b'"id":12')), (0, 2))
 
@@ -199,7 +210,8 @@ def without_leave(folder):
     for it, mode in ((folder, 0o755), (path, 0o444), *((it, 0o755) for it in copies.values())):
         os.chmod(it, mode)
     other = {"user": 65534, "group": 65534, "extra_groups": []}
-    refused("a file without leave to write", path, copies=copies, **other)
+    note = f"the system refuses {path}: Permission denied (os error 13)"
+    refused("a file without leave to write", path, note=note, copies=copies, **other)
 
 
 def additions(count):
@@ -223,7 +235,7 @@ def refused_for_room(name, path, left, **how):
     told = statuses(out)
     done = told.index(503) if 503 in told else len(told)
     case(f"{name}, the answers", told, [200] * done + [503] * (3999 - done))
-    ended = (0 < done < 3999, status in (0, 1), err in (b"", b"fault: store\n"))
+    ended = (0 < done < 3999, status in (0, 1), err in (b"", STORE))
     case(f"{name}, the end", ended, (True, True, True))
     asked = b"".join(b"GET /intersections/%d HTTP/1.1\r\n\r\n" % n for n in range(1, done + 3))
     status, out, err = run(["batch", "--db", left()], asked)
@@ -322,14 +334,14 @@ def little_memory(folder):
         ["page", "--db", path, "12"],
         ["page", "--file", long],
     ):
-        told, done, other, refusals = 0, 0, [], (b"fault: memory\n", b"fault: store\n")
+        told, done, other, refusals = 0, 0, [], (b"fault: memory\n", STORE)
         for limit in range(1 << 20, 40 << 20, 1 << 17):
             try:
                 status, out, err = run(words, STATE, preexec_fn=lambda: keep_to(limit))
             except OSError:
                 continue
-            said = [it for it in err.splitlines(True) if not it.startswith(b"note: ")]
-            if status == 1 and said and b"".join(said) in refusals[: 1 + ("--db" in words)]:
+            said = without_notes(err)
+            if status == 1 and said in refusals[: 1 + ("--db" in words)]:
                 told += 1
             elif status in (0, 3, 4) and not said:
                 done += 1
@@ -345,7 +357,7 @@ def little_memory_to_migrate(folder):
     told to be."""
     old = old_office(folder, "old_memory.db", 500)
     path = os.path.join(folder, "copy_memory.db")
-    told, done, other, refusals = 0, 0, [], (b"fault: memory\n", b"fault: store\n")
+    told, done, other, refusals = 0, 0, [], (b"fault: memory\n", STORE)
     for limit in range(1 << 20, 40 << 20, 1 << 18):
         shutil.copyfile(old, path)
         try:
@@ -355,7 +367,7 @@ def little_memory_to_migrate(folder):
             continue
         if (status, out) == (0, b"migrated 500 rows\n") and stored(path) == TODAY:
             done += 1
-        elif status == 1 and err in refusals and stored(path) in (OLD, TODAY):
+        elif status == 1 and without_notes(err) in refusals and stored(path) in (OLD, TODAY):
             told += 1
         elif told or done:
             other.append((limit, status, out[:40], err))

@@ -93,6 +93,11 @@ class Wrong(Exception):
     """What came is not what may come."""
 
 
+def without_notes(lines):
+    """What was said on standard error, without notes."""
+    return [it for it in lines if not it.startswith("note: ")]
+
+
 def parts(text):
     """The method, the target and the body of a request of a row."""
     method, _, rest = text.partition(" ")
@@ -184,7 +189,7 @@ def stream(runs, texts, has_file):
             return None
         if lines == ["refused"] and not status and came:
             return "all as before" if UNAVAILABLE in came else "done all the same"
-        if lines[:1] == ["refused"] and lines[1:] in FAULTS and status == 1:
+        if lines[:1] == ["refused"] and without_notes(lines[1:]) in FAULTS and status == 1:
             return "told at the end" if came else "no memory to begin"
         raise Wrong(f"status {status}, told {lines}")
 
@@ -210,7 +215,7 @@ def command(runs, model, again, words):
             return None
         if (status, came, lines[1:]) == wanted:
             return "done all the same"
-        if lines[1:] not in FAULTS or status != 1 or came:
+        if without_notes(lines[1:]) not in FAULTS or status != 1 or came:
             raise Wrong(f"status {status}, printed {came!r}, told {lines}")
         next_time = runs.run(words)
         if next_time != wanted and again not in (next_time[1].decode().strip(), *next_time[2]):

@@ -102,6 +102,12 @@ def settled(came, wanted, steps):
     raise Off(f"wanted {wanted}\n  came {ended}")
 
 
+def without_notes(came):
+    """What came of a run, without the notes that it said."""
+    told = [it for it in came.told.split("\n") if not it.startswith("note: ")]
+    return dataclasses.replace(came, told="\n".join(told))
+
+
 def may_end_so(came):
     """Whether a run over requests may end so: in order, with a refusal of the disk, or killed."""
     told = ("", STORE) if came.refused else ("",)
@@ -122,11 +128,11 @@ class Stream:
         return f"{'serve' if self.is_served else 'batch'} of {counts} requests"
 
     def come(self, program, path, trouble):
-        """What came of it."""
+        """What came of it. Notes on the file, which tests/in_use.py tries, are left out."""
         sent = [b"".join(ask.sent for ask in asks) for asks in self.connections]
         if self.is_served:
-            return program.serve(["serve", "--db", path], trouble, sent)
-        return program.run(["batch", "--db", path], trouble, b"".join(sent))
+            return without_notes(program.serve(["serve", "--db", path], trouble, sent))
+        return without_notes(program.run(["batch", "--db", path], trouble, b"".join(sent)))
 
     def after(self, held, came, is_missing):
         """What it may leave where it found this."""
@@ -153,10 +159,8 @@ class Command:
         return " ".join([self.name, *self.words])
 
     def come(self, program, path, trouble):
-        """What came of it. Notes on a plan, which tests/plans.py tries, are left out."""
-        came = program.run([self.name, "--db", path, *self.words], trouble)
-        told = [it for it in came.told.split("\n") if not it.startswith("note: ")]
-        return dataclasses.replace(came, told="\n".join(told))
+        """What came of it. Notes, which tests/plans.py and tests/in_use.py try, are left out."""
+        return without_notes(program.run([self.name, "--db", path, *self.words], trouble))
 
     def steps(self, office):
         """What it should end with, and the offices after each of its steps."""

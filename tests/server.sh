@@ -1,10 +1,11 @@
 #!/usr/bin/env bash
 # Starts the program as a server on the loopback network over a file, sends requests over one
 # connection that is kept open, then a whole transaction and the cabinet register over seventeen
-# more, and compares the answers. Then come clients that send nothing, half a head, or read nothing
-# of a large answer, each of which the server ends after 30 seconds, and clients that close in the
-# middle; after each the next one is answered. It waits for the server's end, and prints the timing
-# sheet from the file. Needs curl and Python 3, and takes some two minutes. Prints ok.
+# more, and compares the answers. Then come clients that send half a head, or read nothing of a large
+# answer, each of which the server ends after 30 seconds, and clients that send nothing, or close in
+# the middle, behind which nobody waits; after each the next one is answered. It waits for the
+# server's end, and prints the timing sheet from the file. Needs curl and Python 3, and takes some
+# one and a half minutes. Prints ok.
 #
 #     tests/server.sh [PROGRAM [PORT]]      by default the program that ./office built, and a free
 #                                           port
@@ -157,7 +158,7 @@ after() {
   client=
 }
 
-after is-silent 25 40
+after is-silent 0 5
 after half-a-head 25 40
 after reads-nothing 20 45
 after closes 0 5

@@ -13,7 +13,6 @@ import drawing
 import measured
 
 TOP = pathlib.Path(__file__).resolve().parent.parent
-TESTS = drawing.TESTS - {"office_rows"}
 KINDS = ["code", "tests", "specs", "proofs", "gate edits", "other edits"]
 
 
@@ -25,7 +24,7 @@ def row(name):
     crate = TOP / "crates" / name
     code = lines(crate / "src", ".rt")
     edits = [len([*(crate / part).glob("*.edit")]) for part in ("must-fail", "wrong-bodies")]
-    split = [0, code] if name in TESTS else [code, 0]
+    split = [0, code] if name in drawing.TESTS else [code, 0]
     return [*split, lines(crate / "specs", ".antt"), lines(crate / "proofs", ".antt"), *edits]
 
 

@@ -1,4 +1,4 @@
-"""Row files: requests with the answers that must come, as crates/office_rows plays them."""
+"""Row files: requests with the answers that must come, as tests/rows.py plays them."""
 import itertools
 import pathlib
 import shlex
@@ -8,7 +8,7 @@ from .office import Office
 from .refusal import Refused
 from .wire import answer, read_each
 
-DATA = pathlib.Path(__file__).resolve().parents[2] / "crates" / "office_rows" / "data"
+DATA = pathlib.Path(__file__).resolve().parents[1] / "rows"
 PLAIN = (">", "<", "#", "served", "opens", "")
 
 

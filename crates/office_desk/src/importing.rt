@@ -113,12 +113,11 @@ pub(crate) fn decide_import<S: Shelf>(
             Taken::Refused(refusal) => {
                 let at = index + 1;
                 let cause = refusal.number();
-                return Ok(Decided::refused(alloc, Refusal::ImportRow { at, cause }));
+                let reply = Reply::Refused(Refusal::ImportRow { at, cause });
+                return Ok(Decided::all_or_none(alloc, reply, pending.into_changes()));
             }
         }
     }
-    Ok(Decided {
-        reply: Reply::Imported { added, same },
-        changes: pending.into_changes(),
-    })
+    let reply = Reply::Imported { added, same };
+    Ok(Decided::all_or_none(alloc, reply, pending.into_changes()))
 }

@@ -13,13 +13,14 @@ use draft_core::refusal::DraftRefusal;
 use draft_core::state::{DbState, Holder, Stage, Verdict};
 use draft_core::timing::{Reach, Timing};
 use draft_core::verdict;
+use office_desk_decisions::committed::committed_set;
 use office_desk_decisions::decided::Decided;
 use office_machine::command::Command;
 use office_machine::refusal::Refusal;
 use office_machine::reply::{IntersectionState, OpenDraft, Reply, RunningTiming, Violations};
 use office_tables_shelf::rows::IntersectionRow;
 use office_tables_shelf::shelf::{Shelf, ShelfFault};
-use signal_records::{InterId, NoMemory, TimingSet};
+use signal_records::{InterId, NoMemory};
 use signal_rules::violations;
 use std::alloc::Global;
 
@@ -118,12 +119,11 @@ pub fn decide_timing<S: Shelf>(
     let Some(row) = intersection_row(shelf, alloc, id)? else {
         return Ok(Decided::refused(alloc, Refusal::UnknownIntersection));
     };
-    let rows = shelf.timing_rows(alloc, id)?;
-    let set = TimingSet::of_rows(alloc, rows)?;
+    let rows = committed_set(shelf, alloc, id)?;
     let timing = RunningTiming {
         name: row.name,
         revision: row.revision,
-        rows: set,
+        rows,
     };
     Ok(Decided::unchanged(alloc, Reply::Timing(timing)))
 }

@@ -1,14 +1,29 @@
-//! Trials of an office beside the worked rows: over any tables, requests with the answers that must
-//! come, what an office shows, and calls below the wire; over maps, ends that wait or never stop,
-//! connections, and a shelf that refuses.
+//! Trials of an office by calls: what no row of the program shows. Commands as one list, the drawn
+//! commands and whole streams over maps and over a database in memory; a shelf that refuses each of
+//! its calls; ends of a stream that fail, wait or never stop, and connections; files that stop at
+//! each of their calls; runs over the same files; how many rows a step writes; and the public calls
+//! that the program does not make.
 #![tactic(auto)]
 
-pub mod below;
-pub mod calls;
-mod fronts;
+#[cfg(test)]
+mod asking;
+#[cfg(test)]
+mod ends;
+#[cfg(test)]
+mod files;
+#[cfg(test)]
+mod lists;
+#[cfg(test)]
+mod lives;
+#[cfg(test)]
+mod packed_first;
+#[cfg(test)]
+mod packed_second;
+#[cfg(test)]
 mod refusing;
-pub mod running;
-pub mod script;
-pub mod state;
-pub mod talking;
-mod waits;
+#[cfg(test)]
+mod rows;
+#[cfg(test)]
+mod stops;
+#[cfg(test)]
+mod streams;

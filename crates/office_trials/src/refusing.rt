@@ -2,12 +2,10 @@
 
 ghost use Rattle.std.specs.Prelude.{◌≡◌, OnErr};
 
-use crate::script::{Line, commands};
-use crate::state::{is_unchanged, state_of};
-use crate::talking::is_done;
+use crate::asking::{Bench, Step, play, same, shown, states};
+use crate::rows::{LIST, rows, steps};
 use cabinet_core::{Day, Delivery, Hand, Inspection, Order, PartCode, UsedLine};
 use office_desk::office::Office;
-use office_row_files::trouble::{Trouble, holds};
 use office_tables_maps::map_shelf::MapShelf;
 use office_tables_shelf::rows::{IntersectionRow, RowChange, Table};
 use office_tables_shelf::shelf::{Shelf, ShelfFault};
@@ -15,6 +13,10 @@ use signal_records::{Change, InterId, LineNo, RecordNo, Row};
 use std::alloc::Global;
 use std::cell::Cell;
 use std::collections::BTreeMap;
+use std::process::Abort;
+
+/// What a call of a shelf gives.
+type Found<T> = Result<T, ShelfFault>;
 
 /// How many calls come before one that is refused, if one is.
 type Left = Cell<Option<u32>>;
@@ -55,74 +57,57 @@ impl Shelf for Refusing<'_> {
 
     ghost written = { λ s. s.inner.counts };
 
-    fn intersection(
-        &mut self,
-        alloc: Global,
-        id: InterId,
-    ) -> Result<Option<IntersectionRow>, ShelfFault> {
+    fn intersection(&mut self, alloc: Global, id: InterId) -> Found<Option<IntersectionRow>> {
         pass(self.left)?;
         self.inner.intersection(alloc, id)
     }
 
-    fn intersections(
-        &mut self,
-        alloc: Global,
-    ) -> Result<Vec<(InterId, IntersectionRow)>, ShelfFault> {
+    fn intersections(&mut self, alloc: Global) -> Found<Vec<(InterId, IntersectionRow)>> {
         pass(self.left)?;
         self.inner.intersections(alloc)
     }
 
-    fn timing_rows(&mut self, alloc: Global, id: InterId) -> Result<Vec<Row>, ShelfFault> {
+    fn timing_rows(&mut self, alloc: Global, id: InterId) -> Found<Vec<Row>> {
         pass(self.left)?;
         self.inner.timing_rows(alloc, id)
     }
 
-    fn committed_count(&mut self, alloc: Global, id: InterId) -> Result<usize, ShelfFault> {
+    fn committed_count(&mut self, alloc: Global, id: InterId) -> Found<usize> {
         pass(self.left)?;
         self.inner.committed_count(alloc, id)
     }
 
-    fn draft_rows(&mut self, alloc: Global, id: InterId) -> Result<Vec<Change>, ShelfFault> {
+    fn draft_rows(&mut self, alloc: Global, id: InterId) -> Found<Vec<Change>> {
         pass(self.left)?;
         self.inner.draft_rows(alloc, id)
     }
 
-    fn inspection(
-        &mut self,
-        alloc: Global,
-        id: InterId,
-        number: RecordNo,
-    ) -> Result<Option<Inspection>, ShelfFault> {
+    fn inspection(&mut self, alloc: Global, id: InterId, n: RecordNo) -> Found<Option<Inspection>> {
         pass(self.left)?;
-        self.inner.inspection(alloc, id, number)
+        self.inner.inspection(alloc, id, n)
     }
 
-    fn inspections(&mut self, alloc: Global, id: InterId) -> Result<Vec<Inspection>, ShelfFault> {
+    fn inspections(&mut self, alloc: Global, id: InterId) -> Found<Vec<Inspection>> {
         pass(self.left)?;
         self.inner.inspections(alloc, id)
     }
 
-    fn last_inspections(&mut self, alloc: Global) -> Result<BTreeMap<InterId, Day>, ShelfFault> {
+    fn last_inspections(&mut self, alloc: Global) -> Found<BTreeMap<InterId, Day>> {
         pass(self.left)?;
         self.inner.last_inspections(alloc)
     }
 
-    fn order(
-        &mut self,
-        alloc: Global,
-        id: InterId,
-        number: RecordNo,
-    ) -> Result<Option<Order>, ShelfFault> {
+    fn order(&mut self, alloc: Global, id: InterId, n: RecordNo) -> Found<Option<Order>> {
         pass(self.left)?;
-        self.inner.order(alloc, id, number)
+        self.inner.order(alloc, id, n)
     }
 
-    fn orders(&mut self, alloc: Global, id: InterId) -> Result<Vec<Order>, ShelfFault> {
+    fn orders(&mut self, alloc: Global, id: InterId) -> Found<Vec<Order>> {
         pass(self.left)?;
         self.inner.orders(alloc, id)
     }
 
-    fn open_orders(&mut self, alloc: Global) -> Result<BTreeMap<InterId, Vec<Order>>, ShelfFault> {
+    fn open_orders(&mut self, alloc: Global) -> Found<BTreeMap<InterId, Vec<Order>>> {
         pass(self.left)?;
         self.inner.open_orders(alloc)
     }
@@ -133,37 +118,32 @@ impl Shelf for Refusing<'_> {
         id: InterId,
         order: RecordNo,
         line: LineNo,
-    ) -> Result<Option<UsedLine>, ShelfFault> {
+    ) -> Found<Option<UsedLine>> {
         pass(self.left)?;
         self.inner.used_line(alloc, id, order, line)
     }
 
-    fn used_lines(&mut self, alloc: Global, id: InterId) -> Result<Vec<UsedLine>, ShelfFault> {
+    fn used_lines(&mut self, alloc: Global, id: InterId) -> Found<Vec<UsedLine>> {
         pass(self.left)?;
         self.inner.used_lines(alloc, id)
     }
 
-    fn delivery(
-        &mut self,
-        alloc: Global,
-        part: &PartCode,
-        number: RecordNo,
-    ) -> Result<Option<Delivery>, ShelfFault> {
+    fn delivery(&mut self, alloc: Global, part: &PartCode, n: RecordNo) -> Found<Option<Delivery>> {
         pass(self.left)?;
-        self.inner.delivery(alloc, part, number)
+        self.inner.delivery(alloc, part, n)
     }
 
-    fn hand(&mut self, alloc: Global, part: &PartCode) -> Result<Option<Hand>, ShelfFault> {
+    fn hand(&mut self, alloc: Global, part: &PartCode) -> Found<Option<Hand>> {
         pass(self.left)?;
         self.inner.hand(alloc, part)
     }
 
-    fn parts(&mut self, alloc: Global) -> Result<Vec<(PartCode, Hand)>, ShelfFault> {
+    fn parts(&mut self, alloc: Global) -> Found<Vec<(PartCode, Hand)>> {
         pass(self.left)?;
         self.inner.parts(alloc)
     }
 
-    fn apply(&mut self, alloc: Global, changes: &[RowChange]) -> Result<(), ShelfFault> {
+    fn apply(&mut self, alloc: Global, changes: &[RowChange]) -> Found<()> {
         pass(self.left)?;
         self.inner.apply(alloc, changes)
     }
@@ -175,65 +155,49 @@ impl Shelf for Refusing<'_> {
     ghost honest_is_clean = { λ _ honest. honest };
 }
 
-/// Runs what a line asks with one of its calls refused, if it has so many. Where one was, the
-/// answer is that it is unavailable, and otherwise the one that the line tells. Tells whether one
-/// was.
-fn refuse<S: Shelf>(
-    alloc: Global,
-    office: &mut Office<S>,
-    left: &Left,
-    line: &Line,
-    call: u32,
-) -> Result<bool, Trouble> {
-    left.set(Some(call));
-    let is_answered = is_done(alloc, office, line)?;
-    let is_refused = left.get().is_none();
+/// Makes steps by a new office over a shelf that refuses one of its calls. The step of the call
+/// is answered as unavailable, and leaves all as it was before; it and the others are done after
+/// that. Tells whether there is such a call.
+fn is_refused(rt: &Bench<impl Abort>, steps: &[Step<'_>], states: &[Vec<u8>], left: &Left) -> bool {
+    let inner = MapShelf::new(rt.1);
+    let mut office = Office::new(Refusing { inner, left });
+    let done = play(rt, &mut office, steps);
+    let rest = steps.get(done..).unwrap_or(&[]);
+    assert!(rt;
+        left.get().is_none() != rest.is_empty(),
+        "a refusal for a refused call"
+    );
     left.set(None);
-    holds(is_refused != is_answered, "a refusal for each refused call")?;
-    Ok(is_refused)
+    let before = states.get(done).expect(rt, "a state");
+    same(
+        rt,
+        "tables after a refusal",
+        before,
+        &shown(rt, &mut office),
+    );
+    assert!(rt;
+        play(rt, &mut office, rest) == rest.len(),
+        "the steps after a refusal"
+    );
+    !rest.is_empty()
 }
 
-/// Refuses each call of a line in turn, and at last none: then it is done. A line that is refused
-/// leaves all as it was. Tells how many calls were refused.
-fn refuse_each<S: Shelf + Drop>(
-    alloc: Global,
-    start: Office<S>,
-    left: &Left,
-    line: &Line,
-) -> Result<(u32, Office<S>), Trouble> {
-    let (before, mut office) = state_of(alloc, start)?;
+/// Each call in turn is refused, until there is none left.
+#[test]
+fn each_call_of_a_shelf_is_refused(host: HostRuntime) {
+    let rt = (&host, host.alloc());
+    let rows = rows(&rt);
+    let steps = steps(&rt, rows.as_str(), LIST);
+    let states = states(&rt, &steps);
+    let mut refused = 0u32;
     for call in 0..1_000 {
-        if !refuse(alloc, &mut office, left, line, call)? {
-            return Ok((call, office));
+        if !is_refused(&rt, &steps, &states, &Cell::new(Some(call))) {
+            break;
         }
-        office = is_unchanged(alloc, office, &before)?;
+        refused = refused.saturating_add(1);
     }
-    Err(Trouble::Unprepared("a command without so many calls"))
-}
-
-/// Refuses each call of each command in turn, of which each has some. Tells how many were refused.
-fn refuse_all<S: Shelf + Drop>(
-    alloc: Global,
-    start: Office<S>,
-    left: &Left,
-) -> Result<u32, Trouble> {
-    let mut office = start;
-    let mut refused: u32 = 0;
-    for line in commands() {
-        let (calls, next) = refuse_each(alloc, office, left, line)?;
-        holds(calls > 0, "a command with a call of the shelf")?;
-        refused = refused.saturating_add(calls);
-        office = next;
-    }
-    Ok(refused)
-}
-
-/// Refuses each call of each command over a new office.
-pub(crate) fn refuse_everywhere(alloc: Global) -> Result<u32, Trouble> {
-    let left = Cell::new(None);
-    let shelf = Refusing {
-        inner: MapShelf::new(alloc),
-        left: &left,
-    };
-    refuse_all(alloc, Office::new(shelf), &left)
+    assert!(rt;
+        refused > 39 && refused < 1_000,
+        "{refused} calls were refused"
+    );
 }

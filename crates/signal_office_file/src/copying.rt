@@ -8,10 +8,10 @@ ghost use Rattle.signal_office_file.specs.Files.{AreUsable, HoldAlone};
 ghost use Rattle.signal_office_file.specs.InFile.{files_view, view_at};
 
 use crate::closing::close_office;
-use crate::in_file::Begin;
 use crate::left::FileLeft;
 use crate::opening::open_file;
 use crate::paths::files_at;
+use crate::waiting::Begin;
 use office_http::Sink;
 use signal_office_backup::{CopyFault, copy_all};
 use signal_office_faults::Fault;
@@ -76,12 +76,13 @@ pub(crate) fn copied_at<S: Begin, W: Sink>(
     rt: &HostRuntime,
     alloc: Global,
     path: &str,
+    wait: u32,
     out: &mut W,
 ) -> Ended<Result<(), Fault>, FileLeft<FileFrom<S>>>
     ensures { EndsOver (view_at ⟦<FileFrom<S> as Disk>⟧ (image_at S.Start))
         (copy_work HoldAlone (W.told out.old) (W.told out.new)) result }
 {
-    match files_at(rt, path, S::begin()) {
+    match files_at::<S>(rt, path, wait) {
         Ok((files, options)) => copied_in(alloc, files, options, out),
         Err(fault) => Ended::Unopened(fault),
     }

@@ -15,9 +15,11 @@ use crate::closing::close_office;
 use crate::copying::copied_at;
 use crate::left::FileLeft;
 use crate::migrating::migrate_file;
+use crate::notes::note_content;
 use crate::opening::open_file;
 use crate::paths::files_at;
 use crate::serving::serve_file;
+use crate::waiting::Begin;
 use office_http::{ServeFault, Served, Sink, Source};
 use office_tables::Migrated;
 use signal_office_faults::Fault;
@@ -122,22 +124,12 @@ fn migrated_in<D: Disk + Drop>(
     }
 }
 
-/// What a file held as it was opened, of which a value can be had.
-pub trait Begin: Start {
-    fn begin() -> Self;
-}
-
-impl Begin for Wary {
-    fn begin() -> Wary {
-        Wary
-    }
-}
-
 /// Does a task over the tables of a file.
 fn done_at<S: Begin, Done: Drop, T: OfficeTask<Done>, W: Sink>(
     rt: &HostRuntime,
     alloc: Global,
     path: &str,
+    wait: u32,
     task: &T,
     out: &mut W,
 ) -> Ended<Result<Done, Fault>, FileLeft<FileFrom<S>>>
@@ -147,7 +139,7 @@ fn done_at<S: Begin, Done: Drop, T: OfficeTask<Done>, W: Sink>(
     ensures said { IsBegun (out.new ≡ out.old)
         (T.says task.now (W.told out.old) (W.told out.new)) result }
 {
-    match files_at(rt, path, S::begin()) {
+    match files_at::<S>(rt, path, wait) {
         Ok((files, options)) => done_in(rt, alloc, files, options, task, out),
         Err(fault) => Ended::Unopened(fault),
     }
@@ -158,6 +150,7 @@ fn answered_at<S: Begin, R: Source, W: Sink>(
     rt: &HostRuntime,
     alloc: Global,
     path: &str,
+    wait: u32,
     source: &mut R,
     out: &mut W,
     max_requests: u32,
@@ -167,7 +160,7 @@ fn answered_at<S: Begin, R: Source, W: Sink>(
         (ends_of (R.told source.new) (W.told out.new))
         ((source.new ≡ source.old) × (out.new ≡ out.old))) result }
 {
-    match files_at(rt, path, S::begin()) {
+    match files_at::<S>(rt, path, wait) {
         Ok((files, options)) => answered_in(alloc, files, options, source, out, max_requests),
         Err(fault) => Ended::Unopened(fault),
     }
@@ -178,11 +171,12 @@ fn migrated_at<S: Begin>(
     rt: &HostRuntime,
     alloc: Global,
     path: &str,
+    wait: u32,
 ) -> Ended<Result<u128, Fault>, FileLeft<FileFrom<S>>>
     ensures { IsCounted IsCleanFile (λ left rows. IsMigratedAt (image_at S.Start) left rows)
         (λ left why. IsRefusedAt (image_at S.Start) left why) result }
 {
-    match files_at(rt, path, S::begin()) {
+    match files_at::<S>(rt, path, wait) {
         Ok((files, options)) => migrated_in(alloc, files, options),
         Err(fault) => Ended::Unopened(fault),
     }
@@ -194,10 +188,18 @@ pub struct SystemFile {
     left: FileLeft<FileFrom<Wary>>,
 }
 
-/// What is left of the file, as that of the system.
-fn of_system<T>(ended: Ended<T, FileLeft<FileFrom<Wary>>>) -> Ended<T, SystemFile>
+/// What is left of the file, as that of the system. A file that the store refused is noted: no
+/// write to it follows, so its lock may go with the reading.
+fn of_system<T>(
+    rt: &HostRuntime,
+    path: &str,
+    ended: Ended<T, FileLeft<FileFrom<Wary>>>,
+) -> Ended<T, SystemFile>
     ensures { result ≡ map_left (λ left. record { left = left }) ended }
 {
+    if matches!(ended, Ended::Refused(Fault::Store, _)) {
+        note_content(rt, path);
+    }
     match ended {
         Ended::Unopened(fault) => Ended::Unopened(fault),
         Ended::Refused(fault, left) => Ended::Refused(fault, SystemFile { left }),
@@ -234,37 +236,46 @@ impl OfficeInFile for TablesInFile {
         rt: &HostRuntime,
         alloc: Global,
         path: &str,
+        wait: u32,
         task: &T,
         out: &mut W,
     ) -> Ended<Result<Done, Fault>, SystemFile> {
-        of_system(done_at::<Wary, Done, T, W>(rt, alloc, path, task, out))
+        of_system(
+            rt,
+            path,
+            done_at::<Wary, Done, T, W>(rt, alloc, path, wait, task, out),
+        )
     }
 
     fn answer<R: Source, W: Sink>(
         rt: &HostRuntime,
         alloc: Global,
         path: &str,
+        wait: u32,
         source: &mut R,
         out: &mut W,
         max_requests: u32,
     ) -> Ended<Result<Served, ServeFault>, SystemFile> {
-        of_system(answered_at::<Wary, R, W>(rt, alloc, path, source, out, max_requests))
+        let ended = answered_at::<Wary, R, W>(rt, alloc, path, wait, source, out, max_requests);
+        of_system(rt, path, ended)
     }
 
     fn migrate(
         rt: &HostRuntime,
         alloc: Global,
         path: &str,
+        wait: u32,
     ) -> Ended<Result<u128, Fault>, SystemFile> {
-        of_system(migrated_at::<Wary>(rt, alloc, path))
+        of_system(rt, path, migrated_at::<Wary>(rt, alloc, path, wait))
     }
 
     fn copy<W: Sink>(
         rt: &HostRuntime,
         alloc: Global,
         path: &str,
+        wait: u32,
         out: &mut W,
     ) -> Ended<Result<(), Fault>, SystemFile> {
-        of_system(copied_at::<Wary, W>(rt, alloc, path, out))
+        of_system(rt, path, copied_at::<Wary, W>(rt, alloc, path, wait, out))
     }
 }

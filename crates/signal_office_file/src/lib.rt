@@ -8,10 +8,12 @@ mod fault;
 mod in_file;
 mod left;
 mod migrating;
+mod notes;
 mod opening;
 mod paths;
 mod serving;
 mod streaming;
+mod waiting;
 
 pub use closing::close_office;
 pub use copying::copied_in;
@@ -21,3 +23,4 @@ pub use migrating::migrate_file;
 pub use opening::{FileOffice, open_file};
 pub use paths::files_at;
 pub use serving::{ServedOffice, serve_file};
+pub use waiting::Begin;

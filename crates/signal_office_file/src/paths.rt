@@ -4,6 +4,8 @@ ghost use Rattle.std.specs.Prelude.{◌≡◌, ◌⊎◌, IfOk, IfErr};
 ghost use Rattle.sqlite.specs.WalFiles.{image_at};
 ghost use Rattle.signal_office_file.specs.Files.{AreNew, AreUsable};
 
+use crate::notes::{note_name, note_refusal};
+use crate::waiting::{Begin, open_in_turns, turns_in};
 use signal_office_faults::Fault;
 use sqlite::{FileFrom, Options, Start};
 use sqlite_disk::{Disk, Files};
@@ -11,22 +13,36 @@ use sqlite_std_file::OpenError;
 use std::hash::{BuildHasher, RandomState};
 use std::io::ErrorKind;
 
-/// The two files at a path, which are made where they are missing. `S` stands for what they held:
-/// no clause ties that to the path.
-fn pair_at<S: Start>(rt: &HostRuntime, path: &str, start: S) -> Result<Files<FileFrom<S>>, Fault>
+/// The fault that is told of files that were not opened.
+fn fault_of_refusal(error: &OpenError) -> Fault
+    ensures { (result ≡ Fault.Store) ⊎ (result ≡ Fault.Memory) }
+{
+    match error {
+        OpenError::OutOfMemory => Fault::Memory,
+        OpenError::Io(error) if error.kind() == ErrorKind::OutOfMemory => Fault::Memory,
+        _ => Fault::Store,
+    }
+}
+
+/// The two files at a path, which are made where they are missing. Where another run has them open,
+/// they are tried again for so many seconds. `S` stands for what they held: no clause ties that to
+/// the path.
+fn pair_at<S: Begin>(rt: &HostRuntime, path: &str, wait: u32) -> Result<Files<FileFrom<S>>, Fault>
     ensures new { IfOk result (λ files.
         AreNew ⟦<FileFrom<S> as Disk>⟧ files (image_at S.Start)) }
     ensures usable { IfOk result (AreUsable ⟦<FileFrom<S> as Disk>⟧) }
     ensures fault { IfErr result (λ fault. (fault ≡ Fault.Store) ⊎ (fault ≡ Fault.Memory)) }
 {
     if path == ":memory:" || path.starts_with("file:") {
+        note_name(rt, path);
         return Err(Fault::Store);
     }
-    match sqlite_std_file::open(rt, path, start) {
+    match open_in_turns(rt, path, turns_in(wait)) {
         Ok(files) => Ok(files),
-        Err(OpenError::OutOfMemory) => Err(Fault::Memory),
-        Err(OpenError::Io(error)) if error.kind() == ErrorKind::OutOfMemory => Err(Fault::Memory),
-        Err(_) => Err(Fault::Store),
+        Err((error, _left)) => {
+            note_refusal(rt, path, &error, wait > 0);
+            Err(fault_of_refusal(&error))
+        }
     }
 }
 
@@ -40,11 +56,12 @@ fn options(rt: &HostRuntime) -> Result<Options, Fault>
     }
 }
 
-/// The two files at a path, and how their database is kept.
-pub fn files_at<S: Start>(
+/// The two files at a path, and how their database is kept. Where another run has them open, they
+/// are tried again for `wait` seconds.
+pub fn files_at<S: Begin>(
     rt: &HostRuntime,
     path: &str,
-    start: S,
+    wait: u32,
 ) -> Result<(Files<FileFrom<S>>, Options), Fault>
     // Nothing has happened to the files since they were opened.
     ensures new { IfOk result (λ found.
@@ -52,7 +69,7 @@ pub fn files_at<S: Start>(
     ensures usable { IfOk result (λ found. AreUsable ⟦<FileFrom<S> as Disk>⟧ found.0) }
     ensures fault { IfErr result (λ fault. (fault ≡ Fault.Store) ⊎ (fault ≡ Fault.Memory)) }
 {
-    let files = pair_at(rt, path, start)?;
+    let files = pair_at(rt, path, wait)?;
     let options = options(rt)?;
     Ok((files, options))
 }

@@ -19,7 +19,7 @@ ghost use Rattle.signal_office_file.specs.Serving.{ServesFiles};
 
 use crate::left::Refused;
 use crate::opening::{FileOffice, open_file};
-use crate::streaming::serve_by;
+use crate::streaming::serve_over;
 use office_http::{ServeFault, Served, Sink, Source};
 use sqlite::Options;
 use sqlite_disk::{Disk, Files};
@@ -73,11 +73,7 @@ pub fn serve_file<D: Disk + Drop, R: Source, W: Sink>(
         ≤ (R.told reader.old).counts.calls + longest_request * (max_requests + 1) + 1 }
 {
     match open_file(alloc, files, options) {
-        Ok(office) => {
-            let (office, outcome) = serve_by(alloc, office, reader, writer, max_requests);
-            office.shelf().known();
-            Ok((office, outcome))
-        }
+        Ok(office) => Ok(serve_over(alloc, office, reader, writer, max_requests)),
         Err(refused) => Err(refused),
     }
 }

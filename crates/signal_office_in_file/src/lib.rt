@@ -74,7 +74,8 @@ pub trait OfficeTask<Done> {
         ensures said { says self.now (W.told out.old) (W.told out.new) };
 }
 
-/// How the office of a file is opened, used and closed again. The jobs know no database.
+/// How the office of a file is opened, used and closed again. The jobs know no database. Where
+/// another run has the file open, each call tries again to open it for `wait` seconds.
 pub trait OfficeInFile {
     ghost use Rattle.std.specs.Prelude.{◌≡◌, ℕ, List};
     ghost use Rattle.office_http_framing.specs.Serve.{ends_of};
@@ -112,6 +113,7 @@ pub trait OfficeInFile {
         rt: &HostRuntime,
         alloc: Global,
         path: &str,
+        wait: u32,
         task: &T,
         out: &mut W,
     ) -> Ended<Result<Done, Fault>, Self::Left>
@@ -126,6 +128,7 @@ pub trait OfficeInFile {
         rt: &HostRuntime,
         alloc: Global,
         path: &str,
+        wait: u32,
         source: &mut R,
         out: &mut W,
         max_requests: u32,
@@ -140,6 +143,7 @@ pub trait OfficeInFile {
         rt: &HostRuntime,
         alloc: Global,
         path: &str,
+        wait: u32,
     ) -> Ended<Result<u128, Fault>, Self::Left>
         ensures { IsCounted is_clean migrated refused result };
 
@@ -148,6 +152,7 @@ pub trait OfficeInFile {
         rt: &HostRuntime,
         alloc: Global,
         path: &str,
+        wait: u32,
         out: &mut W,
     ) -> Ended<Result<(), Fault>, Self::Left>
         ensures { EndsOver (file_view held is_clean keeps refused leaves)

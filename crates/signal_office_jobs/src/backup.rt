@@ -9,6 +9,7 @@ use office_http::{Sink, ToWrite};
 use signal_office_commands::Fault;
 use signal_office_faults::is_missing;
 use signal_office_in_file::OfficeInFile;
+use signal_office_line::OfficeFile;
 use signal_office_tasks::{copied, joined, print_done};
 use std::alloc::{AllocError, Global};
 use std::fs::{File, OpenOptions};
@@ -107,17 +108,17 @@ fn put(
 fn copied_to<F: OfficeInFile>(
     rt: &HostRuntime,
     alloc: Global,
-    db: &str,
+    db: &OfficeFile<&str>,
     to: &str,
 ) -> Result<(), Fault>
     ensures { CopiesTo (file_view F.held F.is_clean F.keeps F.refused F.leaves) F.alone result }
 {
     let part = format!(in alloc; "{to}.part")?;
-    let Ok(file) = made_like(rt, db, part.as_str()) else {
+    let Ok(file) = made_like(rt, db.path, part.as_str()) else {
         return Err(Fault::Write);
     };
     let mut sink = ToWrite::new(file);
-    let ended = F::copy(rt, alloc, db, &mut sink);
+    let ended = F::copy(rt, alloc, db.path, db.wait, &mut sink);
     put(rt, &sink.writer, joined(ended.told()), part.as_str(), to)
 }
 
@@ -126,7 +127,7 @@ fn copied_to<F: OfficeInFile>(
 pub(crate) fn backup<F: OfficeInFile, W: Sink>(
     rt: &HostRuntime,
     alloc: Global,
-    db: &str,
+    db: &OfficeFile<&str>,
     to: &str,
     force: bool,
     out: &mut W,
@@ -134,7 +135,7 @@ pub(crate) fn backup<F: OfficeInFile, W: Sink>(
     ensures { BacksUpFile (file_view F.held F.is_clean F.keeps F.refused F.leaves) F.alone force
         (W.told out.old) (W.told out.new) result }
 {
-    if is_missing(rt, alloc, db)? {
+    if is_missing(rt, alloc, db.path)? {
         return Err(Fault::File);
     }
     match room_at(rt, alloc, to, force) {

@@ -23,7 +23,7 @@ use signal_office_checks::check_days;
 use signal_office_commands::{EditMode, Fault};
 use signal_office_faults::is_missing;
 use signal_office_in_file::OfficeInFile;
-use signal_office_line::{CsvFile, Edit, Shown};
+use signal_office_line::{CsvFile, Edit, OfficeFile, Shown};
 use signal_office_reading::{read_csv, read_plan};
 use signal_office_tasks::{Done, FolderKind, Task, joined, migrated, print_done};
 use signal_records::{InterId, Interval, Words};
@@ -70,17 +70,17 @@ fn any_day_of(word: &Option<&str>) -> Result<Option<Day>, Fault>
 pub(crate) fn in_file<F: OfficeInFile, W: Sink>(
     rt: &HostRuntime,
     alloc: Global,
-    path: &str,
+    db: &OfficeFile<&str>,
     task: &Task<'_>,
     out: &mut W,
 ) -> Result<u8, Fault>
     ensures { InFile (file_view F.held F.is_clean F.keeps F.refused F.leaves) (makes_file task.now)
         (effect_of task.now) (W.told out.old) (W.told out.new) result }
 {
-    if !task.makes_file() && is_missing(rt, alloc, path)? {
+    if !task.makes_file() && is_missing(rt, alloc, db.path)? {
         return Err(Fault::File);
     }
-    let ended = F::do_task::<Done, Task<'_>, W>(rt, alloc, path, task, out);
+    let ended = F::do_task::<Done, Task<'_>, W>(rt, alloc, db.path, db.wait, task, out);
     print_done(joined(ended.told()), out)
 }
 
@@ -88,14 +88,14 @@ pub(crate) fn in_file<F: OfficeInFile, W: Sink>(
 pub(crate) fn show_of<F: OfficeInFile, W: Sink>(
     rt: &HostRuntime,
     alloc: Global,
-    path: &str,
+    db: &OfficeFile<&str>,
     shown: Shown,
     out: &mut W,
 ) -> Result<u8, Fault>
     ensures { Shows (file_view F.held F.is_clean F.keeps F.refused F.leaves) shown (W.told out.old)
         (W.told out.new) result }
 {
-    in_file::<F, W>(rt, alloc, path, &Task::Show(shown), out)
+    in_file::<F, W>(rt, alloc, db, &Task::Show(shown), out)
 }
 
 /// How many intersections are listed at most.
@@ -110,7 +110,7 @@ fn most_of(first: Option<u32>) -> usize
 pub(crate) fn overdue<F: OfficeInFile, W: Sink>(
     rt: &HostRuntime,
     alloc: Global,
-    path: &str,
+    db: &OfficeFile<&str>,
     first: Option<u32>,
     csv: bool,
     word: &str,
@@ -123,7 +123,7 @@ pub(crate) fn overdue<F: OfficeInFile, W: Sink>(
 {
     let day = day_of(word)?;
     let most = most_of(first);
-    show_of::<F, W>(rt, alloc, path, Shown::Overdue { day, most, csv }, out)
+    show_of::<F, W>(rt, alloc, db, Shown::Overdue { day, most, csv }, out)
 }
 
 /// The part that a word is the code of, if it is one.
@@ -150,7 +150,7 @@ fn any_part(alloc: Global, word: &Option<&str>) -> Result<Option<PartCode>, Faul
 pub(crate) fn used<F: OfficeInFile, W: Sink>(
     rt: &HostRuntime,
     alloc: Global,
-    db: &str,
+    db: &OfficeFile<&str>,
     word: &Option<&str>,
     csv: bool,
     out: &mut W,
@@ -168,7 +168,7 @@ pub(crate) fn used<F: OfficeInFile, W: Sink>(
 pub(crate) fn add<F: OfficeInFile, W: Sink>(
     rt: &HostRuntime,
     alloc: Global,
-    db: &str,
+    db: &OfficeFile<&str>,
     id: InterId,
     interval: Interval,
     name: &str,
@@ -188,16 +188,16 @@ pub(crate) fn add<F: OfficeInFile, W: Sink>(
 pub(crate) fn migrate<F: OfficeInFile, W: Sink>(
     rt: &HostRuntime,
     alloc: Global,
-    path: &str,
+    db: &OfficeFile<&str>,
     out: &mut W,
 ) -> Result<u8, Fault>
     ensures { MigratesFile (file_view F.held F.is_clean F.keeps F.refused F.leaves) F.migrated
         (W.told out.old) (W.told out.new) result }
 {
-    if is_missing(rt, alloc, path)? {
+    if is_missing(rt, alloc, db.path)? {
         return Err(Fault::Version);
     }
-    let ended = F::migrate(rt, alloc, path);
+    let ended = F::migrate(rt, alloc, db.path, db.wait);
     print_done(migrated(alloc, joined(ended.told())), out)
 }
 
@@ -205,7 +205,7 @@ pub(crate) fn migrate<F: OfficeInFile, W: Sink>(
 pub(crate) fn fill_records<F: OfficeInFile, W: Sink>(
     rt: &HostRuntime,
     alloc: Global,
-    db: &str,
+    db: &OfficeFile<&str>,
     dir: &str,
     out: &mut W,
 ) -> Result<u8, Fault>
@@ -226,7 +226,7 @@ pub(crate) fn fill_records<F: OfficeInFile, W: Sink>(
 pub(crate) fn fill_pages<F: OfficeInFile, W: Sink>(
     rt: &HostRuntime,
     alloc: Global,
-    db: &str,
+    db: &OfficeFile<&str>,
     day: &Option<&str>,
     dir: &str,
     out: &mut W,
@@ -249,7 +249,7 @@ pub(crate) fn fill_pages<F: OfficeInFile, W: Sink>(
 fn try_or_import<F: OfficeInFile, W: Sink>(
     rt: &HostRuntime,
     alloc: Global,
-    db: &str,
+    db: &OfficeFile<&str>,
     csv: &[u8],
     lines: &[usize],
     check: bool,
@@ -271,7 +271,7 @@ fn try_or_import<F: OfficeInFile, W: Sink>(
 fn import_text<F: OfficeInFile, W: Sink>(
     rt: &HostRuntime,
     alloc: Global,
-    db: &str,
+    db: &OfficeFile<&str>,
     csv: &[u8],
     lines: &[usize],
     until: Option<Day>,
@@ -290,7 +290,7 @@ fn import_text<F: OfficeInFile, W: Sink>(
 fn import_until<F: OfficeInFile, R: Source, W: Sink>(
     rt: &HostRuntime,
     alloc: Global,
-    db: &str,
+    db: &OfficeFile<&str>,
     csv: &CsvFile<&str>,
     until: Option<Day>,
     check: bool,
@@ -312,7 +312,7 @@ fn import_until<F: OfficeInFile, R: Source, W: Sink>(
 pub(crate) fn import<F: OfficeInFile, R: Source, W: Sink>(
     rt: &HostRuntime,
     alloc: Global,
-    db: &str,
+    db: &OfficeFile<&str>,
     csv: &CsvFile<&str>,
     until: &Option<&str>,
     check: bool,
@@ -334,7 +334,7 @@ pub(crate) fn import<F: OfficeInFile, R: Source, W: Sink>(
 pub(crate) fn compare_running<F: OfficeInFile, W: Sink>(
     rt: &HostRuntime,
     alloc: Global,
-    db: &str,
+    db: &OfficeFile<&str>,
     id: InterId,
     plan: &[u8],
     csv: bool,
@@ -381,7 +381,7 @@ fn edit_with<F: OfficeInFile, W: Sink>(
         mode,
         explain,
     };
-    in_file::<F, W>(rt, alloc, edit.db, &task, out)
+    in_file::<F, W>(rt, alloc, &edit.db, &task, out)
 }
 
 /// Changes a plan by a CSV file, for a clerk whose name is known; without a file nothing but the
@@ -436,7 +436,7 @@ pub(crate) fn edit_plan<F: OfficeInFile, R: Source, W: Sink, E: Sink>(
 pub(crate) fn abandon<F: OfficeInFile, W: Sink>(
     rt: &HostRuntime,
     alloc: Global,
-    db: &str,
+    db: &OfficeFile<&str>,
     clerk: &str,
     id: InterId,
     out: &mut W,

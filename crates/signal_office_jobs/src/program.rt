@@ -2,7 +2,7 @@
 
 ghost use Rattle.std.specs.Prelude.{◌≡◌, map, option_map};
 ghost use Rattle.office_http_framing.specs.Serve.{ends_of};
-ghost use Rattle.signal_office_line.specs.Job.{asked};
+ghost use Rattle.signal_office_line.specs.Job.{asked, db_asked};
 ghost use Rattle.signal_office_in_file.specs.Ended.{file_view};
 ghost use Rattle.signal_office_jobs.specs.Printed.{Batches, JobDoes, Printed, ServesNew};
 ghost use Rattle.signal_office_jobs.specs.Printed.{office_files, status_over, stream_status};
@@ -20,7 +20,7 @@ use crate::plans::{compare_plans, show_plan};
 use office_http::{ServeFault, Served, Sink, Source, write_all};
 use signal_office_commands::{Fault, report};
 use signal_office_in_file::OfficeInFile;
-use signal_office_line::{Job, JobFault, job_of};
+use signal_office_line::{Job, JobFault, OfficeFile, job_of};
 use signal_office_reading::read_plan;
 use signal_office_tasks::{Task, print_done};
 use std::alloc::Global;
@@ -55,7 +55,7 @@ fn status_over(outcome: Result<Result<Served, ServeFault>, Fault>) -> Result<u8,
 fn batch<F: OfficeInFile, R: Source, W: Sink>(
     rt: &HostRuntime,
     alloc: Global,
-    db: &Option<&str>,
+    db: &Option<OfficeFile<&str>>,
     source: &mut R,
     out: &mut W,
 ) -> Result<u8, Fault>
@@ -65,7 +65,10 @@ fn batch<F: OfficeInFile, R: Source, W: Sink>(
 {
     match db {
         None => stream_status(serve_new_office(alloc, source, out, BATCH_LIMIT)),
-        Some(path) => { status_over(F::answer(rt, alloc, path, source, out, BATCH_LIMIT).told()) }
+        Some(db) => {
+            let ended = F::answer(rt, alloc, db.path, db.wait, source, out, BATCH_LIMIT);
+            status_over(ended.told())
+        }
     }
 }
 
@@ -91,16 +94,16 @@ fn serve<F: OfficeInFile, W: Sink>(
     alloc: Global,
     port: u16,
     count: u32,
-    db: &Option<&str>,
+    db: &Option<OfficeFile<&str>>,
     out: &mut W,
 ) -> Result<u8, Fault>
     ensures { Printed (office_files F.held F.is_clean F.keeps F.refused F.leaves F.migrated F.alone)
-        (Job.Serve port count (option_map (λ path. path.now) db.now)) (W.told out.old)
+        (Job.Serve port count (option_map db_asked db.now)) (W.told out.old)
         (W.told out.new) result }
 {
     match db {
         None => serve_in_memory(rt, alloc, port, count, out),
-        Some(path) => in_file::<F, W>(rt, alloc, path, &Task::Serve { port, count }, out),
+        Some(db) => in_file::<F, W>(rt, alloc, db, &Task::Serve { port, count }, out),
     }
 }
 

@@ -37,27 +37,27 @@ held : (b : Bool) (n : ℕ) → b ≡ true → Some n ≡ (if b then Some n else
 held b n e = rw e refl
 
 -- what the test of a number says
-in_range : (most : ℕ) (ds : Text)
-    → (are_digits ds && (nat_le 1 (digits_value 10 ds) && nat_le (digits_value 10 ds) most)) ≡ true
-    → IsNumeral 10 ds × (1 ≤ digits_value 10 ds) × (digits_value 10 ds ≤ most)
-in_range most ds e =
+in_range : (least most : ℕ) (ds : Text)
+    → (are_digits ds && (nat_le least (digits_value 10 ds) && nat_le (digits_value 10 ds) most)) ≡ true
+    → IsNumeral 10 ds × (least ≤ digits_value 10 ds) × (digits_value 10 ds ≤ most)
+in_range least most ds e =
     let parts = both (are_digits ds) _ e in
-    let range = both (nat_le 1 (digits_value 10 ds)) _ parts.1 in (
+    let range = both (nat_le least (digits_value 10 ds)) _ parts.1 in (
       numeral ds parts.0,
-      leb-true 1 (digits_value 10 ds) range.0,
+      leb-true least (digits_value 10 ds) range.0,
       leb-true (digits_value 10 ds) most
           range.1,
     )
 
 -- where no number was read, the word spells none
-pub unread : {E : Type 0} (r : Result ℕ E) (most : ℕ) (ds : Text) → most < 2 ^ 32
+pub unread : {E : Type 0} (r : Result ℕ E) (least most : ℕ) (ds : Text) → most < 2 ^ 32
     → OkIff r (IsNumeral 10 ds × (digits_value 10 ds < 2 ^ 32)) (digits_value 10 ds)
     → None ≡ result_ok r
-    → None ≡ number_of most ds
-unread (Ok x) most ds fits h none = cc
-unread (Err e) most ds fits h none =
+    → None ≡ number_of least most ds
+unread (Ok x) least most ds fits h none = cc
+unread (Err e) least most ds fits h none =
     refuted _ _ (λ yes.
-    let inside = in_range most ds yes in
+    let inside = in_range least most ds yes in
     let high = inside.2 in
     h (inside.0, omega (arith, high, fits)))
 
@@ -69,21 +69,13 @@ pub read : {E : Type 0} (r : Result ℕ E) (ds : Text) (n : ℕ)
 read (Ok x) ds n h e = (h.0.0, let same : x ≡ n = cc in sym h.1 ∙ same)
 read (Err x) ds n h e = cc
 
--- a number outside the range is none, and one inside is that number
-pub outside : (most n : ℕ) (ds : Text) → digits_value 10 ds ≡ n → (1 ≤ n → n ≤ most → ⊥)
-    → None ≡ number_of most ds
-outside most n ds e out =
-    refuted _ _ (λ yes.
-    let inside = in_range most ds yes in
-    let low = inside.1 in
-    let high = inside.2 in
-    out (omega (arith, e, low)) (omega (arith, e, high)))
-
-pub inside : (most n : ℕ) (ds : Text) → IsNumeral 10 ds × (digits_value 10 ds ≡ n) → 1 ≤ n
+-- a number inside the range is that number
+pub inside : (least most n : ℕ) (ds : Text) → IsNumeral 10 ds × (digits_value 10 ds ≡ n)
+    → least ≤ n
     → n ≤ most
-    → Some n ≡ number_of most ds
-inside most n ds (h, e) low high =
-    let l : 1 ≤ digits_value 10 ds = omega (arith, e, low) in
+    → Some n ≡ number_of least most ds
+inside least most n ds (h, e) low high =
+    let l : least ≤ digits_value 10 ds = omega (arith, e, low) in
     let m : digits_value 10 ds ≤ most = omega (arith, e, high) in
-    let range = both_true (le-leb 1 (digits_value 10 ds) l) (le-leb (digits_value 10 ds) most m) in
+    let range = both_true (le-leb least (digits_value 10 ds) l) (le-leb (digits_value 10 ds) most m) in
     ap Some (sym e) ∙ held _ _ (both_true (are_digits_of ds h) range)

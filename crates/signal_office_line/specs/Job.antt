@@ -12,6 +12,7 @@ use Rattle.clap.specs.Walk.{Row, Text, first_of}
 use Rattle.signal_office_line.specs.declared.job.CsvFile.{CsvFile}
 use Rattle.signal_office_line.specs.declared.job.Job.{Job}
 use Rattle.signal_office_line.specs.declared.job.Job.TheVariants as job
+use Rattle.signal_office_line.specs.declared.job.OfficeFile.{OfficeFile}
 use Rattle.signal_office_line.specs.declared.shows.PlanShown.TheVariants as plan
 use Rattle.signal_office_line.specs.declared.shows.Shown.{Shown}
 use Rattle.signal_office_line.specs.declared.shows.Shown.TheVariants as shown
@@ -25,20 +26,23 @@ Asked = Job Text
 abbrev pub file_asked : CsvFile (Bor Text) → CsvFile Text
 file_asked file = record { path = file.path.now; padded = file.padded }
 
+abbrev pub db_asked : OfficeFile (Bor Text) → OfficeFile Text
+db_asked db = record { path = db.path.now; wait = db.wait }
+
 abbrev pub asked : Job (Bor Text) → Asked
-asked (job.Batch db) = job.Batch (option_map (λ (s : Bor Text). s.now) db)
-asked (job.Serve port count db) = job.Serve port count (option_map (λ (s : Bor Text). s.now) db)
-asked (job.Show db it) = job.Show db.now it
-asked (job.ExportAll db dir) = job.ExportAll db.now dir.now
-asked (job.Pages db day dir) = job.Pages db.now (option_map (λ (s : Bor Text). s.now) day) dir.now
-asked (job.Overdue db first csv day) = job.Overdue db.now first csv day.now
-asked (job.Used db part csv) = job.Used db.now (option_map (λ (s : Bor Text). s.now) part) csv
-asked (job.Add db id interval name) = job.Add db.now id interval name.now
-asked (job.Migrate db) = job.Migrate db.now
-asked (job.Backup db to force) = job.Backup db.now to.now force
-asked (job.Import db csv until check) = job.Import db.now (file_asked csv) (option_map (λ (s : Bor Text). s.now) until) check
+asked (job.Batch db) = job.Batch (option_map db_asked db)
+asked (job.Serve port count db) = job.Serve port count (option_map db_asked db)
+asked (job.Show db it) = job.Show (db_asked db) it
+asked (job.ExportAll db dir) = job.ExportAll (db_asked db) dir.now
+asked (job.Pages db day dir) = job.Pages (db_asked db) (option_map (λ (s : Bor Text). s.now) day) dir.now
+asked (job.Overdue db first csv day) = job.Overdue (db_asked db) first csv day.now
+asked (job.Used db part csv) = job.Used (db_asked db) (option_map (λ (s : Bor Text). s.now) part) csv
+asked (job.Add db id interval name) = job.Add (db_asked db) id interval name.now
+asked (job.Migrate db) = job.Migrate (db_asked db)
+asked (job.Backup db to force) = job.Backup (db_asked db) to.now force
+asked (job.Import db csv until check) = job.Import (db_asked db) (file_asked csv) (option_map (λ (s : Bor Text). s.now) until) check
 asked (job.Edit e) = job.Edit (record {
-  db = e.db.now;
+  db = db_asked e.db;
   clerk = e.clerk.now;
   id = e.id;
   csv = option_map file_asked e.csv;
@@ -46,9 +50,9 @@ asked (job.Edit e) = job.Edit (record {
   commit = e.commit;
   explain = e.explain;
 })
-asked (job.Abandon db clerk id) = job.Abandon db.now clerk.now id
-asked (job.CompareDraft db id csv) = job.CompareDraft db.now id csv
-asked (job.CompareRunning db id plan csv) = job.CompareRunning db.now id (file_asked plan) csv
+asked (job.Abandon db clerk id) = job.Abandon (db_asked db) clerk.now id
+asked (job.CompareDraft db id csv) = job.CompareDraft (db_asked db) id csv
+asked (job.CompareRunning db id plan csv) = job.CompareRunning (db_asked db) id (file_asked plan) csv
 asked (job.CompareFiles first second csv) = job.CompareFiles (file_asked first) (file_asked second) csv
 asked (job.ShowPlan csv it) = job.ShowPlan (file_asked csv) it
 
@@ -61,27 +65,33 @@ given >>= next = option_and_then next given
 abbrev pub are_digits : Text → Bool
 are_digits digits = nat_lt 0 (length digits) && list_all (λ c. nat_lt (digit_value c) 10) digits
 
--- the number that digits write, where it is one from 1 to most
-abbrev pub number_of : ℕ → Text → Option ℕ
-number_of most digits =
-    if are_digits digits && (nat_le 1 (digits_value 10 digits)
+-- the number that digits write, where it is one from least to most
+abbrev pub number_of : (least most : ℕ) → Text → Option ℕ
+number_of least most digits =
+    if are_digits digits && (nat_le least (digits_value 10 digits)
     && nat_le (digits_value 10 digits) most)
     then Some (digits_value 10 digits)
     else None
 
--- the number from 1 to most that an argument's word spells; a plus may stand first
-abbrev pub number_at : ℕ → Text → List Row → Option ℕ
-number_at most id rows = do
+-- the number from least to most that an argument's word spells; a plus may stand first
+abbrev pub number_from : (least most : ℕ) → Text → List Row → Option ℕ
+number_from least most id rows = do
   word ← first_of id rows
-  number_of most (without_leading_plus word)
+  number_of least most (without_leading_plus word)
 
--- the same of an argument that may be left out
-abbrev pub choice_of : ℕ → Option Text → Option (Option ℕ)
-choice_of most None = Some None
-choice_of most (Some word) = option_map Some (number_of most (without_leading_plus word))
+abbrev pub number_at : ℕ → Text → List Row → Option ℕ
+number_at most id rows = number_from 1 most id rows
+
+-- the number of an argument that may be left out, where its word spells one from least to most
+abbrev pub choice_of : (least most : ℕ) → Option Text → Option (Option ℕ)
+choice_of least most None = Some None
+choice_of least most (Some word) = option_map Some (number_of least most (without_leading_plus word))
+
+abbrev pub choice_from : (least most : ℕ) → Text → List Row → Option (Option ℕ)
+choice_from least most id rows = choice_of least most (first_of id rows)
 
 abbrev pub choice_at : ℕ → Text → List Row → Option (Option ℕ)
-choice_at most id rows = choice_of most (first_of id rows)
+choice_at most id rows = choice_from 1 most id rows
 
 -- whether a flag is given
 abbrev pub flag_at : Text → List Row → Bool
@@ -91,21 +101,43 @@ flag_at id rows = option_map_or (λ word. bytes_eq word (codes "true")) (first_o
 abbrev pub csv_at : Text → List Row → Option (CsvFile Text)
 csv_at id rows = option_map (λ path. record { path = path; padded = flag_at (codes "padded") rows }) (first_of id rows)
 
+-- `--db FILE [--wait SECONDS]`: the file of an office, and how long a run waits for another one
+-- that has it open: ten seconds where no number is given
+abbrev pub db_at : List Row → Option (OfficeFile Text)
+db_at rows = do
+  path ← first_of (codes "db") rows
+  wait ← choice_from 0 3_600 (codes "wait") rows
+  Some (record { path = path; wait = unwrap_or wait 10 })
+
+-- `[--db FILE [--wait SECONDS]]`: without a file there is nothing to wait for
+abbrev pub any_db_of : (db wait : Option Text) → List Row → Option (Option (OfficeFile Text))
+any_db_of None None rows = Some None
+any_db_of None (Some word) rows = None
+any_db_of (Some path) wait rows = option_map Some (db_at rows)
+
+abbrev pub any_db_at : List Row → Option (Option (OfficeFile Text))
+any_db_at rows = any_db_of (first_of (codes "db") rows) (first_of (codes "wait") rows) rows
+
+-- In the usages below `--db FILE` stands for `--db FILE [--wait SECONDS]`.
+
 -- `batch [--db FILE]`
 abbrev pub batch_at : List Row → Option Asked
-batch_at rows = Some (job.Batch (first_of (codes "db") rows))
+batch_at rows = do
+  db ← any_db_at rows
+  Some (job.Batch db)
 
 -- `serve --port N [--count K] [--db FILE]`; without a count the most connections are served
 abbrev pub serve_at : List Row → Option Asked
 serve_at rows = do
   port ← number_at 65_535 (codes "port") rows
   count ← choice_at 1_000_000 (codes "count") rows
-  Some (job.Serve port (unwrap_or count 1_000_000) (first_of (codes "db") rows))
+  db ← any_db_at rows
+  Some (job.Serve port (unwrap_or count 1_000_000) db)
 
 -- `add --db FILE ID INTERVAL NAME`
 abbrev pub add_at : List Row → Option Asked
 add_at rows = do
-  db ← first_of (codes "db") rows
+  db ← db_at rows
   id ← number_at 9_999 (codes "ID") rows
   interval ← number_at 3_650 (codes "INTERVAL") rows
   name ← first_of (codes "NAME") rows
@@ -114,7 +146,7 @@ add_at rows = do
 -- `overdue --db FILE [--first N] [--csv] DAY`
 abbrev pub overdue_at : List Row → Option Asked
 overdue_at rows = do
-  db ← first_of (codes "db") rows
+  db ← db_at rows
   first ← choice_at 9_999 (codes "first") rows
   day ← first_of (codes "DAY") rows
   Some (job.Overdue db first (flag_at (codes "csv") rows) day)
@@ -122,7 +154,7 @@ overdue_at rows = do
 -- `used --db FILE [--csv] [PART]`
 abbrev pub used_at : List Row → Option Asked
 used_at rows = do
-  db ← first_of (codes "db") rows
+  db ← db_at rows
   Some (job.Used db (first_of (codes "PART") rows) (flag_at (codes "csv") rows))
 
 -- `verify-file [--explain] [--padded] CSV`
@@ -134,20 +166,20 @@ verify_file_at rows = do
 -- `migrate --db FILE`
 abbrev pub migrate_at : List Row → Option Asked
 migrate_at rows = do
-  db ← first_of (codes "db") rows
+  db ← db_at rows
   Some (job.Migrate db)
 
 -- `backup --db FILE [--force] TO`
 abbrev pub backup_at : List Row → Option Asked
 backup_at rows = do
-  db ← first_of (codes "db") rows
+  db ← db_at rows
   to ← first_of (codes "TO") rows
   Some (job.Backup db to (flag_at (codes "force") rows))
 
 -- `import --db FILE [--check] [--until DAY] [--padded] CSV`
 abbrev pub import_at : List Row → Option Asked
 import_at rows = do
-  db ← first_of (codes "db") rows
+  db ← db_at rows
   csv ← csv_at (codes "CSV") rows
   Some (job.Import db csv (first_of (codes "until") rows) (flag_at (codes "check") rows))
 
@@ -160,7 +192,7 @@ edited_file None commit replace = if commit && not replace then Some None else N
 -- `edit --db FILE --clerk NAME --commit [--explain] ID`
 abbrev pub edit_at : List Row → Option Asked
 edit_at rows = do
-  db ← first_of (codes "db") rows
+  db ← db_at rows
   clerk ← first_of (codes "clerk") rows
   id ← number_at 9_999 (codes "ID") rows
   csv ← edited_file (csv_at (codes "CSV") rows) (flag_at (codes "commit") rows) (flag_at (codes "replace") rows)
@@ -177,13 +209,13 @@ edit_at rows = do
 -- `abandon --db FILE --clerk NAME ID`
 abbrev pub abandon_at : List Row → Option Asked
 abandon_at rows = do
-  db ← first_of (codes "db") rows
+  db ← db_at rows
   clerk ← first_of (codes "clerk") rows
   id ← number_at 9_999 (codes "ID") rows
   Some (job.Abandon db clerk id)
 
 -- `compare [--csv] [--padded] PLAN OTHER`, or `compare --db FILE [--csv] [--padded] ID [OTHER]`
-abbrev pub comparison_of : Option Text → Option (CsvFile Text) → List Row → Option Asked
+abbrev pub comparison_of : Option (OfficeFile Text) → Option (CsvFile Text) → List Row → Option Asked
 comparison_of None (Some other) rows = do
   plan ← csv_at (codes "PLAN") rows
   Some (job.CompareFiles plan other (flag_at (codes "csv") rows))
@@ -196,10 +228,12 @@ comparison_of (Some db) (Some other) rows = do
 comparison_of None None rows = None
 
 abbrev pub compare_at : List Row → Option Asked
-compare_at rows = comparison_of (first_of (codes "db") rows) (csv_at (codes "OTHER") rows) rows
+compare_at rows = do
+  db ← any_db_at rows
+  comparison_of db (csv_at (codes "OTHER") rows) rows
 
 -- `diagram --db FILE ID PATTERN`, or `diagram --file CSV [--padded] PATTERN`
-abbrev pub drawing_of : Option Text → Option (CsvFile Text) → Option Text → List Row → Option Asked
+abbrev pub drawing_of : Option (OfficeFile Text) → Option (CsvFile Text) → Option Text → List Row → Option Asked
 drawing_of (Some db) None (Some word) rows = do
   id ← number_at 9_999 (codes "ID") rows
   pattern ← number_at 48 (codes "PATTERN") rows
@@ -210,12 +244,12 @@ drawing_of None (Some file) None rows = do
 drawing_of _ _ _ rows = None
 
 abbrev pub diagram_at : List Row → Option Asked
-diagram_at rows =
-    drawing_of (first_of (codes "db") rows) (csv_at (codes "file") rows)
-    (first_of (codes "PATTERN") rows) rows
+diagram_at rows = do
+  db ← any_db_at rows
+  drawing_of db (csv_at (codes "file") rows) (first_of (codes "PATTERN") rows) rows
 
 -- `page --db FILE ID`, or `page --file CSV [--padded]`
-abbrev pub showing_of : Option Text → Option (CsvFile Text) → Option Text → List Row → Option Asked
+abbrev pub showing_of : Option (OfficeFile Text) → Option (CsvFile Text) → Option Text → List Row → Option Asked
 showing_of (Some db) None (Some word) rows = do
   id ← number_at 9_999 (codes "ID") rows
   Some (job.Show db (shown.Page id false))
@@ -223,9 +257,9 @@ showing_of None (Some file) None rows = Some (job.ShowPlan file plan.Page)
 showing_of _ _ _ rows = None
 
 abbrev pub page_at : List Row → Option Asked
-page_at rows =
-    showing_of (first_of (codes "db") rows) (csv_at (codes "file") rows)
-    (first_of (codes "ID") rows) rows
+page_at rows = do
+  db ← any_db_at rows
+  showing_of db (csv_at (codes "file") rows) (first_of (codes "ID") rows) rows
 
 -- what is exported: the committed timing set, but with `--draft` the draft, with `--cabinet` the
 -- cabinet
@@ -266,7 +300,7 @@ shown_at name rows = option_and_then (λ what. what rows) (under name shows)
 
 abbrev pub show_at : Text → List Row → Option Asked
 show_at name rows = do
-  db ← first_of (codes "db") rows
+  db ← db_at rows
   it ← shown_at name rows
   Some (job.Show db it)
 
@@ -275,7 +309,7 @@ abbrev pub folder_of : (all part : Bool) → List Row → Option Asked
 folder_of false part rows = show_at (codes "export") rows
 folder_of true true rows = None
 folder_of true false rows = do
-  db ← first_of (codes "db") rows
+  db ← db_at rows
   dir ← first_of (codes "ID") rows
   Some (job.ExportAll db dir)
 
@@ -285,7 +319,7 @@ export_job_at rows = folder_of (flag_at (codes "all") rows) (flag_at (codes "dra
 -- `pages --db FILE [--day DAY] DIR`
 abbrev pub pages_at : List Row → Option Asked
 pages_at rows = do
-  db ← first_of (codes "db") rows
+  db ← db_at rows
   dir ← first_of (codes "DIR") rows
   Some (job.Pages db (first_of (codes "day") rows) dir)
 

@@ -15,7 +15,7 @@ use Rattle.signal_office_line.specs.declared.job.Found.TheVariants as found
 use Rattle.signal_office_line.specs.declared.job.JobFault.{JobFault}
 use Rattle.signal_office_line.specs.declared.job.JobFault.TheVariants.{Refused, NoMemory}
 use Rattle.signal_office_line.specs.CommandLine.{signal_app}
-use Rattle.signal_office_line.specs.Job.{Asked, asked, job_in, number_at}
+use Rattle.signal_office_line.specs.Job.{Asked, asked, job_in, number_from}
 use Rattle.signal_office_line.specs.declared.refusals.NumberArgument.{NumberArgument}
 
 -- the kinds of refusal that `clap` answers to the words, help that they ask for among them; words
@@ -47,7 +47,7 @@ IsToldAs error fault =
 -- a word of the argument is given, and is no number of its range
 abbrev pub IsWrongNumber : NumberArgument → (word : Text) → List Row → Type 0
 IsWrongNumber argument word rows =
-    (first_of argument.id.now rows ≡ Some word) × (number_at argument.most argument.id.now rows ≡ None)
+    (first_of argument.id.now rows ≡ Some word) × (number_from argument.least argument.most argument.id.now rows ≡ None)
 
 -- the job that the command of the words states, or that it states none
 abbrev pub IsJobFound : ArgMatches → Found → Type 0

@@ -20,6 +20,13 @@ pub(crate) const FILE_OR_MEMORY: &str =
 /// What it says where none is made.
 pub(crate) const FOUND_FILE: &str = "The SQLite file of the tables; it must be there";
 
+/// `--wait SECONDS`, of each command that takes the file of an office.
+pub(crate) const WAIT: Argument<'static> = Argument(
+    "wait",
+    Form::Choice("SECONDS"),
+    "How long to wait where another run has FILE open, 0 to 3600 (default 10)",
+);
+
 /// What it says of `--explain`.
 pub(crate) const EXPLAIN: &str = "Also print, for each broken rule, the numbers that break it";
 

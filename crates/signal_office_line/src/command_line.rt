@@ -7,7 +7,7 @@ ghost use Rattle.signal_office_line.specs.CommandLine.{signal_app};
 
 use crate::arguments::{
     Argument, EXPLAIN, Ending, FILE_OR_MEMORY, FOUND_FILE, Form, ID, MADE_FILE, PADDED, Usage,
-    command_of, with_commands,
+    WAIT, command_of, with_commands,
 };
 use clap::Command;
 use std::alloc::{AllocError, Global};
@@ -22,7 +22,7 @@ const OFFICE_COMMANDS: &[Usage<'static>] = &[
         "batch",
         "Reads HTTP requests from standard input, at most 1,000,000, and writes the answers to \
          standard output",
-        &[Argument("db", Form::Choice("FILE"), FILE_OR_MEMORY)],
+        &[Argument("db", Form::Choice("FILE"), FILE_OR_MEMORY), WAIT],
         Ending::Statuses,
     ),
     Usage(
@@ -37,6 +37,7 @@ const OFFICE_COMMANDS: &[Usage<'static>] = &[
                  1000000); each may send at most 10,000 requests",
             ),
             Argument("db", Form::Choice("FILE"), FILE_OR_MEMORY),
+            WAIT,
         ],
         Ending::Statuses,
     ),
@@ -46,6 +47,7 @@ const OFFICE_COMMANDS: &[Usage<'static>] = &[
          distances in feet",
         &[
             Argument("db", Form::Needed("FILE"), FOUND_FILE),
+            WAIT,
             Argument("ID", Form::Word, ID),
         ],
         Ending::Statuses,
@@ -56,6 +58,7 @@ const OFFICE_COMMANDS: &[Usage<'static>] = &[
          before a day, and how many they are",
         &[
             Argument("db", Form::Needed("FILE"), FOUND_FILE),
+            WAIT,
             Argument(
                 "first",
                 Form::Choice("N"),
@@ -76,6 +79,7 @@ const OFFICE_COMMANDS: &[Usage<'static>] = &[
         "Adds an intersection; says whether it is new, or is there already with the same values",
         &[
             Argument("db", Form::Needed("FILE"), MADE_FILE),
+            WAIT,
             Argument("ID", Form::Word, ID),
             Argument(
                 "INTERVAL",
@@ -96,6 +100,7 @@ const OFFICE_COMMANDS: &[Usage<'static>] = &[
          owner of the draft, and how many rows are committed",
         &[
             Argument("db", Form::Needed("FILE"), FOUND_FILE),
+            WAIT,
             Argument("csv", Form::Flag, "Print as CSV, without heading or count"),
         ],
         Ending::Statuses,
@@ -105,6 +110,7 @@ const OFFICE_COMMANDS: &[Usage<'static>] = &[
         "Prints how many of each part are on hand, of all parts that were ever delivered",
         &[
             Argument("db", Form::Needed("FILE"), FOUND_FILE),
+            WAIT,
             Argument("csv", Form::Flag, "Print as CSV, without heading or count"),
         ],
         Ending::Statuses,
@@ -114,6 +120,7 @@ const OFFICE_COMMANDS: &[Usage<'static>] = &[
         "Prints the open work orders of an intersection, or of all intersections",
         &[
             Argument("db", Form::Needed("FILE"), FOUND_FILE),
+            WAIT,
             Argument("csv", Form::Flag, "Print as CSV, without heading or count"),
             Argument(
                 "ID",
@@ -129,6 +136,7 @@ const OFFICE_COMMANDS: &[Usage<'static>] = &[
          open or closed",
         &[
             Argument("db", Form::Needed("FILE"), FOUND_FILE),
+            WAIT,
             Argument("csv", Form::Flag, "Print as CSV, without heading or count"),
             Argument(
                 "PART",
@@ -144,6 +152,7 @@ const OFFICE_COMMANDS: &[Usage<'static>] = &[
          inspections, and its work orders with their used parts and closings",
         &[
             Argument("db", Form::Needed("FILE"), FOUND_FILE),
+            WAIT,
             Argument("ID", Form::Word, ID),
         ],
         Ending::Statuses,
@@ -154,6 +163,7 @@ const OFFICE_COMMANDS: &[Usage<'static>] = &[
          the stock, into a folder that a browser shows",
         &[
             Argument("db", Form::Needed("FILE"), FOUND_FILE),
+            WAIT,
             Argument(
                 "day",
                 Form::Choice("DAY"),
@@ -190,7 +200,7 @@ const PLAN_COMMANDS: &[Usage<'static>] = &[
     Usage(
         "migrate",
         "Brings a file of an older version to today's; says how many rows were rewritten",
-        &[Argument("db", Form::Needed("FILE"), FOUND_FILE)],
+        &[Argument("db", Form::Needed("FILE"), FOUND_FILE), WAIT],
         Ending::Statuses,
     ),
     Usage(
@@ -199,6 +209,7 @@ const PLAN_COMMANDS: &[Usage<'static>] = &[
          is copied into its file before",
         &[
             Argument("db", Form::Needed("FILE"), FOUND_FILE),
+            WAIT,
             Argument("force", Form::Flag, "Replace the file TO"),
             Argument(
                 "TO",
@@ -214,6 +225,7 @@ const PLAN_COMMANDS: &[Usage<'static>] = &[
          are new",
         &[
             Argument("db", Form::Needed("FILE"), FOUND_FILE),
+            WAIT,
             Argument(
                 "check",
                 Form::Flag,
@@ -240,6 +252,7 @@ const PLAN_COMMANDS: &[Usage<'static>] = &[
          cabinet; or writes the lists, all plans and all cabinets into a folder",
         &[
             Argument("db", Form::Needed("FILE"), FOUND_FILE),
+            WAIT,
             Argument("draft", Form::Flag, "Print the draft"),
             Argument("cabinet", Form::Flag, "Print the cabinet"),
             Argument(
@@ -263,6 +276,7 @@ const PLAN_COMMANDS: &[Usage<'static>] = &[
          that the draft breaks",
         &[
             Argument("db", Form::Needed("FILE"), FOUND_FILE),
+            WAIT,
             Argument(
                 "clerk",
                 Form::Needed("NAME"),
@@ -297,6 +311,7 @@ const PLAN_COMMANDS: &[Usage<'static>] = &[
         "Drops the draft of an intersection, whoever holds it",
         &[
             Argument("db", Form::Needed("FILE"), FOUND_FILE),
+            WAIT,
             Argument("clerk", Form::Needed("NAME"), "Who drops it, 1 to 40 bytes"),
             Argument("ID", Form::Word, ID),
         ],
@@ -313,6 +328,7 @@ const PLAN_COMMANDS: &[Usage<'static>] = &[
                 "The SQLite file of the tables: compares the committed plan of an intersection \
                  with its draft, or with the plan of OTHER",
             ),
+            WAIT,
             Argument(
                 "csv",
                 Form::Flag,
@@ -342,6 +358,7 @@ const PLAN_COMMANDS: &[Usage<'static>] = &[
                 "The SQLite file of the tables: draws a pattern of a committed plan, with ID and \
                  PATTERN",
             ),
+            WAIT,
             Argument(
                 "file",
                 Form::Choice("FILE"),
@@ -371,6 +388,7 @@ const PLAN_COMMANDS: &[Usage<'static>] = &[
                 Form::Choice("FILE"),
                 "The SQLite file of the tables: shows an intersection, with ID",
             ),
+            WAIT,
             Argument(
                 "file",
                 Form::Choice("FILE"),

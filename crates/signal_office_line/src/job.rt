@@ -26,13 +26,21 @@ pub struct CsvFile<T> {
     pub padded: bool,
 }
 
+/// The file of an office, and for how many seconds, 0 to 3600, a run tries again to open it where
+/// another run has it open.
+#[derive(Clone, Copy)]
+pub struct OfficeFile<T> {
+    pub path: T,
+    pub wait: u32,
+}
+
 /// An edit of an intersection's plan by a CSV file, in a transaction of a clerk. Without a file the
 /// clerk's draft is committed as it is. Where the file is the whole plan, rows that it does not
 /// have are removed. The draft is committed where that is asked, and its violations are printed
 /// with their reasons where that is.
 #[derive(Clone, Copy)]
 pub struct Edit<T> {
-    pub db: T,
+    pub db: OfficeFile<T>,
     pub clerk: T,
     pub id: InterId,
     pub csv: Option<CsvFile<T>>,
@@ -48,60 +56,60 @@ pub struct Edit<T> {
 pub enum Job<T> {
     /// Answer the requests on standard input, over a file or memory.
     Batch {
-        db: Option<T>,
+        db: Option<OfficeFile<T>>,
     },
     /// Answer so many connections on a port, 1 to 65535. The count is 1 to 1,000,000, the most
     /// where none is given.
     Serve {
         port: u16,
         count: u32,
-        db: Option<T>,
+        db: Option<OfficeFile<T>>,
     },
     /// Print what is shown of an office.
     Show {
-        db: T,
+        db: OfficeFile<T>,
         shown: Shown,
     },
     /// Write the lists, and what is kept of each intersection as CSV, into a folder.
     ExportAll {
-        db: T,
+        db: OfficeFile<T>,
         dir: T,
     },
     /// Print the intersections that are overdue on a day, at most so many, 1 to 9999, as a report
     /// or as CSV.
     Overdue {
-        db: T,
+        db: OfficeFile<T>,
         first: Option<u32>,
         csv: bool,
         day: T,
     },
     /// Print what was used of all parts, or of one, as a text or as CSV.
     Used {
-        db: T,
+        db: OfficeFile<T>,
         part: Option<T>,
         csv: bool,
     },
     /// Add an intersection.
     Add {
-        db: T,
+        db: OfficeFile<T>,
         id: InterId,
         interval: Interval,
         name: T,
     },
     /// Bring the tables of a file to today's version.
     Migrate {
-        db: T,
+        db: OfficeFile<T>,
     },
     /// Copy the office of a file into another, which is replaced where that is asked.
     Backup {
-        db: T,
+        db: OfficeFile<T>,
         to: T,
         force: bool,
     },
     /// Fill a folder with the pages of all intersections and an index, which marks those that are
     /// overdue on a day, if one is given.
     Pages {
-        db: T,
+        db: OfficeFile<T>,
         day: Option<T>,
         dir: T,
     },
@@ -109,7 +117,7 @@ pub enum Job<T> {
     /// a later day than one that is given, or where they are only tried: then those that would be
     /// refused are told.
     Import {
-        db: T,
+        db: OfficeFile<T>,
         csv: CsvFile<T>,
         until: Option<T>,
         check: bool,
@@ -118,20 +126,20 @@ pub enum Job<T> {
     Edit(Edit<T>),
     /// Drop the draft of an intersection, whoever holds it.
     Abandon {
-        db: T,
+        db: OfficeFile<T>,
         clerk: T,
         id: InterId,
     },
     /// Print what an intersection's draft changes, as a text or as CSV.
     CompareDraft {
-        db: T,
+        db: OfficeFile<T>,
         id: InterId,
         csv: bool,
     },
     /// Print what the plan in a CSV file differs in from the committed timing set of an
     /// intersection, as a text or as CSV.
     CompareRunning {
-        db: T,
+        db: OfficeFile<T>,
         id: InterId,
         plan: CsvFile<T>,
         csv: bool,

@@ -3,7 +3,8 @@
 ghost use Rattle.std.specs.Prelude.{◌≡◌, option_map};
 ghost use Rattle.clap.specs.Matches.{found_of};
 ghost use Rattle.clap.specs.Walk.{rows_of};
-ghost use Rattle.signal_office_line.specs.Job.{abandon_at, add_at, asked, backup_at, batch_at};
+ghost use Rattle.signal_office_line.specs.Job.{abandon_at, add_at, any_db_at, asked};
+ghost use Rattle.signal_office_line.specs.Job.{backup_at, batch_at, db_asked, db_at};
 ghost use Rattle.signal_office_line.specs.Job.{compare_at};
 ghost use Rattle.signal_office_line.specs.Job.{diagram_at, edit_at, import_at, job_at, migrate_at};
 ghost use Rattle.signal_office_line.specs.Job.{csv_at, edited_file, export_job_at, file_asked};
@@ -12,14 +13,20 @@ ghost use Rattle.signal_office_line.specs.Job.{serve_at, show_at};
 ghost use Rattle.signal_office_line.specs.Job.{used_at};
 ghost use Rattle.signal_office_line.specs.Job.{verify_file_at};
 
-use crate::job::{CsvFile, Edit, Job};
+use crate::job::{CsvFile, Edit, Job, OfficeFile};
 use crate::shows::{PlanShown, Shown, shown_at};
-use crate::values::{choice, flag, intersection, number, word};
+use crate::values::{choice, choice_from, flag, intersection, number, word};
 use clap::ArgMatches;
 use signal_values::{Interval, PatternNo};
 
 /// The most connections that a server serves.
 const MOST_CONNECTIONS: u32 = 1_000_000;
+
+/// The most seconds for which a run waits for another one that has the file open.
+const LONGEST_WAIT: u32 = 3_600;
+
+/// For how many it waits where no number is given.
+const USUAL_WAIT: u32 = 10;
 
 /// The number of a pattern.
 fn pattern(matches: &ArgMatches<'_>, id: &str) -> Option<PatternNo>
@@ -45,6 +52,30 @@ fn csv_file<'a>(matches: &ArgMatches<'a>, id: &str) -> Option<CsvFile<&'a str>>
     Some(CsvFile { path, padded })
 }
 
+/// `--db FILE [--wait SECONDS]`.
+fn office_file<'a>(matches: &ArgMatches<'a>) -> Option<OfficeFile<&'a str>>
+    ensures { option_map db_asked result ≡ db_at (rows_of (found_of matches.entry.now)) }
+{
+    let path = word(matches, "db")?;
+    let wait = choice_from(matches, "wait", 0, LONGEST_WAIT)?.unwrap_or(USUAL_WAIT);
+    Some(OfficeFile { path, wait })
+}
+
+/// `[--db FILE [--wait SECONDS]]`.
+fn any_office_file<'a>(matches: &ArgMatches<'a>) -> Option<Option<OfficeFile<&'a str>>>
+    ensures { option_map (λ db. option_map db_asked db) result
+        ≡ any_db_at (rows_of (found_of matches.entry.now)) }
+{
+    match (word(matches, "db"), word(matches, "wait")) {
+        (None, None) => Some(None),
+        (None, Some(_)) => None,
+        (Some(_), _) => {
+            let db = office_file(matches)?;
+            Some(Some(db))
+        }
+    }
+}
+
 /// The file of an edit, which may be left out where a draft is committed as it is.
 fn edited_file<'a>(
     csv: Option<CsvFile<&'a str>>,
@@ -65,7 +96,7 @@ fn edited_file<'a>(
 fn batch<'a>(matches: &ArgMatches<'a>) -> Option<Job<&'a str>>
     ensures { option_map asked result ≡ batch_at (rows_of (found_of matches.entry.now)) }
 {
-    let db = word(matches, "db");
+    let db = any_office_file(matches)?;
     Some(Job::Batch { db })
 }
 
@@ -75,7 +106,7 @@ fn serve<'a>(matches: &ArgMatches<'a>) -> Option<Job<&'a str>>
 {
     let port = number(matches, "port", 65_535)? as u16;
     let count = choice(matches, "count", MOST_CONNECTIONS)?.unwrap_or(MOST_CONNECTIONS);
-    let db = word(matches, "db");
+    let db = any_office_file(matches)?;
     Some(Job::Serve { port, count, db })
 }
 
@@ -83,7 +114,7 @@ fn serve<'a>(matches: &ArgMatches<'a>) -> Option<Job<&'a str>>
 fn overdue<'a>(matches: &ArgMatches<'a>) -> Option<Job<&'a str>>
     ensures { option_map asked result ≡ overdue_at (rows_of (found_of matches.entry.now)) }
 {
-    let db = word(matches, "db")?;
+    let db = office_file(matches)?;
     let first = choice(matches, "first", 9_999)?;
     let csv = flag(matches, "csv");
     let day = word(matches, "DAY")?;
@@ -99,7 +130,7 @@ fn overdue<'a>(matches: &ArgMatches<'a>) -> Option<Job<&'a str>>
 fn used<'a>(matches: &ArgMatches<'a>) -> Option<Job<&'a str>>
     ensures { option_map asked result ≡ used_at (rows_of (found_of matches.entry.now)) }
 {
-    let db = word(matches, "db")?;
+    let db = office_file(matches)?;
     let part = word(matches, "PART");
     let csv = flag(matches, "csv");
     Some(Job::Used { db, part, csv })
@@ -109,7 +140,7 @@ fn used<'a>(matches: &ArgMatches<'a>) -> Option<Job<&'a str>>
 fn add<'a>(matches: &ArgMatches<'a>) -> Option<Job<&'a str>>
     ensures { option_map asked result ≡ add_at (rows_of (found_of matches.entry.now)) }
 {
-    let db = word(matches, "db")?;
+    let db = office_file(matches)?;
     let id = intersection(matches, "ID")?;
     let interval = interval(matches, "INTERVAL")?;
     let name = word(matches, "NAME")?;
@@ -135,7 +166,7 @@ fn verify_file<'a>(matches: &ArgMatches<'a>) -> Option<Job<&'a str>>
 fn migrate<'a>(matches: &ArgMatches<'a>) -> Option<Job<&'a str>>
     ensures { option_map asked result ≡ migrate_at (rows_of (found_of matches.entry.now)) }
 {
-    let db = word(matches, "db")?;
+    let db = office_file(matches)?;
     Some(Job::Migrate { db })
 }
 
@@ -143,7 +174,7 @@ fn migrate<'a>(matches: &ArgMatches<'a>) -> Option<Job<&'a str>>
 fn backup<'a>(matches: &ArgMatches<'a>) -> Option<Job<&'a str>>
     ensures { option_map asked result ≡ backup_at (rows_of (found_of matches.entry.now)) }
 {
-    let db = word(matches, "db")?;
+    let db = office_file(matches)?;
     let to = word(matches, "TO")?;
     let force = flag(matches, "force");
     Some(Job::Backup { db, to, force })
@@ -153,7 +184,7 @@ fn backup<'a>(matches: &ArgMatches<'a>) -> Option<Job<&'a str>>
 fn import<'a>(matches: &ArgMatches<'a>) -> Option<Job<&'a str>>
     ensures { option_map asked result ≡ import_at (rows_of (found_of matches.entry.now)) }
 {
-    let db = word(matches, "db")?;
+    let db = office_file(matches)?;
     let csv = csv_file(matches, "CSV")?;
     let until = word(matches, "until");
     let check = flag(matches, "check");
@@ -170,7 +201,7 @@ fn import<'a>(matches: &ArgMatches<'a>) -> Option<Job<&'a str>>
 fn edit<'a>(matches: &ArgMatches<'a>) -> Option<Job<&'a str>>
     ensures { option_map asked result ≡ edit_at (rows_of (found_of matches.entry.now)) }
 {
-    let db = word(matches, "db")?;
+    let db = office_file(matches)?;
     let clerk = word(matches, "clerk")?;
     let id = intersection(matches, "ID")?;
     let replace = flag(matches, "replace");
@@ -192,7 +223,7 @@ fn edit<'a>(matches: &ArgMatches<'a>) -> Option<Job<&'a str>>
 fn abandon<'a>(matches: &ArgMatches<'a>) -> Option<Job<&'a str>>
     ensures { option_map asked result ≡ abandon_at (rows_of (found_of matches.entry.now)) }
 {
-    let db = word(matches, "db")?;
+    let db = office_file(matches)?;
     let clerk = word(matches, "clerk")?;
     let id = intersection(matches, "ID")?;
     Some(Job::Abandon { db, clerk, id })
@@ -202,8 +233,9 @@ fn abandon<'a>(matches: &ArgMatches<'a>) -> Option<Job<&'a str>>
 fn compare<'a>(matches: &ArgMatches<'a>) -> Option<Job<&'a str>>
     ensures { option_map asked result ≡ compare_at (rows_of (found_of matches.entry.now)) }
 {
+    let db = any_office_file(matches)?;
     let csv = flag(matches, "csv");
-    match (word(matches, "db"), csv_file(matches, "OTHER")) {
+    match (db, csv_file(matches, "OTHER")) {
         (None, Some(second)) => {
             let first = csv_file(matches, "PLAN")?;
             Some(Job::CompareFiles { first, second, csv })
@@ -224,8 +256,8 @@ fn compare<'a>(matches: &ArgMatches<'a>) -> Option<Job<&'a str>>
 fn diagram<'a>(matches: &ArgMatches<'a>) -> Option<Job<&'a str>>
     ensures { option_map asked result ≡ diagram_at (rows_of (found_of matches.entry.now)) }
 {
-    let (db, file) = (word(matches, "db"), csv_file(matches, "file"));
-    match (db, file, word(matches, "PATTERN")) {
+    let db = any_office_file(matches)?;
+    match (db, csv_file(matches, "file"), word(matches, "PATTERN")) {
         (Some(db), None, Some(_)) => {
             let id = intersection(matches, "ID")?;
             let pattern = pattern(matches, "PATTERN")?;
@@ -245,8 +277,8 @@ fn diagram<'a>(matches: &ArgMatches<'a>) -> Option<Job<&'a str>>
 fn page<'a>(matches: &ArgMatches<'a>) -> Option<Job<&'a str>>
     ensures { option_map asked result ≡ page_at (rows_of (found_of matches.entry.now)) }
 {
-    let (db, file) = (word(matches, "db"), csv_file(matches, "file"));
-    match (db, file, word(matches, "ID")) {
+    let db = any_office_file(matches)?;
+    match (db, csv_file(matches, "file"), word(matches, "ID")) {
         (Some(db), None, Some(_)) => {
             let id = intersection(matches, "ID")?;
             let shown = Shown::Page { id, linked: false };
@@ -264,7 +296,7 @@ fn page<'a>(matches: &ArgMatches<'a>) -> Option<Job<&'a str>>
 fn show<'a>(name: &str, matches: &ArgMatches<'a>) -> Option<Job<&'a str>>
     ensures { option_map asked result ≡ show_at name.now (rows_of (found_of matches.entry.now)) }
 {
-    let db = word(matches, "db")?;
+    let db = office_file(matches)?;
     let shown = shown_at(name, matches)?;
     Some(Job::Show { db, shown })
 }
@@ -279,7 +311,7 @@ fn export<'a>(matches: &ArgMatches<'a>) -> Option<Job<&'a str>>
     if flag(matches, "draft") || flag(matches, "cabinet") {
         return None;
     }
-    let db = word(matches, "db")?;
+    let db = office_file(matches)?;
     let dir = word(matches, "ID")?;
     Some(Job::ExportAll { db, dir })
 }
@@ -288,7 +320,7 @@ fn export<'a>(matches: &ArgMatches<'a>) -> Option<Job<&'a str>>
 fn pages<'a>(matches: &ArgMatches<'a>) -> Option<Job<&'a str>>
     ensures { option_map asked result ≡ pages_at (rows_of (found_of matches.entry.now)) }
 {
-    let db = word(matches, "db")?;
+    let db = office_file(matches)?;
     let dir = word(matches, "DIR")?;
     let day = word(matches, "day");
     Some(Job::Pages { db, day, dir })

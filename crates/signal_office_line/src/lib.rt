@@ -14,5 +14,5 @@ mod refusals;
 mod shows;
 mod values;
 
-pub use job::{CsvFile, Edit, Job, JobFault, job_of};
+pub use job::{CsvFile, Edit, Job, JobFault, OfficeFile, job_of};
 pub use shows::{PlanShown, Shown, View};

@@ -7,22 +7,31 @@ ghost use Rattle.clap.specs.Walk.{rows_of};
 ghost use Rattle.signal_office_line.specs.Refusals.{IsWrongNumber};
 
 use crate::command_line::{command_line, command_named};
-use crate::values::{flag, number, word};
+use crate::values::{flag, number_from, word};
 use clap::error::ErrorKind;
 use clap::{ArgMatches, Error};
 use std::alloc::{AllocError, Global};
 
-/// An argument whose word is a number from 1 to `most`, and how the help shows its name.
+/// An argument whose word is a number from `least` to `most`, and how the help shows its name.
 #[derive(Clone, Copy)]
 struct NumberArgument<'a> {
     id: &'a str,
     shown: &'a str,
+    least: u32,
     most: u32,
 }
+
+const WAITING: &[NumberArgument<'static>] = &[NumberArgument {
+    id: "wait",
+    shown: "--wait",
+    least: 0,
+    most: 3_600,
+}];
 
 const INTERSECTION: NumberArgument<'static> = NumberArgument {
     id: "ID",
     shown: "ID",
+    least: 1,
     most: 9_999,
 };
 
@@ -30,11 +39,13 @@ const SERVER: &[NumberArgument<'static>] = &[
     NumberArgument {
         id: "port",
         shown: "--port",
+        least: 1,
         most: 65_535,
     },
     NumberArgument {
         id: "count",
         shown: "--count",
+        least: 1,
         most: 1_000_000,
     },
 ];
@@ -42,6 +53,7 @@ const SERVER: &[NumberArgument<'static>] = &[
 const REPORT: &[NumberArgument<'static>] = &[NumberArgument {
     id: "first",
     shown: "--first",
+    least: 1,
     most: 9_999,
 }];
 
@@ -50,6 +62,7 @@ const NEW_INTERSECTION: &[NumberArgument<'static>] = &[
     NumberArgument {
         id: "INTERVAL",
         shown: "INTERVAL",
+        least: 1,
         most: 3_650,
     },
 ];
@@ -58,6 +71,7 @@ const NEW_INTERSECTION: &[NumberArgument<'static>] = &[
 const COMPARED: &[NumberArgument<'static>] = &[NumberArgument {
     id: "PLAN",
     shown: "ID",
+    least: 1,
     most: 9_999,
 }];
 
@@ -66,6 +80,7 @@ const DRAWN: &[NumberArgument<'static>] = &[
     NumberArgument {
         id: "PATTERN",
         shown: "PATTERN",
+        least: 1,
         most: 48,
     },
 ];
@@ -74,6 +89,7 @@ const DRAWN: &[NumberArgument<'static>] = &[
 const DRAWN_OF_FILE: &[NumberArgument<'static>] = &[NumberArgument {
     id: "ID",
     shown: "PATTERN",
+    least: 1,
     most: 48,
 }];
 
@@ -97,7 +113,9 @@ fn numbers_of(name: &str, matches: &ArgMatches<'_>) -> &'static [NumberArgument<
 
 /// What a command takes, where each of its numbers is one.
 fn forms_of(name: &str, matches: &ArgMatches<'_>) -> &'static str {
+    let waits_for_none = word(matches, "wait").is_some() && word(matches, "db").is_none();
     match name {
+        _ if waits_for_none => "--wait needs --db FILE",
         "export" if flag(matches, "all") => "export --all takes neither --draft nor --cabinet",
         "edit" => "edit needs a CSV file, or --commit without --replace",
         "export" => "export takes --draft or --cabinet, not both",
@@ -118,7 +136,7 @@ fn wrong_number<'a>(
 {
     for argument in among {
         if let Some(word) = word(matches, argument.id) {
-            if number(matches, argument.id, argument.most).is_none() {
+            if number_from(matches, argument.id, argument.least, argument.most).is_none() {
                 return Some((*argument, word));
             }
         }
@@ -126,12 +144,29 @@ fn wrong_number<'a>(
     None
 }
 
+/// The first word of a command that is no number of its range, with its argument.
+fn wrong_number_of<'a>(
+    name: &str,
+    matches: &ArgMatches<'a>,
+) -> Option<(NumberArgument<'static>, &'a str)> {
+    match wrong_number(matches, numbers_of(name, matches)) {
+        Some(found) => Some(found),
+        None => wrong_number(matches, WAITING),
+    }
+}
+
 /// Why the words of a command state no job: the word that is no number, with what it may be, or
 /// what the command takes.
 fn reason(alloc: Global, name: &str, matches: &ArgMatches<'_>) -> Result<String, AllocError> {
-    match wrong_number(matches, numbers_of(name, matches)) {
-        Some((NumberArgument { shown, most, .. }, word)) => {
-            format!(in alloc; "{shown} {word}: a number from 1 to {most}")
+    match wrong_number_of(name, matches) {
+        Some((argument, word)) => {
+            let NumberArgument {
+                shown,
+                least,
+                most,
+                ..
+            } = argument;
+            format!(in alloc; "{shown} {word}: a number from {least} to {most}")
         }
         None => String::from_str(alloc, forms_of(name, matches)),
     }

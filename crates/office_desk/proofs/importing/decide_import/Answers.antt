@@ -113,8 +113,8 @@ returns-in-Refused g c =
       decides = refused_decides _ _ all (c.loop-index.index + 1) _ _
           (λ honest office stands. refused_all _ all c.loop-index.index c.loop-index.added c.loop-index.same c.loop-index.pending c.in_ok-taken.next item c.in_ok-taken.taken
           (inv.so_far (first honest)) next (takes honest) c.in-Refused.refusal _ office c.in-Refused.is c.number-cause.ensures stands)
-          c.refused.ensures.reply c.refused.ensures.no_changes;
-      blames = blames_next _ _ all c.loop-index.index _ _ item c.in-Refused.refusal _ next.left refl c.number-cause.ensures c.refused.ensures.reply
+          c.all_or_none.ensures.reply (c.all_or_none.ensures.none tt);
+      blames = blames_next _ _ all c.loop-index.index _ _ item c.in-Refused.refusal _ next.left refl c.number-cause.ensures c.all_or_none.ensures.reply
           (subst (IsNamedTaken item) c.in-Refused.is told.named)
           (λ honest. first_refused _ all c.loop-index.index c.loop-index.added c.loop-index.same c.loop-index.pending c.in_ok-taken.next item c.in_ok-taken.taken
           (inv.so_far (first honest)) next (takes honest) c.in-Refused.refusal c.in-Refused.is);
@@ -135,8 +135,8 @@ returns g c =
     let high = subst (λ (list : List RecordCommand). length list ≤ index) c.as_slice-command-items.ensures c.loop-index-test.false in
     record {
       decides = import_decides _ _ all index c.loop-index.added c.loop-index.same c.loop-index.pending _ high inv.so_far inv.leaves
-          (λ table. writes_whole table all index _ _ high (inv.writes table)) refl c.into_changes.ensures;
-      blames = taken_blames _ _ _ _ (Imported c.loop-index.added c.loop-index.same) refl (λ why e. cc);
+          (λ table. writes_whole table all index _ _ high (inv.writes table)) c.all_or_none-2.ensures.reply (c.all_or_none-2.ensures.all (λ refused. refused) ∙ c.into_changes-2.ensures);
+      blames = taken_blames _ _ _ _ (Imported c.loop-index.added c.loop-index.same) c.all_or_none-2.ensures.reply (λ why e. cc);
       kept = inv.kept;
       «open» = record {
         clean_before = inv.clean;
@@ -148,5 +148,5 @@ returns g c =
           let start : index ≡ 0 = omega (arith, size, c.loop-index.auto.index-end, ap (λ (list : List RecordCommand). length list) c.as_slice-command-items.ensures) in
           let none_added : c.loop-index.added ≡ 0 = omega (arith, inv.counted, start) in
           let none_same : c.loop-index.same ≡ 0 = omega (arith, inv.counted, start) in
-          ((λ k. Imported (none_added k) (none_same k)), c.into_changes.ensures ∙ inv.fresh start);
+          (c.all_or_none-2.ensures.reply ∙ (λ k. Imported (none_added k) (none_same k)), c.all_or_none-2.ensures.all (λ refused. refused) ∙ c.into_changes-2.ensures ∙ inv.fresh start);
     }

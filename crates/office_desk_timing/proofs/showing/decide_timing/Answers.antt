@@ -15,20 +15,20 @@ returns-clause-decides g c =
     let row = c.in_ok-row.ensures in
     told_decides _ _ _ _ _ c.unchanged.ensures.reply (λ e. cc) (λ why e. absurd cc) c.unchanged.ensures.no_changes
     (λ honest.
-    let first = c.timing_rows.ensures.kept.honest_before honest in
-    let rows = rw (c.intersection_row.ensures.kept.same_content first) at (c.in_ok-rows.ensures.rows honest) in
-    row_after _ c.args.id _ (row.whole first) (timing_whole _ c.args.id _ rows (c.in_ok-rows.ensures.within honest)))
+    let first = c.committed_set.ensures.kept.honest_before honest in
+    let set = rw (c.intersection_row.ensures.kept.same_content first) at (c.in_ok-rows.ensures.set honest) in
+    row_after _ c.args.id _ (row.whole first) (timing_whole _ c.args.id set.rows set.lists set.within))
     (λ honest office stands.
-    let first = c.timing_rows.ensures.kept.honest_before honest in
-    let rows = rw (c.intersection_row.ensures.kept.same_content first) at (c.in_ok-rows.ensures.rows honest) in
-    timing_shows _ office c.args.id c.in-Some.row _ _ stands (rw c.in-Some.is at (row.row first)) rows
-    (c.in_ok-rows.ensures.within honest) c.in_ok-set.ensures)
+    let first = c.committed_set.ensures.kept.honest_before honest in
+    let set = rw (c.intersection_row.ensures.kept.same_content first) at (c.in_ok-rows.ensures.set honest) in
+    timing_shows _ office c.args.id c.in-Some.row set.rows _ stands (rw c.in-Some.is at (row.row first))
+    set.lists set.within set.made)
 
 pub returns-in_err-rows-clause-decides : goal.returns-in_err-rows-clause-decides
 returns-in_err-rows-clause-decides g c =
     fault_decides _ _ _ _ _ _ c.in_err-rows.was c.from_residual-in_err-rows.ensures.1 (λ damaged honest.
-    let first = c.timing_rows.ensures.kept.honest_before honest in
+    let first = c.committed_set.ensures.kept.honest_before honest in
     inr (
       row_there (g.S.Shelf.content c.args.shelf.now) c.args.id c.in-Some.row (rw c.in-Some.is at (c.in_ok-row.ensures.row first)),
-      rw (c.intersection_row.ensures.kept.same_content first) at (c.timing_rows.ensures.damaged damaged honest),
+      rw (c.intersection_row.ensures.kept.same_content first) at (c.committed_set.ensures.damaged damaged honest),
     ))

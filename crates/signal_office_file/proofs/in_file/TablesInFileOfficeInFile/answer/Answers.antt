@@ -7,4 +7,4 @@ use Rattle.signal_office_file.proofs.in_file.TablesInFileOfficeInFile.answer.Goa
 
 pub returns : goal.returns
 returns g c = mapped_ends _ (file_view _ _ _ _ (λ (file : SystemFile) (says : Content → Type 0). LeavesTables file.left says))
-    (stream_work c.args.max_requests _ _ _) c.answered_at.result c.answered_at.ensures c.of_system.result c.of_system.ensures
+    (stream_work c.args.max_requests _ _ _) c.answered_at-ended.result c.answered_at-ended.ensures c.of_system.result c.of_system.ensures

@@ -1,0 +1,15 @@
+-- The committed set of an intersection, as its rows spell it.
+use Rattle.std.specs.Prelude.{◌≡◌, ℕ, List}
+use Rattle.std.specs.List.{AllByRecursion}
+use Rattle.signal_records.specs.TimingSet.{Rows, set_of_rows}
+use Rattle.signal_records.specs.Within.{IsRowWithin, current_limits}
+use Rattle.signal_records.specs.declared.record.Row.{Row}
+use Rattle.office_tables_shelf.specs.Content.{Content}
+use Rattle.office_tables_shelf.specs.Shelf.{ListsTiming}
+
+-- it is made of the committed rows that stand, each of which is within its limits
+pub record IsCommittedSet (tables : Content) (id : ℕ) (set : Rows) : Type 0 where
+  pub rows : List Row
+  pub lists : ListsTiming tables id rows
+  pub within : AllByRecursion (IsRowWithin current_limits) rows
+  pub made : set ≡ set_of_rows rows

@@ -1,0 +1,172 @@
+//! An office that is asked, request by request, and what it shows.
+
+use office_desk::office::Office;
+use office_http::{Request, answer_of, command_of};
+use office_http_responses::ask_fault_answer;
+use office_tables::sql_shelf::SqlShelf;
+use office_tables_maps::map_shelf::MapShelf;
+use office_tables_shelf::shelf::Shelf;
+use sqlite::MemStore;
+use std::alloc::Global;
+use std::process::Abort;
+
+/// What ends a test that fails, and what gives memory.
+pub(crate) type Bench<R> = (R, Global);
+
+/// A request as `METHOD path body`, and its answer as `status reason body`.
+pub(crate) type Step<'a> = (&'a str, &'a str);
+
+/// New offices over one kind of tables.
+pub(crate) trait Tables {
+    type Shelf: Shelf + Drop;
+
+    fn office(rt: &Bench<impl Abort>) -> Office<Self::Shelf>;
+}
+
+pub(crate) struct InMaps;
+
+impl Tables for InMaps {
+    type Shelf = MapShelf;
+
+    fn office(rt: &Bench<impl Abort>) -> Office<MapShelf> {
+        Office::new(MapShelf::new(rt.1))
+    }
+}
+
+/// In a database in memory, which is checked and opened again before it is used.
+pub(crate) struct InDatabase;
+
+impl Tables for InDatabase {
+    type Shelf = SqlShelf<MemStore>;
+
+    fn office(rt: &Bench<impl Abort>) -> Office<SqlShelf<MemStore>> {
+        let new = SqlShelf::open_in_memory(rt.1).ok().expect(rt, "new tables");
+        let conn = SqlShelf::checked(rt.1, new.into_conn()).ok();
+        let conn = conn.expect(rt, "a database");
+        Office::new(
+            SqlShelf::open_over_memory(rt.1, conn)
+                .ok()
+                .expect(rt, "tables"),
+        )
+    }
+}
+
+/// The answer to what could not be done.
+pub(crate) const UNAVAILABLE: &[u8] =
+    b"HTTP/1.1 503 Service Unavailable\r\nContent-Type: application/json\r\n\
+    Content-Length: 35\r\n\r\n{\"error\":\"Unavailable\",\"number\":90}";
+
+/// Paths whose answers show all that an office with intersection 12 holds.
+const PATHS: &str = "/intersections/12 /intersections/12/timing /intersections/12/draft \
+    /intersections/12/cabinet /intersections/12/open-orders /stock /overdue/2027-05-03";
+
+/// What came is what must come.
+pub(crate) fn same(rt: &Bench<impl Abort>, what: &str, wanted: &[u8], came: &[u8]) {
+    let told = String::from_utf8_lossy(rt.1, wanted).expect(rt, "memory");
+    let seen = String::from_utf8_lossy(rt.1, came).expect(rt, "memory");
+    assert!(rt; wanted == came, "{what}: wanted {told}, came {seen}");
+}
+
+/// The method, the path and the body of a request.
+pub(crate) fn words(text: &str) -> (&str, &str, &str) {
+    let (method, rest) = text.split_once(' ').unwrap_or((text, ""));
+    let (path, body) = rest.split_once(' ').unwrap_or((rest, ""));
+    (method, path, body)
+}
+
+/// A request that is read.
+pub(crate) fn request<'a>((method, path, body): (&'a str, &'a str, &'a str)) -> Request<'a> {
+    Request {
+        method: method.as_bytes(),
+        path: path.as_bytes(),
+        body: body.as_bytes(),
+        last: false,
+    }
+}
+
+/// An answer with its head.
+pub(crate) fn whole(rt: &Bench<impl Abort>, answer: &str) -> Vec<u8> {
+    let (status, rest) = answer.split_once(" {").unwrap_or((answer, ""));
+    let length = rest.len().saturating_add(1);
+    let text = format!(in rt.1;
+        "HTTP/1.1 {status}\r\nContent-Type: application/json\r\n\
+        Content-Length: {length}\r\n\r\n{{{rest}"
+    );
+    text.expect(rt, "memory").into_bytes()
+}
+
+/// The answers of steps, with their heads.
+pub(crate) fn told(rt: &Bench<impl Abort>, steps: &[Step<'_>]) -> Vec<u8> {
+    let mut told = Vec::new(rt.1);
+    for (_, answer) in steps {
+        let answer = whole(rt, answer);
+        told.extend_from_slice(&answer).expect(rt, "memory");
+    }
+    told
+}
+
+/// What an office answers to a request.
+fn answer<S: Shelf>(
+    rt: &Bench<impl Abort>,
+    office: &mut Office<S>,
+    request: &Request<'_>,
+) -> Vec<u8> {
+    let answer = match command_of(rt.1, request) {
+        Ok(asked) => {
+            let reply = office.run(rt.1, &asked.command);
+            answer_of(rt.1, &reply, asked.form)
+        }
+        Err(fault) => ask_fault_answer(rt.1, fault),
+    };
+    answer.expect(rt, "memory")
+}
+
+/// Makes a step. It is answered as it must be, or as unavailable; tells whether it was done.
+pub(crate) fn is_done<S: Shelf>(
+    rt: &Bench<impl Abort>,
+    office: &mut Office<S>,
+    step: Step<'_>,
+) -> bool {
+    let came = answer(rt, office, &request(words(step.0)));
+    if came.as_slice() == UNAVAILABLE {
+        return false;
+    }
+    same(rt, step.0, &whole(rt, step.1), &came);
+    true
+}
+
+/// Makes steps until one is answered as unavailable, and tells how many were done.
+pub(crate) fn play<S: Shelf>(
+    rt: &Bench<impl Abort>,
+    office: &mut Office<S>,
+    all: &[Step<'_>],
+) -> usize {
+    for (n, step) in all.iter().enumerate() {
+        if !is_done(rt, office, *step) {
+            return n;
+        }
+    }
+    all.len()
+}
+
+/// All that an office shows of intersection 12, of the stock and of what is overdue.
+pub(crate) fn shown<S: Shelf>(rt: &Bench<impl Abort>, office: &mut Office<S>) -> Vec<u8> {
+    let mut seen = Vec::new(rt.1);
+    for path in PATHS.split(' ') {
+        let came = answer(rt, office, &request(("GET", path, "")));
+        seen.extend_from_slice(&came).expect(rt, "memory");
+    }
+    seen
+}
+
+/// What an office over maps shows before each of these steps, and after the last.
+pub(crate) fn states(rt: &Bench<impl Abort>, steps: &[Step<'_>]) -> Vec<Vec<u8>> {
+    let mut office = InMaps::office(rt);
+    let mut states = Vec::new(rt.1);
+    for step in steps {
+        states.push(shown(rt, &mut office)).expect(rt, "memory");
+        assert!(rt; is_done(rt, &mut office, *step), "a step over maps");
+    }
+    states.push(shown(rt, &mut office)).expect(rt, "memory");
+    states
+}

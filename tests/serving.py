@@ -1,0 +1,111 @@
+"""Servers of the program on 127.0.0.1, and connections to them, for scripts that try both."""
+import contextlib
+import json
+import re
+import socket
+import subprocess
+import time
+
+PATIENCE = 5  # seconds after which a client gives up
+TRIES = 5  # for a port that another program takes meanwhile
+STOCK = b"GET /stock HTTP/1.1\r\n\r\n"
+ANSWER = re.compile(rb"HTTP/1\.1 (\d+) [^\r]*\r\n(?:[^\r]+\r\n)*?Content-Length: (\d+)\r\n\r\n")
+
+
+class Off(Exception):
+    """What came is not what has to come."""
+
+
+def started(program):
+    """A server and its port, on which it listens. Where another program took the port meanwhile,
+    it is tried again with another."""
+    for _ in range(TRIES):
+        with socket.create_server(("127.0.0.1", 0)) as free:
+            port = free.getsockname()[1]
+        words = [program, "serve", "--port", str(port)]
+        server = subprocess.Popen(words, stdin=subprocess.DEVNULL, stdout=subprocess.PIPE)
+        line = server.stdout.readline()
+        if line == b"listening on 127.0.0.1:%d\n" % port:
+            return server, port
+        server.kill()
+        server.communicate()
+    raise Off(f"the server printed {line!r}")
+
+
+@contextlib.contextmanager
+def served(program):
+    """The port of a server, which is ended afterwards."""
+    server, port = started(program)
+    try:
+        yield port
+        if server.poll() is not None:
+            raise Off(f"the server ended with status {server.returncode}")
+    finally:
+        server.kill()
+        server.communicate()
+
+
+@contextlib.contextmanager
+def within(seconds, what):
+    """Something that may take so many seconds."""
+    begun = time.monotonic()
+    yield
+    took = time.monotonic() - begun
+    if took > seconds:
+        raise Off(f"{what} took {took:.2f} s, and may take {seconds} s")
+
+
+def expect(what, came, wanted):
+    if came != wanted:
+        raise Off(f"{what}: {came!r}, not {wanted!r}")
+
+
+class Wire:
+    """A connection whose answers are read one by one."""
+
+    def __init__(self, port):
+        self.socket = socket.create_connection(("127.0.0.1", port), timeout=PATIENCE)
+        self.socket.setsockopt(socket.IPPROTO_TCP, socket.TCP_NODELAY, 1)
+        self.came = b""
+
+    def __enter__(self):
+        return self
+
+    def __exit__(self, *_):
+        self.socket.close()
+
+    def answer(self):
+        """The body of the next answer, or None where the connection ended before it."""
+        while not (head := ANSWER.match(self.came)) or len(self.came) < head.end() + int(head[2]):
+            part = self.socket.recv(1 << 16)
+            if not part and self.came:
+                raise Off(f"the connection ended within an answer, after {self.came!r}")
+            if not part:
+                return None
+            self.came += part
+        expect("a status", head[1], b"200")
+        end = head.end() + int(head[2])
+        body, self.came = self.came[head.end():end], self.came[end:]
+        return body
+
+    def ask(self, request=STOCK):
+        """The answer to a request."""
+        self.socket.sendall(request)
+        return self.answer()
+
+    def expect_end(self, what):
+        expect(f"after {what} its connection", self.answer(), None)
+
+
+def delivery(part, number):
+    return {"count": 1, "day": "2026-05-01", "number": number, "part": part}
+
+
+def spelled(path, keys):
+    """The bytes of a request that posts these keys."""
+    body = json.dumps(keys)
+    return f"POST {path} HTTP/1.1\r\nContent-Length: {len(body)}\r\n\r\n{body}".encode()
+
+
+def on_hand(body):
+    return {it["part"]: it["count"] for it in json.loads(body)["hand"]}

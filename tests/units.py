@@ -1,0 +1,49 @@
+#!/usr/bin/env python3
+"""Has systemd look at the units of docs/: the service, the backup and its timer.
+
+    tests/units.py [PROGRAM]
+
+`systemd-analyze verify` reads copies of them in which the program is the one named, by default the
+one that `./office` built. It starts nothing and installs nothing. It prints what systemd finds
+wrong, and ends with status 1 then; it takes a second.
+"""
+import pathlib
+import shutil
+import subprocess
+import sys
+import tempfile
+
+from program import TOP, found
+
+INSTALLED = "/usr/local/bin/signal_office"  # where docs/OPERATING.md puts the program
+
+
+def copied(folder, program):
+    """The paths of the copies."""
+    docs = TOP / "docs"
+    for unit in sorted([*docs.glob("*.service"), *docs.glob("*.timer")]):
+        text = unit.read_text()
+        if unit.suffix == ".service" and INSTALLED not in text:
+            sys.exit(f"units.py: {unit.name} does not run {INSTALLED}")
+        copy = folder / unit.name
+        copy.write_text(text.replace(INSTALLED, program))
+        yield copy
+
+
+def main():
+    program = found(sys.argv[1:2])
+    if not shutil.which("systemd-analyze"):
+        print("units.py: there is no systemd-analyze")
+        sys.exit(77)
+    with tempfile.TemporaryDirectory() as room:
+        copies = list(copied(pathlib.Path(room), program))
+        words = ["systemd-analyze", "verify", "--man=no", *copies]
+        ran = subprocess.run(words, stdout=subprocess.PIPE, stderr=subprocess.STDOUT, text=True)
+    wrong = [line for line in ran.stdout.splitlines() if "cayunchis" in line]
+    if ran.returncode or wrong:
+        sys.exit("\n".join(wrong) or ran.stdout)
+    print(f"ok: {len(copies)} units")
+
+
+if __name__ == "__main__":
+    main()
