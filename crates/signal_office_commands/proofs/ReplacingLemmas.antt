@@ -1,5 +1,5 @@
 -- The plan that a revision leaves, from what stood and what was done.
-use Rattle.std.proofs.Common.{◌≡◌, ◌≢◌, inl, inr, ℕ, Bool, true, false, ◌&&◌, not, List, Option, Some, None, Result, Ok, Err, refl, sym, ap, subst, ◌∙◌}
+use Rattle.std.proofs.Common.{◌≡◌, inl, inr, ℕ, Bool, true, false, ◌&&◌, not, List, Option, Some, None, Result, Ok, Err, refl, sym, ap, subst, ◌∙◌}
 use Rattle.std.specs.{FinMap.get, Prelude.is_none, Prelude.option_map}
 use Rattle.draft_core.specs.Transaction.{Draft, TimingSide}
 use Rattle.office_desk.specs.StandFor.{StandForSound}
