@@ -1,24 +1,22 @@
 -- The plan that a revision leaves, from what stood and what was done.
-use Rattle.std.proofs.Common.{◌≡◌, ◌≢◌, inl, inr, ℕ, Bool, true, false, ◌&&◌, not, List, Option, Some, None, Result, Ok, Err, refl, sym, ap, subst, ◌∙◌}
+use Rattle.std.proofs.Common.{◌≡◌, inl, inr, ℕ, Bool, true, false, ◌&&◌, not, List, Option, Some, None, Result, Ok, Err, refl, sym, ap, subst, ◌∙◌}
 use Rattle.std.specs.{FinMap.get, Prelude.is_none, Prelude.option_map}
 use Rattle.draft_core.specs.Transaction.{Draft, TimingSide}
-use Rattle.draft_core.specs.declared.refusal.DraftRefusal.TheVariants.{NotTransaction}
 use Rattle.office_desk.specs.StandFor.{StandForSound}
-use Rattle.office_machine.specs.{Office.Office, Office.Intersection, Step.Step, Step.answered, declared.command.Command.Command, declared.reply.Reply.Reply}
-use Rattle.office_machine.specs.Step.{draft_shown as draft_of_intersection}
-use Rattle.office_machine.specs.declared.command.Command.TheVariants as command
-use Rattle.office_machine.specs.declared.refusal.Refusal.TheVariants as refusal
+use Rattle.office_machine.specs.{Office.Office, Office.Intersection, Step.draft_shown, Step.shown, Step.timing_shown}
 use Rattle.office_machine.specs.declared.reply.Reply.TheVariants as reply
 use Rattle.office_tables_shelf.specs.Content.{Content}
-use Rattle.signal_office_commands.proofs.{AskingLemmas.was_run, RevisingLemmas.held_base, RevisingLemmas.revised_draft, RevisingLemmas.revised_set, ShownLemmas.timing_found, ShownLemmas.rows_drafted}
+use Rattle.signal_office_commands.proofs.{AskingLemmas.was_run, RevisingLemmas.held_base, RevisingLemmas.revised_draft, RevisingLemmas.revised_set}
 use Rattle.office_files.specs.Changes.{changes_of}
-use Rattle.signal_office_commands.specs.{Asking.Answered, Asking.RanCommands, Committing.Goes, Committing.commit_commands, Committing.commit_told, Committing.is_due, Showing.ShowsDraft, Showing.draft_shown, Showing.timing_shown}
+use Rattle.signal_office_commands.specs.{Asking.RanCommands, Committing.Goes, Committing.commit_commands, Committing.commit_told, Committing.is_due}
 use Rattle.signal_office_commands.specs.Replacing.{LeavesPlan, LeftPlan, TellsNoChange, base_at, draft_set, plan_wanted}
 use Rattle.signal_office_commands.specs.Revising.{Drafts, EndsRevision, Finishes, Revises, Stays, WouldBe, outcome_of}
-use Rattle.signal_office_commands.specs.Standing.{AreWanted, base_from, base_of, if_open}
+use Rattle.signal_office_commands.specs.Standing.{AreWanted, ShowsStanding, base_from, base_of, standing_of, standing_seen}
 use Rattle.signal_office_commands.specs.declared.revising.{EditMode.EditMode, Outcome.TheVariants.Open, Outcome.TheVariants.Same, Outcome.TheVariants.Committed, Revised.Revised}
 use Rattle.signal_office_commands.specs.declared.standing.StandingPlan.{StandingPlan}
 use Rattle.signal_office_faults.specs.declared.fault.Fault.{Fault}
+use Rattle.signal_office_reports.specs.Reports.{open_draft_in}
+use Rattle.signal_office_reports.specs.declared.seen.Seen.TheVariants as seen
 use Rattle.signal_office_faults.specs.declared.fault.Fault.TheVariants as told
 use Rattle.signal_records.specs.TimingSet.{Rows, after_changes}
 use Rattle.signal_records.specs.declared.record.Change.{Change}
@@ -26,32 +24,22 @@ use Rattle.signal_rules.specs.declared.violation.Violation.{Violation}
 
 -- ---- what stands, of the office
 
--- what is made of a reply that is not Unavailable is made of the office's own answer
-made_of : {A : Type 0} (made : Reply → Result A Fault) (tables : Content) (office : Office) (asked : Command) (value : Result A Fault)
-    → made (reply.Refused refusal.Unavailable) ≢ value → Answered made tables asked tables value → StandForSound tables office
-    → made (answered office asked).0 ≡ value
-made_of {A} made tables office asked value available shows stands = by_step (shows.step office stands).step where
-  by_step : Step office asked shows.reply (shows.step office stands).next → made (answered office asked).0 ≡ value
-  by_step (inl h) = absurd (available (ap made (sym h.0) ∙ sym shows.made_is))
-  by_step (inr h) = ap (λ (p : Reply × Office). made p.0) h ∙ sym shows.made_is
+drafted : (draft : Option Draft) → open_draft_in (seen.Reply (draft_shown draft)) ≡ Ok (option_map (λ (d : Draft). d.set) draft)
+drafted None = refl
+drafted (Some d) = refl
 
-not_open : (why : Fault) (draft : Option Rows) → Ok draft ≡ if_open (Err why) → (draft ≡ None) × (why ≡ told.Refused (refusal.Draft NotTransaction))
-not_open (told.Refused (refusal.Draft NotTransaction)) draft e = (cc, refl)
-not_open _ draft e = absurd cc
+standing_found : (found : Option Intersection) (standing : StandingPlan)
+    → Ok standing ≡ standing_of (seen.Reply (shown found (λ i. reply.Timing (timing_shown i)))) (seen.Reply (shown found (λ i. draft_shown i.timing.draft)))
+    → (i : Intersection) × (found ≡ Some i) × (standing ≡ record { committed = i.timing.committed; draft = draft_set i.timing })
+standing_found None standing e = absurd cc
+standing_found (Some i) standing e = let is = rw (drafted i.timing.draft) at e in (i, refl, cc)
 
-none_drafted : (draft : Option Draft) (why : Fault) → draft_shown (draft_of_intersection draft) ≡ Err why → None ≡ option_map (λ (d : Draft). d.set) draft
-none_drafted None why e = refl
-none_drafted (Some d) why e = absurd cc
-
-draft_standing : (tables : Content) (office : Office) (id : ℕ) (i : Intersection) (it : Result Rows Fault) (draft : Option Rows)
-    → get office.intersections id ≡ Some i → StandForSound tables office → ShowsDraft tables id it → Ok draft ≡ if_open it → draft ≡ draft_set i.timing
-draft_standing tables office id i (Ok rows) draft there stands shows e =
-    let is : draft ≡ Some rows = cc in
-    is ∙ rows_drafted i.timing.draft rows (rw there at (made_of draft_shown tables office (command.Draft id) (Ok rows) (λ e. cc) shows stands))
-draft_standing tables office id i (Err why) draft there stands shows e =
-    let none = not_open why draft e in
-    let available : draft_shown (reply.Refused refusal.Unavailable) ≢ Err why = λ same. let other = none.1 in absurd cc in
-    none.0 ∙ none_drafted i.timing.draft why (rw there at (made_of draft_shown tables office (command.Draft id) (Err why) available shows stands))
+-- it is what the office shows
+standing_on : (tables : Content) (office : Office) (id : ℕ) (standing : StandingPlan) → ShowsStanding tables id standing → StandForSound tables office
+    → (i : Intersection) × (get office.intersections id ≡ Some i) × (standing ≡ record { committed = i.timing.committed; draft = draft_set i.timing })
+standing_on tables office id standing (Ok found, looks, is) stands =
+    standing_found (get office.intersections id) standing (is ∙ ap standing_seen (looks.0 office stands))
+standing_on tables office id standing (Err why, looks, is) stands = absurd cc
 
 same_base : (standing : StandingPlan) (side : TimingSide) → standing.committed ≡ side.committed → standing.draft ≡ draft_set side → base_of standing ≡ base_at side
 same_base standing side committed draft = ap (λ set. base_from set standing.draft) committed ∙ ap (base_from side.committed) draft
@@ -216,10 +204,9 @@ leaves bytes id clerk mode old new done r before stands = by_ends r.ends where
   by_ends : EndsRevision mode.commit r.standing id clerk r.changes old new (Ok done) → LeftPlan bytes id mode before new done.outcome
   by_ends (inl memory) = absurd (apart done told.Memory memory.0)
   by_ends (inr (same, would, stays)) =
-      let timing = timing_found (get before.intersections id) r.standing.committed
-      (made_of timing_shown old before (command.Timing id) (Ok r.standing.committed) (λ e. cc) r.shows.0 stands) in
-      let draft = draft_standing old before id timing.0 r.shows.1.0 r.standing.draft timing.1 stands r.shows.1.1 r.shows.1.2 in
-      let base = same_base r.standing timing.0.timing timing.2 draft in
-      by_idle bytes id clerk mode old new r.asked r.spelled r.standing r.changes before stands timing.0 timing.1 timing.2 base
+      let on = standing_on old before id r.standing r.shows stands in
+      let committed = ap (λ (s : StandingPlan). s.committed) on.2 in
+      let base = same_base r.standing on.0.timing committed (ap (λ (s : StandingPlan). s.draft) on.2) in
+      by_idle bytes id clerk mode old new r.asked r.spelled r.standing r.changes before stands on.0 on.1 committed base
       (made_plan mode.replace (base_of r.standing) r.asked r.changes r.wanted ∙ ap (λ set. plan_wanted mode.replace set r.asked) base)
       (same && is_none r.standing.draft) same done refl would stays

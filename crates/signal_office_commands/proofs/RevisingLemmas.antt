@@ -14,10 +14,11 @@ use Rattle.office_machine.specs.Step.{moved as moved_by, refusal_of_draft}
 use Rattle.office_machine.specs.declared.command.Command.TheVariants as command
 use Rattle.office_machine.specs.declared.refusal.Refusal.TheVariants as refusal
 use Rattle.office_machine.specs.declared.reply.Reply.TheVariants as reply
-use Rattle.signal_office_commands.specs.Committing.{◌>>=◌, commit_commands, commit_told, move_outcome}
+use Rattle.signal_office_commands.specs.Committing.{commit_commands, commit_told, move_outcome}
 use Rattle.signal_office_commands.specs.Revising.{drafted, revise_commands, revise_told, taken_up}
 use Rattle.signal_office_commands.specs.{Replacing.base_at}
 use Rattle.signal_office_faults.specs.declared.fault.Fault.{Fault}
+use Rattle.signal_office_reports.specs.Reports.{◌>>=◌}
 use Rattle.signal_records.specs.TimingSet.{after_changes}
 use Rattle.signal_records.specs.declared.record.Change.{Change}
 use Rattle.signal_rules.specs.declared.violation.Violation.{Violation}

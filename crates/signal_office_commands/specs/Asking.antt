@@ -5,20 +5,13 @@ use Rattle.office_files.specs.declared.fault.CsvFault.{CsvFault}
 use Rattle.office_files.specs.declared.fault.CsvFault.TheVariants as file
 use Rattle.office_desk.specs.Answers.{AnswersAny}
 use Rattle.office_desk.specs.Damage.{IsTurnedAway, MeetsDamage}
-use Rattle.office_desk.specs.Running.{RunsAny, TellsTables}
-use Rattle.office_desk.specs.StandFor.{StandForSound}
-use Rattle.office_tables_shelf.specs.declared.shelf.Shelf.{Ghosts}
-use Rattle.office_machine.specs.Office.{Office}
+use Rattle.office_desk.specs.Running.{RunsAny}
 use Rattle.office_machine.specs.declared.refusal.Refusal.TheVariants.{Damaged}
 use Rattle.office_machine.specs.declared.reply.Reply.TheVariants.{Refused}
 use Rattle.office_machine.specs.declared.command.Command.{Command}
 use Rattle.office_machine.specs.declared.reply.Reply.{Reply}
 use Rattle.signal_office_faults.specs.declared.fault.Fault.{Fault}
 use Rattle.signal_office_faults.specs.declared.fault.Fault.TheVariants as told
-
--- What is said on a clean disk alone is said of each sound office for which the tables stood that an open database held.
-abbrev pub TellsOffice : {S : Type 0} → Ghosts S → (old new : S) → (Office → Type 0) → Type 0
-TellsOffice g old new Says = TellsTables g old new (λ tables. (office : Office) → StandForSound tables office → Says office)
 
 -- The office answered one command, and this is made of its reply. A row that the command reads and that is no record was told.
 pub record Answered {A : Type 0} (made : Reply → Result A Fault) (old : Content) (command : Command)

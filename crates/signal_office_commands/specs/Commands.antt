@@ -5,7 +5,7 @@ use Rattle.office_machine.specs.declared.command.Command.TheVariants as command
 use Rattle.office_machine.specs.declared.reply.Reply.{Reply}
 use Rattle.office_machine.specs.declared.reply.Reply.TheVariants as reply
 use Rattle.signal_office_commands.specs.Asking.{Answered, IsWant}
-use Rattle.signal_office_commands.specs.Refused.{fault_of}
+use Rattle.signal_office_reports.specs.Refused.{fault_of}
 use Rattle.signal_office_faults.specs.declared.fault.Fault.{Fault}
 use Rattle.signal_office_faults.specs.declared.fault.Fault.TheVariants as told
 use Rattle.signal_office_commands.specs.declared.adding.Entered.{Entered}

@@ -10,13 +10,8 @@ use Rattle.office_machine.specs.declared.reply.Reply.TheVariants as reply
 use Rattle.signal_office_faults.specs.declared.fault.Fault.{Fault}
 use Rattle.signal_office_faults.specs.declared.fault.Fault.TheVariants as told
 use Rattle.signal_office_commands.specs.Asking.{IsWant, RanCommands}
-use Rattle.signal_office_commands.specs.Refused.{fault_of}
-
--- what comes next, where a step gave a value; else its fault
-infixl 10 ◌>>=◌
-abbrev pub ◌>>=◌ : {A B : Type 0} → Result A Fault → (A → Result B Fault) → Result B Fault
-(Ok x) >>= f = f x
-(Err e) >>= f = Err e
+use Rattle.signal_office_reports.specs.Refused.{fault_of}
+use Rattle.signal_office_reports.specs.Reports.{◌>>=◌}
 
 -- a draft is handed over, checked and made the committed set
 abbrev pub commit_commands : ℕ → List ℕ → List Command

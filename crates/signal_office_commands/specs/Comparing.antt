@@ -1,5 +1,5 @@
--- The plans that are compared and drawn.
-use Rattle.std.specs.Prelude.{◌≡◌, ◌⊎◌, ℕ, List, Result, Ok, Err}
+-- The plans that are compared.
+use Rattle.std.specs.Prelude.{◌≡◌, ◌⊎◌, ℕ, List, [], ◌∷◌, Result, Ok, Err}
 use Rattle.signal_records.specs.TimingSet.{Rows}
 use Rattle.signal_compare.specs.declared.difference.Difference.{Difference}
 use Rattle.signal_compare.specs.Difference.{AreTold}
@@ -12,8 +12,10 @@ use Rattle.office_tables_shelf.specs.Content.{Content}
 use Rattle.signal_office_faults.specs.declared.fault.Fault.{Fault}
 use Rattle.signal_office_faults.specs.declared.fault.Fault.TheVariants as told
 use Rattle.signal_office_commands.specs.Asking.{IsUnread}
-use Rattle.signal_office_commands.specs.Fault.{IsUnshown}
-use Rattle.signal_office_commands.specs.Showing.{ShowsTiming, ShowsDraft}
+use Rattle.office_machine.specs.declared.reply.RunningTiming.{RunningTiming}
+use Rattle.signal_office_reports.specs.Reports.{IsTextOf, first_of, plans_in, timing_in}
+use Rattle.signal_office_reports.specs.Seen.{IsMadeOf}
+use Rattle.signal_office_reports.specs.declared.seen.Query.TheVariants as query
 
 -- they are those of the plans of two files
 pub record ComparesFiles (first second : List ℕ) (found : List Difference) : Type 0 where
@@ -34,29 +36,17 @@ IsFirstBad first second why =
     IsUnread (changes_of first) why
     ⊎ ((before : Rows) × IsPlan first before × IsOtherUnread (changes_of second) why)
 
--- they are those of a committed timing set and its draft
-pub record ComparesDraft (tables : Content) (id : ℕ) (found : List Difference) : Type 0 where
-  pub committed : Rows
-  pub draft : Rows
-  pub timing_is : ShowsTiming tables id (Ok committed)
-  pub draft_is : ShowsDraft tables id (Ok draft)
-  pub told : AreTold committed draft found
+-- they are those of a committed timing set and its draft, or this is why there are none
+abbrev pub ComparesDraft : Content → ℕ → Result (List Difference) Fault → Type 0
+ComparesDraft tables id result =
+    IsMadeOf (query.Timing id ∷ query.Draft id ∷ []) (λ seen. IsTextOf (λ plans found. AreTold plans.0 plans.1 found) (plans_in seen)) tables result
 
--- one of the two queries is refused, or memory was, where there is a draft
-abbrev pub ComparesNoDraft : Content → ℕ → Fault → Type 0
-ComparesNoDraft tables id why =
-    ShowsTiming tables id (Err why) ⊎ IsUnshown (ShowsDraft tables id) why
+-- They are those of a timing set and the plan of a file. Where no timing set is shown, that is told; else the file was not read, or memory was refused.
+abbrev pub IsCompared : (bytes : List ℕ) → Result RunningTiming Fault → Result (List Difference) Fault → Type 0
+IsCompared bytes (Ok timing) (Ok found) = (plan : Rows) × IsPlan bytes plan × AreTold timing.rows plan found
+IsCompared bytes (Ok timing) (Err why) = (why ≡ told.Memory) ⊎ IsUnread (changes_of bytes) why
+IsCompared bytes (Err cause) (Ok found) = ⊥
+IsCompared bytes (Err cause) (Err why) = (why ≡ told.Memory) ⊎ (why ≡ cause)
 
--- they are those of a committed timing set and the plan of a file
-pub record ComparesRunning (tables : Content) (id : ℕ) (bytes : List ℕ) (found : List Difference) : Type 0 where
-  pub committed : Rows
-  pub plan : Rows
-  pub timing_is : ShowsTiming tables id (Ok committed)
-  pub plan_is : IsPlan bytes plan
-  pub told : AreTold committed plan found
-
--- no timing set is shown; or one is, and the file was not read, or memory was refused
-abbrev pub ComparesNoRunning : Content → ℕ → List ℕ → Fault → Type 0
-ComparesNoRunning tables id bytes why =
-    ShowsTiming tables id (Err why)
-    ⊎ ((committed : Rows) × ShowsTiming tables id (Ok committed) × (IsUnread (changes_of bytes) why ⊎ (why ≡ told.Memory)))
+abbrev pub ComparesRunning : Content → ℕ → (bytes : List ℕ) → Result (List Difference) Fault → Type 0
+ComparesRunning tables id bytes result = IsMadeOf (query.Timing id ∷ []) (λ seen. IsCompared bytes (timing_in (first_of seen))) tables result

@@ -1,11 +1,14 @@
 -- The plans whose violations are explained.
-use Rattle.std.specs.Prelude.{ℕ, List, Ok}
-use Rattle.signal_records.specs.TimingSet.{Rows}
-use Rattle.signal_reasons.specs.declared.reason.Explained.{Explained}
-use Rattle.signal_reasons.specs.Reasons.{AreReasons}
+use Rattle.std.specs.Prelude.{ℕ, List, [], ◌∷◌, Result}
 use Rattle.office_files.specs.Plan.{IsPlan}
 use Rattle.office_tables_shelf.specs.Content.{Content}
-use Rattle.signal_office_commands.specs.Showing.{ShowsDraft}
+use Rattle.signal_office_faults.specs.declared.fault.Fault.{Fault}
+use Rattle.signal_office_reports.specs.Reports.{IsTextOf, draft_in, first_of}
+use Rattle.signal_office_reports.specs.Seen.{IsMadeOf}
+use Rattle.signal_office_reports.specs.declared.seen.Query.TheVariants as query
+use Rattle.signal_reasons.specs.Reasons.{AreReasons}
+use Rattle.signal_reasons.specs.declared.reason.Explained.{Explained}
+use Rattle.signal_records.specs.TimingSet.{Rows}
 
 -- they are those of the plan of a file
 pub record ExplainsPlan (bytes : List ℕ) (found : List Explained) : Type 0 where
@@ -13,8 +16,6 @@ pub record ExplainsPlan (bytes : List ℕ) (found : List Explained) : Type 0 whe
   pub plan_is : IsPlan bytes plan
   pub told : AreReasons plan found
 
--- they are those of a draft
-pub record ExplainsDraft (tables : Content) (id : ℕ) (found : List Explained) : Type 0 where
-  pub draft : Rows
-  pub draft_is : ShowsDraft tables id (Ok draft)
-  pub told : AreReasons draft found
+-- they are those of a draft, or this is why there are none
+abbrev pub ExplainsDraft : Content → ℕ → Result (List Explained) Fault → Type 0
+ExplainsDraft tables id result = IsMadeOf (query.Draft id ∷ []) (λ seen. IsTextOf AreReasons (draft_in (first_of seen))) tables result

@@ -10,7 +10,7 @@ use Rattle.signal_office_faults.specs.declared.fault.Fault.{Fault}
 use Rattle.signal_office_faults.specs.declared.fault.Fault.TheVariants as told
 use Rattle.signal_office_commands.specs.declared.importing.Imported.{Imported}
 use Rattle.signal_office_commands.specs.Asking.{Answered, IsUnread}
-use Rattle.signal_office_commands.specs.Refused.{fault_of}
+use Rattle.signal_office_reports.specs.Refused.{fault_of}
 
 -- what is told of the reply to an import
 abbrev pub import_told : Reply → Result Imported Fault

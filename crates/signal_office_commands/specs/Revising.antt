@@ -9,8 +9,9 @@ use Rattle.office_machine.specs.declared.reply.Reply.{Reply}
 use Rattle.office_machine.specs.declared.reply.Reply.TheVariants as reply
 use Rattle.office_tables_shelf.specs.Content.{Content}
 use Rattle.signal_office_commands.specs.Asking.{IsUnread, RanCommands}
-use Rattle.signal_office_commands.specs.Committing.{◌>>=◌, Does, Goes, is_due, move_outcome}
-use Rattle.signal_office_commands.specs.Refused.{fault_of}
+use Rattle.signal_office_commands.specs.Committing.{Does, Goes, is_due, move_outcome}
+use Rattle.signal_office_reports.specs.Refused.{fault_of}
+use Rattle.signal_office_reports.specs.Reports.{◌>>=◌}
 use Rattle.signal_office_commands.specs.Standing.{AreWanted, IsNotStanding, ShowsStanding, TellsSame, base_of}
 use Rattle.signal_office_commands.specs.declared.revising.EditMode.{EditMode}
 use Rattle.signal_office_commands.specs.declared.revising.Outcome.{Outcome}

@@ -1,33 +1,35 @@
 -- What stands of an intersection's plan, and what an edit makes of it.
-use Rattle.std.specs.Prelude.{◌≡◌, ◌≢◌, ◌⊎◌, ℕ, Bool, true, false, List, Option, Some, None, Result, Ok, Err}
+use Rattle.std.specs.Prelude.{◌≡◌, ◌≢◌, ℕ, Bool, true, false, List, [], ◌∷◌, Option, Some, None, Result, Ok, Err}
 use Rattle.std.specs.FinMap.{empty}
-use Rattle.draft_core.specs.declared.refusal.DraftRefusal.TheVariants.{NotTransaction}
-use Rattle.office_machine.specs.declared.refusal.Refusal.TheVariants as refusal
 use Rattle.office_tables_shelf.specs.Content.{Content}
-use Rattle.signal_office_commands.specs.Showing.{ShowsDraft, ShowsTiming}
 use Rattle.signal_office_commands.specs.declared.standing.StandingPlan.{StandingPlan}
 use Rattle.signal_office_faults.specs.declared.fault.Fault.{Fault}
-use Rattle.signal_office_faults.specs.declared.fault.Fault.TheVariants as told
+use Rattle.signal_office_reports.specs.Reports.{◌>>=◌, first_of, open_draft_in, rest_of, timing_in}
+use Rattle.signal_office_reports.specs.Seen.{IsMadeOf}
+use Rattle.signal_office_reports.specs.declared.seen.Query.TheVariants as query
+use Rattle.signal_office_reports.specs.declared.seen.Seen.{Seen}
 use Rattle.signal_records.specs.TimingSet.{Rows, after_changes}
 use Rattle.signal_records.specs.declared.record.Change.{Change}
 
 -- a draft that is not open is none
-abbrev pub if_open : Result Rows Fault → Result (Option Rows) Fault
-if_open (Ok draft) = Ok (Some draft)
-if_open (Err (told.Refused (refusal.Draft NotTransaction))) = Ok None
-if_open (Err why) = Err why
+abbrev pub standing_of : (timing draft : Seen) → Result StandingPlan Fault
+standing_of timing draft = do
+  runs ← timing_in timing
+  drafted ← open_draft_in draft
+  Ok (record { committed = runs.rows; draft = drafted })
 
--- the draft where one is open, as the office shows it
-abbrev pub ShowsIfOpen : Content → ℕ → Result (Option Rows) Fault → Type 0
-ShowsIfOpen tables id draft = (shown : Result Rows Fault) × ShowsDraft tables id shown × (draft ≡ if_open shown)
+abbrev pub standing_seen : List Seen → Result StandingPlan Fault
+standing_seen found = standing_of (first_of found) (first_of (rest_of found))
 
--- both are what the office shows
+-- both are what the office shows; or one of the two queries is refused
+abbrev pub StandsAs : Content → ℕ → Result StandingPlan Fault → Type 0
+StandsAs tables id result = IsMadeOf (query.Timing id ∷ query.Draft id ∷ []) (λ found it. it ≡ standing_seen found) tables result
+
 abbrev pub ShowsStanding : Content → ℕ → StandingPlan → Type 0
-ShowsStanding tables id standing = ShowsTiming tables id (Ok standing.committed) × ShowsIfOpen tables id (Ok standing.draft)
+ShowsStanding tables id standing = StandsAs tables id (Ok standing)
 
--- or one of the two queries is refused
 abbrev pub IsNotStanding : Content → ℕ → Fault → Type 0
-IsNotStanding tables id why = ShowsTiming tables id (Err why) ⊎ ShowsIfOpen tables id (Err why)
+IsNotStanding tables id why = StandsAs tables id (Err why)
 
 -- what a transaction goes on with: a draft, or the committed set where there is none
 abbrev pub base_from : Rows → Option Rows → Rows

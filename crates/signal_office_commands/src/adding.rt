@@ -5,12 +5,12 @@ ghost use Rattle.signal_office_commands.specs.Commands.{AddsIntersection, entere
 ghost use Rattle.office_desk.specs.Running.{MakesTables};
 ghost use Rattle.signal_office_commands.specs.Stopping.{AfterAdding, StopLeaves};
 
-use crate::refused::fault_of;
 use office_desk::office::Office;
 use office_machine::command::Command;
 use office_machine::reply::Reply;
 use office_tables_shelf::shelf::Shelf;
 use signal_office_faults::Fault;
+use signal_office_reports::fault_of;
 use signal_records::{InterId, Interval, Words};
 use std::alloc::Global;
 

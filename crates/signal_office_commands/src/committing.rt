@@ -7,12 +7,12 @@ ghost use Rattle.signal_office_commands.specs.Committing.{move_outcome};
 ghost use Rattle.signal_office_commands.specs.Committing.{is_due, Does, Goes};
 ghost use Rattle.signal_office_commands.specs.Stopping.{AfterOneOf, StopLeaves};
 
-use crate::refused::fault_of;
 use office_desk::office::Office;
 use office_machine::command::Command;
 use office_machine::reply::{Reply, Violations};
 use office_tables_shelf::shelf::Shelf;
 use signal_office_faults::Fault;
+use signal_office_reports::fault_of;
 use signal_records::{InterId, NoMemory, Words};
 use std::alloc::Global;
 

@@ -1,22 +1,24 @@
 //! What two plans differ in.
 
-ghost use Rattle.std.specs.Prelude.{◌≢◌, IfOk, IfErr};
+ghost use Rattle.std.specs.Prelude.{◌≡◌, ◌≢◌, IfOk, IfErr};
+ghost use Rattle.office_desk.specs.Running.{TellsTables};
 ghost use Rattle.office_files.specs.Changes.{changes_of};
 ghost use Rattle.office_files.specs.Plan.{IsPlan};
 ghost use Rattle.office_tables_shelf.specs.Keeps.{KeepsShelf};
-ghost use Rattle.signal_office_commands.specs.Comparing.{ComparesDraft, ComparesFiles, IsFirstBad};
-ghost use Rattle.signal_office_commands.specs.Comparing.{ComparesNoDraft, ComparesNoRunning};
-ghost use Rattle.signal_office_commands.specs.Comparing.{ComparesRunning, IsOtherUnread};
-ghost use Rattle.signal_office_commands.specs.Fault.{TellsUnknown};
-ghost use Rattle.office_desk.specs.Running.{TellsTables};
-ghost use Rattle.signal_office_commands.specs.Asking.{TellsOffice};
+ghost use Rattle.signal_compare.specs.Difference.{AreTold};
+ghost use Rattle.signal_office_commands.specs.Comparing.{ComparesDraft, ComparesFiles, IsCompared};
+ghost use Rattle.signal_office_commands.specs.Comparing.{ComparesRunning, IsFirstBad};
+ghost use Rattle.signal_office_commands.specs.Comparing.{IsOtherUnread};
+ghost use Rattle.signal_office_reports.specs.Reports.{IsTextOf, first_of, plans_in, plans_of};
+ghost use Rattle.signal_office_reports.specs.Reports.{timing_in};
+ghost use Rattle.signal_office_reports.specs.Seen.{Gives};
 
-use crate::showing::{draft_in, timing_in};
 use office_desk::office::Office;
 use office_files::{CsvFault, read_plan_csv};
 use office_tables_shelf::shelf::Shelf;
 use signal_compare::{Difference, compare};
 use signal_office_faults::Fault;
+use signal_office_reports::{Query, Seen, draft_in, first_of, look, next_of, timing_in};
 use signal_records::{InterId, TimingSet};
 use std::alloc::Global;
 
@@ -46,6 +48,33 @@ pub fn compare_files(alloc: Global, first: &[u8], second: &[u8]) -> Result<Vec<D
     Ok(differences)
 }
 
+/// A committed timing set and its draft, as they were seen.
+fn plans_of(timing: Seen, draft: Seen) -> Result<(TimingSet, TimingSet), Fault>
+    ensures { result ≡ plans_of timing draft }
+{
+    let timing = timing_in(timing)?;
+    let draft = draft_in(draft)?;
+    Ok((timing.rows, draft))
+}
+
+fn compare_plans(alloc: Global, timing: Seen, draft: Seen) -> Result<Vec<Difference>, Fault>
+    ensures { Gives (IsTextOf (λ plans found. AreTold plans.0 plans.1 found)
+        (plans_of timing draft)) result }
+{
+    let (committed, draft) = plans_of(timing, draft)?;
+    Ok(compare(alloc, &committed, &draft)?)
+}
+
+fn compare_seen(alloc: Global, seen: Vec<Seen>) -> Result<Vec<Difference>, Fault>
+    ensures { Gives (IsTextOf (λ plans found. AreTold plans.0 plans.1 found)
+        (plans_in seen.items)) result }
+{
+    let mut seen = seen.into_iter();
+    let timing = next_of(&mut seen);
+    let draft = next_of(&mut seen);
+    compare_plans(alloc, timing, draft)
+}
+
 /// What the draft of an intersection's timing set changes of the committed one, in the order of
 /// their keys. The office is as it was.
 pub fn draft_differences<S: Shelf>(
@@ -55,17 +84,20 @@ pub fn draft_differences<S: Shelf>(
 ) -> Result<Vec<Difference>, Fault>
     ensures kept { KeepsShelf S.Shelf office.old office.new }
     ensures clean { S.is_clean office.new → S.is_clean office.old }
-    ensures found { IfOk result (λ found. TellsTables S.Shelf office.old office.new
-        (λ tables. ComparesDraft tables id found.items)) }
-    ensures fault { IfErr result (λ why. TellsTables S.Shelf office.old office.new
-        (λ tables. ComparesNoDraft tables id why)) }
-    // An unknown intersection is told where the office has none, and only there.
-    ensures unknown { IfErr result (λ why. TellsOffice S.Shelf office.old office.new
-        (λ before. TellsUnknown before id why)) }
+    ensures compares { TellsTables S.Shelf office.old office.new
+        (λ tables. Gives (ComparesDraft tables id) result) }
 {
-    let committed = timing_in(alloc, office, id)?;
-    let draft = draft_in(alloc, office, id)?;
-    Ok(compare(alloc, &committed, &draft)?)
+    let seen = look(alloc, office, &[Query::Timing { id }, Query::Draft { id }])?;
+    compare_seen(alloc, seen)
+}
+
+/// What the plan in a CSV file differs in from a timing set that was seen.
+fn compare_running(alloc: Global, bytes: &[u8], seen: Vec<Seen>) -> Result<Vec<Difference>, Fault>
+    ensures { Gives (IsCompared bytes.now (timing_in (first_of seen.items))) result }
+{
+    let timing = timing_in(first_of(seen))?;
+    let plan = read_plan_csv(alloc, bytes)?;
+    Ok(compare(alloc, &timing.rows, &plan)?)
 }
 
 /// What the plan in a CSV file differs in from the committed timing set of an intersection, in the
@@ -79,15 +111,9 @@ pub fn running_differences<S: Shelf>(
 ) -> Result<Vec<Difference>, Fault>
     ensures kept { KeepsShelf S.Shelf office.old office.new }
     ensures clean { S.is_clean office.new → S.is_clean office.old }
-    ensures found { IfOk result (λ found. TellsTables S.Shelf office.old office.new
-        (λ tables. ComparesRunning tables id bytes.now found.items)) }
-    ensures fault { IfErr result (λ why. TellsTables S.Shelf office.old office.new
-        (λ tables. ComparesNoRunning tables id bytes.now why)) }
-    // An unknown intersection is told where the office has none, and only there.
-    ensures unknown { IfErr result (λ why. TellsOffice S.Shelf office.old office.new
-        (λ before. TellsUnknown before id why)) }
+    ensures compares { TellsTables S.Shelf office.old office.new
+        (λ tables. Gives (ComparesRunning tables id bytes.now) result) }
 {
-    let committed = timing_in(alloc, office, id)?;
-    let plan = read_plan_csv(alloc, bytes)?;
-    Ok(compare(alloc, &committed, &plan)?)
+    let seen = look(alloc, office, &[Query::Timing { id }])?;
+    compare_running(alloc, bytes, seen)
 }

@@ -1,17 +1,19 @@
 //! Why plans break rules, in numbers.
 
 ghost use Rattle.std.specs.Prelude.{◌≡◌, ◌≢◌, Err, IfOk, IfErr};
+ghost use Rattle.office_desk.specs.Running.{TellsTables};
 ghost use Rattle.office_files.specs.Changes.{changes_of};
 ghost use Rattle.office_tables_shelf.specs.Keeps.{KeepsShelf};
-ghost use Rattle.signal_office_commands.specs.Explaining.{ExplainsPlan, ExplainsDraft};
-ghost use Rattle.signal_office_commands.specs.Showing.{ShowsDraft};
-ghost use Rattle.office_desk.specs.Running.{TellsTables};
+ghost use Rattle.signal_office_commands.specs.Explaining.{ExplainsDraft, ExplainsPlan};
+ghost use Rattle.signal_office_reports.specs.Reports.{IsTextOf, draft_in, first_of};
+ghost use Rattle.signal_office_reports.specs.Seen.{Gives};
+ghost use Rattle.signal_reasons.specs.Reasons.{AreReasons};
 
-use crate::showing::draft_in;
 use office_desk::office::Office;
 use office_files::{CsvFault, read_plan_csv};
 use office_tables_shelf::shelf::Shelf;
 use signal_office_faults::Fault;
+use signal_office_reports::{Query, Seen, draft_in, first_of, look};
 use signal_reasons::{Explained, reasons};
 use signal_records::InterId;
 use std::alloc::Global;
@@ -28,7 +30,15 @@ pub fn reasons_in(alloc: Global, bytes: &[u8]) -> Result<Vec<Explained>, CsvFaul
     Ok(found)
 }
 
-/// The same of the draft of an intersection's timing set. The office is as it was.
+/// Those of a draft that was seen.
+fn reasons_of(alloc: Global, seen: Vec<Seen>) -> Result<Vec<Explained>, Fault>
+    ensures { Gives (IsTextOf AreReasons (draft_in (first_of seen.items))) result }
+{
+    let draft = draft_in(first_of(seen))?;
+    Ok(reasons(alloc, &draft)?)
+}
+
+/// Those of the draft of an intersection's timing set. The office is as it was.
 pub fn draft_reasons<S: Shelf>(
     alloc: Global,
     office: &mut Office<S>,
@@ -36,13 +46,9 @@ pub fn draft_reasons<S: Shelf>(
 ) -> Result<Vec<Explained>, Fault>
     ensures kept { KeepsShelf S.Shelf office.old office.new }
     ensures clean { S.is_clean office.new → S.is_clean office.old }
-    ensures found { IfOk result (λ found. TellsTables S.Shelf office.old office.new
-        (λ tables. ExplainsDraft tables id found.items)) }
-    ensures fault { IfErr result
-        (λ why. why ≢ Fault.Memory → TellsTables S.Shelf office.old office.new
-        (λ tables. ShowsDraft tables id (Err why))) }
+    ensures explains { TellsTables S.Shelf office.old office.new
+        (λ tables. Gives (ExplainsDraft tables id) result) }
 {
-    let draft = draft_in(alloc, office, id)?;
-    let found = reasons(alloc, &draft)?;
-    Ok(found)
+    let seen = look(alloc, office, &[Query::Draft { id }])?;
+    reasons_of(alloc, seen)
 }

@@ -5,7 +5,6 @@ ghost use Rattle.std.specs.Prelude.{◌≡◌};
 ghost use Rattle.office_desk.specs.Running.{MakesTables};
 ghost use Rattle.signal_office_commands.specs.Stopping.{AfterImporting, StopLeaves};
 
-use crate::refused::fault_of;
 use office_desk::office::Office;
 use office_files::read_records_csv;
 use office_machine::command::Command;
@@ -13,6 +12,7 @@ use office_machine::records::Records;
 use office_machine::reply::Reply;
 use office_tables_shelf::shelf::Shelf;
 use signal_office_faults::Fault;
+use signal_office_reports::fault_of;
 use std::alloc::Global;
 
 /// What an import made of its records.

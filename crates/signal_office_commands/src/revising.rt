@@ -15,7 +15,6 @@ ghost use Rattle.signal_office_commands.specs.Stopping.{AfterChanging, AfterDraf
 ghost use Rattle.signal_office_commands.specs.Stopping.{AfterRevising, StopLeaves};
 
 use crate::committing::{commit_where_due, is_due, moved};
-use crate::refused::fault_of;
 use crate::standing::{StandingPlan, standing_in};
 use draft_core::changes::Changes;
 use draft_core::refusal::DraftRefusal;
@@ -26,6 +25,7 @@ use office_machine::refusal::Refusal;
 use office_machine::reply::{Reply, Violations};
 use office_tables_shelf::shelf::Shelf;
 use signal_office_faults::Fault;
+use signal_office_reports::fault_of;
 use signal_records::{Change, InterId, NoMemory, Words};
 use std::alloc::Global;
 

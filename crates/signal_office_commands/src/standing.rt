@@ -1,19 +1,16 @@
 //! What stands of an intersection's plan: the committed set, and the draft where a clerk holds one.
 
-ghost use Rattle.std.specs.Prelude.{◌≡◌, ◌==◌, IfErr, IfOk, length};
+ghost use Rattle.std.specs.Prelude.{◌≡◌, ◌==◌, IfOk, length};
 ghost use Rattle.office_desk.specs.Running.{TellsTables};
 ghost use Rattle.office_tables_shelf.specs.Keeps.{KeepsShelf};
-ghost use Rattle.signal_office_commands.specs.Standing.{IsNotStanding, ShowsIfOpen, ShowsStanding};
-ghost use Rattle.signal_office_commands.specs.Standing.{if_open};
+ghost use Rattle.signal_office_commands.specs.Standing.{StandsAs, standing_of, standing_seen};
 
-use crate::showing::{draft_in, timing_in};
 use draft_core::changes::Changes;
-use draft_core::refusal::DraftRefusal;
 use office_desk::office::Office;
-use office_machine::refusal::Refusal;
 use office_tables_shelf::shelf::Shelf;
 use signal_compare::{Difference, changes, compare};
 use signal_office_faults::Fault;
+use signal_office_reports::{Query, Seen, look, next_of, open_draft_in, timing_in};
 use signal_records::{Change, InterId, NoMemory, TimingSet};
 use std::alloc::Global;
 
@@ -24,29 +21,25 @@ pub(crate) struct StandingPlan {
     draft: Option<TimingSet>,
 }
 
-/// A draft, or none where that it is not open is what was told.
-fn if_open(shown: Result<TimingSet, Fault>) -> Result<Option<TimingSet>, Fault>
-    ensures { result ≡ if_open shown }
+fn standing_of(timing: Seen, draft: Seen) -> Result<StandingPlan, Fault>
+    ensures { result ≡ standing_of timing draft }
 {
-    match shown {
-        Ok(draft) => Ok(Some(draft)),
-        Err(Fault::Refused(Refusal::Draft(DraftRefusal::NotTransaction))) => Ok(None),
-        Err(fault) => Err(fault),
-    }
+    let timing = timing_in(timing)?;
+    let draft = open_draft_in(draft)?;
+    Ok(StandingPlan {
+        committed: timing.rows,
+        draft,
+    })
 }
 
-/// The draft of an intersection where a clerk holds one. The office is as it was.
-fn draft_if_open<S: Shelf>(
-    alloc: Global,
-    office: &mut Office<S>,
-    id: InterId,
-) -> Result<Option<TimingSet>, Fault>
-    ensures kept { KeepsShelf S.Shelf office.old office.new }
-    ensures clean { S.is_clean office.new → S.is_clean office.old }
-    ensures shown { TellsTables S.Shelf office.old office.new
-        (λ tables. ShowsIfOpen tables id result) }
+/// What stands of a plan, as it was seen.
+fn standing_seen(seen: Vec<Seen>) -> Result<StandingPlan, Fault>
+    ensures { result ≡ standing_seen seen.items }
 {
-    if_open(draft_in(alloc, office, id))
+    let mut seen = seen.into_iter();
+    let timing = next_of(&mut seen);
+    let draft = next_of(&mut seen);
+    standing_of(timing, draft)
 }
 
 /// What stands of an intersection's plan. The office is as it was.
@@ -57,14 +50,11 @@ pub(crate) fn standing_in<S: Shelf>(
 ) -> Result<StandingPlan, Fault>
     ensures kept { KeepsShelf S.Shelf office.old office.new }
     ensures clean { S.is_clean office.new → S.is_clean office.old }
-    ensures shown { IfOk result (λ standing. TellsTables S.Shelf office.old office.new
-        (λ tables. ShowsStanding tables id standing)) }
-    ensures fault { IfErr result (λ why. TellsTables S.Shelf office.old office.new
-        (λ tables. IsNotStanding tables id why)) }
+    ensures stands { TellsTables S.Shelf office.old office.new
+        (λ tables. StandsAs tables id result) }
 {
-    let committed = timing_in(alloc, office, id)?;
-    let draft = draft_if_open(alloc, office, id)?;
-    Ok(StandingPlan { committed, draft })
+    let seen = look(alloc, office, &[Query::Timing { id }, Query::Draft { id }])?;
+    standing_seen(seen)
 }
 
 /// Whether two sets differ nowhere.

@@ -3,18 +3,13 @@ use Rattle.std.proofs.Common.{◌≡◌, ◌≢◌, ◌⊎◌, ◌<◌, ◌+◌,
 use Rattle.std.proofs.lemmas.{List.append_assoc, List.take_more}
 use Rattle.std.specs.Prelude.{IfErr, IsErrAnd, OnOk, Result, ⊤}
 use Rattle.office_machine.specs.declared.intersections.ListedIntersection.{ListedIntersection}
-use Rattle.office_machine.specs.declared.refusal.Refusal.{Refusal}
-use Rattle.office_machine.specs.declared.refusal.Refusal.TheVariants as refusal
-use Rattle.office_machine.specs.declared.reply.Reply.TheVariants.{Refused}
-use Rattle.office_tables_shelf.specs.{Content.Content, Damage.HasAnyDamagedIntersection}
-use Rattle.signal_office_commands.proofs.FaultLemmas.{damage_refused, list_told}
-use Rattle.signal_office_commands.specs.Refused.{fault_of}
+use Rattle.office_tables_shelf.specs.Content.{Content}
 use Rattle.signal_office_faults.specs.declared.fault.Fault.{Fault}
 use Rattle.signal_office_faults.specs.declared.fault.Fault.TheVariants as fault
 use Rattle.signal_office_faults.specs.Folder.{AddsFiles, IsUnput, KnownFiles, NamedText}
 use Rattle.signal_office_tasks.specs.Filed.{file_name, file_shown, files_in}
 use Rattle.signal_office_tasks.specs.Filled.{AreFilesOf, ChecksFiles, FillsWith, IsAnyUnshown, IsNotFilled, IsUnfilled, IsUnshownLate, ListsOffice, PutsFile, PutsFiles}
-use Rattle.signal_office_tasks.specs.Shown.{IsShown}
+use Rattle.signal_office_reports.specs.Reports.{IsShown}
 use Rattle.signal_office_tasks.specs.Tasks.{FillsAs}
 use Rattle.signal_office_tasks.specs.declared.done.Done.{Done}
 use Rattle.signal_office_tasks.specs.declared.filed.{FileOf.FileOf, FolderKind.FolderKind}
@@ -148,17 +143,6 @@ module _ (day : Option ℕ) where
       → IsAnyUnshown day tables files why → ChecksFiles day tables files result
   checks_on tables files (Ok done) why is none = absurd is
   checks_on tables files (Err it) why is none = subst (IsAnyUnshown day tables files) (sym is) none
-
-  -- the intersections are not listed
-  pub not_listed : (tables : Content) (why : Refusal) (told : Fault) → told ≡ fault_of why → (why ≡ refusal.Unavailable) ⊎ (why ≡ refusal.Damaged)
-      → (why ≡ refusal.Damaged → HasAnyDamagedIntersection tables) → ListsOffice tables (Err told)
-  not_listed tables why told is refused met =
-      (subst (λ (f : Fault). (f ≡ fault.Memory) ⊎ ((f ≡ fault.Store) ⊎ (f ≡ fault.Damaged))) (sym is) (inr (list_told why refused)), λ e. met (damaged_is why (sym is ∙ e)))
-    where
-      damaged_is : (why : Refusal) → fault_of why ≡ fault.Damaged → why ≡ refusal.Damaged
-      damaged_is why e =
-          let same : Refused why ≡ Refused refusal.Damaged = damage_refused {A = ⊤} why fault.Damaged (sym e) refl in
-          cc
 
   -- a folder that is not filled, for a fault that is handed on
   pub fills_on : (kind : FolderKind) (tables : Content) (result : Result Done Fault) (why : Fault) → IsErrAnd result (λ it. it ≡ why) → FillsAs kind day tables (Err why)

@@ -2,7 +2,7 @@
 use Rattle.std.proofs.Common.{◌≡◌, ◌≢◌, ℕ, Bool, true, List, Ok, Err, subst, sym}
 use Rattle.std.specs.Prelude.{IsErrAnd, Result}
 use Rattle.office_tables_shelf.specs.Content.{Content}
-use Rattle.signal_office_commands.specs.{Comparing.ComparesNoRunning, Revising.RevisesAs, Showing.ShowsDraft}
+use Rattle.signal_office_commands.specs.{Comparing.ComparesRunning, Explaining.ExplainsDraft, Revising.RevisesAs}
 use Rattle.signal_office_commands.specs.declared.revising.{EditMode.EditMode, Outcome.TheVariants.Open, Revised.Revised}
 use Rattle.signal_office_faults.specs.declared.fault.Fault.{Fault}
 use Rattle.signal_office_faults.specs.declared.fault.Fault.TheVariants as told
@@ -11,7 +11,7 @@ use Rattle.signal_office_tasks.specs.declared.done.Done.{Done}
 
 pub not_explained : (csv lines : List ℕ) (commit explain : Bool) (id : ℕ) (tables : Content) (revised : Revised) (result : Result Done Fault) (fault : Fault)
     → IsErrAnd result (λ why. why ≡ fault)
-    → (fault ≢ told.Memory → (explain ≡ true) × (revised.outcome ≡ Open) × ShowsDraft tables id (Err fault))
+    → (fault ≢ told.Memory → (explain ≡ true) × (revised.outcome ≡ Open) × ExplainsDraft tables id (Err fault))
     → TellsEdit csv lines commit explain id tables (Ok revised) result
 not_explained csv lines commit explain id tables revised (Ok done) fault is says = absurd is
 not_explained csv lines commit explain id tables revised (Err why) fault is says =
@@ -28,7 +28,7 @@ edits_so csv lines id clerk mode explain old middle new revised result same revi
 )
 
 pub not_compared : (id : ℕ) (plan : List ℕ) (csv : Bool) (old : Content) (result : Result Done Fault) (fault : Fault)
-    → IsErrAnd result (λ why. why ≡ fault) → ComparesNoRunning old id plan fault → ComparesWith id plan csv old result
+    → IsErrAnd result (λ why. why ≡ fault) → ComparesRunning old id plan (Err fault) → ComparesWith id plan csv old result
 not_compared id plan csv old (Ok done) fault is none = absurd is
 not_compared id plan csv old (Err why) fault is none =
     subst (λ (w : Fault). ComparesWith id plan csv old (Err w)) (sym is) (λ other. none)

@@ -1,5 +1,5 @@
 -- A fault as `--explain` tells it: of a bad record also its line and what is wrong there, and of a draft that another clerk owns also that clerk.
-use Rattle.std.specs.Prelude.{◌≡◌, ◌⊎◌, ℕ, Bool, true, false, List, Option, Some, None, Ok, Err}
+use Rattle.std.specs.Prelude.{◌≡◌, ◌⊎◌, ℕ, Bool, true, false, List, [], ◌∷◌, MatchResult, Option, Some, None, Result, Ok, Err}
 use Rattle.arrayvec.specs.declared.array_string.ArrayString.{ArrayString}
 use Rattle.draft_core.specs.declared.refusal.DraftRefusal.TheVariants as draft
 use Rattle.office_files.specs.declared.fault.BadRow.{BadRow}
@@ -9,9 +9,12 @@ use Rattle.office_machine.specs.declared.reply.IntersectionState.{IntersectionSt
 use Rattle.office_spreadsheets.specs.Hints.{hint_of, line_of_record}
 use Rattle.office_spreadsheets.specs.declared.hints.Hint.{Hint}
 use Rattle.office_tables_shelf.specs.Content.{Content}
-use Rattle.signal_office_commands.specs.Showing.{ShowsState}
 use Rattle.signal_office_faults.specs.declared.fault.Fault.{Fault}
 use Rattle.signal_office_faults.specs.declared.fault.Fault.TheVariants as fault
+use Rattle.signal_office_reports.specs.Reports.{first_of, state_in}
+use Rattle.signal_office_reports.specs.Seen.{Looks}
+use Rattle.signal_office_reports.specs.declared.seen.Query.TheVariants as query
+use Rattle.signal_office_reports.specs.declared.seen.Seen.{Seen}
 
 -- ---- the record of a plan's CSV file that spells nothing
 
@@ -37,10 +40,15 @@ abbrev pub TellsOwner : (owner : Option (List ℕ)) → Fault → Type 0
 TellsOwner (Some owner) told = (clerk : ArrayString 40) × (clerk.bytes ≡ owner) × (told ≡ fault.HeldBy clerk)
 TellsOwner None told = told ≡ not_owner
 
+abbrev pub TellsOwnerIn : Result IntersectionState Fault → Fault → Type 0
+TellsOwnerIn (Ok state) told = TellsOwner state.owner told
+TellsOwnerIn (Err why) told = told ≡ why
+
 -- who owns the draft of an intersection is told, as the office shows it; or why it is not shown
 abbrev pub IsOwnerTold : Content → (id : ℕ) → Fault → Type 0
 IsOwnerTold tables id told =
-    ((state : IntersectionState) × ShowsState tables id (Ok state) × TellsOwner state.owner told) ⊎ ShowsState tables id (Err told)
+    (found : Result (List Seen) Fault) × Looks tables (query.State id ∷ []) found
+    × MatchResult found (λ all. TellsOwnerIn (state_in (first_of all)) told) (λ why. told ≡ why)
 
 -- ---- an edit that is refused
 

@@ -15,11 +15,10 @@ use Rattle.signal_compare.specs.declared.difference.Difference.{Difference}
 use Rattle.signal_office_checks.specs.Checks.{ChecksFile}
 use Rattle.signal_office_checks.specs.declared.checking.Report.{Report}
 use Rattle.signal_office_commands.specs.Commands.{AddsIntersection, Abandons}
-use Rattle.signal_office_commands.specs.Comparing.{ComparesDraft, ComparesNoDraft, ComparesNoRunning, ComparesRunning}
+use Rattle.signal_office_commands.specs.Comparing.{ComparesDraft, ComparesRunning}
 use Rattle.signal_office_commands.specs.Importing.{Imports}
 use Rattle.signal_office_commands.specs.Revising.{RevisesAs}
 use Rattle.signal_office_commands.specs.Explaining.{ExplainsDraft}
-use Rattle.signal_office_commands.specs.Showing.{ShowsDraft}
 use Rattle.signal_rules.specs.declared.violation.Violation.{Violation}
 use Rattle.signal_reasons.specs.Texts.{explained_text_of}
 use Rattle.signal_reasons.specs.declared.reason.Explained.{Explained}
@@ -38,7 +37,8 @@ use Rattle.signal_office_tasks.specs.Explained.{IsEditRefused}
 use Rattle.signal_office_faults.specs.Folder.{NamedText}
 use Rattle.signal_office_tasks.specs.Filled.{AreFilesOfAll, IsBeginning, IsUnfilled}
 use Rattle.signal_office_tasks.specs.Serving.{ServesPort}
-use Rattle.signal_office_tasks.specs.Shown.{IsUsedShown, ShowsAs}
+use Rattle.signal_office_reports.specs.Reports.{IsUsedShown}
+use Rattle.signal_office_tasks.specs.Shown.{ShowsAs}
 use Rattle.signal_office_tasks.specs.declared.done.Done.{Done}
 use Rattle.signal_office_tasks.specs.declared.filed.FolderKind.{FolderKind}
 use Rattle.signal_office_tasks.specs.declared.task.Task.{Task}
@@ -105,7 +105,7 @@ ChecksAs csv lines old (Err why) = ChecksFile csv lines old (Err why)
 -- its reason. Of a draft that would be the committed set nothing is told.
 abbrev pub IsBroken : (explain : Bool) → Outcome → (id : ℕ) → Content → List Violation → (text : List ℕ) → Type 0
 IsBroken explain Same id tables violations text = text ≡ []
-IsBroken true Open id tables violations text = (found : List Explained) × ExplainsDraft tables id found × (text ≡ explained_text_of found)
+IsBroken true Open id tables violations text = (found : List Explained) × ExplainsDraft tables id (Ok found) × (text ≡ explained_text_of found)
 IsBroken false Open id tables violations text = text ≡ violations_text violations
 IsBroken explain Committed id tables violations text = text ≡ violations_text violations
 
@@ -116,7 +116,7 @@ TellsEdit csv lines commit explain id tables (Ok revised) (Ok done) =
     (broken : List ℕ) × IsBroken explain revised.outcome id tables revised.violations broken
     × (text_of done ≡ broken ++ outcome_line commit revised.outcome) × (status_of done ≡ edited_status commit revised.outcome revised.violations)
 TellsEdit csv lines commit explain id tables (Ok revised) (Err why) =
-    why ≢ fault.Memory → (explain ≡ true) × (revised.outcome ≡ Open) × ShowsDraft tables id (Err why)
+    why ≢ fault.Memory → (explain ≡ true) × (revised.outcome ≡ Open) × ExplainsDraft tables id (Err why)
 TellsEdit csv lines commit explain id tables (Err why) result = (told : Fault) × (result ≡ Err told) × IsEditRefused explain csv lines id tables why told
 
 abbrev pub EditsBy : (csv lines : List ℕ) → (id : ℕ) → (clerk : List ℕ) → (mode : EditMode) → (explain : Bool) → Content → Result Done Fault → Content → Type 0
@@ -128,15 +128,15 @@ AbandonsAs id clerk old result new = (moved : Result ⊤ Fault) × Abandons id c
 
 -- what the draft differs in is told, and the status whether it does; a fault is what its query is refused with, or that memory was refused
 abbrev pub ComparesAs : ℕ → Bool → Content → Result Done Fault → Type 0
-ComparesAs id csv old (Ok done) = (found : List Difference) × ComparesDraft old id found
+ComparesAs id csv old (Ok done) = (found : List Difference) × ComparesDraft old id (Ok found)
     × (text_of done ≡ compared_text csv found) × (status_of done ≡ compared_status found)
-ComparesAs id csv old (Err why) = why ≢ fault.Memory → ComparesNoDraft old id why
+ComparesAs id csv old (Err why) = why ≢ fault.Memory → ComparesDraft old id (Err why)
 
 -- the same of what the plan of a file differs in from the committed set
 abbrev pub ComparesWith : (id : ℕ) → (plan : List ℕ) → (csv : Bool) → Content → Result Done Fault → Type 0
-ComparesWith id plan csv old (Ok done) = (found : List Difference) × ComparesRunning old id plan found
+ComparesWith id plan csv old (Ok done) = (found : List Difference) × ComparesRunning old id plan (Ok found)
     × (text_of done ≡ compared_text csv found) × (status_of done ≡ compared_status found)
-ComparesWith id plan csv old (Err why) = why ≢ fault.Memory → ComparesNoRunning old id plan why
+ComparesWith id plan csv old (Err why) = why ≢ fault.Memory → ComparesRunning old id plan (Err why)
 
 -- a folder was filled, and nothing is told; or this is why not
 abbrev pub FillsAs : FolderKind → (day : Option ℕ) → Content → Result Done Fault → Type 0

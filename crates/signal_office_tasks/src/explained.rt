@@ -5,7 +5,8 @@ ghost use Rattle.std.specs.Prelude.{◌≡◌};
 ghost use Rattle.office_tables_shelf.specs.Keeps.{KeepsShelf};
 ghost use Rattle.signal_office_tasks.specs.Explained.{IsEditExplained, IsEditRefused};
 ghost use Rattle.signal_office_tasks.specs.Explained.{IsFileExplained, IsOwnerTold, TellsOwner};
-ghost use Rattle.signal_office_tasks.specs.Explained.{with_hint};
+ghost use Rattle.signal_office_reports.specs.Reports.{first_of, state_in};
+ghost use Rattle.signal_office_tasks.specs.Explained.{TellsOwnerIn, with_hint};
 ghost use Rattle.office_files.specs.declared.fault.CsvFault.TheVariants as file;
 ghost use Rattle.signal_office_faults.specs.declared.fault.Fault.TheVariants as fault;
 
@@ -16,7 +17,8 @@ use office_files::{BadRow, CsvFault};
 use office_machine::refusal::Refusal;
 use office_spreadsheets::{Hint, hint_of, line_of_record};
 use office_tables_shelf::shelf::Shelf;
-use signal_office_commands::{Fault, state_in};
+use signal_office_commands::Fault;
+use signal_office_reports::{Query, Seen, first_of, look, state_in};
 use signal_records::{InterId, Words};
 use std::alloc::Global;
 
@@ -69,14 +71,24 @@ fn held_by(owner: &Option<Words<40>>) -> Fault
     }
 }
 
+/// Tells the clerk who owns the draft of an intersection, as it was seen.
+fn owner_in(seen: Vec<Seen>) -> Fault
+    ensures { TellsOwnerIn (state_in (first_of seen.items)) result }
+{
+    match state_in(first_of(seen)) {
+        Ok(state) => held_by(&state.owner),
+        Err(why) => why,
+    }
+}
+
 /// Tells the clerk who owns the draft of an intersection.
 fn owner_told<S: Shelf>(alloc: Global, office: &mut Office<S>, id: InterId) -> Fault
     ensures kept { KeepsShelf S.Shelf office.old office.new }
     ensures clean { S.is_clean office.new → S.is_clean office.old }
     ensures told { S.is_honest office.new → IsOwnerTold (S.content office.old) id result }
 {
-    match state_in(alloc, office, id) {
-        Ok(state) => held_by(&state.owner),
+    match look(alloc, office, &[Query::State { id }]) {
+        Ok(seen) => owner_in(seen),
         Err(why) => why,
     }
 }

@@ -5,7 +5,7 @@ ghost use Rattle.office_tables_shelf.specs.Keeps.{KeepsShelf};
 ghost use Rattle.signal_office_tasks.specs.Filled.{ChecksFiles, FillsWith, IsUnshownLate};
 ghost use Rattle.signal_office_tasks.specs.Filled.{ListsOffice};
 ghost use Rattle.signal_office_tasks.specs.Filled.{PutsFile, PutsFiles, told_late};
-ghost use Rattle.signal_office_tasks.specs.Shown.{IsShown};
+ghost use Rattle.signal_office_reports.specs.Reports.{IsShown};
 
 use crate::filed::{FileOf, FolderKind, files_in};
 use crate::task::shown_of;
@@ -13,26 +13,24 @@ use cabinet_core::Day;
 use office_desk::office::Office;
 use office_machine::intersections::ListedIntersection;
 use office_tables_shelf::shelf::Shelf;
-use signal_office_commands::{Fault, fault_of};
+use signal_office_commands::Fault;
 use signal_office_faults::Folder;
 use signal_office_line::Shown;
+use signal_office_reports::{Query, first_of, intersections_in, look};
+use signal_records::Listing;
 use std::alloc::Global;
 
 /// The intersections of an office, by their numbers.
 fn listed_in<S: Shelf>(
     alloc: Global,
     office: &mut Office<S>,
-) -> Result<Vec<ListedIntersection>, Fault>
+) -> Result<Listing<ListedIntersection>, Fault>
     ensures kept { KeepsShelf S.Shelf office.old office.new }
     ensures clean { S.is_clean office.new → S.is_clean office.old }
-    ensures lists { S.is_honest office.new → MatchResult result
-        (λ found. ListsOffice (S.content office.old) (Ok found.items))
-        (λ why. ListsOffice (S.content office.old) (Err why)) }
+    ensures lists { S.is_honest office.new → ListsOffice (S.content office.old) result }
 {
-    match office.intersections(alloc) {
-        Ok(found) => Ok(found),
-        Err(refusal) => Err(fault_of(refusal)),
-    }
+    let seen = look(alloc, office, &[Query::Intersections])?;
+    intersections_in(first_of(seen))
 }
 
 /// Makes the text of each file, and lets it go: so each is known to be one before one is put.
@@ -140,7 +138,7 @@ pub fn fill<S: Shelf, D: Folder>(
     ensures whole { result ≡ Err Fault.Damaged → D.files folder.new ≡ D.files folder.old }
 {
     let listed = listed_in(alloc, office)?;
-    let files = files_in(alloc, kind, &listed)?;
+    let files = files_in(alloc, kind, listed.as_slice())?;
     check_each(alloc, office, day, &files)?;
     put_each(alloc, office, day, &files, folder)
 }

@@ -1,9 +1,8 @@
 //! What is done over the office of a file, or of any other: shown, served, filled into a folder,
 //! changed, tried; with the text that tells it, and the status.
 //!
-//! A new command that only shows an office is an arm of `shown_of` (`task.rt`) and a row of
-//! `IsShown`; each other one that works over an office is a `Task` with an arm of `done_by` and a
-//! row of `TaskDoes`.
+//! A new command that only shows an office is a report of `signal_office_reports`; each other one
+//! that works over an office is a `Task` with an arm of `done_by` and a row of `TaskDoes`.
 #![tactic(auto)]
 
 mod done;

@@ -1,15 +1,16 @@
 //! What is done over the office of a file.
 
 ghost use Rattle.std.specs.Prelude.{◌≡◌, ◌≢◌, ℕ, true, false, List, Ok, Err, IfErr, IfOk};
-ghost use Rattle.std.specs.Prelude.{MatchResult};
 ghost use Rattle.office_tables_shelf.specs.Keeps.{KeepsShelf};
-ghost use Rattle.signal_office_tasks.specs.Shown.{IsShown, ShowsAs};
+ghost use Rattle.signal_office_reports.specs.Reports.{IsShown};
+ghost use Rattle.signal_office_reports.specs.Seen.{Gives};
+ghost use Rattle.signal_office_tasks.specs.Shown.{ShowsAs};
 ghost use Rattle.signal_office_tasks.specs.Tasks.{AbandonsAs, AddsAs, ComparesAs, ComparesWith};
 ghost use Rattle.signal_office_tasks.specs.Tasks.{EditsBy};
 ghost use Rattle.signal_office_tasks.specs.Tasks.{FillsAs};
 ghost use Rattle.signal_office_tasks.specs.Tasks.{ChecksAs, ImportsAs, IsBroken, ServesAs};
 ghost use Rattle.signal_office_tasks.specs.Tasks.{TaskDoes, TellsEdit};
-ghost use Rattle.signal_office_commands.specs.Showing.{ShowsDraft};
+ghost use Rattle.signal_office_commands.specs.Explaining.{ExplainsDraft};
 ghost use Rattle.signal_office_commands.specs.Stopping.{AfterAbandoning, AfterAdding};
 ghost use Rattle.signal_office_commands.specs.Stopping.{AfterImporting, AfterRevising, StopLeaves};
 ghost use Rattle.signal_office_in_file.specs.Stopping.{StopsWithin};
@@ -28,15 +29,13 @@ use office_http::Sink;
 use office_tables_shelf::shelf::Shelf;
 use signal_office_checks::check_csv;
 use signal_office_commands::{
-    EditMode, Fault, Outcome, Revised, abandon_draft, add_intersection, cabinet_csv_of, cabinet_of,
-    diagram_of, draft_csv_of, draft_differences, draft_reasons, import_csv, list_of, orders_csv_of,
-    orders_of, overdue_csv_of, overdue_of, page_of, revise_plan, running_differences, sheet_of,
-    stock_of, timing_csv_of,
+    EditMode, Fault, Outcome, Revised, abandon_draft, add_intersection, draft_differences,
+    draft_reasons, import_csv, revise_plan, running_differences,
 };
 use signal_office_faults::SystemFolder;
 use signal_office_in_file::OfficeTask;
-use signal_office_index::index_of;
-use signal_office_line::{Shown, View};
+use signal_office_line::Shown;
+use signal_office_reports::report;
 use signal_reasons::explained_text;
 use signal_records::{InterId, Interval, Words};
 use signal_rules::Violation;
@@ -123,65 +122,6 @@ impl Task<'_> {
     }
 }
 
-/// What is kept of an intersection, as CSV.
-fn export<S: Shelf>(
-    alloc: Global,
-    office: &mut Office<S>,
-    id: InterId,
-    view: View,
-) -> Result<Vec<u8>, Fault>
-    ensures kept { KeepsShelf S.Shelf office.old office.new }
-    ensures clean { S.is_clean office.new → S.is_clean office.old }
-    ensures shown { S.is_honest office.new → MatchResult result
-        (λ text. IsShown (Shown.Export id view) (S.content office.old) (Ok text.items))
-        (λ why. IsShown (Shown.Export id view) (S.content office.old) (Err why)) }
-{
-    match view {
-        View::Timing => timing_csv_of(alloc, office, id),
-        View::Draft => draft_csv_of(alloc, office, id),
-        View::Cabinet => cabinet_csv_of(alloc, office, id),
-    }
-}
-
-/// The intersections that are overdue on a day, as a report or as CSV.
-fn overdue<S: Shelf>(
-    alloc: Global,
-    office: &mut Office<S>,
-    day: Day,
-    most: usize,
-    csv: bool,
-) -> Result<Vec<u8>, Fault>
-    ensures kept { KeepsShelf S.Shelf office.old office.new }
-    ensures clean { S.is_clean office.new → S.is_clean office.old }
-    ensures shown { S.is_honest office.new → MatchResult result
-        (λ text. IsShown (Shown.Overdue day most csv) (S.content office.old) (Ok text.items))
-        (λ why. IsShown (Shown.Overdue day most csv) (S.content office.old) (Err why)) }
-{
-    match csv {
-        true => overdue_csv_of(alloc, office, day, most),
-        false => overdue_of(alloc, office, day, most),
-    }
-}
-
-/// The open orders of an intersection, or of all, as a text or as CSV.
-fn orders<S: Shelf>(
-    alloc: Global,
-    office: &mut Office<S>,
-    id: Option<InterId>,
-    csv: bool,
-) -> Result<Vec<u8>, Fault>
-    ensures kept { KeepsShelf S.Shelf office.old office.new }
-    ensures clean { S.is_clean office.new → S.is_clean office.old }
-    ensures shown { S.is_honest office.new → MatchResult result
-        (λ text. IsShown (Shown.Orders id csv) (S.content office.old) (Ok text.items))
-        (λ why. IsShown (Shown.Orders id csv) (S.content office.old) (Err why)) }
-{
-    match csv {
-        true => orders_csv_of(alloc, office, id),
-        false => orders_of(alloc, office, id),
-    }
-}
-
 /// What is printed of an office.
 pub(crate) fn shown_of<S: Shelf>(
     alloc: Global,
@@ -190,22 +130,10 @@ pub(crate) fn shown_of<S: Shelf>(
 ) -> Result<Vec<u8>, Fault>
     ensures kept { KeepsShelf S.Shelf office.old office.new }
     ensures clean { S.is_clean office.new → S.is_clean office.old }
-    ensures shown { S.is_honest office.new → MatchResult result
-        (λ text. IsShown shown (S.content office.old) (Ok text.items))
-        (λ why. IsShown shown (S.content office.old) (Err why)) }
+    ensures shown { S.is_honest office.new →
+        Gives (IsShown shown (S.content office.old)) result }
 {
-    match shown {
-        Shown::Sheet { id } => sheet_of(alloc, office, id),
-        Shown::Overdue { day, most, csv } => overdue(alloc, office, day, most, csv),
-        Shown::List { csv } => list_of(alloc, office, csv),
-        Shown::Stock { csv } => stock_of(alloc, office, csv),
-        Shown::Orders { id, csv } => orders(alloc, office, id, csv),
-        Shown::Cabinet { id } => cabinet_of(alloc, office, id),
-        Shown::Export { id, view } => export(alloc, office, id, view),
-        Shown::Diagram { id, pattern } => diagram_of(alloc, office, id, pattern),
-        Shown::Page { id, linked } => page_of(alloc, office, id, linked),
-        Shown::Index { day } => index_of(alloc, office, day),
-    }
+    report(alloc, office, &shown)
 }
 
 /// Serves so many connections on a port.
@@ -316,7 +244,7 @@ fn open_rules<S: Shelf>(
     ensures told { IfOk result (λ text. S.is_honest office.new → IsBroken explain
         Outcome.Open id (S.content office.old) violations.now text.items) }
     ensures fault { IfErr result (λ why. why ≢ Fault.Memory → S.is_honest office.new →
-        (explain ≡ true) × ShowsDraft (S.content office.old) id (Err why)) }
+        (explain ≡ true) × ExplainsDraft (S.content office.old) id (Err why)) }
 {
     if explain {
         Ok(explained_text(alloc, &draft_reasons(alloc, office, id)?)?)
@@ -340,7 +268,7 @@ fn broken_by<S: Shelf>(
         revised.now.outcome id (S.content office.old) revised.now.violations text.items) }
     ensures fault { IfErr result (λ why. why ≢ Fault.Memory → S.is_honest office.new →
         (explain ≡ true) × (revised.now.outcome ≡ Outcome.Open)
-        × ShowsDraft (S.content office.old) id (Err why)) }
+        × ExplainsDraft (S.content office.old) id (Err why)) }
 {
     match revised.outcome {
         Outcome::Same => Ok(Vec::new(alloc)),

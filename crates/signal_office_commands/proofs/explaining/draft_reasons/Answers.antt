@@ -1,13 +1,18 @@
-use Rattle.signal_office_commands.proofs.FaultLemmas.{on_fault}
+use Rattle.std.proofs.Common.{[], ◌∷◌, Err, refl}
+use Rattle.signal_office_commands.specs.Explaining.{ExplainsDraft}
+use Rattle.signal_reasons.specs.Reasons.{AreReasons}
+use Rattle.signal_office_reports.proofs.LookLemmas.{made_of_seen}
+use Rattle.signal_office_reports.proofs.SeenLemmas.{handed}
+use Rattle.signal_office_reports.specs.Reports.{IsTextOf, draft_in, first_of}
+use Rattle.signal_office_reports.specs.Seen.{Gives}
+use Rattle.signal_office_reports.specs.declared.seen.Query.TheVariants as query
 use Rattle.signal_office_commands.proofs.explaining.draft_reasons.Goals as goal
 
-pub returns-clause-found : goal.returns-clause-found
-returns-clause-found g c = λ clean tables held. record {
-  draft = c.in_ok-draft.draft;
-  draft_is = c.in_ok-draft.ensures.shown clean tables held;
-  told = c.in_ok-found.ensures.told;
-}
+pub returns-clause-explains : goal.returns-clause-explains
+returns-clause-explains g c = λ clean tables held.
+    made_of_seen (query.Draft c.args.id ∷ []) (λ seen. IsTextOf AreReasons (draft_in (first_of seen))) tables c.in_ok-seen.seen.items c.reasons_of.result (c.in_ok-seen.ensures.looks clean tables held) c.reasons_of.ensures
 
-pub returns-in_err-draft-clause-fault : goal.returns-in_err-draft-clause-fault
-returns-in_err-draft-clause-fault g c =
-    on_fault _ c.in_err-draft.field-0.0 _ c.from_residual.ensures.1 (λ other. c.in_err-draft.ensures.shown)
+pub returns-in_err-seen-clause-explains : goal.returns-in_err-seen-clause-explains
+returns-in_err-seen-clause-explains g c = λ clean tables held.
+    handed c.from_residual.result c.in_err-seen.field-0.0 (Gives (ExplainsDraft tables c.args.id)) c.from_residual.ensures.1
+    (Err c.in_err-seen.field-0.0, c.in_err-seen.ensures.looks clean tables held, refl)

@@ -1,5 +1,6 @@
 use Rattle.std.proofs.Common.{inl, inr, refl, rules}
-use Rattle.signal_office_commands.proofs.{AskingLemmas.still_held, RevisedLemmas.err_is}
+use Rattle.signal_office_commands.proofs.RevisedLemmas.{err_is}
+use Rattle.signal_office_reports.proofs.SeenLemmas.{still_held}
 use Rattle.signal_office_commands.proofs.StopLemmas.{stop_none}
 use Rattle.signal_office_commands.proofs.revising.revise_by.Goals as goal
 use Rattle.signal_office_faults.specs.declared.fault.Fault.TheVariants as told
@@ -12,7 +13,7 @@ returns-clause-revises g c = λ clean tables held.
         asked = c.in_ok-asked.asked.items;
         spelled = c.in_ok-asked.ensures.changes;
         standing = c.in_ok-standing.standing;
-        shows = c.in_ok-standing.ensures.shown (c.revise.ensures.clean clean) tables held;
+        shows = c.in_ok-standing.ensures.stands (c.revise.ensures.clean clean) tables held;
         changes = c.in_ok-changes.changes;
         wanted = c.in_ok-changes.ensures;
         ends = done.1;
@@ -30,7 +31,7 @@ returns-in_err-standing-clause-revises g c = λ clean tables held. (
     c.in_err-standing.field-0.0,
     err_is _ c.in_err-standing.field-0.0 c.from_residual-in_err-standing.ensures.1,
     refl,
-    inr (inl (c.in_err-standing.ensures.fault clean tables held)),
+    inr (inl (c.in_err-standing.ensures.stands clean tables held)),
   ),
   still_held g.S.Shelf _ _ tables c.standing_in.ensures.kept held,
 )
@@ -51,7 +52,7 @@ returns-clause-stop g c = λ clean tables held found may.
         c.in_ok-asked.asked.items,
         c.in_ok-asked.ensures.changes,
         c.in_ok-standing.standing,
-        c.in_ok-standing.ensures.shown (c.revise.ensures.clean clean) tables held,
+        c.in_ok-standing.ensures.stands (c.revise.ensures.clean clean) tables held,
         c.in_ok-changes.changes,
         c.in_ok-changes.ensures,
         after,

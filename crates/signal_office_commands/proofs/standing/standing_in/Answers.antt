@@ -1,21 +1,13 @@
-use Rattle.std.proofs.Common.{inl, inr}
-use Rattle.signal_office_commands.proofs.AskingLemmas.{still_held}
-use Rattle.signal_office_commands.proofs.FaultLemmas.{on_fault}
+use Rattle.std.proofs.Common.{Ok, Err, refl}
+use Rattle.signal_office_commands.specs.Standing.{StandsAs}
+use Rattle.signal_office_reports.proofs.SeenLemmas.{handed}
 use Rattle.signal_office_commands.proofs.standing.standing_in.Goals as goal
 
-pub returns-clause-shown : goal.returns-clause-shown
-returns-clause-shown g c = λ clean tables held.
-    let after_timing = still_held g.S.Shelf _ _ tables c.timing_in.ensures.kept held in (
-      c.in_ok-committed.ensures.shown (c.draft_if_open.ensures.clean clean) tables held,
-      c.in_ok-draft.ensures.shown clean tables after_timing,
-    )
+pub returns-clause-stands : goal.returns-clause-stands
+returns-clause-stands g c = λ clean tables held.
+    (Ok c.in_ok-seen.seen.items, c.in_ok-seen.ensures.looks clean tables held, c.standing_seen.ensures)
 
-pub returns-in_err-committed-clause-fault : goal.returns-in_err-committed-clause-fault
-returns-in_err-committed-clause-fault g c =
-    on_fault _ c.in_err-committed.field-0.0 _ c.from_residual.ensures.1 (λ clean tables held.
-    inl (c.in_err-committed.ensures.shown clean tables held))
-
-pub returns-in_err-draft-clause-fault : goal.returns-in_err-draft-clause-fault
-returns-in_err-draft-clause-fault g c =
-    on_fault _ c.in_err-draft.field-0.0 _ c.from_residual-in_err-draft.ensures.1 (λ clean tables held.
-    inr (c.in_err-draft.ensures.shown clean tables (still_held g.S.Shelf _ _ tables c.timing_in.ensures.kept held)))
+pub returns-in_err-seen-clause-stands : goal.returns-in_err-seen-clause-stands
+returns-in_err-seen-clause-stands g c = λ clean tables held.
+    handed c.from_residual.result c.in_err-seen.field-0.0 (StandsAs tables c.args.id) c.from_residual.ensures.1
+    (Err c.in_err-seen.field-0.0, c.in_err-seen.ensures.looks clean tables held, refl)

@@ -1,11 +1,11 @@
 use Rattle.std.proofs.Common.{◌++◌, [], ◌∷◌, List, Ok, Err, arith, refl, subst}
 use Rattle.std.proofs.lemmas.List.{take_all}
 use Rattle.office_tables_shelf.specs.Content.{Content}
-use Rattle.signal_office_commands.proofs.AskingLemmas.{◌then◌}
+use Rattle.signal_office_reports.proofs.SeenLemmas.{◌then◌}
 use Rattle.signal_office_line.specs.declared.shows.Shown.{Shown}
 use Rattle.signal_office_tasks.specs.Filed.{file_name}
 use Rattle.signal_office_tasks.specs.Filled.{AreFilesOf}
-use Rattle.signal_office_tasks.specs.Shown.{IsShown}
+use Rattle.signal_office_reports.specs.Reports.{IsShown}
 use Rattle.signal_office_tasks.specs.declared.filed.FileOf.{FileOf}
 use Rattle.signal_office_tasks.proofs.FillLemmas.{checks_on, files_more, unshown_at}
 use Rattle.signal_office_tasks.proofs.filling.check_each.Goals as goal

@@ -11,17 +11,17 @@ pub returns-clause-fills : goal.returns-clause-fills
 returns-clause-fills g c = λ honest.
     let files = g.D.Folder.files in
     let tables = g.S.Shelf.content c.args.office.now in
-    let listed = c.in_ok-listed.listed.items in
+    let listed = c.in_ok-listed.listed in
     let checked = c.put_each.ensures.kept.honest_before honest in
     let asked = c.check_each.ensures.kept.honest_before checked in
     let first = c.listed_in.ensures.kept.same_content asked in
     let later = c.check_each.ensures.kept.same_content checked in
-    let files_are = c.in_ok-files.ensures ∙ ap (files_in c.args.kind) c.deref.ensures.value in
+    let files_are = c.in_ok-files.ensures ∙ ap (files_in c.args.kind) c.as_slice.ensures in
     let texts = subst (λ (held : Content). ChecksFiles c.args.day.now held (files_in c.args.kind listed) (Ok tt)) first
-    (subst (λ (all : List FileOf). ChecksFiles c.args.day.now (g.S.Shelf.content c.listed_in.new.office) all (Ok tt)) (c.deref-2.ensures.value ∙ files_are) (c.in_ok-check_each.ensures.checks checked)) in
+    (subst (λ (all : List FileOf). ChecksFiles c.args.day.now (g.S.Shelf.content c.listed_in.new.office) all (Ok tt)) (c.deref.ensures.value ∙ files_are) (c.in_ok-check_each.ensures.checks checked)) in
     let puts = subst (λ (held : Content). PutsFiles c.args.day.now held (files_in c.args.kind listed) (files c.args.folder.now) (files c.put_each.new.folder) c.put_each.result) (later ∙ first)
     (subst (λ (all : List FileOf). PutsFiles c.args.day.now (g.S.Shelf.content c.check_each.new.office) all (files c.args.folder.now) (files c.put_each.new.folder) c.put_each.result)
-    (c.deref-3.ensures.value ∙ files_are) (c.put_each.ensures.puts honest)) in
+    (c.deref-2.ensures.value ∙ files_are) (c.put_each.ensures.puts honest)) in
     fills_so c.args.day.now c.args.kind tables (files c.args.folder.now) (files c.put_each.new.folder) listed c.put_each.result (c.in_ok-listed.ensures.lists asked) texts puts c.put_each.ensures.undamaged
 
 pub returns-clause-whole : goal.returns-clause-whole
@@ -43,8 +43,8 @@ returns-in_err-check_each-clause-fills g c = λ checked.
     let why = c.in_err-check_each.field-0.0 in
     let asked = c.check_each.ensures.kept.honest_before checked in
     let first = c.listed_in.ensures.kept.same_content asked in
-    let files_are = c.in_ok-files.ensures ∙ ap (files_in c.args.kind) c.deref.ensures.value in
-    let none = subst (λ (held : Content). IsAnyUnshown c.args.day.now held (files_in c.args.kind c.in_ok-listed.listed.items) why) first
-    (subst (λ (all : List FileOf). IsAnyUnshown c.args.day.now (g.S.Shelf.content c.listed_in.new.office) all why) (c.deref-2.ensures.value ∙ files_are) (c.in_err-check_each.ensures.checks checked)) in
+    let files_are = c.in_ok-files.ensures ∙ ap (files_in c.args.kind) c.as_slice.ensures in
+    let none = subst (λ (held : Content). IsAnyUnshown c.args.day.now held (files_in c.args.kind c.in_ok-listed.listed) why) first
+    (subst (λ (all : List FileOf). IsAnyUnshown c.args.day.now (g.S.Shelf.content c.listed_in.new.office) all why) (c.deref.ensures.value ∙ files_are) (c.in_err-check_each.ensures.checks checked)) in
     fills_none c.args.day.now c.args.kind tables (g.D.Folder.files c.args.folder.now) c.from_residual-in_err-check_each.result why c.from_residual-in_err-check_each.ensures.1
-    (inr (inr (c.in_ok-listed.listed.items, c.in_ok-listed.ensures.lists asked, inr (inr none))))
+    (inr (inr (c.in_ok-listed.listed, c.in_ok-listed.ensures.lists asked, inr (inr none))))

@@ -1,9 +1,21 @@
-use Rattle.std.proofs.Common.{Err, None, ap, ◌∙◌}
-use Rattle.office_machine.specs.declared.refusal.Refusal.{Refusal}
-use Rattle.signal_office_tasks.proofs.FillLemmas.{not_listed}
+use Rattle.std.proofs.Common.{[], ◌∷◌, Ok, Err, ap, refl, ◌∙◌}
+use Rattle.signal_office_commands.proofs.HonestLemmas.{honest_tells}
+use Rattle.signal_office_reports.proofs.SeenLemmas.{handed}
+use Rattle.signal_office_reports.specs.Reports.{intersections_in}
+use Rattle.signal_office_reports.specs.Seen.{Looks}
+use Rattle.signal_office_reports.specs.declared.seen.Query.TheVariants as query
+use Rattle.signal_office_tasks.specs.Filled.{ListsOffice}
 use Rattle.signal_office_tasks.proofs.filling.listed_in.Goals as goal
 
-pub returns-in-Err-clause-lists : goal.returns-in-Err-clause-lists
-returns-in-Err-clause-lists g c = λ honest.
-    not_listed None (g.S.Shelf.content c.args.office.now) c.in-Err.refusal c.fault_of.result c.fault_of.ensures c.in-Err.ensures.refused
-    (λ is. c.intersections.ensures.damaged (c.in-Err.is ∙ ap (λ (r : Refusal). Err r) is) honest)
+pub returns-clause-lists : goal.returns-clause-lists
+returns-clause-lists g c = λ honest. (
+  Ok c.in_ok-seen.seen.items,
+  honest_tells g.S.Shelf g.met.S.Shelf.honest_is_clean _ _ (λ tables. Looks tables (query.Intersections ∷ []) (Ok c.in_ok-seen.seen.items)) c.in_ok-seen.ensures.looks honest,
+  c.intersections_in.ensures ∙ ap intersections_in c.first_of.ensures,
+)
+
+pub returns-in_err-seen-clause-lists : goal.returns-in_err-seen-clause-lists
+returns-in_err-seen-clause-lists g c = λ honest.
+    let why = c.in_err-seen.field-0.0 in
+    handed c.from_residual.result why (ListsOffice (g.S.Shelf.content c.args.office.now)) c.from_residual.ensures.1
+    (Err why, honest_tells g.S.Shelf g.met.S.Shelf.honest_is_clean _ _ (λ tables. Looks tables (query.Intersections ∷ []) (Err why)) c.in_err-seen.ensures.looks honest, refl)

@@ -3,7 +3,7 @@ use Rattle.signal_office_faults.specs.declared.fault.Fault.TheVariants as fault
 use Rattle.signal_office_line.specs.declared.shows.Shown.{Shown}
 use Rattle.signal_office_tasks.specs.Filed.{file_shown}
 use Rattle.signal_office_tasks.specs.Filled.{IsUnshownLate}
-use Rattle.signal_office_tasks.specs.Shown.{IsShown}
+use Rattle.signal_office_reports.specs.Reports.{IsShown}
 use Rattle.signal_office_tasks.proofs.FillLemmas.{put_so, put_sound, sound_on, unput_on}
 use Rattle.signal_office_tasks.proofs.filling.put_file.Goals as goal
 

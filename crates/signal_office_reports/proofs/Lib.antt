@@ -1,0 +1,4 @@
+pub mod SeenLemmas
+pub mod LookLemmas
+mod GatheringLemmas
+pub mod MeaningLemmas

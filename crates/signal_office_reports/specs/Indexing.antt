@@ -1,0 +1,26 @@
+-- What the index of an office is an index of.
+use Rattle.std.specs.Prelude.{◌≡◌, ℕ, List, [], map, Option, Some, None}
+use Rattle.std.specs.FinMap.{entries}
+use Rattle.cabinet_core.specs.Overdue.{Listed}
+use Rattle.cabinet_core.specs.Stock.{stock_of}
+use Rattle.office_machine.specs.Office.{Office}
+use Rattle.office_machine.specs.Step.{overdue_on}
+use Rattle.signal_index.specs.Index.{IsIndex}
+use Rattle.signal_index.specs.Overdue.{number_of_entry, overdue_among}
+use Rattle.signal_office_reports.specs.Reports.{index_shown}
+use Rattle.signal_office_reports.specs.Seen.{cabinet_listed}
+use Rattle.signal_index.specs.declared.shown.IndexShown.{IndexShown}
+
+-- its intersections by their numbers, their open orders, and the stock
+abbrev pub index_from : Office → IndexShown
+index_from office = index_shown (map (cabinet_listed office) (entries office.intersections)) (stock_of office.register)
+
+-- the numbers of the intersections that are overdue on the day, if one is given
+abbrev pub late_in : Office → Option ℕ → List ℕ
+late_in office None = []
+late_in office (Some day) = map (λ (listed : Listed). listed.id) (overdue_on office day)
+
+-- The text is the index of the office. Those that it marks, and shows first, are those that the query Overdue lists.
+pub record IsIndexOf (office : Office) (day : Option ℕ) (text : List ℕ) : Type 0 where
+  pub index : IsIndex day (index_from office) text
+  pub late : map number_of_entry (overdue_among day (index_from office).entries) ≡ late_in office day

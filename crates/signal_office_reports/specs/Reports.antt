@@ -1,0 +1,247 @@
+-- What is shown of an office: the queries for it, and what is made of what they see.
+use Rattle.std.specs.Prelude.{◌≡◌, ◌⊎◌, ℕ, Bool, true, false, if◌then◌else◌, List, [], ◌∷◌, flat_map, map, Option, Some, None, is_some, Result, Ok, Err}
+use Rattle.std.specs.FinMap.{values}
+use Rattle.cabinet_core.specs.Overdue.{Listed, listed_of}
+use Rattle.cabinet_core.specs.declared.overdue_inspections.OverdueRow.{OverdueRow}
+use Rattle.draft_core.specs.declared.refusal.DraftRefusal.TheVariants as draft
+use Rattle.office_files.specs.Records.{records_csv_text}
+use Rattle.office_files.specs.Sheet.{sheet_text}
+use Rattle.office_files.specs.Timing.{timing_csv_text}
+use Rattle.office_listings.specs.Cabinet.{cabinet_register}
+use Rattle.office_listings.specs.Orders.{named_orders, open_orders, orders_csv_text, orders_listing}
+use Rattle.office_listings.specs.Used.{used_on}
+use Rattle.office_listings.specs.declared.orders.NamedOrder.{NamedOrder}
+use Rattle.office_listings.specs.declared.used.UsedPart.{UsedPart}
+use Rattle.office_machine.specs.declared.intersections.ListedIntersection.{ListedIntersection}
+use Rattle.office_machine.specs.declared.refusal.Refusal.TheVariants as refusal
+use Rattle.office_machine.specs.declared.reply.CabinetShown.{CabinetShown}
+use Rattle.office_machine.specs.declared.reply.IntersectionState.{IntersectionState}
+use Rattle.office_machine.specs.declared.reply.Reply.TheVariants as reply
+use Rattle.office_machine.specs.declared.reply.RunningTiming.{RunningTiming}
+use Rattle.office_tables_shelf.specs.Content.{Content}
+use Rattle.signal_diagram.specs.Diagram.{diagram_text}
+use Rattle.signal_index.specs.Index.{IsIndex}
+use Rattle.signal_index.specs.Shown.{index_entry}
+use Rattle.signal_index.specs.declared.shown.IndexEntry.{IndexEntry}
+use Rattle.signal_index.specs.declared.shown.IndexShown.{IndexShown}
+use Rattle.signal_office_faults.specs.declared.fault.Fault.{Fault}
+use Rattle.signal_office_faults.specs.declared.fault.Fault.TheVariants as told
+use Rattle.signal_office_line.specs.declared.shows.Shown.{Shown}
+use Rattle.signal_office_line.specs.declared.shows.Shown.TheVariants as shown
+use Rattle.signal_office_line.specs.declared.shows.View.{View}
+use Rattle.signal_office_line.specs.declared.shows.View.TheVariants as view
+use Rattle.signal_office_reports.specs.Listing.{list_written, named_written, overdue_written, stock_written, used_written}
+use Rattle.signal_office_reports.specs.Refused.{fault_of}
+use Rattle.signal_office_reports.specs.Seen.{IsMadeOf}
+use Rattle.signal_office_reports.specs.declared.seen.ListedCabinet.{ListedCabinet}
+use Rattle.signal_office_reports.specs.declared.seen.Query.{Query}
+use Rattle.signal_office_reports.specs.declared.seen.Query.TheVariants as query
+use Rattle.signal_office_reports.specs.declared.seen.Seen.{Seen}
+use Rattle.signal_office_reports.specs.declared.seen.Seen.TheVariants as seen
+use Rattle.signal_page.specs.Page.{IsPage}
+use Rattle.signal_page.specs.declared.shown.IntersectionShown.{IntersectionShown}
+use Rattle.signal_records.specs.TimingSet.{Rows}
+use Rattle.signal_rules.specs.Lookup.{pattern_at}
+
+-- ---- what is asked for it
+
+-- the open orders of all, or those of an intersection; as CSV they have its name
+abbrev pub orders_queries : Option ℕ → (csv : Bool) → List Query
+orders_queries None csv = query.OpenOrders ∷ []
+orders_queries (Some id) true = query.State id ∷ query.Cabinet id ∷ []
+orders_queries (Some id) false = query.Cabinet id ∷ []
+
+abbrev pub export_queries : ℕ → View → List Query
+export_queries id view.Timing = query.Timing id ∷ []
+export_queries id view.Draft = query.Draft id ∷ []
+export_queries id view.Cabinet = query.Cabinet id ∷ []
+
+abbrev pub queries_of : Shown → List Query
+queries_of (shown.Sheet id) = query.Timing id ∷ []
+queries_of (shown.Overdue day most csv) = query.Overdue day most ∷ []
+queries_of (shown.List csv) = query.Intersections ∷ []
+queries_of (shown.Stock csv) = query.Stock ∷ []
+queries_of (shown.Orders id csv) = orders_queries id csv
+queries_of (shown.Cabinet id) = query.State id ∷ query.Cabinet id ∷ []
+queries_of (shown.Export id it) = export_queries id it
+queries_of (shown.Diagram id pattern) = query.Timing id ∷ []
+queries_of (shown.Page id linked) = query.State id ∷ query.Timing id ∷ query.OpenDraft id ∷ query.Cabinet id ∷ []
+queries_of (shown.Index day) = query.Cabinets ∷ query.Stock ∷ []
+
+-- ---- what a query showed, or the fault of its refusal
+
+abbrev pub state_in : Seen → Result IntersectionState Fault
+state_in (seen.Reply (reply.State state)) = Ok state
+state_in (seen.Reply (reply.Refused why)) = Err (fault_of why)
+state_in other = Err told.Store
+
+abbrev pub timing_in : Seen → Result RunningTiming Fault
+timing_in (seen.Reply (reply.Timing timing)) = Ok timing
+timing_in (seen.Reply (reply.Refused why)) = Err (fault_of why)
+timing_in other = Err told.Store
+
+abbrev pub draft_in : Seen → Result Rows Fault
+draft_in (seen.Reply (reply.Draft draft)) = Ok draft.rows
+draft_in (seen.Reply (reply.Refused why)) = Err (fault_of why)
+draft_in other = Err told.Store
+
+-- where nobody holds a draft, there is none to show
+abbrev pub open_draft_in : Seen → Result (Option Rows) Fault
+open_draft_in (seen.Reply (reply.Draft draft)) = Ok (Some draft.rows)
+open_draft_in (seen.Reply (reply.Refused (refusal.Draft draft.NotTransaction))) = Ok None
+open_draft_in (seen.Reply (reply.Refused why)) = Err (fault_of why)
+open_draft_in other = Err told.Store
+
+abbrev pub cabinet_in : Seen → Result CabinetShown Fault
+cabinet_in (seen.Reply (reply.Cabinet cabinet)) = Ok cabinet
+cabinet_in (seen.Reply (reply.Refused why)) = Err (fault_of why)
+cabinet_in other = Err told.Store
+
+abbrev pub stock_in : Seen → Result (List (List ℕ × ℕ)) Fault
+stock_in (seen.Reply (reply.Stock parts)) = Ok parts
+stock_in (seen.Reply (reply.Refused why)) = Err (fault_of why)
+stock_in other = Err told.Store
+
+abbrev pub overdue_in : Seen → Result (List Listed) Fault
+overdue_in (seen.Reply (reply.Overdue listed)) = Ok listed
+overdue_in other = Err told.Store
+
+abbrev pub intersections_in : Seen → Result (List ListedIntersection) Fault
+intersections_in (seen.Intersections list) = Ok list
+intersections_in other = Err told.Store
+
+abbrev pub orders_in : Seen → Result (List NamedOrder) Fault
+orders_in (seen.Orders orders) = Ok orders
+orders_in other = Err told.Store
+
+abbrev pub cabinets_in : Seen → Result (List ListedCabinet) Fault
+cabinets_in (seen.Cabinets cabinets) = Ok cabinets
+cabinets_in other = Err told.Store
+
+-- the first of what was seen, and the rest
+abbrev pub first_of : List Seen → Seen
+first_of [] = seen.Reply (reply.Refused refusal.Unavailable)
+first_of (it ∷ rest) = it
+
+abbrev pub rest_of : List Seen → List Seen
+rest_of [] = []
+rest_of (it ∷ rest) = rest
+
+-- ---- what is shown of several
+
+-- what comes next, where a step gave a value; else its fault
+infixl 10 ◌>>=◌
+abbrev pub ◌>>=◌ : {A B : Type 0} → Result A Fault → (A → Result B Fault) → Result B Fault
+(Ok x) >>= f = f x
+(Err e) >>= f = Err e
+
+-- the register of a cabinet, with what is known of its intersection
+abbrev pub register_of : (state cabinet : Seen) → Result (IntersectionState × CabinetShown) Fault
+register_of state cabinet = do
+  known ← state_in state
+  holds ← cabinet_in cabinet
+  Ok (known, holds)
+
+abbrev pub register_in : List Seen → Result (IntersectionState × CabinetShown) Fault
+register_in found = register_of (first_of found) (first_of (rest_of found))
+
+-- a committed timing set and its draft
+abbrev pub plans_of : (timing draft : Seen) → Result (Rows × Rows) Fault
+plans_of timing draft = do
+  runs ← timing_in timing
+  drafted ← draft_in draft
+  Ok (runs.rows, drafted)
+
+abbrev pub plans_in : List Seen → Result (Rows × Rows) Fault
+plans_in found = plans_of (first_of found) (first_of (rest_of found))
+
+-- a committed timing set that has a pattern
+abbrev pub having : ℕ → Rows → Result Rows Fault
+having pattern plan = if is_some (pattern_at plan pattern) then Ok plan else Err told.UnknownPattern
+
+abbrev pub pattern_in : ℕ → Seen → Result Rows Fault
+pattern_in pattern it = do
+  timing ← timing_in it
+  having pattern timing.rows
+
+-- what the page of an intersection shows
+abbrev pub page_of : (state timing draft cabinet : Seen) → Result IntersectionShown Fault
+page_of state timing draft cabinet = do
+  known ← state_in state
+  runs ← timing_in timing
+  drafted ← open_draft_in draft
+  holds ← cabinet_in cabinet
+  Ok (record { state = known; committed = runs.rows; draft = drafted; cabinet = holds })
+
+abbrev pub page_in : List Seen → Result IntersectionShown Fault
+page_in found =
+    page_of (first_of found) (first_of (rest_of found)) (first_of (rest_of (rest_of found))) (first_of (rest_of (rest_of (rest_of found))))
+
+-- what the index shows: of each intersection, the open orders of all, and the stock
+abbrev pub entry_of : ListedCabinet → IndexEntry
+entry_of it = index_entry it.listed it.cabinet
+
+abbrev pub named_of : ListedCabinet → List NamedOrder
+named_of it = named_orders it.listed.name it.cabinet
+
+abbrev pub index_shown : List ListedCabinet → List (List ℕ × ℕ) → IndexShown
+index_shown cabinets stock = record { entries = map entry_of cabinets; orders = flat_map named_of cabinets; stock = stock }
+
+abbrev pub index_of : (cabinets stock : Seen) → Result (List ListedCabinet × List (List ℕ × ℕ)) Fault
+index_of cabinets stock = do
+  all ← cabinets_in cabinets
+  parts ← stock_in stock
+  Ok (all, parts)
+
+abbrev pub index_in : List Seen → Result (List ListedCabinet × List (List ℕ × ℕ)) Fault
+index_in found = index_of (first_of found) (first_of (rest_of found))
+
+-- what was used of all parts, or of one, at all intersections: each line of each order once, by the numbers of these, of their orders, and of the lines
+abbrev pub used_in : Option (List ℕ) → ListedCabinet → List UsedPart
+used_in part it = used_on part it.cabinet
+
+abbrev pub used_among : Option (List ℕ) → List ListedCabinet → List UsedPart
+used_among part cabinets = flat_map (used_in part) cabinets
+
+-- ---- the texts
+
+-- the text says this of what is shown; or nothing is, or memory was refused, and this is why
+abbrev pub IsTextOf : {A B : Type 0} → (text : A → B → Type 0) → Result A Fault → Result B Fault → Type 0
+IsTextOf text (Ok it) (Ok bytes) = text it bytes
+IsTextOf text (Err cause) (Ok bytes) = ⊥
+IsTextOf text it (Err why) = (why ≡ told.Memory) ⊎ (it ≡ Err why)
+
+abbrev pub IsOrdersMade : Option ℕ → (csv : Bool) → List Seen → Result (List ℕ) Fault → Type 0
+IsOrdersMade None csv found = IsTextOf (λ orders text. text ≡ named_written csv orders) (orders_in (first_of found))
+IsOrdersMade (Some id) true found = IsTextOf (λ it text. text ≡ orders_csv_text (named_orders it.0.name it.1)) (register_in found)
+IsOrdersMade (Some id) false found = IsTextOf (λ cabinet text. text ≡ orders_listing (open_orders cabinet)) (cabinet_in (first_of found))
+
+abbrev pub IsExportMade : View → List Seen → Result (List ℕ) Fault → Type 0
+IsExportMade view.Timing found = IsTextOf (λ t text. text ≡ timing_csv_text t.rows) (timing_in (first_of found))
+IsExportMade view.Draft found = IsTextOf (λ rows text. text ≡ timing_csv_text rows) (draft_in (first_of found))
+IsExportMade view.Cabinet found = IsTextOf (λ cabinet text. text ≡ records_csv_text cabinet.id cabinet.view) (cabinet_in (first_of found))
+
+-- what is made of what was seen
+abbrev pub IsMade : Shown → List Seen → Result (List ℕ) Fault → Type 0
+IsMade (shown.Sheet id) found = IsTextOf (λ t text. text ≡ sheet_text id t.name t.revision (values t.rows)) (timing_in (first_of found))
+IsMade (shown.Overdue day most csv) found =
+    IsTextOf (λ listed text. (rows : List OverdueRow) × (map listed_of rows ≡ listed) × (text ≡ overdue_written csv day rows)) (overdue_in (first_of found))
+IsMade (shown.List csv) found = IsTextOf (λ list text. text ≡ list_written csv list) (intersections_in (first_of found))
+IsMade (shown.Stock csv) found = IsTextOf (λ parts text. text ≡ stock_written csv parts) (stock_in (first_of found))
+IsMade (shown.Orders id csv) found = IsOrdersMade id csv found
+IsMade (shown.Cabinet id) found = IsTextOf (λ it text. text ≡ cabinet_register it.1.id it.0.name it.0.interval it.1.view) (register_in found)
+IsMade (shown.Export id it) found = IsExportMade it found
+IsMade (shown.Diagram id pattern) found = IsTextOf (λ plan text. text ≡ diagram_text plan pattern) (pattern_in pattern (first_of found))
+IsMade (shown.Page id linked) found = IsTextOf (IsPage linked) (page_in found)
+IsMade (shown.Index day) found = IsTextOf (λ it text. IsIndex day (index_shown it.0 it.1) text) (index_in found)
+
+-- WHAT IS SHOWN of the tables as what was asked for, or why nothing is: what is made of the answers to its queries
+abbrev pub IsShown : Shown → Content → Result (List ℕ) Fault → Type 0
+IsShown it tables result = IsMadeOf (queries_of it) (IsMade it) tables result
+
+-- what was used of all parts, or of one, as a text or as CSV, or why it is not shown
+abbrev pub IsUsedMade : (part : Option (List ℕ)) → (csv : Bool) → List Seen → Result (List ℕ) Fault → Type 0
+IsUsedMade part csv found = IsTextOf (λ cabinets text. text ≡ used_written csv (used_among part cabinets)) (cabinets_in (first_of found))
+
+abbrev pub IsUsedShown : (part : Option (List ℕ)) → (csv : Bool) → Content → Result (List ℕ) Fault → Type 0
+IsUsedShown part csv tables result = IsMadeOf (query.Cabinets ∷ []) (IsUsedMade part csv) tables result

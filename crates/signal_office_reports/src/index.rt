@@ -1,0 +1,112 @@
+//! The index of all intersections, and what was used at them.
+
+ghost use Rattle.std.specs.Prelude.{◌≡◌, flat_map, map, IfOk};
+ghost use Rattle.signal_office_reports.specs.Reports.{IsMade, IsUsedMade, entry_of, index_in};
+ghost use Rattle.signal_office_reports.specs.Reports.{index_of, index_shown, named_of};
+ghost use Rattle.signal_office_reports.specs.Reports.{used_among};
+ghost use Rattle.signal_office_reports.specs.Seen.{Gives};
+
+use crate::parts::{cabinets_in, first_of, next_of, stock_in};
+use crate::seen::{ListedCabinet, Seen};
+use cabinet_core::{Day, PartCode};
+use office_listings::{NamedOrder, UsedPart, add_named_orders, add_used, used_csv, used_text};
+use office_machine::reply::Stock;
+use signal_index::{IndexEntry, IndexShown, add_entry, index_page};
+use signal_office_faults::Fault;
+use signal_office_line::Shown;
+use signal_records::{Listing, NoMemory};
+use std::alloc::Global;
+
+fn entries_in(alloc: Global, cabinets: &[ListedCabinet]) -> Result<Vec<IndexEntry>, NoMemory>
+    ensures { IfOk result (λ entries. entries.items ≡ map entry_of cabinets.now) }
+{
+    let mut entries = Vec::new(alloc);
+    for it in cabinets {
+        add_entry(&mut entries, &it.listed, &it.cabinet)?;
+    }
+    Ok(entries)
+}
+
+fn orders_in(alloc: Global, cabinets: &[ListedCabinet]) -> Result<Vec<NamedOrder>, NoMemory>
+    ensures { IfOk result (λ orders. orders.items ≡ flat_map named_of cabinets.now) }
+{
+    let mut orders = Vec::new(alloc);
+    for it in cabinets {
+        add_named_orders(&mut orders, &it.listed.name, &it.cabinet)?;
+    }
+    Ok(orders)
+}
+
+fn index_shown(
+    alloc: Global,
+    cabinets: &[ListedCabinet],
+    stock: Stock,
+) -> Result<IndexShown, NoMemory>
+    ensures { IfOk result (λ shown. shown ≡ index_shown cabinets.now stock) }
+{
+    let entries = entries_in(alloc, cabinets)?;
+    let orders = orders_in(alloc, cabinets)?;
+    Ok(IndexShown {
+        entries: Listing::new(entries),
+        orders: Listing::new(orders),
+        stock,
+    })
+}
+
+/// The cabinets that an index shows, and the stock.
+fn index_of(cabinets: Seen, stock: Seen) -> Result<(Listing<ListedCabinet>, Stock), Fault>
+    ensures { result ≡ index_of cabinets stock }
+{
+    let cabinets = cabinets_in(cabinets)?;
+    let stock = stock_in(stock)?;
+    Ok((cabinets, stock))
+}
+
+fn index_in(seen: Vec<Seen>) -> Result<(Listing<ListedCabinet>, Stock), Fault>
+    ensures { result ≡ index_in seen.items }
+{
+    let mut seen = seen.into_iter();
+    let cabinets = next_of(&mut seen);
+    let stock = next_of(&mut seen);
+    index_of(cabinets, stock)
+}
+
+/// The index page, with those that are overdue on a day, if one is given.
+pub(crate) fn index(alloc: Global, day: Option<Day>, seen: Vec<Seen>) -> Result<Vec<u8>, Fault>
+    ensures { Gives (IsMade (Shown.Index day) seen.items) result }
+{
+    let (cabinets, stock) = index_in(seen)?;
+    let shown = index_shown(alloc, cabinets.as_slice(), stock)?;
+    Ok(index_page(alloc, &shown, day)?)
+}
+
+fn used_among(
+    alloc: Global,
+    part: &Option<PartCode>,
+    cabinets: &[ListedCabinet],
+) -> Result<Vec<UsedPart>, NoMemory>
+    ensures { IfOk result (λ found. found.items ≡ used_among part.now cabinets.now) }
+{
+    let mut found = Vec::new(alloc);
+    for it in cabinets {
+        add_used(&mut found, part, &it.cabinet)?;
+    }
+    Ok(found)
+}
+
+/// What was used of all parts, or of one, as a text or as CSV.
+pub(crate) fn used_text_of(
+    alloc: Global,
+    part: &Option<PartCode>,
+    csv: bool,
+    seen: Vec<Seen>,
+) -> Result<Vec<u8>, Fault>
+    ensures { Gives (IsUsedMade part.now csv seen.items) result }
+{
+    let cabinets = cabinets_in(first_of(seen))?;
+    let found = used_among(alloc, part, cabinets.as_slice())?;
+    match csv {
+        true => Ok(used_csv(alloc, &found)?),
+        false => Ok(used_text(alloc, &found)?),
+    }
+}
