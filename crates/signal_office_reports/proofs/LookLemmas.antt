@@ -4,7 +4,7 @@ use Rattle.std.proofs.lemmas.List.{map-append, take_more}
 use Rattle.std.specs.Prelude.{Vec}
 use Rattle.office_tables_shelf.specs.{Content.Content, Keeps.KeepsShelf, declared.shelf.Shelf.Ghosts}
 use Rattle.signal_office_faults.specs.declared.fault.Fault.{Fault}
-use Rattle.signal_office_reports.specs.Seen.{Gives, IsMadeOf, Looks, Meets, MeetsAny, PassEach, Passes, Sees, seen_of}
+use Rattle.signal_office_reports.specs.Seen.{Gives, IsMadeOf, Looks, Meets, MeetsAny, PassEach, Passes, Sees, query_answer}
 use Rattle.signal_office_reports.specs.declared.seen.Query.{Query}
 use Rattle.signal_office_reports.specs.declared.seen.Seen.{Seen}
 
@@ -31,8 +31,8 @@ looks_more tables qs i q found next it low at before one is =
     let some : take (i + 1) qs ≡ take i qs ++ q ∷ [] = take_more qs i q low ∙ ap (λ x. take i qs ++ x ∷ []) (sym at) in
     subst (λ (all : List Seen). Looks tables (take (i + 1) qs) (Ok all)) (sym is)
     (subst (λ (all : List Query). Looks tables all (Ok (found ++ it ∷ []))) (sym some) (
-      λ office stands. ap (λ all. all ++ it ∷ []) (before.0 office stands) ∙ ap (λ x. map (seen_of office) (take i qs) ++ x ∷ []) (one.0 office stands)
-          ∙ sym (map-append (seen_of office) (take i qs) (q ∷ [])),
+      λ office stands. ap (λ all. all ++ it ∷ []) (before.0 office stands) ∙ ap (λ x. map (query_answer office) (take i qs) ++ x ∷ []) (one.0 office stands)
+          ∙ sym (map-append (query_answer office) (take i qs) (q ∷ [])),
       pass_more tables (take i qs) found q it before.1 one.1,
     ))
 

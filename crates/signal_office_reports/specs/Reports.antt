@@ -197,11 +197,11 @@ abbrev pub index_in : List Seen → Result (List ListedCabinet × List (List ℕ
 index_in found = index_of (first_of found) (first_of (rest_of found))
 
 -- what was used of all parts, or of one, at all intersections: each line of each order once, by the numbers of these, of their orders, and of the lines
-abbrev pub used_in : Option (List ℕ) → ListedCabinet → List UsedPart
-used_in part it = used_on part it.cabinet
+abbrev pub parts_used_in : Option (List ℕ) → ListedCabinet → List UsedPart
+parts_used_in part it = used_on part it.cabinet
 
 abbrev pub used_among : Option (List ℕ) → List ListedCabinet → List UsedPart
-used_among part cabinets = flat_map (used_in part) cabinets
+used_among part cabinets = flat_map (parts_used_in part) cabinets
 
 -- ---- the texts
 

@@ -32,17 +32,17 @@ abbrev pub cabinet_listed : Office → ℕ × Intersection → ListedCabinet
 cabinet_listed office e = record { listed = intersection_listed e; cabinet = cabinet_shown office.register e.0 }
 
 -- what an office shows where it is asked: its answer, a refusal too
-abbrev pub seen_of : Office → Query → Seen
-seen_of office (query.State id) = seen.Reply (answered office (command.State id)).0
-seen_of office (query.Timing id) = seen.Reply (answered office (command.Timing id)).0
-seen_of office (query.Draft id) = seen.Reply (answered office (command.Draft id)).0
-seen_of office (query.OpenDraft id) = seen.Reply (answered office (command.Draft id)).0
-seen_of office (query.Cabinet id) = seen.Reply (answered office (command.Cabinet id)).0
-seen_of office query.Stock = seen.Reply (answered office command.Stock).0
-seen_of office (query.Overdue day most) = seen.Reply (reply.Overdue (take most (overdue_on office day)))
-seen_of office query.Intersections = seen.Intersections (intersections_of office)
-seen_of office query.OpenOrders = seen.Orders (named_in office)
-seen_of office query.Cabinets = seen.Cabinets (map (cabinet_listed office) (entries office.intersections))
+abbrev pub query_answer : Office → Query → Seen
+query_answer office (query.State id) = seen.Reply (answered office (command.State id)).0
+query_answer office (query.Timing id) = seen.Reply (answered office (command.Timing id)).0
+query_answer office (query.Draft id) = seen.Reply (answered office (command.Draft id)).0
+query_answer office (query.OpenDraft id) = seen.Reply (answered office (command.Draft id)).0
+query_answer office (query.Cabinet id) = seen.Reply (answered office (command.Cabinet id)).0
+query_answer office query.Stock = seen.Reply (answered office command.Stock).0
+query_answer office (query.Overdue day most) = seen.Reply (reply.Overdue (take most (overdue_on office day)))
+query_answer office query.Intersections = seen.Intersections (intersections_of office)
+query_answer office query.OpenOrders = seen.Orders (named_in office)
+query_answer office query.Cabinets = seen.Cabinets (map (cabinet_listed office) (entries office.intersections))
 
 -- a row that the query reads is no record
 abbrev pub Meets : Content → Query → Type 0
@@ -112,7 +112,7 @@ IsUnseen damaged why = ((why ≡ told.Memory) ⊎ ((why ≡ told.Store) ⊎ (why
 
 -- WHAT A LOOK GIVES: what the office shows of each query, and no row that is read for one and is no record was passed over; or why nothing is seen
 abbrev pub Looks : Content → List Query → Result (List Seen) Fault → Type 0
-Looks tables queries (Ok found) = OfOffice tables (λ office. found ≡ map (seen_of office) queries) × PassEach tables queries found
+Looks tables queries (Ok found) = OfOffice tables (λ office. found ≡ map (query_answer office) queries) × PassEach tables queries found
 Looks tables queries (Err why) = IsUnseen (MeetsAny tables queries) why
 
 -- the same of a list that is made
@@ -132,7 +132,7 @@ SeesAs shown passes damaged tables (Ok it) = OfOffice tables (λ office. it ≡ 
 SeesAs shown passes damaged tables (Err why) = IsUnseen damaged why
 
 abbrev pub Sees : Content → Query → Result Seen Fault → Type 0
-Sees tables q it = SeesAs (λ office. seen_of office q) (Passes tables q) (Meets tables q) tables it
+Sees tables q it = SeesAs (λ office. query_answer office q) (Passes tables q) (Meets tables q) tables it
 
 abbrev pub is_state_normal : DbState → Bool
 is_state_normal Normal = true

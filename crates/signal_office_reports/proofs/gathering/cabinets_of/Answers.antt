@@ -24,9 +24,10 @@ loop-listed-preserved g c =
 
 pub returns-clause-sees : goal.returns-clause-sees
 returns-clause-sees g c = λ clean tables held.
-    let none : into_iter_items c.loop-listed.listed-iterator ≡ [] = none_left (into_iter_items c.loop-listed.listed-iterator) (omega (arith, c.in-None.ensures.steps.0)) in
-    (λ office stands. sym (append-nil c.loop-listed.found.items) ∙ ap (λ rest. c.loop-listed.found.items ++ map (cabinet_of office) rest) (sym none) ∙ c.loop-listed.invariant.sees clean tables held office stands,
-     c.loop-listed.invariant.whole clean tables held (subst (AreWhole tables) (sym none) tt))
+    let none : into_iter_items c.loop-listed.listed-iterator ≡ [] = none_left (into_iter_items c.loop-listed.listed-iterator) (omega (arith, c.in-None.ensures.steps.0)) in (
+      λ office stands. sym (append-nil c.loop-listed.found.items) ∙ ap (λ rest. c.loop-listed.found.items ++ map (cabinet_of office) rest) (sym none) ∙ c.loop-listed.invariant.sees clean tables held office stands,
+      c.loop-listed.invariant.whole clean tables held (subst (AreWhole tables) (sym none) tt),
+    )
 
 pub returns-in_err-cabinet-clause-sees : goal.returns-in_err-cabinet-clause-sees
 returns-in_err-cabinet-clause-sees g c = λ clean tables held.
