@@ -29,9 +29,7 @@ MEANT = {
         "columns_of key_of order_cells ped_columns place_of row_of row_shown shown text title "
         "timing_columns view_code width_of",
     "what the desk does with a record, of the register and of a plan":
-        "Makes ShowsCabinet ShowsDraft WantsMemory row_change_of row_changes_of",
-    "what is shown, as a reply and as what a command prints":
-        "cabinet_shown draft_shown state_shown timing_shown",
+        "Makes WantsMemory row_change_of row_changes_of",
     "a record under its key, in the register and in the maps":
         "IsDeliveryAt IsInspectionAt IsOrderAt",
 }

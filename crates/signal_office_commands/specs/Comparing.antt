@@ -13,8 +13,8 @@ use Rattle.signal_office_faults.specs.declared.fault.Fault.{Fault}
 use Rattle.signal_office_faults.specs.declared.fault.Fault.TheVariants as told
 use Rattle.signal_office_commands.specs.Asking.{IsUnread}
 use Rattle.office_machine.specs.declared.reply.RunningTiming.{RunningTiming}
-use Rattle.signal_office_reports.specs.Reports.{IsTextOf, first_of, plans_in, timing_in}
-use Rattle.signal_office_reports.specs.Seen.{IsMadeOf}
+use Rattle.signal_office_reports.specs.Reports.{IsTextOf, first_seen, plans_in, timing_in}
+use Rattle.signal_office_reports.specs.Seen.{IsMadeOfAnswers}
 use Rattle.signal_office_reports.specs.declared.seen.Query.TheVariants as query
 
 -- they are those of the plans of two files
@@ -39,7 +39,7 @@ IsFirstBad first second why =
 -- they are those of a committed timing set and its draft, or this is why there are none
 abbrev pub ComparesDraft : Content → ℕ → Result (List Difference) Fault → Type 0
 ComparesDraft tables id result =
-    IsMadeOf (query.Timing id ∷ query.Draft id ∷ []) (λ seen. IsTextOf (λ plans found. AreTold plans.0 plans.1 found) (plans_in seen)) tables result
+    IsMadeOfAnswers (query.Timing id ∷ query.Draft id ∷ []) (λ seen. IsTextOf (λ plans found. AreTold plans.0 plans.1 found) (plans_in seen)) tables result
 
 -- They are those of a timing set and the plan of a file. Where no timing set is shown, that is told; else the file was not read, or memory was refused.
 abbrev pub IsCompared : (bytes : List ℕ) → Result RunningTiming Fault → Result (List Difference) Fault → Type 0
@@ -49,4 +49,4 @@ IsCompared bytes (Err cause) (Ok found) = ⊥
 IsCompared bytes (Err cause) (Err why) = (why ≡ told.Memory) ⊎ (why ≡ cause)
 
 abbrev pub ComparesRunning : Content → ℕ → (bytes : List ℕ) → Result (List Difference) Fault → Type 0
-ComparesRunning tables id bytes result = IsMadeOf (query.Timing id ∷ []) (λ seen. IsCompared bytes (timing_in (first_of seen))) tables result
+ComparesRunning tables id bytes result = IsMadeOfAnswers (query.Timing id ∷ []) (λ seen. IsCompared bytes (timing_in (first_seen seen))) tables result

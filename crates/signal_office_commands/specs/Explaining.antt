@@ -3,8 +3,8 @@ use Rattle.std.specs.Prelude.{ℕ, List, [], ◌∷◌, Result}
 use Rattle.office_files.specs.Plan.{IsPlan}
 use Rattle.office_tables_shelf.specs.Content.{Content}
 use Rattle.signal_office_faults.specs.declared.fault.Fault.{Fault}
-use Rattle.signal_office_reports.specs.Reports.{IsTextOf, draft_in, first_of}
-use Rattle.signal_office_reports.specs.Seen.{IsMadeOf}
+use Rattle.signal_office_reports.specs.Reports.{IsTextOf, draft_in, first_seen}
+use Rattle.signal_office_reports.specs.Seen.{IsMadeOfAnswers}
 use Rattle.signal_office_reports.specs.declared.seen.Query.TheVariants as query
 use Rattle.signal_reasons.specs.Reasons.{AreReasons}
 use Rattle.signal_reasons.specs.declared.reason.Explained.{Explained}
@@ -18,4 +18,4 @@ pub record ExplainsPlan (bytes : List ℕ) (found : List Explained) : Type 0 whe
 
 -- they are those of a draft, or this is why there are none
 abbrev pub ExplainsDraft : Content → ℕ → Result (List Explained) Fault → Type 0
-ExplainsDraft tables id result = IsMadeOf (query.Draft id ∷ []) (λ seen. IsTextOf AreReasons (draft_in (first_of seen))) tables result
+ExplainsDraft tables id result = IsMadeOfAnswers (query.Draft id ∷ []) (λ seen. IsTextOf AreReasons (draft_in (first_seen seen))) tables result

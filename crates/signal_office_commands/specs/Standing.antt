@@ -4,8 +4,8 @@ use Rattle.std.specs.FinMap.{empty}
 use Rattle.office_tables_shelf.specs.Content.{Content}
 use Rattle.signal_office_commands.specs.declared.standing.StandingPlan.{StandingPlan}
 use Rattle.signal_office_faults.specs.declared.fault.Fault.{Fault}
-use Rattle.signal_office_reports.specs.Reports.{◌>>=◌, first_of, open_draft_in, rest_of, timing_in}
-use Rattle.signal_office_reports.specs.Seen.{IsMadeOf}
+use Rattle.signal_office_reports.specs.Reports.{◌>>=◌, first_seen, open_draft_in, rest_of, timing_in}
+use Rattle.signal_office_reports.specs.Seen.{IsMadeOfAnswers}
 use Rattle.signal_office_reports.specs.declared.seen.Query.TheVariants as query
 use Rattle.signal_office_reports.specs.declared.seen.Seen.{Seen}
 use Rattle.signal_records.specs.TimingSet.{Rows, after_changes}
@@ -19,11 +19,11 @@ standing_of timing draft = do
   Ok (record { committed = runs.rows; draft = drafted })
 
 abbrev pub standing_seen : List Seen → Result StandingPlan Fault
-standing_seen found = standing_of (first_of found) (first_of (rest_of found))
+standing_seen found = standing_of (first_seen found) (first_seen (rest_of found))
 
 -- both are what the office shows; or one of the two queries is refused
 abbrev pub StandsAs : Content → ℕ → Result StandingPlan Fault → Type 0
-StandsAs tables id result = IsMadeOf (query.Timing id ∷ query.Draft id ∷ []) (λ found it. it ≡ standing_seen found) tables result
+StandsAs tables id result = IsMadeOfAnswers (query.Timing id ∷ query.Draft id ∷ []) (λ found it. it ≡ standing_seen found) tables result
 
 abbrev pub ShowsStanding : Content → ℕ → StandingPlan → Type 0
 ShowsStanding tables id standing = StandsAs tables id (Ok standing)

@@ -9,7 +9,7 @@ ghost use Rattle.signal_compare.specs.Difference.{AreTold};
 ghost use Rattle.signal_office_commands.specs.Comparing.{ComparesDraft, ComparesFiles, IsCompared};
 ghost use Rattle.signal_office_commands.specs.Comparing.{ComparesRunning, IsFirstBad};
 ghost use Rattle.signal_office_commands.specs.Comparing.{IsOtherUnread};
-ghost use Rattle.signal_office_reports.specs.Reports.{IsTextOf, first_of, plans_in, plans_of};
+ghost use Rattle.signal_office_reports.specs.Reports.{IsTextOf, first_seen, plans_in, plans_of};
 ghost use Rattle.signal_office_reports.specs.Reports.{timing_in};
 ghost use Rattle.signal_office_reports.specs.Seen.{Gives};
 
@@ -18,7 +18,7 @@ use office_files::{CsvFault, read_plan_csv};
 use office_tables_shelf::shelf::Shelf;
 use signal_compare::{Difference, compare};
 use signal_office_faults::Fault;
-use signal_office_reports::{Query, Seen, draft_in, first_of, look, next_of, timing_in};
+use signal_office_reports::{Query, Seen, draft_in, first_seen, look, next_of, timing_in};
 use signal_records::{InterId, TimingSet};
 use std::alloc::Global;
 
@@ -93,9 +93,9 @@ pub fn draft_differences<S: Shelf>(
 
 /// What the plan in a CSV file differs in from a timing set that was seen.
 fn compare_running(alloc: Global, bytes: &[u8], seen: Vec<Seen>) -> Result<Vec<Difference>, Fault>
-    ensures { Gives (IsCompared bytes.now (timing_in (first_of seen.items))) result }
+    ensures { Gives (IsCompared bytes.now (timing_in (first_seen seen.items))) result }
 {
-    let timing = timing_in(first_of(seen))?;
+    let timing = timing_in(first_seen(seen))?;
     let plan = read_plan_csv(alloc, bytes)?;
     Ok(compare(alloc, &timing.rows, &plan)?)
 }

@@ -5,7 +5,7 @@ ghost use Rattle.office_desk.specs.Running.{TellsTables};
 ghost use Rattle.office_files.specs.Changes.{changes_of};
 ghost use Rattle.office_tables_shelf.specs.Keeps.{KeepsShelf};
 ghost use Rattle.signal_office_commands.specs.Explaining.{ExplainsDraft, ExplainsPlan};
-ghost use Rattle.signal_office_reports.specs.Reports.{IsTextOf, draft_in, first_of};
+ghost use Rattle.signal_office_reports.specs.Reports.{IsTextOf, draft_in, first_seen};
 ghost use Rattle.signal_office_reports.specs.Seen.{Gives};
 ghost use Rattle.signal_reasons.specs.Reasons.{AreReasons};
 
@@ -13,7 +13,7 @@ use office_desk::office::Office;
 use office_files::{CsvFault, read_plan_csv};
 use office_tables_shelf::shelf::Shelf;
 use signal_office_faults::Fault;
-use signal_office_reports::{Query, Seen, draft_in, first_of, look};
+use signal_office_reports::{Query, Seen, draft_in, first_seen, look};
 use signal_reasons::{Explained, reasons};
 use signal_records::InterId;
 use std::alloc::Global;
@@ -32,9 +32,9 @@ pub fn reasons_in(alloc: Global, bytes: &[u8]) -> Result<Vec<Explained>, CsvFaul
 
 /// Those of a draft that was seen.
 fn reasons_of(alloc: Global, seen: Vec<Seen>) -> Result<Vec<Explained>, Fault>
-    ensures { Gives (IsTextOf AreReasons (draft_in (first_of seen.items))) result }
+    ensures { Gives (IsTextOf AreReasons (draft_in (first_seen seen.items))) result }
 {
-    let draft = draft_in(first_of(seen))?;
+    let draft = draft_in(first_seen(seen))?;
     Ok(reasons(alloc, &draft)?)
 }
 

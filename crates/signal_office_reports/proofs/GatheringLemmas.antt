@@ -18,7 +18,7 @@ use Rattle.office_tables_shelf.specs.{Cells.Cell, Content.Content, Damage.HasAny
 use Rattle.office_tables_shelf.proofs.ListedRows.{table_row}
 use Rattle.signal_office_faults.specs.declared.fault.Fault.{Fault}
 use Rattle.signal_office_faults.specs.declared.fault.Fault.TheVariants as told
-use Rattle.signal_office_reports.specs.Gathering.{AreWhole, SeesCabinet, cabinet_of, filed_in}
+use Rattle.signal_office_reports.specs.Gathering.{AreWhole, SeesCabinet, listed_cabinet_of, filed_in}
 use Rattle.signal_office_reports.specs.Listing.{AreOpenOf, named_from, named_in, named_on}
 use Rattle.signal_office_reports.specs.Seen.{Meets, OfOffice, cabinet_listed}
 use Rattle.signal_office_reports.specs.declared.seen.ListedCabinet.{ListedCabinet}
@@ -87,14 +87,14 @@ none_left (x ∷ xs) empty = absurd (omega arith)
 -- what one more gives, before those that are left
 pub cabinets_more : (office : Office) (found new : List ListedCabinet) (listed : ListedIntersection) (rest : List ListedIntersection) (cabinet : CabinetShown) (all : List ListedCabinet)
     → cabinet ≡ cabinet_shown office.register listed.id → new ≡ found ++ record { listed = listed; cabinet = cabinet } ∷ []
-    → found ++ map (cabinet_of office) (listed ∷ rest) ≡ all → new ++ map (cabinet_of office) rest ≡ all
+    → found ++ map (listed_cabinet_of office) (listed ∷ rest) ≡ all → new ++ map (listed_cabinet_of office) rest ≡ all
 cabinets_more office found new listed rest cabinet all holds is before =
-    ap (λ (xs : List ListedCabinet). xs ++ map (cabinet_of office) rest) is
-    ∙ append_assoc found (record { listed = listed; cabinet = cabinet } ∷ []) (map (cabinet_of office) rest)
-    ∙ ap (λ (c : CabinetShown). found ++ record { listed = listed; cabinet = c } ∷ map (cabinet_of office) rest) holds ∙ before
+    ap (λ (xs : List ListedCabinet). xs ++ map (listed_cabinet_of office) rest) is
+    ∙ append_assoc found (record { listed = listed; cabinet = cabinet } ∷ []) (map (listed_cabinet_of office) rest)
+    ∙ ap (λ (c : CabinetShown). found ++ record { listed = listed; cabinet = c } ∷ map (listed_cabinet_of office) rest) holds ∙ before
 
 -- those of all that are listed are those of the office
-pub each_cabinet : (office : Office) (es : List Entry) → map (cabinet_of office) (map intersection_listed es) ≡ map (cabinet_listed office) es
+pub each_cabinet : (office : Office) (es : List Entry) → map (listed_cabinet_of office) (map intersection_listed es) ≡ map (cabinet_listed office) es
 each_cabinet office [] = refl
 each_cabinet office (e ∷ es) = ap (λ rest. cabinet_listed office e ∷ rest) (each_cabinet office es)
 

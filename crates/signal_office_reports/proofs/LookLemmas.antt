@@ -4,7 +4,7 @@ use Rattle.std.proofs.lemmas.List.{map-append, take_more}
 use Rattle.std.specs.Prelude.{Vec}
 use Rattle.office_tables_shelf.specs.{Content.Content, Keeps.KeepsShelf, declared.shelf.Shelf.Ghosts}
 use Rattle.signal_office_faults.specs.declared.fault.Fault.{Fault}
-use Rattle.signal_office_reports.specs.Seen.{Gives, IsMadeOf, Looks, Meets, MeetsAny, PassEach, Passes, Sees, query_answer}
+use Rattle.signal_office_reports.specs.Seen.{Gives, IsMadeOfAnswers, Looks, Meets, MeetsAny, PassEach, Passes, Sees, query_answer}
 use Rattle.signal_office_reports.specs.declared.seen.Query.{Query}
 use Rattle.signal_office_reports.specs.declared.seen.Seen.{Seen}
 
@@ -48,6 +48,6 @@ unseen_at tables qs i q why low at it = (it.0, λ e. meets_at tables qs i q low 
 
 -- what is made of what was seen
 pub made_of_seen : {T A : Type 0} (queries : List Query) (makes : List Seen → Result (List T) Fault → Type 0) (tables : Content) (found : List Seen) (result : Result (Vec T A) Fault)
-    → Looks tables queries (Ok found) → Gives (makes found) result → Gives (IsMadeOf queries makes tables) result
+    → Looks tables queries (Ok found) → Gives (makes found) result → Gives (IsMadeOfAnswers queries makes tables) result
 made_of_seen queries makes tables found (Ok list) looks made = (Ok found, looks, made)
 made_of_seen queries makes tables found (Err why) looks made = (Ok found, looks, made)

@@ -17,7 +17,7 @@ use Rattle.office_tables_shelf.proofs.KeptLemmas.{kept_on}
 use Rattle.signal_office_faults.specs.declared.fault.Fault.{Fault}
 use Rattle.signal_office_faults.specs.declared.fault.Fault.TheVariants as told
 use Rattle.signal_office_reports.specs.Refused.{fault_of}
-use Rattle.signal_office_reports.specs.Seen.{IsAnswer, IsNamed, IsUnseen, OfOffice, Sees, SeesAs, is_normal, is_state_normal, no_draft, seen_in}
+use Rattle.signal_office_reports.specs.Seen.{IsAnswer, IsNamedRefusal, IsUnseen, OfOffice, Sees, SeesAs, is_normal, is_state_normal, no_draft, seen_in}
 use Rattle.signal_office_reports.specs.declared.seen.Query.TheVariants as query
 use Rattle.signal_office_reports.specs.declared.seen.Seen.{Seen}
 use Rattle.signal_office_reports.specs.declared.seen.Seen.TheVariants as seen
@@ -62,7 +62,7 @@ sees_reply tables asked it (Ok found) query answers damaged turned named is = (
   λ office stands. by_step office (answers office stands).next (answers office stands).step,
   (
     λ meets. by_turned (turned meets),
-    subst (IsNamed asked) (sym (shown_so it found (sym is))) (λ why e. elim (named why e) [
+    subst (IsNamedRefusal asked) (sym (shown_so it found (sym is))) (λ why e. elim (named why e) [
       | inl unavailable ↦ absurd (refused why e refusal.Unavailable told.Store unavailable refl)
       | inr (inl broken) ↦ absurd (refused why e refusal.Damaged told.Damaged broken refl)
       | inr (inr number) ↦ number
@@ -101,7 +101,7 @@ normal_none : (found : Option Intersection) (id : ℕ) → is_normal (seen.Reply
 normal_none None id e = cc
 normal_none (Some i) id e = undrafted i.timing.draft e
 
-none_named : IsNamed (command.Draft 0) no_draft
+none_named : IsNamedRefusal (command.Draft 0) no_draft
 none_named why e = let is : why ≡ refusal.Draft draft.NotTransaction = cc in rw is (inr (inl refl))
 
 pub sees_none : (tables : Content) (id : ℕ) (state : Seen) → OfOffice tables (λ office. state ≡ seen.Reply (answered office (command.State id)).0)

@@ -44,12 +44,12 @@ SeesCabinet tables id =
 abbrev pub with_cabinet : ListedIntersection → CabinetShown → ListedCabinet
 with_cabinet listed cabinet = record { listed = listed; cabinet = cabinet }
 
-abbrev pub cabinet_of : Office → ListedIntersection → ListedCabinet
-cabinet_of office listed = with_cabinet listed (cabinet_shown office.register listed.id)
+abbrev pub listed_cabinet_of : Office → ListedIntersection → ListedCabinet
+listed_cabinet_of office listed = with_cabinet listed (cabinet_shown office.register listed.id)
 
 abbrev pub AreWhole : Content → List ListedIntersection → Type 0
 AreWhole tables = AllByRecursion (λ (listed : ListedIntersection). ¬ MeetsDamage tables (command.Cabinet listed.id))
 
 abbrev pub SeesCabinets : Content → List ListedIntersection → Result (List ListedCabinet) Fault → Type 0
 SeesCabinets tables list =
-    SeesAs (λ office. map (cabinet_of office) list) (λ _. AreWhole tables list) ((id : ℕ) × MeetsDamage tables (command.Cabinet id)) tables
+    SeesAs (λ office. map (listed_cabinet_of office) list) (λ _. AreWhole tables list) ((id : ℕ) × MeetsDamage tables (command.Cabinet id)) tables

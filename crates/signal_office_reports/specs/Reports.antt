@@ -32,7 +32,7 @@ use Rattle.signal_office_line.specs.declared.shows.View.{View}
 use Rattle.signal_office_line.specs.declared.shows.View.TheVariants as view
 use Rattle.signal_office_reports.specs.Listing.{list_written, named_written, overdue_written, stock_written, used_written}
 use Rattle.signal_office_reports.specs.Refused.{fault_of}
-use Rattle.signal_office_reports.specs.Seen.{IsMadeOf}
+use Rattle.signal_office_reports.specs.Seen.{IsMadeOfAnswers}
 use Rattle.signal_office_reports.specs.declared.seen.ListedCabinet.{ListedCabinet}
 use Rattle.signal_office_reports.specs.declared.seen.Query.{Query}
 use Rattle.signal_office_reports.specs.declared.seen.Query.TheVariants as query
@@ -110,18 +110,18 @@ abbrev pub intersections_in : Seen → Result (List ListedIntersection) Fault
 intersections_in (seen.Intersections list) = Ok list
 intersections_in other = Err told.Store
 
-abbrev pub orders_in : Seen → Result (List NamedOrder) Fault
-orders_in (seen.Orders orders) = Ok orders
-orders_in other = Err told.Store
+abbrev pub orders_seen : Seen → Result (List NamedOrder) Fault
+orders_seen (seen.Orders orders) = Ok orders
+orders_seen other = Err told.Store
 
 abbrev pub cabinets_in : Seen → Result (List ListedCabinet) Fault
 cabinets_in (seen.Cabinets cabinets) = Ok cabinets
 cabinets_in other = Err told.Store
 
 -- the first of what was seen, and the rest
-abbrev pub first_of : List Seen → Seen
-first_of [] = seen.Reply (reply.Refused refusal.Unavailable)
-first_of (it ∷ rest) = it
+abbrev pub first_seen : List Seen → Seen
+first_seen [] = seen.Reply (reply.Refused refusal.Unavailable)
+first_seen (it ∷ rest) = it
 
 abbrev pub rest_of : List Seen → List Seen
 rest_of [] = []
@@ -143,7 +143,7 @@ register_of state cabinet = do
   Ok (known, holds)
 
 abbrev pub register_in : List Seen → Result (IntersectionState × CabinetShown) Fault
-register_in found = register_of (first_of found) (first_of (rest_of found))
+register_in found = register_of (first_seen found) (first_seen (rest_of found))
 
 -- a committed timing set and its draft
 abbrev pub plans_of : (timing draft : Seen) → Result (Rows × Rows) Fault
@@ -153,7 +153,7 @@ plans_of timing draft = do
   Ok (runs.rows, drafted)
 
 abbrev pub plans_in : List Seen → Result (Rows × Rows) Fault
-plans_in found = plans_of (first_of found) (first_of (rest_of found))
+plans_in found = plans_of (first_seen found) (first_seen (rest_of found))
 
 -- a committed timing set that has a pattern
 abbrev pub having : ℕ → Rows → Result Rows Fault
@@ -175,17 +175,17 @@ page_of state timing draft cabinet = do
 
 abbrev pub page_in : List Seen → Result IntersectionShown Fault
 page_in found =
-    page_of (first_of found) (first_of (rest_of found)) (first_of (rest_of (rest_of found))) (first_of (rest_of (rest_of (rest_of found))))
+    page_of (first_seen found) (first_seen (rest_of found)) (first_seen (rest_of (rest_of found))) (first_seen (rest_of (rest_of (rest_of found))))
 
 -- what the index shows: of each intersection, the open orders of all, and the stock
-abbrev pub entry_of : ListedCabinet → IndexEntry
-entry_of it = index_entry it.listed it.cabinet
+abbrev pub index_entry_of : ListedCabinet → IndexEntry
+index_entry_of it = index_entry it.listed it.cabinet
 
 abbrev pub named_of : ListedCabinet → List NamedOrder
 named_of it = named_orders it.listed.name it.cabinet
 
 abbrev pub index_shown : List ListedCabinet → List (List ℕ × ℕ) → IndexShown
-index_shown cabinets stock = record { entries = map entry_of cabinets; orders = flat_map named_of cabinets; stock = stock }
+index_shown cabinets stock = record { entries = map index_entry_of cabinets; orders = flat_map named_of cabinets; stock = stock }
 
 abbrev pub index_of : (cabinets stock : Seen) → Result (List ListedCabinet × List (List ℕ × ℕ)) Fault
 index_of cabinets stock = do
@@ -194,7 +194,7 @@ index_of cabinets stock = do
   Ok (all, parts)
 
 abbrev pub index_in : List Seen → Result (List ListedCabinet × List (List ℕ × ℕ)) Fault
-index_in found = index_of (first_of found) (first_of (rest_of found))
+index_in found = index_of (first_seen found) (first_seen (rest_of found))
 
 -- what was used of all parts, or of one, at all intersections: each line of each order once, by the numbers of these, of their orders, and of the lines
 abbrev pub parts_used_in : Option (List ℕ) → ListedCabinet → List UsedPart
@@ -212,36 +212,36 @@ IsTextOf text (Err cause) (Ok bytes) = ⊥
 IsTextOf text it (Err why) = (why ≡ told.Memory) ⊎ (it ≡ Err why)
 
 abbrev pub IsOrdersMade : Option ℕ → (csv : Bool) → List Seen → Result (List ℕ) Fault → Type 0
-IsOrdersMade None csv found = IsTextOf (λ orders text. text ≡ named_written csv orders) (orders_in (first_of found))
+IsOrdersMade None csv found = IsTextOf (λ orders text. text ≡ named_written csv orders) (orders_seen (first_seen found))
 IsOrdersMade (Some id) true found = IsTextOf (λ it text. text ≡ orders_csv_text (named_orders it.0.name it.1)) (register_in found)
-IsOrdersMade (Some id) false found = IsTextOf (λ cabinet text. text ≡ orders_listing (open_orders cabinet)) (cabinet_in (first_of found))
+IsOrdersMade (Some id) false found = IsTextOf (λ cabinet text. text ≡ orders_listing (open_orders cabinet)) (cabinet_in (first_seen found))
 
 abbrev pub IsExportMade : View → List Seen → Result (List ℕ) Fault → Type 0
-IsExportMade view.Timing found = IsTextOf (λ t text. text ≡ timing_csv_text t.rows) (timing_in (first_of found))
-IsExportMade view.Draft found = IsTextOf (λ rows text. text ≡ timing_csv_text rows) (draft_in (first_of found))
-IsExportMade view.Cabinet found = IsTextOf (λ cabinet text. text ≡ records_csv_text cabinet.id cabinet.view) (cabinet_in (first_of found))
+IsExportMade view.Timing found = IsTextOf (λ t text. text ≡ timing_csv_text t.rows) (timing_in (first_seen found))
+IsExportMade view.Draft found = IsTextOf (λ rows text. text ≡ timing_csv_text rows) (draft_in (first_seen found))
+IsExportMade view.Cabinet found = IsTextOf (λ cabinet text. text ≡ records_csv_text cabinet.id cabinet.view) (cabinet_in (first_seen found))
 
 -- what is made of what was seen
 abbrev pub IsMade : Shown → List Seen → Result (List ℕ) Fault → Type 0
-IsMade (shown.Sheet id) found = IsTextOf (λ t text. text ≡ sheet_text id t.name t.revision (values t.rows)) (timing_in (first_of found))
+IsMade (shown.Sheet id) found = IsTextOf (λ t text. text ≡ sheet_text id t.name t.revision (values t.rows)) (timing_in (first_seen found))
 IsMade (shown.Overdue day most csv) found =
-    IsTextOf (λ listed text. (rows : List OverdueRow) × (map listed_of rows ≡ listed) × (text ≡ overdue_written csv day rows)) (overdue_in (first_of found))
-IsMade (shown.List csv) found = IsTextOf (λ list text. text ≡ list_written csv list) (intersections_in (first_of found))
-IsMade (shown.Stock csv) found = IsTextOf (λ parts text. text ≡ stock_written csv parts) (stock_in (first_of found))
+    IsTextOf (λ listed text. (rows : List OverdueRow) × (map listed_of rows ≡ listed) × (text ≡ overdue_written csv day rows)) (overdue_in (first_seen found))
+IsMade (shown.List csv) found = IsTextOf (λ list text. text ≡ list_written csv list) (intersections_in (first_seen found))
+IsMade (shown.Stock csv) found = IsTextOf (λ parts text. text ≡ stock_written csv parts) (stock_in (first_seen found))
 IsMade (shown.Orders id csv) found = IsOrdersMade id csv found
 IsMade (shown.Cabinet id) found = IsTextOf (λ it text. text ≡ cabinet_register it.1.id it.0.name it.0.interval it.1.view) (register_in found)
 IsMade (shown.Export id it) found = IsExportMade it found
-IsMade (shown.Diagram id pattern) found = IsTextOf (λ plan text. text ≡ diagram_text plan pattern) (pattern_in pattern (first_of found))
+IsMade (shown.Diagram id pattern) found = IsTextOf (λ plan text. text ≡ diagram_text plan pattern) (pattern_in pattern (first_seen found))
 IsMade (shown.Page id linked) found = IsTextOf (IsPage linked) (page_in found)
 IsMade (shown.Index day) found = IsTextOf (λ it text. IsIndex day (index_shown it.0 it.1) text) (index_in found)
 
 -- WHAT IS SHOWN of the tables as what was asked for, or why nothing is: what is made of the answers to its queries
 abbrev pub IsShown : Shown → Content → Result (List ℕ) Fault → Type 0
-IsShown it tables result = IsMadeOf (queries_of it) (IsMade it) tables result
+IsShown it tables result = IsMadeOfAnswers (queries_of it) (IsMade it) tables result
 
 -- what was used of all parts, or of one, as a text or as CSV, or why it is not shown
 abbrev pub IsUsedMade : (part : Option (List ℕ)) → (csv : Bool) → List Seen → Result (List ℕ) Fault → Type 0
-IsUsedMade part csv found = IsTextOf (λ cabinets text. text ≡ used_written csv (used_among part cabinets)) (cabinets_in (first_of found))
+IsUsedMade part csv found = IsTextOf (λ cabinets text. text ≡ used_written csv (used_among part cabinets)) (cabinets_in (first_seen found))
 
 abbrev pub IsUsedShown : (part : Option (List ℕ)) → (csv : Bool) → Content → Result (List ℕ) Fault → Type 0
-IsUsedShown part csv tables result = IsMadeOf (query.Cabinets ∷ []) (IsUsedMade part csv) tables result
+IsUsedShown part csv tables result = IsMadeOfAnswers (query.Cabinets ∷ []) (IsUsedMade part csv) tables result

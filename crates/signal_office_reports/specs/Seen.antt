@@ -64,12 +64,12 @@ MeetsAny tables (q ∷ qs) = Meets tables q ⊎ MeetsAny tables qs
 -- ---- what passes over no row that is no record
 
 -- what the office answers a command: where it refuses, it is for one of the numbers of the command, whatever the tables hold
-abbrev pub IsNamed : Command → Seen → Type 0
-IsNamed asked (seen.Reply reply) = RefusesBy (numbers_of asked) reply
-IsNamed asked other = ⊥
+abbrev pub IsNamedRefusal : Command → Seen → Type 0
+IsNamedRefusal asked (seen.Reply reply) = RefusesBy (numbers_of asked) reply
+IsNamedRefusal asked other = ⊥
 
 abbrev pub IsAnswer : Content → Command → Seen → Type 0
-IsAnswer tables asked it = (¬ MeetsDamage tables asked) × IsNamed asked it
+IsAnswer tables asked it = (¬ MeetsDamage tables asked) × IsNamedRefusal asked it
 
 -- nobody holds a draft
 abbrev pub no_draft : Seen
@@ -86,7 +86,7 @@ Passes tables (query.State id) it = IsAnswer tables (command.State id) it
 Passes tables (query.Timing id) it = IsAnswer tables (command.Timing id) it
 Passes tables (query.Draft id) it = IsAnswer tables (command.Draft id) it
 Passes tables (query.OpenDraft id) it =
-    (¬ MeetsDamage tables (command.State id)) × ((it ≢ no_draft → ¬ MeetsDamage tables (command.Draft id)) × IsNamed (command.Draft id) it)
+    (¬ MeetsDamage tables (command.State id)) × ((it ≢ no_draft → ¬ MeetsDamage tables (command.Draft id)) × IsNamedRefusal (command.Draft id) it)
 Passes tables (query.Cabinet id) it = IsAnswer tables (command.Cabinet id) it
 Passes tables query.Stock it = IsAnswer tables command.Stock it
 Passes tables (query.Overdue day most) it = IsShort it most → ¬ Meets tables (query.Overdue day most)
@@ -120,8 +120,8 @@ abbrev pub Gives : {T A : Type 0} → (Result (List T) Fault → Type 0) → Res
 Gives says result = MatchResult result (λ list. says (Ok list.items)) (λ why. says (Err why))
 
 -- what is made of what some queries see, or why nothing is seen
-abbrev pub IsMadeOf : {A : Type 0} → List Query → (List Seen → Result A Fault → Type 0) → Content → Result A Fault → Type 0
-IsMadeOf queries makes tables result =
+abbrev pub IsMadeOfAnswers : {A : Type 0} → List Query → (List Seen → Result A Fault → Type 0) → Content → Result A Fault → Type 0
+IsMadeOfAnswers queries makes tables result =
     (found : Result (List Seen) Fault) × Looks tables queries found × MatchResult found (λ all. makes all result) (λ why. result ≡ Err why)
 
 -- ---- one query

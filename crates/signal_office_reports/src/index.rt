@@ -1,12 +1,12 @@
 //! The index of all intersections, and what was used at them.
 
 ghost use Rattle.std.specs.Prelude.{◌≡◌, flat_map, map, IfOk};
-ghost use Rattle.signal_office_reports.specs.Reports.{IsMade, IsUsedMade, entry_of, index_in};
+ghost use Rattle.signal_office_reports.specs.Reports.{IsMade, IsUsedMade, index_entry_of, index_in};
 ghost use Rattle.signal_office_reports.specs.Reports.{index_of, index_shown, named_of};
 ghost use Rattle.signal_office_reports.specs.Reports.{used_among};
 ghost use Rattle.signal_office_reports.specs.Seen.{Gives};
 
-use crate::parts::{cabinets_in, first_of, next_of, stock_in};
+use crate::parts::{cabinets_in, first_seen, next_of, stock_in};
 use crate::seen::{ListedCabinet, Seen};
 use cabinet_core::{Day, PartCode};
 use office_listings::{NamedOrder, UsedPart, add_named_orders, add_used, used_csv, used_text};
@@ -18,7 +18,7 @@ use signal_records::{Listing, NoMemory};
 use std::alloc::Global;
 
 fn entries_in(alloc: Global, cabinets: &[ListedCabinet]) -> Result<Vec<IndexEntry>, NoMemory>
-    ensures { IfOk result (λ entries. entries.items ≡ map entry_of cabinets.now) }
+    ensures { IfOk result (λ entries. entries.items ≡ map index_entry_of cabinets.now) }
 {
     let mut entries = Vec::new(alloc);
     for it in cabinets {
@@ -103,7 +103,7 @@ pub(crate) fn used_text_of(
 ) -> Result<Vec<u8>, Fault>
     ensures { Gives (IsUsedMade part.now csv seen.items) result }
 {
-    let cabinets = cabinets_in(first_of(seen))?;
+    let cabinets = cabinets_in(first_seen(seen))?;
     let found = used_among(alloc, part, cabinets.as_slice())?;
     match csv {
         true => Ok(used_csv(alloc, &found)?),

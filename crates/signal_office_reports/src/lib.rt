@@ -17,7 +17,7 @@ mod text;
 pub use asking::ask;
 pub use looking::look;
 pub use parts::{
-    draft_in, first_of, intersections_in, next_of, open_draft_in, state_in, timing_in,
+    draft_in, first_seen, intersections_in, next_of, open_draft_in, state_in, timing_in,
 };
 pub use refused::fault_of;
 pub use reporting::{report, used};

@@ -3,8 +3,8 @@
 ghost use Rattle.std.specs.Prelude.{◌≡◌};
 ghost use Rattle.std.specs.Vec.Iter.{into_iter_items};
 ghost use Rattle.signal_office_reports.specs.Reports.{cabinet_in, cabinets_in, draft_in};
-ghost use Rattle.signal_office_reports.specs.Reports.{first_of, intersections_in, open_draft_in};
-ghost use Rattle.signal_office_reports.specs.Reports.{orders_in, overdue_in, register_in};
+ghost use Rattle.signal_office_reports.specs.Reports.{first_seen, intersections_in, open_draft_in};
+ghost use Rattle.signal_office_reports.specs.Reports.{orders_seen, overdue_in, register_in};
 ghost use Rattle.signal_office_reports.specs.Reports.{register_of, rest_of, state_in, stock_in};
 ghost use Rattle.signal_office_reports.specs.Reports.{timing_in};
 
@@ -109,8 +109,8 @@ pub fn intersections_in(seen: Seen) -> Result<Listing<ListedIntersection>, Fault
 }
 
 /// The open orders of all intersections.
-pub(crate) fn orders_in(seen: Seen) -> Result<Listing<NamedOrder>, Fault>
-    ensures { result ≡ orders_in seen }
+pub(crate) fn orders_seen(seen: Seen) -> Result<Listing<NamedOrder>, Fault>
+    ensures { result ≡ orders_seen seen }
 {
     match seen {
         Seen::Orders(orders) => Ok(orders),
@@ -130,7 +130,7 @@ pub(crate) fn cabinets_in(seen: Seen) -> Result<Listing<ListedCabinet>, Fault>
 
 /// The next of what was seen.
 pub fn next_of(seen: &mut IntoIter<Seen>) -> Seen
-    ensures first { result ≡ first_of (into_iter_items seen.old) }
+    ensures first { result ≡ first_seen (into_iter_items seen.old) }
     ensures rest { into_iter_items seen.new ≡ rest_of (into_iter_items seen.old) }
 {
     match seen.next() {
@@ -140,8 +140,8 @@ pub fn next_of(seen: &mut IntoIter<Seen>) -> Seen
 }
 
 /// The first of what was seen.
-pub fn first_of(seen: Vec<Seen>) -> Seen
-    ensures { result ≡ first_of seen.items }
+pub fn first_seen(seen: Vec<Seen>) -> Seen
+    ensures { result ≡ first_seen seen.items }
 {
     let mut seen = seen.into_iter();
     next_of(&mut seen)

@@ -8,8 +8,8 @@ ghost use Rattle.signal_office_reports.specs.Seen.{Gives};
 use crate::index::index;
 use crate::page::page;
 use crate::parts::{
-    cabinet_in, draft_in, first_of, intersections_in, orders_in, overdue_in, register_in, stock_in,
-    timing_in,
+    cabinet_in, draft_in, first_seen, intersections_in, orders_seen, overdue_in, register_in,
+    stock_in, timing_in,
 };
 use crate::seen::Seen;
 use cabinet_core::Day;
@@ -27,7 +27,7 @@ use std::alloc::Global;
 fn sheet(alloc: Global, id: InterId, seen: Vec<Seen>) -> Result<Vec<u8>, Fault>
     ensures { Gives (IsMade (Shown.Sheet id) seen.items) result }
 {
-    let timing = timing_in(first_of(seen))?;
+    let timing = timing_in(first_seen(seen))?;
     Ok(timing_sheet(alloc, id, &timing.name, timing.revision, &timing.rows)?)
 }
 
@@ -40,7 +40,7 @@ fn overdue(
 ) -> Result<Vec<u8>, Fault>
     ensures { Gives (IsMade (Shown.Overdue day most csv) seen.items) result }
 {
-    let listed = overdue_in(first_of(seen))?;
+    let listed = overdue_in(first_seen(seen))?;
     match csv {
         true => Ok(overdue_csv(alloc, listed.as_slice())?),
         false => Ok(overdue_text(alloc, day, listed.as_slice())?),
@@ -50,7 +50,7 @@ fn overdue(
 fn list(alloc: Global, csv: bool, seen: Vec<Seen>) -> Result<Vec<u8>, Fault>
     ensures { Gives (IsMade (Shown.List csv) seen.items) result }
 {
-    let list = intersections_in(first_of(seen))?;
+    let list = intersections_in(first_seen(seen))?;
     match csv {
         true => Ok(intersections_csv(alloc, list.as_slice())?),
         false => Ok(intersections_text(alloc, list.as_slice())?),
@@ -60,7 +60,7 @@ fn list(alloc: Global, csv: bool, seen: Vec<Seen>) -> Result<Vec<u8>, Fault>
 fn stock(alloc: Global, csv: bool, seen: Vec<Seen>) -> Result<Vec<u8>, Fault>
     ensures { Gives (IsMade (Shown.Stock csv) seen.items) result }
 {
-    let parts = stock_in(first_of(seen))?;
+    let parts = stock_in(first_seen(seen))?;
     match csv {
         true => Ok(stock_csv(alloc, parts.as_slice())?),
         false => Ok(stock_text(alloc, parts.as_slice())?),
@@ -70,7 +70,7 @@ fn stock(alloc: Global, csv: bool, seen: Vec<Seen>) -> Result<Vec<u8>, Fault>
 fn orders_of_all(alloc: Global, csv: bool, seen: Vec<Seen>) -> Result<Vec<u8>, Fault>
     ensures { Gives (IsOrdersMade None csv seen.items) result }
 {
-    let orders = orders_in(first_of(seen))?;
+    let orders = orders_seen(first_seen(seen))?;
     match csv {
         true => Ok(orders_csv(alloc, orders.as_slice())?),
         false => Ok(named_orders_text(alloc, orders.as_slice())?),
@@ -80,7 +80,7 @@ fn orders_of_all(alloc: Global, csv: bool, seen: Vec<Seen>) -> Result<Vec<u8>, F
 fn orders_on(alloc: Global, id: InterId, seen: Vec<Seen>) -> Result<Vec<u8>, Fault>
     ensures { Gives (IsOrdersMade (Some id) false seen.items) result }
 {
-    let cabinet = cabinet_in(first_of(seen))?;
+    let cabinet = cabinet_in(first_seen(seen))?;
     let mut found = Vec::new(alloc);
     add_open_orders(&mut found, &cabinet)?;
     Ok(orders_text(alloc, &found)?)
@@ -115,21 +115,21 @@ fn cabinet(alloc: Global, id: InterId, seen: Vec<Seen>) -> Result<Vec<u8>, Fault
 fn export_timing(alloc: Global, seen: Vec<Seen>) -> Result<Vec<u8>, Fault>
     ensures { Gives (IsExportMade View.Timing seen.items) result }
 {
-    let timing = timing_in(first_of(seen))?;
+    let timing = timing_in(first_seen(seen))?;
     Ok(timing_csv(alloc, &timing.rows)?)
 }
 
 fn export_draft(alloc: Global, seen: Vec<Seen>) -> Result<Vec<u8>, Fault>
     ensures { Gives (IsExportMade View.Draft seen.items) result }
 {
-    let rows = draft_in(first_of(seen))?;
+    let rows = draft_in(first_seen(seen))?;
     Ok(timing_csv(alloc, &rows)?)
 }
 
 fn export_cabinet(alloc: Global, seen: Vec<Seen>) -> Result<Vec<u8>, Fault>
     ensures { Gives (IsExportMade View.Cabinet seen.items) result }
 {
-    let cabinet = cabinet_in(first_of(seen))?;
+    let cabinet = cabinet_in(first_seen(seen))?;
     Ok(records_csv(alloc, cabinet.id, &cabinet.view)?)
 }
 
@@ -162,7 +162,7 @@ fn picture(
 ) -> Result<Vec<u8>, Fault>
     ensures { Gives (IsMade (Shown.Diagram id pattern) seen.items) result }
 {
-    let timing = timing_in(first_of(seen))?;
+    let timing = timing_in(first_seen(seen))?;
     draw(alloc, &timing.rows, pattern)
 }
 

@@ -11,7 +11,7 @@ use Rattle.office_spreadsheets.specs.declared.hints.Hint.{Hint}
 use Rattle.office_tables_shelf.specs.Content.{Content}
 use Rattle.signal_office_faults.specs.declared.fault.Fault.{Fault}
 use Rattle.signal_office_faults.specs.declared.fault.Fault.TheVariants as fault
-use Rattle.signal_office_reports.specs.Reports.{first_of, state_in}
+use Rattle.signal_office_reports.specs.Reports.{first_seen, state_in}
 use Rattle.signal_office_reports.specs.Seen.{Looks}
 use Rattle.signal_office_reports.specs.declared.seen.Query.TheVariants as query
 use Rattle.signal_office_reports.specs.declared.seen.Seen.{Seen}
@@ -48,7 +48,7 @@ TellsOwnerIn (Err why) told = told ≡ why
 abbrev pub IsOwnerTold : Content → (id : ℕ) → Fault → Type 0
 IsOwnerTold tables id told =
     (found : Result (List Seen) Fault) × Looks tables (query.State id ∷ []) found
-    × MatchResult found (λ all. TellsOwnerIn (state_in (first_of all)) told) (λ why. told ≡ why)
+    × MatchResult found (λ all. TellsOwnerIn (state_in (first_seen all)) told) (λ why. told ≡ why)
 
 -- ---- an edit that is refused
 

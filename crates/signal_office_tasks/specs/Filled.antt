@@ -7,8 +7,8 @@ use Rattle.signal_office_faults.specs.declared.fault.Fault.TheVariants as fault
 use Rattle.signal_office_faults.specs.Folder.{AddsFiles, IsUnput, KnownFiles, NamedText}
 use Rattle.signal_office_line.specs.declared.shows.Shown.{Shown}
 use Rattle.signal_office_tasks.specs.Filed.{file_name, file_shown, files_in}
-use Rattle.signal_office_reports.specs.Reports.{IsShown, first_of, intersections_in}
-use Rattle.signal_office_reports.specs.Seen.{IsMadeOf}
+use Rattle.signal_office_reports.specs.Reports.{IsShown, first_seen, intersections_in}
+use Rattle.signal_office_reports.specs.Seen.{IsMadeOfAnswers}
 use Rattle.signal_office_reports.specs.declared.seen.Query.TheVariants as query
 use Rattle.signal_office_tasks.specs.declared.filed.FileOf.{FileOf}
 use Rattle.signal_office_tasks.specs.declared.filed.FolderKind.{FolderKind}
@@ -24,7 +24,7 @@ IsUnshownLate it tables why = (why ≡ fault.Store) ⊎ IsShown it tables (Err w
 
 -- these are all intersections of the office, each once, by their numbers; or they are not listed
 abbrev pub ListsOffice : Content → Result (List ListedIntersection) Fault → Type 0
-ListsOffice tables result = IsMadeOf (query.Intersections ∷ []) (λ found it. it ≡ intersections_in (first_of found)) tables result
+ListsOffice tables result = IsMadeOfAnswers (query.Intersections ∷ []) (λ found it. it ≡ intersections_in (first_seen found)) tables result
 
 module _ (day : Option ℕ) where
   -- each file is put under its name with what it shows, in this order

@@ -5,7 +5,7 @@ ghost use Rattle.std.specs.Prelude.{◌≡◌};
 ghost use Rattle.office_tables_shelf.specs.Keeps.{KeepsShelf};
 ghost use Rattle.signal_office_tasks.specs.Explained.{IsEditExplained, IsEditRefused};
 ghost use Rattle.signal_office_tasks.specs.Explained.{IsFileExplained, IsOwnerTold, TellsOwner};
-ghost use Rattle.signal_office_reports.specs.Reports.{first_of, state_in};
+ghost use Rattle.signal_office_reports.specs.Reports.{first_seen, state_in};
 ghost use Rattle.signal_office_tasks.specs.Explained.{TellsOwnerIn, with_hint};
 ghost use Rattle.office_files.specs.declared.fault.CsvFault.TheVariants as file;
 ghost use Rattle.signal_office_faults.specs.declared.fault.Fault.TheVariants as fault;
@@ -18,7 +18,7 @@ use office_machine::refusal::Refusal;
 use office_spreadsheets::{Hint, hint_of, line_of_record};
 use office_tables_shelf::shelf::Shelf;
 use signal_office_commands::Fault;
-use signal_office_reports::{Query, Seen, first_of, look, state_in};
+use signal_office_reports::{Query, Seen, first_seen, look, state_in};
 use signal_records::{InterId, Words};
 use std::alloc::Global;
 
@@ -73,9 +73,9 @@ fn held_by(owner: &Option<Words<40>>) -> Fault
 
 /// Tells the clerk who owns the draft of an intersection, as it was seen.
 fn owner_in(seen: Vec<Seen>) -> Fault
-    ensures { TellsOwnerIn (state_in (first_of seen.items)) result }
+    ensures { TellsOwnerIn (state_in (first_seen seen.items)) result }
 {
-    match state_in(first_of(seen)) {
+    match state_in(first_seen(seen)) {
         Ok(state) => held_by(&state.owner),
         Err(why) => why,
     }

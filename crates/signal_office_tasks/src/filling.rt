@@ -16,7 +16,7 @@ use office_tables_shelf::shelf::Shelf;
 use signal_office_commands::Fault;
 use signal_office_faults::Folder;
 use signal_office_line::Shown;
-use signal_office_reports::{Query, first_of, intersections_in, look};
+use signal_office_reports::{Query, first_seen, intersections_in, look};
 use signal_records::Listing;
 use std::alloc::Global;
 
@@ -30,7 +30,7 @@ fn listed_in<S: Shelf>(
     ensures lists { S.is_honest office.new → ListsOffice (S.content office.old) result }
 {
     let seen = look(alloc, office, &[Query::Intersections])?;
-    intersections_in(first_of(seen))
+    intersections_in(first_seen(seen))
 }
 
 /// Makes the text of each file, and lets it go: so each is known to be one before one is put.

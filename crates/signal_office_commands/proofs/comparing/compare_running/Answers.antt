@@ -7,5 +7,5 @@ use Rattle.signal_office_commands.proofs.comparing.compare_running.Goals as goal
 
 pub returns : goal.returns
 returns c =
-    subst (λ (shown : Result RunningTiming Fault). IsCompared c.args.bytes.now shown (Ok c.in_ok-compare.field-0.items)) (c.in_ok-timing.ensures ∙ ap timing_in c.first_of.ensures)
+    subst (λ (shown : Result RunningTiming Fault). IsCompared c.args.bytes.now shown (Ok c.in_ok-compare.field-0.items)) (c.in_ok-timing.ensures ∙ ap timing_in c.first_seen.ensures)
     (c.in_ok-plan.plan, c.in_ok-plan.ensures.plan, c.in_ok-compare.ensures.told)

@@ -3,14 +3,14 @@ use Rattle.signal_office_commands.specs.Explaining.{ExplainsDraft}
 use Rattle.signal_reasons.specs.Reasons.{AreReasons}
 use Rattle.signal_office_reports.proofs.LookLemmas.{made_of_seen}
 use Rattle.signal_office_reports.proofs.SeenLemmas.{handed}
-use Rattle.signal_office_reports.specs.Reports.{IsTextOf, draft_in, first_of}
+use Rattle.signal_office_reports.specs.Reports.{IsTextOf, draft_in, first_seen}
 use Rattle.signal_office_reports.specs.Seen.{Gives}
 use Rattle.signal_office_reports.specs.declared.seen.Query.TheVariants as query
 use Rattle.signal_office_commands.proofs.explaining.draft_reasons.Goals as goal
 
 pub returns-clause-explains : goal.returns-clause-explains
 returns-clause-explains g c = λ clean tables held.
-    made_of_seen (query.Draft c.args.id ∷ []) (λ seen. IsTextOf AreReasons (draft_in (first_of seen))) tables c.in_ok-seen.seen.items c.reasons_of.result (c.in_ok-seen.ensures.looks clean tables held) c.reasons_of.ensures
+    made_of_seen (query.Draft c.args.id ∷ []) (λ seen. IsTextOf AreReasons (draft_in (first_seen seen))) tables c.in_ok-seen.seen.items c.reasons_of.result (c.in_ok-seen.ensures.looks clean tables held) c.reasons_of.ensures
 
 pub returns-in_err-seen-clause-explains : goal.returns-in_err-seen-clause-explains
 returns-in_err-seen-clause-explains g c = λ clean tables held.

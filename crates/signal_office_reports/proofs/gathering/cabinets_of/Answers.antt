@@ -2,7 +2,7 @@ use Rattle.std.proofs.Common.{◌≡◌, ◌∙◌, ◌++◌, [], ap, append-nil
 use Rattle.std.specs.Vec.Iter.{into_iter_items}
 use Rattle.signal_office_reports.proofs.GatheringLemmas.{cabinets_more, none_left}
 use Rattle.signal_office_reports.proofs.SeenLemmas.{◌then◌, handed, still_held, unseen_so}
-use Rattle.signal_office_reports.specs.Gathering.{AreWhole, SeesCabinets, cabinet_of}
+use Rattle.signal_office_reports.specs.Gathering.{AreWhole, SeesCabinets, listed_cabinet_of}
 use Rattle.signal_office_reports.specs.Seen.{Gives}
 use Rattle.signal_office_reports.proofs.gathering.cabinets_of.Goals as goal
 
@@ -14,7 +14,7 @@ loop-listed-preserved g c =
       sees = λ clean tables held office stands.
           let one = c.in_ok-cabinet.ensures.sees clean tables (still_held g.S.Shelf _ _ tables so_far.kept held) in
           cabinets_more office c.loop-listed.found.items _ c.in-Some.listed (into_iter_items c.next.new.self) c.in_ok-cabinet.cabinet _ (one.0 office stands) c.in_ok-add_cabinet.ensures
-          (ap (λ rest. c.loop-listed.found.items ++ map (cabinet_of office) rest) (sym c.in-Some.ensures.steps.0) ∙ so_far.sees (back clean) tables held office stands);
+          (ap (λ rest. c.loop-listed.found.items ++ map (listed_cabinet_of office) rest) (sym c.in-Some.ensures.steps.0) ∙ so_far.sees (back clean) tables held office stands);
       whole = λ clean tables held rest.
           let one = c.in_ok-cabinet.ensures.sees clean tables (still_held g.S.Shelf _ _ tables so_far.kept held) in
           so_far.whole (back clean) tables held (subst (AreWhole tables) (sym c.in-Some.ensures.steps.0) (one.1, rest));
@@ -25,7 +25,7 @@ loop-listed-preserved g c =
 pub returns-clause-sees : goal.returns-clause-sees
 returns-clause-sees g c = λ clean tables held.
     let none : into_iter_items c.loop-listed.listed-iterator ≡ [] = none_left (into_iter_items c.loop-listed.listed-iterator) (omega (arith, c.in-None.ensures.steps.0)) in (
-      λ office stands. sym (append-nil c.loop-listed.found.items) ∙ ap (λ rest. c.loop-listed.found.items ++ map (cabinet_of office) rest) (sym none) ∙ c.loop-listed.invariant.sees clean tables held office stands,
+      λ office stands. sym (append-nil c.loop-listed.found.items) ∙ ap (λ rest. c.loop-listed.found.items ++ map (listed_cabinet_of office) rest) (sym none) ∙ c.loop-listed.invariant.sees clean tables held office stands,
       c.loop-listed.invariant.whole clean tables held (subst (AreWhole tables) (sym none) tt),
     )
 

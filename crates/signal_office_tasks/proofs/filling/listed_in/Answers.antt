@@ -11,7 +11,7 @@ pub returns-clause-lists : goal.returns-clause-lists
 returns-clause-lists g c = λ honest. (
   Ok c.in_ok-seen.seen.items,
   honest_tells g.S.Shelf g.met.S.Shelf.honest_is_clean _ _ (λ tables. Looks tables (query.Intersections ∷ []) (Ok c.in_ok-seen.seen.items)) c.in_ok-seen.ensures.looks honest,
-  c.intersections_in.ensures ∙ ap intersections_in c.first_of.ensures,
+  c.intersections_in.ensures ∙ ap intersections_in c.first_seen.ensures,
 )
 
 pub returns-in_err-seen-clause-lists : goal.returns-in_err-seen-clause-lists
