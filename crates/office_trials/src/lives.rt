@@ -22,9 +22,9 @@ use std::alloc::Global;
 use std::test::Fail;
 
 /// Adds the intersection of the stream.
-struct Adding;
+struct AddTask;
 
-impl OfficeTask<Reply> for Adding {
+impl OfficeTask<Reply> for AddTask {
     ghost use Rattle.std.specs.Prelude.{◌≡◌, ⊤};
 
     // Of the tables it promises nothing here: what it made of them is tried.
@@ -84,14 +84,16 @@ fn lives<D: Crash + Drop, R: Source, W: Sink>(
             return served_after_a_stop(alloc, files, first, one, second, two).is_some();
         }
         Life::AroundACommand => {
-            return served_around(rt, alloc, files, first, one, &Adding, out, second, two).is_some();
+            return served_around(
+                rt, alloc, files, first, one, &AddTask, out, second, two,
+            ).is_some();
         }
         Life::AfterACommand => {
-            return served_after_a_command(rt, alloc, files, &Adding, out, second, two).is_some();
+            return served_after_a_command(rt, alloc, files, &AddTask, out, second, two).is_some();
         }
         Life::Migrated => return migrated_and_served(alloc, files, second, two).is_some(),
         Life::Unclosed => served_unclosed(alloc, files, first, one),
-        Life::AfterAnUnclosedCommand => done_unclosed(rt, alloc, files, &Adding, out),
+        Life::AfterAnUnclosedCommand => done_unclosed(rt, alloc, files, &AddTask, out),
     };
     match left {
         Some(left) => served_over(alloc, left, second, two).is_some(),
