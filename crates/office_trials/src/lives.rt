@@ -141,8 +141,10 @@ fn runs_go_on_from_files_that_are_not_closed(host: HostRuntime) {
     for (life, end) in [(Life::Unclosed, 93), (Life::AfterAnUnclosedCommand, 0)] {
         let mut is_shown = false;
         for calls in 0..64 {
-            let lived = live(&host, life, stopping(&rt, &[], false, calls), end);
-            is_shown = matches!(lived, Some((_, came)) if came.as_slice() == answered(89, 273));
+            let files = stopping(&rt, &[], false, calls);
+            if let Some((_, came)) = live(&host, life, files, end) {
+                is_shown |= came.as_slice() == answered(89, 273);
+            }
             if is_shown {
                 break;
             }

@@ -6,7 +6,6 @@ use crate::files::{Pair, crashed, found, put_former, stopping};
 use crate::rows::{LIST, rows, steps};
 use crate::streams::{bytes_of, serves};
 use office_desk::office::Office;
-use office_tables::Migrated;
 use office_tables_shelf::shelf::Shelf;
 use signal_office_faults::Fault;
 use signal_office_file::{FileLeft, close_office, migrate_file, open_file};
@@ -69,11 +68,15 @@ fn serve_in<D: Disk + Drop>(
 /// Brings the tables in these files to today's version, for which both rows are written anew.
 fn migrate<D: Disk + Drop>(rt: &Bench<impl Abort>, files: Files<D>) -> Option<Left<D>> {
     match migrate_file(rt.1, files, Options::new(1)) {
-        Ended::Closed(Ok(Migrated { timing, draft }), left) => {
-            assert!(rt; timing == 1 && draft == 1, "the rows of a migration");
-            Some((1, true, files_of(left)?))
+        Ended::Closed(outcome, left) => {
+            if let Ok(rows) = &outcome {
+                assert!(rt;
+                    rows.timing == 1 && rows.draft == 1,
+                    "the rows of a migration"
+                );
+            }
+            Some((usize::from(outcome.is_ok()), true, files_of(left)?))
         }
-        Ended::Closed(Err(_fault), left) => Some((0, true, files_of(left)?)),
         Ended::Refused(_fault, left) => Some((0, false, files_of(left)?)),
         Ended::Unclosed(_fault, left) => Some((0, false, files_of(left)?)),
         Ended::Unopened(_fault) => None,
