@@ -18,7 +18,7 @@ use Rattle.office_machine.specs.Step.{cabinet_shown}
 use Rattle.office_machine.specs.declared.intersections.ListedIntersection.{ListedIntersection}
 use Rattle.office_tables_shelf.specs.OpenOrders.{orders_in}
 
--- as CSV or as a text
+-- each list as CSV or as a text
 abbrev pub list_written : Bool → List ListedIntersection → List ℕ
 list_written csv list = if csv then intersections_csv_text list else intersections_listing list
 

@@ -156,13 +156,13 @@ abbrev pub plans_in : List Seen → Result (Rows × Rows) Fault
 plans_in found = plans_of (first_seen found) (first_seen (rest_of found))
 
 -- a committed timing set that has a pattern
-abbrev pub having : ℕ → Rows → Result Rows Fault
-having pattern plan = if is_some (pattern_at plan pattern) then Ok plan else Err told.UnknownPattern
+abbrev pub if_with : ℕ → Rows → Result Rows Fault
+if_with pattern plan = if is_some (pattern_at plan pattern) then Ok plan else Err told.UnknownPattern
 
 abbrev pub pattern_in : ℕ → Seen → Result Rows Fault
 pattern_in pattern it = do
   timing ← timing_in it
-  having pattern timing.rows
+  if_with pattern timing.rows
 
 -- what the page of an intersection shows
 abbrev pub page_of : (state timing draft cabinet : Seen) → Result IntersectionShown Fault

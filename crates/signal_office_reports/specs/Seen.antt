@@ -115,7 +115,7 @@ abbrev pub Looks : Content → List Query → Result (List Seen) Fault → Type 
 Looks tables queries (Ok found) = OfOffice tables (λ office. found ≡ map (query_answer office) queries) × PassEach tables queries found
 Looks tables queries (Err why) = IsUnseen (MeetsAny tables queries) why
 
--- the same of a list that is made
+-- this is said of the items of a list that is made, or of why none is
 abbrev pub Gives : {T A : Type 0} → (Result (List T) Fault → Type 0) → Result (Vec T A) Fault → Type 0
 Gives says result = MatchResult result (λ list. says (Ok list.items)) (λ why. says (Err why))
 

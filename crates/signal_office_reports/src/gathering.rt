@@ -10,7 +10,7 @@ ghost use Rattle.signal_office_reports.specs.Gathering.{SeesMap, filed_in, with_
 ghost use Rattle.signal_office_reports.specs.Listing.{named_from};
 ghost use Rattle.signal_office_reports.specs.Seen.{Gives, IsUnseen, Sees};
 
-use crate::looking::asked;
+use crate::looking::see_reply;
 use crate::refused::fault_of;
 use crate::seen::{ListedCabinet, Query, Seen};
 use cabinet_core::Order;
@@ -26,7 +26,10 @@ use std::alloc::Global;
 use std::collections::BTreeMap;
 
 /// All intersections, by their numbers.
-fn listed<S: Shelf>(alloc: Global, office: &mut Office<S>) -> Result<Vec<ListedIntersection>, Fault>
+fn list_intersections<S: Shelf>(
+    alloc: Global,
+    office: &mut Office<S>,
+) -> Result<Vec<ListedIntersection>, Fault>
     ensures kept { KeepsShelf S.Shelf office.old office.new }
     ensures clean { S.is_clean office.new → S.is_clean office.old }
     ensures sees { TellsTables S.Shelf office.old office.new
@@ -39,7 +42,7 @@ fn listed<S: Shelf>(alloc: Global, office: &mut Office<S>) -> Result<Vec<ListedI
 }
 
 /// All intersections, as they are seen.
-pub(crate) fn intersections_seen<S: Shelf>(
+pub(crate) fn see_intersections<S: Shelf>(
     alloc: Global,
     office: &mut Office<S>,
 ) -> Result<Seen, Fault>
@@ -48,12 +51,12 @@ pub(crate) fn intersections_seen<S: Shelf>(
     ensures sees { TellsTables S.Shelf office.old office.new
         (λ tables. Sees tables Query.Intersections result) }
 {
-    let found = listed(alloc, office)?;
+    let found = list_intersections(alloc, office)?;
     Ok(Seen::Intersections(Listing::new(found)))
 }
 
 /// The open orders on each intersection that has any.
-fn orders_asked<S: Shelf>(
+fn read_open_orders<S: Shelf>(
     alloc: Global,
     office: &mut Office<S>,
 ) -> Result<BTreeMap<InterId, Vec<Order>>, Fault>
@@ -97,7 +100,7 @@ fn named_among(
 }
 
 /// The open orders of all intersections, as they are seen.
-pub(crate) fn open_orders_seen<S: Shelf>(
+pub(crate) fn see_open_orders<S: Shelf>(
     alloc: Global,
     office: &mut Office<S>,
 ) -> Result<Seen, Fault>
@@ -106,8 +109,8 @@ pub(crate) fn open_orders_seen<S: Shelf>(
     ensures sees { TellsTables S.Shelf office.old office.new
         (λ tables. Sees tables Query.OpenOrders result) }
 {
-    let list = listed(alloc, office)?;
-    let orders = orders_asked(alloc, office)?;
+    let list = list_intersections(alloc, office)?;
+    let orders = read_open_orders(alloc, office)?;
     let found = named_among(alloc, list.as_slice(), &orders)?;
     Ok(Seen::Orders(Listing::new(found)))
 }
@@ -122,7 +125,7 @@ fn filed_in(seen: Seen) -> Result<CabinetShown, Fault>
     }
 }
 
-fn cabinet_asked<S: Shelf>(
+fn read_cabinet<S: Shelf>(
     alloc: Global,
     office: &mut Office<S>,
     id: InterId,
@@ -132,7 +135,7 @@ fn cabinet_asked<S: Shelf>(
     ensures sees { TellsTables S.Shelf office.old office.new
         (λ tables. SeesCabinet tables id result) }
 {
-    filed_in(asked(alloc, office, Command::Cabinet { id })?)
+    filed_in(see_reply(alloc, office, Command::Cabinet { id })?)
 }
 
 fn add_cabinet(
@@ -160,20 +163,20 @@ fn cabinets_of<S: Shelf>(
 {
     let mut found = Vec::new(alloc);
     for listed in list {
-        let cabinet = cabinet_asked(alloc, office, listed.id)?;
+        let cabinet = read_cabinet(alloc, office, listed.id)?;
         add_cabinet(&mut found, listed, cabinet)?;
     }
     Ok(found)
 }
 
 /// What the register holds of each intersection, as it is seen.
-pub(crate) fn cabinets_seen<S: Shelf>(alloc: Global, office: &mut Office<S>) -> Result<Seen, Fault>
+pub(crate) fn see_cabinets<S: Shelf>(alloc: Global, office: &mut Office<S>) -> Result<Seen, Fault>
     ensures kept { KeepsShelf S.Shelf office.old office.new }
     ensures clean { S.is_clean office.new → S.is_clean office.old }
     ensures sees { TellsTables S.Shelf office.old office.new
         (λ tables. Sees tables Query.Cabinets result) }
 {
-    let list = listed(alloc, office)?;
+    let list = list_intersections(alloc, office)?;
     let found = cabinets_of(alloc, office, list)?;
     Ok(Seen::Cabinets(Listing::new(found)))
 }

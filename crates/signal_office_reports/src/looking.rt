@@ -10,7 +10,7 @@ ghost use Rattle.signal_office_reports.specs.Seen.{Gives, IsAnswer, Looks, Sees,
 ghost use Rattle.signal_office_reports.specs.Seen.{is_normal, seen_in};
 
 use crate::asking::ask;
-use crate::gathering::{cabinets_seen, intersections_seen, open_orders_seen};
+use crate::gathering::{see_cabinets, see_intersections, see_open_orders};
 use crate::refused::fault_of;
 use crate::seen::{Query, Seen};
 use cabinet_core::Day;
@@ -37,7 +37,7 @@ fn seen_in(reply: Reply) -> Result<Seen, Fault>
 }
 
 /// What a query of the machine sees.
-pub(crate) fn asked<S: Shelf>(
+pub(crate) fn see_reply<S: Shelf>(
     alloc: Global,
     office: &mut Office<S>,
     query: Command,
@@ -63,7 +63,7 @@ fn is_normal(state: &Seen) -> bool
 }
 
 /// The draft of an intersection, which is read only where the state says that there is one.
-fn open_draft_seen<S: Shelf>(
+fn see_open_draft<S: Shelf>(
     alloc: Global,
     office: &mut Office<S>,
     id: InterId,
@@ -73,16 +73,16 @@ fn open_draft_seen<S: Shelf>(
     ensures sees { TellsTables S.Shelf office.old office.new
         (λ tables. Sees tables (Query.OpenDraft id) result) }
 {
-    let state = asked(alloc, office, Command::State { id })?;
+    let state = see_reply(alloc, office, Command::State { id })?;
     if is_normal(&state) {
         let refusal = Refusal::Draft(DraftRefusal::NotTransaction);
         return Ok(Seen::Reply(Reply::Refused(refusal)));
     }
-    asked(alloc, office, Command::Draft { id })
+    see_reply(alloc, office, Command::Draft { id })
 }
 
 /// The first so many intersections that are overdue on a day.
-fn overdue_seen<S: Shelf>(
+fn see_overdue<S: Shelf>(
     alloc: Global,
     office: &mut Office<S>,
     day: Day,
@@ -106,16 +106,16 @@ fn look_at<S: Shelf>(alloc: Global, office: &mut Office<S>, query: Query) -> Res
     ensures sees { TellsTables S.Shelf office.old office.new (λ tables. Sees tables query result) }
 {
     match query {
-        Query::State { id } => asked(alloc, office, Command::State { id }),
-        Query::Timing { id } => asked(alloc, office, Command::Timing { id }),
-        Query::Draft { id } => asked(alloc, office, Command::Draft { id }),
-        Query::OpenDraft { id } => open_draft_seen(alloc, office, id),
-        Query::Cabinet { id } => asked(alloc, office, Command::Cabinet { id }),
-        Query::Stock => asked(alloc, office, Command::Stock),
-        Query::Overdue { day, most } => overdue_seen(alloc, office, day, most),
-        Query::Intersections => intersections_seen(alloc, office),
-        Query::OpenOrders => open_orders_seen(alloc, office),
-        Query::Cabinets => cabinets_seen(alloc, office),
+        Query::State { id } => see_reply(alloc, office, Command::State { id }),
+        Query::Timing { id } => see_reply(alloc, office, Command::Timing { id }),
+        Query::Draft { id } => see_reply(alloc, office, Command::Draft { id }),
+        Query::OpenDraft { id } => see_open_draft(alloc, office, id),
+        Query::Cabinet { id } => see_reply(alloc, office, Command::Cabinet { id }),
+        Query::Stock => see_reply(alloc, office, Command::Stock),
+        Query::Overdue { day, most } => see_overdue(alloc, office, day, most),
+        Query::Intersections => see_intersections(alloc, office),
+        Query::OpenOrders => see_open_orders(alloc, office),
+        Query::Cabinets => see_cabinets(alloc, office),
     }
 }
 

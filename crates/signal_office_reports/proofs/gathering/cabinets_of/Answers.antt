@@ -9,7 +9,7 @@ use Rattle.signal_office_reports.proofs.gathering.cabinets_of.Goals as goal
 pub loop-listed-preserved : goal.loop-listed-preserved
 loop-listed-preserved g c =
     let so_far = c.loop-listed.invariant in
-    let back = c.cabinet_asked.ensures.clean in
+    let back = c.read_cabinet.ensures.clean in
     record {
       sees = λ clean tables held office stands.
           let one = c.in_ok-cabinet.ensures.sees clean tables (still_held g.S.Shelf _ _ tables so_far.kept held) in
@@ -18,7 +18,7 @@ loop-listed-preserved g c =
       whole = λ clean tables held rest.
           let one = c.in_ok-cabinet.ensures.sees clean tables (still_held g.S.Shelf _ _ tables so_far.kept held) in
           so_far.whole (back clean) tables held (subst (AreWhole tables) (sym c.in-Some.ensures.steps.0) (one.1, rest));
-      kept = so_far.kept then c.cabinet_asked.ensures.kept;
+      kept = so_far.kept then c.read_cabinet.ensures.kept;
       clean = λ clean. so_far.clean (back clean);
     }
 

@@ -3,7 +3,7 @@ use Rattle.office_machine.specs.declared.refusal.Refusal.{Refusal}
 use Rattle.office_tables_shelf.specs.Damage.{HasAnyDamagedIntersection}
 use Rattle.signal_office_reports.proofs.SeenLemmas.{of_tables, sees_refusal, stayed_open, was_open}
 use Rattle.signal_office_reports.specs.Gathering.{SeesList}
-use Rattle.signal_office_reports.proofs.gathering.listed.Goals as goal
+use Rattle.signal_office_reports.proofs.gathering.list_intersections.Goals as goal
 
 pub returns-in-Ok-clause-sees : goal.returns-in-Ok-clause-sees
 returns-in-Ok-clause-sees g c = λ clean tables held.

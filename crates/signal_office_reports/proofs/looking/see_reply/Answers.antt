@@ -1,5 +1,5 @@
 use Rattle.signal_office_reports.proofs.SeenLemmas.{sees_reply}
-use Rattle.signal_office_reports.proofs.looking.asked.Goals as goal
+use Rattle.signal_office_reports.proofs.looking.see_reply.Goals as goal
 
 pub returns-clause-sees : goal.returns-clause-sees
 returns-clause-sees g c = λ clean tables held.

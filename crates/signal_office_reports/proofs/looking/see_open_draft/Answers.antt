@@ -2,7 +2,7 @@ use Rattle.signal_office_reports.proofs.SeenLemmas.{handed, sees_none, sees_open
 use Rattle.std.proofs.Common.{inl, sym, ◌∙◌}
 use Rattle.signal_office_reports.specs.Seen.{Sees}
 use Rattle.signal_office_reports.specs.declared.seen.Query.TheVariants as query
-use Rattle.signal_office_reports.proofs.looking.open_draft_seen.Goals as goal
+use Rattle.signal_office_reports.proofs.looking.see_open_draft.Goals as goal
 
 pub returns-then-is_normal-clause-sees : goal.returns-then-is_normal-clause-sees
 returns-then-is_normal-clause-sees g c = λ clean tables held.
@@ -11,8 +11,8 @@ returns-then-is_normal-clause-sees g c = λ clean tables held.
 
 pub returns-clause-sees : goal.returns-clause-sees
 returns-clause-sees g c = λ clean tables held.
-    let state = c.in_ok-state.ensures.sees (c.asked-2.ensures.clean clean) tables held in
-    sees_open tables c.args.id c.asked-2.result state.1.0 (c.asked-2.ensures.sees clean tables (still_held g.S.Shelf _ _ tables c.asked.ensures.kept held))
+    let state = c.in_ok-state.ensures.sees (c.see_reply-2.ensures.clean clean) tables held in
+    sees_open tables c.args.id c.see_reply-2.result state.1.0 (c.see_reply-2.ensures.sees clean tables (still_held g.S.Shelf _ _ tables c.see_reply.ensures.kept held))
 
 pub returns-in_err-state-clause-sees : goal.returns-in_err-state-clause-sees
 returns-in_err-state-clause-sees g c = λ clean tables held.

@@ -3,7 +3,7 @@ use Rattle.signal_office_reports.proofs.SeenLemmas.{handed}
 use Rattle.signal_office_reports.specs.Seen.{Sees}
 use Rattle.signal_office_reports.specs.declared.seen.Query.TheVariants as query
 use Rattle.signal_office_reports.specs.declared.seen.Seen.TheVariants as seen
-use Rattle.signal_office_reports.proofs.gathering.intersections_seen.Goals as goal
+use Rattle.signal_office_reports.proofs.gathering.see_intersections.Goals as goal
 
 pub returns-clause-sees : goal.returns-clause-sees
 returns-clause-sees g c = λ clean tables held.

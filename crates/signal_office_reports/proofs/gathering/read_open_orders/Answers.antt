@@ -3,7 +3,7 @@ use Rattle.office_machine.specs.declared.refusal.Refusal.{Refusal}
 use Rattle.office_tables_shelf.specs.CabinetReads.{HasAnyDamagedOrder}
 use Rattle.signal_office_reports.proofs.SeenLemmas.{of_tables, sees_refusal, stayed_open, was_open}
 use Rattle.signal_office_reports.specs.Gathering.{SeesMap}
-use Rattle.signal_office_reports.proofs.gathering.orders_asked.Goals as goal
+use Rattle.signal_office_reports.proofs.gathering.read_open_orders.Goals as goal
 
 pub returns-in-Ok-clause-sees : goal.returns-in-Ok-clause-sees
 returns-in-Ok-clause-sees g c = λ clean tables held.

@@ -7,7 +7,7 @@ use Rattle.signal_office_reports.proofs.SeenLemmas.{of_tables, sees_refusal, sta
 use Rattle.signal_office_reports.specs.Seen.{Meets, Sees}
 use Rattle.signal_office_reports.specs.declared.seen.Query.TheVariants as query
 use Rattle.signal_office_reports.specs.declared.seen.Seen.TheVariants as seen
-use Rattle.signal_office_reports.proofs.looking.overdue_seen.Goals as goal
+use Rattle.signal_office_reports.proofs.looking.see_overdue.Goals as goal
 
 pub returns-in-Ok-clause-sees : goal.returns-in-Ok-clause-sees
 returns-in-Ok-clause-sees g c = λ clean tables held.
