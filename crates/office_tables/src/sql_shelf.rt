@@ -1,36 +1,29 @@
 //! The tables in SQL.
 
-ghost use Rattle.std.specs.Prelude.{◌≡◌, ◌≢◌, true, false, Ok, Err, IfOk, IfErr};
+ghost use Rattle.std.specs.Prelude.{◌≡◌, true, false, Ok, Err, IfOk, IfErr};
 ghost use Rattle.sqlite.specs.State.{Survives};
 ghost use Rattle.sqlite.specs.Held.{state};
-ghost use Rattle.sqlite.specs.Steps.{over_memory};
 ghost use Rattle.office_tables_statements.specs.Calls.{IsHonest, StaysOpen};
 ghost use Rattle.office_tables.specs.Migrate.{Brings, StandsAnew, MayBecome};
 ghost use Rattle.office_tables.specs.Migrate.{TellsVersion, TellsDamage};
 ghost use Rattle.office_tables_open.specs.Promises.{KeepsCommitted, Settles, IsArrangedIfClean};
-ghost use Rattle.office_tables_open.specs.Arranged.{IsCheckedAgain};
 ghost use Rattle.office_tables_open.specs.SqlShelf.{IsCurrent};
-ghost use Rattle.office_tables_open.specs.Lacking.{Hold};
 ghost use Rattle.office_tables_open.specs.Opening.{HasOtherVersion, HasRowsAlone, StaysClean};
-ghost use Rattle.office_tables_open.specs.Opening.{IsAsFound, IsOpened, IsRefused};
-ghost use Rattle.office_tables_open.specs.Opening.{MayBeTaken, TellsOfTables};
-ghost use Rattle.office_tables_shelf.specs.Content.{no_content};
-ghost use Rattle.office_tables_shelf.specs.Counts.{no_writes};
-ghost use Rattle.office_tables_statements.specs.Stored.{content_now};
+ghost use Rattle.office_tables_open.specs.Opening.{IsOpened, IsRefused};
 ghost use Rattle.office_tables_schema.specs.Schema.{office_schema};
 
 use crate::migrate::migrate;
 use cabinet_core::{Day, Delivery, Hand, Inspection, Order, PartCode, UsedLine};
 use office_tables_changes::change;
 use office_tables_migration::puts::Migrated;
-use office_tables_open::found::checked;
-use office_tables_open::open::{Left, OpenFault, claim, has_only_ours, prepared};
+use office_tables_open::found::{checked, has_only_ours};
+use office_tables_open::open::{Left, OpenFault, prepared};
 use office_tables_shelf::counts::WriteCounts;
 use office_tables_shelf::rows::{IntersectionRow, RowChange, Table};
 use office_tables_shelf::shelf::{Shelf, ShelfFault};
 use office_tables_sql::{each_row, inspection, intersection, order, part, stored_row, timing};
 use signal_records::{Change, InterId, LineNo, RecordNo, Row};
-use sqlite::{Alter, Connection, MemStore, params};
+use sqlite::{Alter, Connection, params};
 use std::alloc::Global;
 use std::collections::BTreeMap;
 use std::marker::Model;
@@ -132,40 +125,12 @@ impl<S: Alter> SqlShelf<S> {
         ensures under_way { (state S.Store conn).in_transaction ≡ true →
             result ≡ Err (OpenFault.Store, Ok conn) }
     {
-        let (mut conn, is_new) = match prepared(alloc, conn) {
-            Ok(found) => found,
-            Err(refused) => return Err(refused),
-        };
-        if is_new {
-            return Ok(SqlShelf {
-                conn,
-                counts: WriteCounts::new(),
-            });
-        }
-        match claim(&mut conn) {
-            Ok(()) => Ok(SqlShelf {
+        match prepared(alloc, conn) {
+            Ok(conn) => Ok(SqlShelf {
                 conn,
                 counts: WriteCounts::new(),
             }),
-            Err(fault) => Err((fault, Ok(conn))),
-        }
-    }
-
-    /// The same database, which was checked again, so that its rows are known to be in order, as
-    /// `open_arranged` and `migrate` ask. Where it is refused its store comes back.
-    pub fn checked(alloc: Global, conn: Connection<S>) -> Result<Connection<S>, (OpenFault, S)>
-    where
-        S: Drop,
-        ensures again { IfOk result (λ c.
-            IsCheckedAgain (state S.Store conn) (state S.Store c)) }
-        ensures arranged { IfOk result (λ c. IsArrangedIfClean (state S.Store c)) }
-        ensures fault { IfErr result (λ e.
-            (e.0 ≢ OpenFault.Version) × (e.0 ≢ OpenFault.Damaged)) }
-        ensures left { IfErr result (λ e. IsAsFound S.Store conn e.1) }
-    {
-        match checked(alloc, conn) {
-            Ok(conn) => Ok(conn),
-            Err((fault, store)) => Err((OpenFault::from(fault), store)),
+            Err(refused) => Err(refused),
         }
     }
 
@@ -175,7 +140,7 @@ impl<S: Alter> SqlShelf<S> {
     /// or none, whatever the layout of the tables, with Damaged where a row of those two tables is
     /// none of version 1, and with Store or NoMemory; the tables are then as they were. What is
     /// stored in other tables is not looked at. The rows have to be known to be in order, as those
-    /// of files that were just opened are, and of any database that `checked` gives.
+    /// of files that were just opened are.
     pub fn migrate(alloc: Global, conn: &mut Connection<S>) -> Result<Migrated, OpenFault>
         requires { IsArrangedIfClean (state S.Store conn.old) }
         ensures brought { Brings result (state S.Store conn.old) (state S.Store conn.new) }
@@ -211,40 +176,6 @@ impl<S: Alter> SqlShelf<S> {
     {
         let SqlShelf { conn, .. } = self;
         conn
-    }
-}
-
-impl SqlShelf<MemStore> {
-    /// The tables of a new office, in a new database in memory. No version is told of it, and no
-    /// row.
-    pub fn open_in_memory(alloc: Global) -> Result<SqlShelf<MemStore>, OpenFault>
-        ensures empty { IfOk result (λ shelf.
-            content_now (state over_memory shelf.conn) ≡ no_content) }
-        ensures unwritten { IfOk result (λ shelf. shelf.counts ≡ no_writes) }
-        ensures fault { IfErr result (λ fault. ¬ TellsOfTables fault) }
-    {
-        match Connection::open_in_memory(alloc) {
-            Ok(conn) => SqlShelf::open(alloc, conn),
-            Err(_) => Err(OpenFault::NoMemory),
-        }
-    }
-
-    /// As `open`, over a database in memory, of which nothing has to be supposed: what it has
-    /// committed is what is told, or what is taken.
-    pub fn open_over_memory(
-        alloc: Global,
-        conn: Connection<MemStore>,
-    ) -> Result<SqlShelf<MemStore>, OpenFault>
-        ensures taken { IfOk result (λ _.
-            MayBeTaken (state over_memory conn).committed.trees) }
-        ensures kept { IfOk result (λ shelf. Hold (state over_memory conn).committed.trees
-            (content_now (state over_memory shelf.conn))) }
-        ensures version { result ≡ Err OpenFault.Version →
-            HasOtherVersion (state over_memory conn).committed.trees }
-        ensures damaged { result ≡ Err OpenFault.Damaged →
-            HasRowsAlone (state over_memory conn).committed.trees }
-    {
-        SqlShelf::open(alloc, conn)
     }
 }
 

@@ -25,7 +25,7 @@ use Rattle.office_tables_schema.specs.Schema.{no_schema}
 use Rattle.office_tables_statements.specs.Calls.{command_of, statement_of}
 use Rattle.office_tables_open.proofs.MadeLemmas.{second_of}
 use Rattle.office_tables_open.specs.Found.{IsOurs}
-use Rattle.office_tables_open.specs.{Lacking.AreOurs, Opening.AreRun}
+use Rattle.office_tables_open.specs.Opening.{AreOurs, AreRun}
 use Rattle.office_tables_open.specs.declared.{open.TheConstants.DROPS}
 
 -- ---- what such a text means
@@ -201,16 +201,16 @@ all_drop =
 
 one_of_them : (name : List ℕ) → IsOurs name → list_any (same_name name) office_names ≡ true
 unfolding everything
-one_of_them name (inl (inl is)) = rw is refl
-one_of_them name (inl (inr (inl is))) = rw is refl
-one_of_them name (inl (inr (inr (inl is)))) = rw is refl
-one_of_them name (inl (inr (inr (inr (inl is))))) = rw is refl
-one_of_them name (inl (inr (inr (inr (inr (inl is)))))) = rw is refl
-one_of_them name (inl (inr (inr (inr (inr (inr (inl is))))))) = rw is refl
-one_of_them name (inl (inr (inr (inr (inr (inr (inr (inl is)))))))) = rw is refl
-one_of_them name (inl (inr (inr (inr (inr (inr (inr (inr (inl is))))))))) = rw is refl
-one_of_them name (inl (inr (inr (inr (inr (inr (inr (inr (inr none))))))))) = absurd none
-one_of_them name (inr is) = rw is refl
+one_of_them name (inl is) = rw is refl
+one_of_them name (inr (inl is)) = rw is refl
+one_of_them name (inr (inr (inl is))) = rw is refl
+one_of_them name (inr (inr (inr (inl is)))) = rw is refl
+one_of_them name (inr (inr (inr (inr (inl is))))) = rw is refl
+one_of_them name (inr (inr (inr (inr (inr (inl is)))))) = rw is refl
+one_of_them name (inr (inr (inr (inr (inr (inr (inl is))))))) = rw is refl
+one_of_them name (inr (inr (inr (inr (inr (inr (inr (inl is)))))))) = rw is refl
+one_of_them name (inr (inr (inr (inr (inr (inr (inr (inr (inl is))))))))) = rw is refl
+one_of_them name (inr (inr (inr (inr (inr (inr (inr (inr (inr none))))))))) = absurd none
 
 pub blank_after : {S : Type 0} (g : Ghosts S) (old new : Held S) → old.in_transaction ≡ true → AreOurs (state g old).now → AreRun g (map (λ text. text.now) DROPS) old new
     → ((state g new).now.schema ≡ no_schema) × (new.in_transaction ≡ true)

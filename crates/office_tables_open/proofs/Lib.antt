@@ -5,7 +5,6 @@ pub mod LeftLemmas
 pub mod MemoryLemmas
 mod MadeLemmas
 mod DropLemmas
-pub mod LackingLemmas
 mod RefillLemmas
 pub mod MovedLemmas
-pub mod FoundLemmas
+mod FoundLemmas

@@ -1,5 +1,5 @@
 -- What rows hold that are told by the names of their tables, and that putting them into new tables comes to the same.
-use Rattle.std.proofs.Common.{◌≡◌, ℕ, ◌+◌, cond, List, [], ◌∷◌, refl, sym, ap, ◌∙◌, arith}
+use Rattle.std.proofs.Common.{◌≡◌, ℕ, ◌+◌, cond, List, [], ◌∷◌, None, Some, refl, sym, ap, ◌∙◌, arith}
 use Rattle.std.specs.{FinMap.empty, FinMap.insert, List.AllZip}
 use Rattle.sqlite.specs.{Order.Row, Tree.Trees}
 use Rattle.sqlite_catalog.specs.Listing.{AreListed, IsTableRow}
@@ -7,7 +7,7 @@ use Rattle.sqlite_schema.specs.{Names.same_name, declared.schema.Schema.Schema, 
 use Rattle.sqlite_tied.specs.Compute.{everything}
 use Rattle.sqlite_trees.specs.Objects.{catalog_tree, number_in}
 use Rattle.sqlite_value.specs.Order.{bytes}
-use Rattle.office_tables_shelf.specs.Cells.{TableRows}
+use Rattle.office_tables_shelf.specs.Cells.{TableRows, number}
 use Rattle.office_tables_shelf.specs.Content.{Content, no_content}
 use Rattle.office_tables_shelf.specs.declared.rows.Table.{Table}
 use Rattle.office_tables_shelf.specs.declared.rows.Table.TheVariants as table
@@ -15,7 +15,10 @@ use Rattle.office_tables_schema.specs.Schema.{office_schema}
 use Rattle.office_tables_statements.specs.Stored.{cells_at, content_of, rows_in}
 use Rattle.office_tables_statements.specs.Tables.{layout_at, rows_at, schema_at, with_rows}
 use Rattle.office_tables_statements.proofs.TableLemmas.{each}
-use Rattle.office_tables_open.specs.Moved.{Part, all_put, content_by, content_in, moved_from, row_put, rows_named, rows_put}
+use Rattle.office_tables_open.specs.Moved.{Named, Part, all_put, content_by, moved_from, row_put, rows_named, rows_put}
+use Rattle.office_tables_open.specs.Found.{HasOtherVersion, HasRowsAlone, Hold, keeper_rows}
+use Rattle.office_tables_open.specs.Version.{AreToday, version_of, current_version}
+use Rattle.office_tables_open.specs.declared.found.TheConstants.{KEEPER}
 use Rattle.office_tables_open.specs.declared.gather.TheConstants.{CHILDREN_FIRST}
 
 -- ---- rows that are put into a table without rows
@@ -41,9 +44,9 @@ one_more : (t : Table) (rows : List Row) (parts : List Part) (c : Content) → a
 one_more t rows parts c is none = ap (λ x. rows_put t x rows) is ∙ whole_table t c rows none
 
 -- all tables, whose rows are put into new ones
-pub moved_whole : (tables : List SqlTable) (trees : Trees) → all_put no_content (moved_from CHILDREN_FIRST tables trees) ≡ content_in tables trees
-moved_whole tables trees =
-    let rows : Table → List Row = λ t. rows_named tables trees (schema_at t).name in
+pub moved_whole : (rows : Named) → all_put no_content (moved_from CHILDREN_FIRST rows) ≡ content_by rows
+moved_whole named =
+    let rows : Table → List Row = λ t. named (schema_at t).name in
     let part : Table → Part = λ t. (t, rows t) in
     let a = one_more table.Intersection (rows table.Intersection) [] no_content refl refl in
     let la : List Part = part table.Intersection ∷ [] in
@@ -76,10 +79,34 @@ listed_rows trees [] (t ∷ ts) us ours theirs name = absurd ours
 listed_rows trees (row ∷ rows) [] us ours theirs name = absurd ours
 listed_rows trees (row ∷ rows) (t ∷ ts) [] ours theirs name = absurd theirs
 
-pub listed_content : (trees : Trees) (a b : Schema) → AreListed (trees catalog_tree) a → AreListed (trees catalog_tree) b → content_in a.tables trees ≡ content_in b.tables trees
-listed_content trees a b ours theirs = λ i. content_by (λ name. listed_rows trees _ a.tables b.tables ours.tables theirs.tables name i)
-
 -- the office's own tables
-pub office_content : (trees : Trees) → content_in office_schema.tables trees ≡ content_of trees
+pub office_content : (trees : Trees) → content_by (rows_named office_schema.tables trees) ≡ content_of trees
 unfolding everything
 office_content trees = refl
+
+office_version : (trees : Trees) → keeper_rows office_schema.tables trees ≡ trees 15
+unfolding everything
+office_version trees = refl
+
+-- ---- what tables hold
+
+pub hold_office : (trees : Trees) (tables : Content) → AreListed (trees catalog_tree) office_schema → Hold trees tables → tables ≡ content_of trees
+hold_office trees tables listed held = held.2 ∙ (λ i. content_by (λ name. listed_rows trees _ held.0.tables office_schema.tables held.1.tables listed.tables name i)) ∙ office_content trees
+
+pub office_hold : (trees : Trees) (tables : Content) → AreListed (trees catalog_tree) office_schema → tables ≡ content_of trees → Hold trees tables
+office_hold trees tables listed is = (office_schema, listed, is ∙ sym (office_content trees))
+
+-- whatever tables they list, these store the version of the office's
+version_stored : (trees : Trees) → AreToday trees → (schema : Schema) → AreListed (trees catalog_tree) schema → version_of (keeper_rows schema.tables trees) ≡ Some current_version
+version_stored trees it schema listed =
+    ap version_of (listed_rows trees _ schema.tables office_schema.tables listed.tables it.sound.lists.listed.tables KEEPER.now ∙ office_version trees) ∙ it.stored
+
+-- an opening tells neither Version nor Damaged of an office's tables with today's version
+pub today_version : (trees : Trees) → AreToday trees → HasOtherVersion trees → ⊥
+today_version trees it (schema, listed, (keep, other)) =
+    let same : Some current_version ≡ Some (number other.version ∷ []) = sym (version_stored trees it schema listed) ∙ other.stored in
+    other.other (let e = same in cc)
+
+pub today_rows : (trees : Trees) → AreToday trees → HasRowsAlone trees → ⊥
+today_rows trees it (schema, listed, (none, some)) =
+    absurd (let e : Some current_version ≡ None = sym (version_stored trees it schema listed) ∙ none in cc)

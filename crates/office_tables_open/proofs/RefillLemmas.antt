@@ -1,9 +1,7 @@
 -- Rows that are put into the tables of the office as they were stored.
-use Rattle.std.proofs.Common.{◌≡◌, ℕ, true, false, true≢false, ◌&&◌, List, [], ◌∷◌, ◌++◌, map, length, drop, Result, Ok, Err, refl, sym, ap, subst, ◌∙◌}
+use Rattle.std.proofs.Common.{◌≡◌, ℕ, true, true≢false, ◌&&◌, List, [], ◌∷◌, ◌++◌, map, length, drop, Result, Ok, Err, refl, sym, ap, subst, ◌∙◌}
 use Rattle.std.proofs.lemmas.Bool.{and_parts}
-use Rattle.std.specs.Prelude.{OnOk, ⊤, pos}
-use Rattle.std.specs.FinMap.{get}
-use Rattle.sqlite.specs.Effect.{IsDatabase}
+use Rattle.std.specs.Prelude.{OnOk, ⊤}
 use Rattle.sqlite.specs.{Order.Row, Order.column, State.State, Listing.understood}
 use Rattle.sqlite.specs.declared.types.Value.{Value, TheVariants.Null, TheVariants.Int, TheVariants.Real, TheVariants.Text, TheVariants.Blob}
 use Rattle.sqlite.specs.Values.{bound_value}
@@ -16,13 +14,13 @@ use Rattle.office_tables_shelf.specs.declared.rows.Table.{Table}
 use Rattle.office_tables_shelf.specs.declared.rows.Table.TheVariants as table
 use Rattle.office_tables_statements.specs.Layout as layout
 use Rattle.office_tables_statements.specs.{Layout.values_at, Calls.IsReady, Calls.IsTurned, Calls.Ran}
-use Rattle.office_tables_statements.specs.Stored.{are_sound, cell_of, cells, cells_at, content_now, is_sound, rows_in}
+use Rattle.office_tables_statements.specs.Stored.{are_sound, cell_of, cells, cells_at, content_now, is_sound}
 use Rattle.office_tables_statements.specs.Tables.{Fits, IsInsertText, layout_at, places_of, schema_at, suit, suits_kind, value_of, values_of}
 use Rattle.office_tables_statements.proofs.{StoredPuts.inserts, TableLemmas.each}
-use Rattle.office_tables_open.specs.Lacking.{IsRefilled}
 use Rattle.office_tables_open.specs.Moved.{Part, all_put, part_moved, row_put, rows_put, suit_kinds}
 use Rattle.office_tables_open.specs.declared.gather.Moved.{Moved}
-use Rattle.office_tables_open.specs.Opening.{IsNew}
+use Rattle.office_tables_open.specs.{Opening.IsMade, Version.version_of}
+use Rattle.office_tables_open.proofs.MadeLemmas.{made_ready}
 use Rattle.office_tables_open.specs.declared.refill.TheConstants.{INTERSECTION, TIMING, DRAFT, INSPECTION, WORK_ORDER, PART, DELIVERY, USED_PART}
 
 -- ---- values and their cells
@@ -180,18 +178,18 @@ pub last_moved : (base : Content) (all : List Moved) (moved : Moved) → all_put
 last_moved base [] moved = refl
 last_moved base (m ∷ all) moved = ap (λ c. rows_put m.table c m.rows.items) (last_moved base all moved)
 
+-- a step that goes on from another one
+pub turned_then : {E : Type 0} (r : Result ⊤ E) (old mid new : State) (first last : Content) → (IsReady old → IsTurned first old mid) → OnOk r (IsReady mid → IsTurned last mid new) → {all : Content} → (IsTurned first old mid → last ≡ all)
+    → OnOk r (IsReady old → IsTurned all old new)
+turned_then (Ok x) old mid new first last one two same = λ ready.
+    let was = one ready in
+    let then = two was.ready in
+    record { ready = then.ready; content = then.content ∙ same was; version = then.version ∙ was.version }
+turned_then (Err e) old mid new first last one two same = tt
+
 -- the rows were put into new tables, in which the version stays
-pub refilled_if : {E : Type 0} (r : Result ⊤ E) (all : List Part) (mid new : State) → IsNew mid → OnOk r (IsReady mid → IsTurned (all_put (content_now mid) all) mid new) → OnOk r (IsRefilled (all_put no_content all) new)
-refilled_if (Ok x) all mid new is put =
+pub refilled_if : {E : Type 0} (r : Result ⊤ E) (all : List Part) (mid new : State) → OnOk r (IsReady mid → IsTurned (all_put (content_now mid) all) mid new) → IsMade no_content mid → OnOk r (IsMade (all_put no_content all) new)
+refilled_if (Ok x) all mid new put is =
     let turned = put is.ready in
-    record {
-      ready = turned.ready;
-      completes = record {
-        content = turned.content ∙ ap (λ c. all_put c all) is.office.content;
-        today = record {
-          sound = subst (λ schema. IsDatabase (record new.now { schema = schema })) turned.ready.schema turned.ready.sound;
-          stored = ap (λ rows. get (rows_in layout.office_version rows) (number (pos 1) ∷ [])) turned.version ∙ is.office.stored;
-        };
-      };
-    }
-refilled_if (Err e) all mid new is put = tt
+    made_ready new _ turned.ready (turned.content ∙ ap (λ c. all_put c all) is.completes.content) (ap version_of turned.version ∙ is.completes.today.stored)
+refilled_if (Err e) all mid new put is = tt

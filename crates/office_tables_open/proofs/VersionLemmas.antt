@@ -1,20 +1,18 @@
--- The stored version and its statements, and the queries of all rows of a table.
-use Rattle.std.proofs.Common.{◌≡◌, Bor, ℕ, List, [], ◌∷◌, filter, length, codes, refl, sym, ap, subst, ◌∙◌, cond, Option, Some, IfSome, option_map, pos}
-use Rattle.std.proofs.lemmas.List.{Sorted.length_permutation, length-map}
-use Rattle.std.specs.{List.AllByRecursion, Option.option_to_list, FinMap.get, FinMap.insert, FinMap.get-insert}
-use Rattle.sqlite.specs.{Command.Command, Command.TheVariants.Select, Command.TheVariants.Insert, Command.TheVariants.Delete, Query.Join, Query.inner}
-use Rattle.sqlite.specs.{Effect.Database, Listing.understood, Order.Row, Program.overlay, Tree.Trees, Cast.cast_row, Source.Source, State.State}
+-- The stored version and its statements.
+use Rattle.std.proofs.Common.{◌≡◌, ℕ, [], ◌∷◌, length, codes, refl, sym, ap, subst, ◌∙◌, cond, Option, Some, IfSome, option_map, pos}
+use Rattle.std.specs.{Option.option_to_list, FinMap.get, FinMap.insert, FinMap.get-insert}
+use Rattle.sqlite.specs.{Command.TheVariants.Select, Command.TheVariants.Insert, Command.TheVariants.Delete}
+use Rattle.sqlite.specs.{Effect.Database, Listing.understood, Order.Row, Tree.Trees, Cast.cast_row, Source.Source, State.State}
 use Rattle.sqlite.specs.{Source.TheVariants.Values, Term.lit, Term.col, View.IsShaped}
 use Rattle.sqlite.specs.declared.types.Value.TheVariants.{Null, Int}
-use Rattle.sqlite.specs.Effect as effect
 use Rattle.sqlite_tied.specs.Compute.{everything}
 use Rattle.office_tables_statements.specs.Layout as layout
-use Rattle.office_tables_shelf.specs.{Content.no_content, Cells.number, declared.rows.Table.Table}
-use Rattle.office_tables_statements.specs.{Stored.rows_in, Stored.content_of, Stored.cells, Stored.rows_stored, Stored.content_now, Calls.IsQuery}
+use Rattle.office_tables_shelf.specs.{Cells.number, declared.rows.Table.Table}
+use Rattle.office_tables_statements.specs.{Stored.rows_in, Stored.cells, Stored.rows_stored, Stored.content_now}
 use Rattle.office_tables_statements.specs.{Calls.Reads, Calls.IsReady, Calls.Ran, Tables.found_by, Layout.office_version}
 use Rattle.office_tables_schema.specs.Schema.{office_schema, version_table}
-use Rattle.office_tables_open.specs.Version.{AreEmpty, IsListing, ShowsAllRows, stored_trees, version_in, current_version}
-use Rattle.office_tables_statements.proofs.QueryLemmas.{answers, IsRead, IsWrite, AreShaped, found_by_key, has_width}
+use Rattle.office_tables_open.specs.Version.{version_in, version_of, current_version}
+use Rattle.office_tables_statements.proofs.QueryLemmas.{IsRead, IsWrite, AreShaped, found_by_key, has_width}
 use Rattle.office_tables_statements.proofs.WriteLemmas.{Added, adds, IsIdle, wrote}
 use Rattle.office_tables_statements.proofs.{StoredLemmas.get_columns, StoredLemmas.sound_rowids, Casts.cast_int, Casts.cast_null, RemoveLemmas.remove_keyed}
 use Rattle.office_tables_statements.proofs.{ContentLemmas.tie_self, ContentLemmas.put_at, ContentLemmas.free_rowid, TableLemmas.apart, TableLemmas.none_in}
@@ -22,88 +20,9 @@ use Rattle.sqlite_trees.specs.declared.store.Shape.TheVariants as shape
 use Rattle.office_tables_shelf.proofs.CellLemmas.{cells_total}
 use Rattle.office_tables_open.specs.declared.version.TheConstants.{FIND as FIND_VERSION, DROP as DROP_VERSION, PUT as PUT_VERSION}
 
--- the text shows all rows of that table, and only reads
-pub record Lists (sql : List ℕ) (tree : ℕ) : Type 0 where
-  pub rows : ShowsAllRows sql tree
-  pub query : IsQuery sql
-
-pub is_listing : {sql : List ℕ} {tree : ℕ} → Lists sql tree → IsListing sql
-is_listing {sql} {tree} it = record { tree = tree; lists = it.rows; query = it.query }
-
--- each of the eight tables has such a text
-abbrev pub ListEight : Type 0
-ListEight = Lists (codes "SELECT id FROM intersection") 0 × Lists (codes "SELECT inter FROM timing") 1 × Lists (codes "SELECT inter FROM draft") 3
-    × Lists (codes "SELECT inter FROM inspection") 5 × Lists (codes "SELECT inter FROM work_order") 7 × Lists (codes "SELECT hand FROM part") 9
-    × Lists (codes "SELECT day FROM delivery") 11 × Lists (codes "SELECT inter FROM used_part") 13
-
-pub lists_eight : ListEight
-unfolding understood everything
-lists_eight = (
-  record { rows = record { shown = 0; names = codes "id" ∷ []; is = refl; low = λ trees. refl }; query = record { plain = (refl, refl); unlisted = refl } },
-  record { rows = record { shown = 1; names = codes "inter" ∷ []; is = refl; low = λ trees. refl }; query = record { plain = (refl, refl); unlisted = refl } },
-  record { rows = record { shown = 1; names = codes "inter" ∷ []; is = refl; low = λ trees. refl }; query = record { plain = (refl, refl); unlisted = refl } },
-  record { rows = record { shown = 1; names = codes "inter" ∷ []; is = refl; low = λ trees. refl }; query = record { plain = (refl, refl); unlisted = refl } },
-  record { rows = record { shown = 1; names = codes "inter" ∷ []; is = refl; low = λ trees. refl }; query = record { plain = (refl, refl); unlisted = refl } },
-  record { rows = record { shown = 2; names = codes "hand" ∷ []; is = refl; low = λ trees. refl }; query = record { plain = (refl, refl); unlisted = refl } },
-  record { rows = record { shown = 3; names = codes "day" ∷ []; is = refl; low = λ trees. refl }; query = record { plain = (refl, refl); unlisted = refl } },
-  record { rows = record { shown = 1; names = codes "inter" ∷ []; is = refl; low = λ trees. refl }; query = record { plain = (refl, refl); unlisted = refl } },
-)
-
-module _ (sql : List ℕ) (tree : ℕ) (it : ShowsAllRows sql tree) where
-  abbrev whole : layout.Layout
-  whole = record { tree = tree; keys = []; places = []; columns = it.shown ∷ [] }
-
-  kept_all : (rows : List Row) → filter (layout.has_key whole []) rows ≡ rows
-  kept_all [] = refl
-  kept_all (r ∷ rows) = ap (λ rest. r ∷ rest) (kept_all rows)
-
-  -- as many rows are shown as the table has
-  pub shows_all : (db : Database) (rows : List Row) → Reads sql [] db rows → length rows ≡ length (db.trees tree)
-  shows_all db rows h =
-      let got = subst (λ k. effect.Reads k db [] rows) it.is h in
-      let same = answers whole tt (it.shown ∷ []) [] (overlay db.trees []) rows (got.answer Null) in
-      let many = length_permutation _ rows same in
-      many ∙ length-map _ (layout.values_at (it.shown ∷ [])) ∙ ap length (kept_all (overlay db.trees [] tree) ∙ it.low db.trees)
-
--- that query shows no row
-abbrev pub ShowNone : Database → Bor (List ℕ) → Type 0
-ShowNone db sql = (tree : ℕ) → ShowsAllRows sql.now tree → db.trees tree ≡ []
-
-abbrev tree_of : Join → ℕ
-tree_of (inner t more) = t
-tree_of _ = 0
-
-abbrev table_of : Command → ℕ
-table_of (Select p names) = tree_of p.body.from
-table_of _ = 0
-
--- a text shows the rows of one table
-pub same_tree : (sql : List ℕ) (m n : ℕ) → ShowsAllRows sql m → ShowsAllRows sql n → m ≡ n
-same_tree sql m n a b = ap table_of (sym a.is ∙ b.is)
-
-pub shows_none : (db : Database) (sql : List ℕ) (tree : ℕ) → ShowsAllRows sql tree → db.trees tree ≡ [] → (other : ℕ) → ShowsAllRows sql other → db.trees other ≡ []
-shows_none db sql tree lists none other also = subst (λ t. db.trees t ≡ []) (same_tree sql tree other lists also) none
-
--- trees that hold the same rows of the eight tables have the same content
-pub same_eight : (a b : Trees) → AllByRecursion (λ t. a t ≡ b t) stored_trees → content_of a ≡ content_of b
-same_eight a b e = λ i. record {
-  intersection = rows_in layout.intersection (e.0 i);
-  timing = rows_in layout.timing (e.1.0 i);
-  draft = rows_in layout.draft (e.1.1.0 i);
-  inspection = rows_in layout.inspection (e.1.1.1.0 i);
-  work_order = rows_in layout.work_order (e.1.1.1.1.0 i);
-  part = rows_in layout.part (e.1.1.1.1.1.0 i);
-  delivery = rows_in layout.delivery (e.1.1.1.1.1.1.0 i);
-  used_part = rows_in layout.used_part (e.1.1.1.1.1.1.1.0 i);
-}
-
--- tables with no row have no content
-pub empty_content : (trees : Trees) → AreEmpty trees → content_of trees ≡ no_content
-empty_content trees none = same_eight trees (λ _. []) none
-
 -- trees with the same table of the version store the same version
 pub same_version : (old new : Trees) → new 15 ≡ old 15 → version_in new ≡ version_in old
-same_version old new same = ap (λ rows. get (rows_in layout.office_version rows) (number (pos 1) ∷ [])) same
+same_version old new same = ap version_of same
 
 pub find_version_is : IsRead FIND_VERSION.now (Select (record { lets = []; body = found_by office_version office_version.columns }) (codes "version" ∷ []))
 unfolding understood everything

@@ -1,6 +1,6 @@
 -- When each tree holds what its place in the list of objects says.
 use Rattle.std.specs.Prelude.{◌≡◌, ◌≤◌, ℕ, ◌<◌, false, IsTrue}
-use Rattle.sqlite.specs.State.{State, HasCleanDisk, Opens, IsLive}
+use Rattle.sqlite.specs.State.{State, HasCleanDisk}
 use Rattle.sqlite.specs.Steps.{IsFresh}
 use Rattle.sqlite.specs.Tree.{Trees}
 use Rattle.sqlite.specs.View.{View, IsShaped}
@@ -30,12 +30,13 @@ pub record IsTaken (old : State) (view : View) : Type 0 where
   pub left : IsClean view → old.may_leave old.committed.trees
   pub arranged : IsClean view → IsArranged old.committed.trees
 
--- the database of a connection, which was checked once more
+-- the database of a connection that was seen once more: nothing was written, and no failure has shut it
 pub record IsCheckedAgain (old new : State) : Type 0 where
   pub autocommit : new.in_transaction ≡ false
   pub clean : doubt old.is_clean ≤ doubt new.is_clean
   pub was_open : HasCleanDisk new → IsTrue old.is_open
-  pub opens : HasCleanDisk new → Opens new × IsLive new
-  pub kept : HasCleanDisk new → new.now.trees ≡ old.committed.trees
+  pub is_open : HasCleanDisk new → IsTrue new.is_open
+  pub settled : HasCleanDisk new → new.now ≡ new.committed
+  pub kept : HasCleanDisk new → new.committed.trees ≡ old.committed.trees
   pub arranged : HasCleanDisk new → IsArranged new.committed.trees
   pub crash : HasCleanDisk new → (trees : Trees) → new.may_leave trees → old.may_leave trees

@@ -1,114 +1,113 @@
 -- What trees hold of an office whatever the layout of its tables: in another order, without STRICT, or with some of them missing.
-use Rattle.std.specs.Prelude.{◌≡◌, ◌≢◌, ◌⊎◌, ℕ, ℤ, pos, List, [], ◌∷◌, map, None, Some}
+use Rattle.std.specs.Prelude.{◌≡◌, ◌≢◌, ◌⊎◌, ℕ, ℤ, pos, List, [], ◌∷◌, map, None, Some, true}
 use Rattle.std.specs.List.{AllByRecursion}
-use Rattle.sqlite.specs.Effect.{IsDatabase}
-use Rattle.sqlite.specs.State.{State}
+use Rattle.sqlite.specs.Order.{Row}
 use Rattle.sqlite.specs.Tree.{Trees}
 use Rattle.sqlite_catalog.specs.Listing.{AreListed}
-use Rattle.sqlite_rules.specs.Lists.{Has}
+use Rattle.sqlite_schema.specs.Names.{same_name}
 use Rattle.sqlite_schema.specs.declared.schema.Column.{Column}
 use Rattle.sqlite_schema.specs.declared.schema.Schema.{Schema}
 use Rattle.sqlite_schema.specs.declared.schema.Table.{Table}
 use Rattle.sqlite_trees.specs.Objects.{catalog_tree}
 use Rattle.office_tables_schema.specs.Schema.{IsOffices}
 use Rattle.office_tables_shelf.specs.Cells.{number}
-use Rattle.office_tables_open.specs.Version.{version_at}
-use Rattle.office_tables_open.specs.Moved.{moved_from, part_moved}
-use Rattle.office_tables_open.specs.declared.found.Found.{Found}
-use Rattle.office_tables_open.specs.declared.found.Seen.{Seen}
-use Rattle.office_tables_open.specs.declared.gather.Moved.{Moved}
+use Rattle.office_tables_shelf.specs.Content.{Content}
+use Rattle.office_tables_statements.specs.Stored.{content_of}
+use Rattle.office_tables_open.specs.Moved.{Part, content_by, moved_from, rows_named}
+use Rattle.office_tables_open.specs.Version.{AreToday, version_in, version_of, current_version}
+use Rattle.office_tables_open.specs.declared.open.OpenFault.{OpenFault}
+use Rattle.office_tables_open.specs.declared.open.OpenFault.TheVariants as fault
+use Rattle.office_tables_open.specs.declared.found.TheConstants.{OURS, KEEPER, COLUMNS}
 use Rattle.office_tables_open.specs.declared.gather.TheConstants.{CHILDREN_FIRST}
-use Rattle.office_tables_open.specs.declared.found.Found.TheVariants.{Nothing, RowsAlone, OtherVersion, Today, Unknown}
-use Rattle.office_tables_open.specs.declared.found.TheConstants.{EIGHT, KEEPER, COLUMNS}
 
 -- the name is one of these
 abbrev pub IsNameAmong : List ℕ → List (List ℕ) → Type 0
 IsNameAmong name [] = ⊥
 IsNameAmong name (first ∷ more) = (name ≡ first) ⊎ IsNameAmong name more
 
--- it is that of one of the eight tables
-abbrev pub IsOneOfEight : List ℕ → Type 0
-IsOneOfEight name = IsNameAmong name (map (λ text. text.now) EIGHT)
-
--- or that of the version's
+-- it is that of one of the office's tables
 abbrev pub IsOurs : List ℕ → Type 0
-IsOurs name = IsOneOfEight name ⊎ (name ≡ KEEPER.now)
+IsOurs name = IsNameAmong name (map (λ text. text.now) OURS)
 
 -- the table keeps a version beside the number `one`, which is its rowid
 pub record KeepsVersion (table : Table) : Type 0 where
-  pub named : table.name ≡ KEEPER.now
   pub rowid : table.key ≡ Some 0
   pub columns : map (λ (c : Column). c.name) table.columns ≡ map (λ text. text.now) COLUMNS
 
--- and it stores that number
-pub record StoresAt (table : Table) (version : ℤ) (trees : Trees) : Type 0 where
-  pub keeps : KeepsVersion table
-  pub stored : version_at table.tree trees ≡ Some (number version ∷ [])
+-- each table of the version's name does so
+abbrev pub KeepVersion : List Table → Type 0
+KeepVersion = AllByRecursion (λ t. same_name t.name KEEPER.now ≡ true → KeepsVersion t)
 
--- and it stores a number, and another one than today's
-pub record StoresOtherAt (table : Table) (trees : Trees) : Type 0 where
-  pub keeps : KeepsVersion table
+-- the rows store a number, and another one than today's version
+pub record StoreOther (rows : List Row) : Type 0 where
   pub version : ℤ
-  pub stored : version_at table.tree trees ≡ Some (number version ∷ [])
+  pub stored : version_of rows ≡ Some (number version ∷ [])
   pub other : version ≢ pos 2
 
-abbrev pub StoreOther : List Table → Trees → Type 0
-StoreOther tables trees = (table : Table) × Has tables table × StoresOtherAt table trees
+-- none of these tables has a row
+abbrev pub HaveNoRow : List Part → Type 0
+HaveNoRow = AllByRecursion (λ part. part.1 ≡ [])
 
--- a table keeps today's version
-abbrev pub StoreToday : List Table → Trees → Type 0
-StoreToday tables trees = (table : Table) × Has tables table × StoresAt table (pos 2) trees
-
--- no version is stored
-abbrev pub StoreNone : List Table → Trees → Type 0
-StoreNone tables trees = AllByRecursion (λ t. t.name ≡ KEEPER.now → version_at t.tree trees ≡ None) tables
-
--- none of the eight tables that are there has a row
-abbrev pub HaveNoRow : List Table → Trees → Type 0
-HaveNoRow tables trees = AllByRecursion (λ t. IsOneOfEight t.name → trees t.tree ≡ []) tables
-
--- the trees list tables that hold this
-abbrev pub InTables : (List Table → Trees → Type 0) → Trees → Type 0
-InTables Hold trees = (schema : Schema) × AreListed (trees catalog_tree) schema × Hold schema.tables trees
+-- ---- what is told of tables, by the rows of the version's and those of the eight
 
 -- another version than today's is stored
-abbrev pub HasOtherVersion : Trees → Type 0
-HasOtherVersion = InTables StoreOther
+abbrev pub StoreAnother : List Table → List Row → Type 0
+StoreAnother tables keeper = KeepVersion tables × StoreOther keeper
 
 -- no version is stored, and a table has a row
-abbrev pub HasRowsAlone : Trees → Type 0
-HasRowsAlone = InTables (λ tables trees. StoreNone tables trees × ¬ HaveNoRow tables trees)
+abbrev pub HaveRowsAlone : List Row → List Part → Type 0
+HaveRowsAlone keeper eight = (version_of keeper ≡ None) × ¬ HaveNoRow eight
 
 -- no version is stored, and no table has a row
+abbrev pub AreUnclaimed : List Row → List Part → Type 0
+AreUnclaimed keeper eight = (version_of keeper ≡ None) × HaveNoRow eight
+
+-- each is the office's but for its number, and today's version is stored; those that are missing were never made, or they were dropped
+abbrev pub Lack : List Table → List Row → Type 0
+Lack tables keeper = AllByRecursion IsOffices tables × (version_of keeper ≡ Some current_version)
+
+-- such tables may be made anew
+abbrev pub MayBeMade : List Table → List Row → List Part → Type 0
+MayBeMade tables keeper eight = Lack tables keeper ⊎ AreUnclaimed keeper eight
+
+-- the fault tells what they hold
+pub record TellsHeld (why : OpenFault) (tables : List Table) (keeper : List Row) (eight : List Part) : Type 0 where
+  pub version : why ≡ fault.Version → StoreAnother tables keeper
+  pub damaged : why ≡ fault.Damaged → HaveRowsAlone keeper eight
+
+-- ---- of trees that list them
+
+abbrev pub keeper_rows : List Table → Trees → List Row
+keeper_rows tables trees = rows_named tables trees KEEPER.now
+
+abbrev pub eight_rows : List Table → Trees → List Part
+eight_rows tables trees = moved_from CHILDREN_FIRST (rows_named tables trees)
+
+abbrev pub InTables : (List Table → List Row → List Part → Type 0) → Trees → Type 0
+InTables Holds trees = (schema : Schema) × AreListed (trees catalog_tree) schema × Holds schema.tables (keeper_rows schema.tables trees) (eight_rows schema.tables trees)
+
+abbrev pub HasOtherVersion : Trees → Type 0
+HasOtherVersion = InTables (λ tables keeper eight. StoreAnother tables keeper)
+
+abbrev pub HasRowsAlone : Trees → Type 0
+HasRowsAlone = InTables (λ tables. HaveRowsAlone)
+
 abbrev pub IsUnclaimed : Trees → Type 0
-IsUnclaimed = InTables (λ tables trees. StoreNone tables trees × HaveNoRow tables trees)
+IsUnclaimed = InTables (λ tables. AreUnclaimed)
 
--- ---- what is told of tables that are looked at
+abbrev pub IsLacking : Trees → Type 0
+IsLacking = InTables (λ tables keeper eight. Lack tables keeper)
 
-abbrev pub IsFoundAt : Found → Table → Trees → Type 0
-IsFoundAt Nothing table trees = trees table.tree ≡ []
-IsFoundAt RowsAlone table trees = IsOneOfEight table.name × (trees table.tree ≢ [])
-IsFoundAt OtherVersion table trees = StoresOtherAt table trees
-IsFoundAt Today table trees = StoresAt table (pos 2) trees
-IsFoundAt Unknown table trees = Unit {0}
+-- what the tables hold by their names; one that is missing holds nothing
+abbrev pub Hold : Trees → Content → Type 0
+Hold trees tables = (schema : Schema) × AreListed (trees catalog_tree) schema × (tables ≡ content_by (rows_named schema.tables trees))
 
-abbrev pub IsFound : Found → List Table → Trees → Type 0
-IsFound Nothing tables trees = AllByRecursion (λ t. trees t.tree ≡ []) tables
-IsFound RowsAlone tables trees = StoreNone tables trees × ¬ HaveNoRow tables trees
-IsFound OtherVersion tables trees = StoreOther tables trees
-IsFound Today tables trees = StoreToday tables trees
-IsFound Unknown tables trees = Unit {0}
+-- today's version is stored, also where tables are missing; or none is, and no table has a row
+abbrev pub MayBeTaken : Trees → Type 0
+MayBeTaken trees = (version_in trees ≡ Some current_version) ⊎ (IsUnclaimed trees ⊎ IsLacking trees)
 
--- that is what the tables of a connection held when they were committed
-pub record IsFoundIn (found : Found) (s : State) : Type 0 where
-  pub live : IsDatabase s.now
-  pub holds : IsFound found s.now.schema.tables s.committed.trees
-
--- the rows of all tables were read, each of which is the office's but for its number
-pub record IsMoved (moved : List Moved) (tables : List Table) (trees : Trees) : Type 0 where
-  pub alike : AllByRecursion IsOffices tables
-  pub rows : map part_moved moved ≡ moved_from CHILDREN_FIRST tables trees
-
--- so it is where they store today's version
-abbrev pub IsMovedToday : Seen → List Table → Trees → Type 0
-IsMovedToday seen tables trees = seen.found ≡ Today → IsMoved seen.moved.items tables trees
+-- the office's tables took what tables held that may be taken, and store today's version
+pub record TakesOver (old new : Trees) : Type 0 where
+  pub taken : MayBeTaken old
+  pub kept : Hold old (content_of new)
+  pub today : AreToday new

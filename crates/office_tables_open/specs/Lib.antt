@@ -2,7 +2,6 @@ pub mod Version
 pub mod SqlShelf
 pub mod Arranged
 pub mod Found
-pub mod Lacking
 pub mod Moved
 pub mod Opening
 pub mod Promises

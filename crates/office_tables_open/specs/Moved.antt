@@ -13,17 +13,21 @@ use Rattle.office_tables_statements.specs.Stored.{cells_at, rows_in}
 use Rattle.office_tables_statements.specs.Tables.{layout_at, schema_at, put_in, suits_kind}
 use Rattle.office_tables_open.specs.declared.gather.Moved.{Moved}
 
+-- rows that are told by the names of their tables
+abbrev pub Named : Type 0
+Named = List ℕ → List Row
+
 -- the rows of the table of that name; none where it is missing
-abbrev pub rows_named : List SqlTable → Trees → List ℕ → List Row
+abbrev pub rows_named : List SqlTable → Trees → Named
 rows_named [] trees name = []
 rows_named (t ∷ ts) trees name = if same_name t.name name then trees t.tree else rows_named ts trees name
 
--- the same, as the office's table keeps them
-abbrev pub rows_kept : Table → (List ℕ → List Row) → TableRows
+-- the rows of one of the eight tables, as it keeps them
+abbrev pub rows_kept : Table → Named → TableRows
 rows_kept t rows = rows_in (layout_at t) (rows (schema_at t).name)
 
--- what rows that are told by the names of their tables hold
-abbrev pub content_by : (List ℕ → List Row) → Content
+-- what the eight tables hold, whatever their order and their numbers; one that is missing holds nothing
+abbrev pub content_by : Named → Content
 content_by rows = record {
   intersection = rows_kept table.Intersection rows;
   timing = rows_kept table.Timing rows;
@@ -35,10 +39,6 @@ content_by rows = record {
   used_part = rows_kept table.UsedPart rows;
 }
 
--- what tables hold whatever their order and their numbers; one that is missing holds nothing
-abbrev pub content_in : List SqlTable → Trees → Content
-content_in tables trees = content_by (rows_named tables trees)
-
 -- ---- on the way
 
 abbrev pub Part : Type 0
@@ -48,8 +48,8 @@ abbrev pub part_moved : Moved → Part
 part_moved moved = (moved.table, moved.rows.items)
 
 -- the rows of these tables, in their order
-abbrev pub moved_from : List Table → List SqlTable → Trees → List Part
-moved_from homes tables trees = map (λ t. (t, rows_named tables trees (schema_at t).name)) homes
+abbrev pub moved_from : List Table → Named → List Part
+moved_from homes rows = map (λ t. (t, rows (schema_at t).name)) homes
 
 -- a row put into its table
 abbrev pub row_put : Table → Content → Row → Content

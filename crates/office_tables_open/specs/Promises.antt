@@ -14,10 +14,6 @@ use Rattle.office_tables_open.specs.Version.{version_in, current_version}
 abbrev pub WasHonest : {A E : Type 0} → Result A E → State → State → Type 0
 WasHonest result old new = HasCleanDisk new → OnOk result (IsHonest old)
 
--- on a clean disk, a row is seen only in a database that no failure has shut
-abbrev pub SeesOpen : {E : Type 0} → Result Bool E → State → Type 0
-SeesOpen empty new = HasCleanDisk new → IfOk empty (λ none. ¬ IsTrue none → IsHonest new)
-
 -- it leaves the transaction as ready as it was
 abbrev pub StaysReady : {A E : Type 0} → Result A E → State → State → Type 0
 StaysReady result old new = HasCleanDisk new → OnOk result (IsReady old → IsReady new)
@@ -34,10 +30,6 @@ StoresToday result old new = HasCleanDisk new → OnOk result (IsReady old → v
 abbrev pub LeavesNoMore : State → State → Type 0
 LeavesNoMore old new = Survives old new (λ _. ⊥)
 
--- a whole call keeps what the eight tables hold
-abbrev pub KeepsContent : State → State → Type 0
-KeepsContent old new = IsHonest new → content_now new ≡ content_now old
-
 -- and the version that is stored
 abbrev pub KeepsVersion : State → State → Type 0
 KeepsVersion old new = IsHonest new → version_in new.now.trees ≡ version_in old.now.trees
@@ -47,14 +39,6 @@ pub record HoldUnder (tables : Content) (old trees : Trees) : Type 0 where
   pub sound : IsDatabase (record { schema = office_schema; trees = trees })
   pub content : content_of trees ≡ tables
   pub version : version_in trees ≡ version_in old
-
--- and a stop may leave it with today's version stored
-abbrev pub LeavesToday : State → State → Type 0
-LeavesToday old new = Survives old new (λ trees. IsHonest old × (content_of trees ≡ content_now old) × (version_in trees ≡ Some current_version))
-
--- it ends with today's version stored
-abbrev pub EndsToday : {A E : Type 0} → Result A E → State → Type 0
-EndsToday result new = IsHonest new → OnOk result (version_in new.now.trees ≡ Some current_version)
 
 -- where the call fails, all that can be read is as it was
 abbrev pub KeepsTrees : {A E : Type 0} → Result A E → State → State → Type 0
@@ -75,3 +59,7 @@ Settles result new = IsHonest new → OnOk result ((trees : Trees) → new.may_l
 -- over a clean disk, the last commit is in order
 abbrev pub IsArrangedIfClean : State → Type 0
 IsArrangedIfClean s = HasCleanDisk s → IsArranged s.committed.trees
+
+-- what is seen is what was committed
+abbrev pub IsSettled : State → Type 0
+IsSettled s = IsHonest s → s.now ≡ s.committed

@@ -1,29 +1,22 @@
--- The stored version, and whether the tables have rows.
-use Rattle.std.specs.Prelude.{◌≡◌, ◌≢◌, ℕ, ℤ, false, List, [], ◌∷◌, map, pos, negsuc, Option, None, Some}
+-- The stored version.
+use Rattle.std.specs.Prelude.{◌≡◌, ◌≢◌, ℕ, ℤ, List, [], ◌∷◌, pos, Option, Some}
 use Rattle.std.specs.FinMap.{get}
-use Rattle.std.specs.List.{AllByRecursion}
-use Rattle.sqlite.specs.declared.types.Value.TheVariants.{Int}
-use Rattle.sqlite.specs.Command.TheVariants.{Select}
 use Rattle.sqlite.specs.Effect.{IsDatabase}
-use Rattle.sqlite.specs.Listing.{understood}
 use Rattle.sqlite.specs.Order.{Row}
-use Rattle.sqlite.specs.Program.{overlay}
-use Rattle.sqlite.specs.Query.{Query, inner, end}
-use Rattle.sqlite.specs.Term.{lit, col}
 use Rattle.sqlite.specs.Tree.{Trees}
 use Rattle.office_tables_shelf.specs.Cells.{Cell, number}
+use Rattle.office_tables_shelf.specs.Content.{Content}
 use Rattle.office_tables_schema.specs.Schema.{office_schema}
 use Rattle.office_tables_statements.specs.Layout as layout
-use Rattle.office_tables_statements.specs.Stored.{cells, rows_stored}
-use Rattle.office_tables_statements.specs.Calls.{IsQuery, command_of}
+use Rattle.office_tables_statements.specs.Stored.{cells, content_of, rows_in}
 
--- the version that the table with this number stores, if it stores one: the cells under the number 1
-abbrev pub version_at : ℕ → Trees → Option (List Cell)
-version_at tree trees = get (rows_stored (record layout.office_version { tree = tree }) trees) (number (pos 1) ∷ [])
+-- the version that rows of its table store, if they store one: the cells under the number 1
+abbrev pub version_of : List Row → Option (List Cell)
+version_of rows = get (rows_in layout.office_version rows) (number (pos 1) ∷ [])
 
 -- the version that an office stores
 abbrev pub version_in : Trees → Option (List Cell)
-version_in = version_at 15
+version_in trees = version_of (trees layout.office_version.tree)
 
 -- the cells of a version
 abbrev pub version_cells : ℕ → List Cell
@@ -48,41 +41,7 @@ pub record TellsOther (row : Row) (version : ℕ) : Type 0 where
   pub is : cells row ≡ number told ∷ []
   pub other : told ≢ pos version
 
--- the trees of the eight tables
-abbrev pub stored_trees : List ℕ
-stored_trees = map (λ (t : layout.Layout). t.tree) (layout.intersection ∷ layout.timing ∷ layout.draft ∷ layout.inspection ∷ layout.work_order ∷ layout.part ∷ layout.delivery ∷ layout.used_part ∷ [])
-
--- no table has a row
-abbrev pub AreEmpty : Trees → Type 0
-AreEmpty trees = AllByRecursion (λ t. trees t ≡ []) stored_trees
-
--- a table has a row
-abbrev pub HasRow : Trees → Type 0
-HasRow trees = ¬ AreEmpty trees
-
--- the query of all rows of a table, which shows one column
-abbrev pub rows_query : ℕ → ℕ → Query
-rows_query tree shown = record {
-  from = inner tree end;
-  filter = [];
-  group = None;
-  project = col 1 shown ∷ [];
-  distinct = false;
-  collations = [];
-  order = [];
-  limit = lit (Int (negsuc 0));
-  offset = lit (Int (pos 0));
-}
-
--- the text shows all rows of that table, whose number is not that of a WITH
-pub record ShowsAllRows (sql : List ℕ) (tree : ℕ) : Type 0 where
-  pub shown : ℕ
-  pub names : List (List ℕ)
-  pub is : command_of (understood office_schema sql) ≡ Select (record { lets = []; body = rows_query tree shown }) names
-  pub low : (trees : Trees) → overlay trees [] tree ≡ trees tree
-
--- the text is the query of all rows of a table
-pub record IsListing (sql : List ℕ) : Type 0 where
-  pub tree : ℕ
-  pub lists : ShowsAllRows sql tree
-  pub query : IsQuery sql
+-- the trees are those of the office's tables, which hold this, and today's version is stored
+pub record Completes (tables : Content) (trees : Trees) : Type 0 where
+  pub content : content_of trees ≡ tables
+  pub today : AreToday trees

@@ -1,33 +1,41 @@
 //! What a database holds whose tables are the office's in another layout.
 
-ghost use Rattle.std.specs.Prelude.{◌≡◌, ◌≢◌, ◌∷◌, Some, [], map};
+ghost use Rattle.std.specs.Prelude.{◌≡◌, ◌≢◌, ◌∷◌, None, Some, Err, [], map, pos};
 ghost use Rattle.std.specs.Prelude.{IsTrue, IfOk, IfErr, IfSome, OnOk};
+ghost use Rattle.std.specs.List.{AllByRecursion};
 ghost use Rattle.sqlite.specs.Held.{state};
 ghost use Rattle.sqlite.specs.State.{HasCleanDisk};
-ghost use Rattle.sqlite_schema.specs.declared.schema.Table.{Table};
-ghost use Rattle.sqlite_trees.specs.Tree.{Trees};
 ghost use Rattle.sqlite_trees.specs.View.{IsClean, IsQuiet};
 ghost use Rattle.sqlite_value.specs.Value.{owned};
 ghost use Rattle.sqlite_value.specs.declared.value.Value.TheVariants.{Int};
+ghost use Rattle.office_tables_shelf.specs.Cells.{number};
+ghost use Rattle.office_tables_shelf.specs.Content.{no_content};
 ghost use Rattle.office_tables_open.specs.Arranged.{IsUnchanged, IsTaken, IsCheckedAgain};
-ghost use Rattle.office_tables_open.specs.Found.{IsNameAmong, StoresAt, IsFound};
-ghost use Rattle.office_tables_open.specs.Found.{IsFoundAt, IsFoundIn, IsMovedToday};
-ghost use Rattle.office_tables_open.specs.Opening.{IsAsFound};
+ghost use Rattle.office_tables_open.specs.Found.{HaveNoRow, IsNameAmong, IsOurs, KeepsVersion};
+ghost use Rattle.office_tables_open.specs.Found.{KeepVersion, MayBeMade, TellsHeld};
+ghost use Rattle.office_tables_open.specs.Found.{HasOtherVersion, HasRowsAlone};
+ghost use Rattle.office_tables_open.specs.Found.{eight_rows, keeper_rows};
+ghost use Rattle.office_tables_open.specs.Moved.{all_put, part_moved};
+ghost use Rattle.office_tables_open.specs.Opening.{IsAsFound, MayMake};
+ghost use Rattle.office_tables_open.specs.Promises.{IsSettled};
+ghost use Rattle.office_tables_open.specs.Version.{version_of};
 
-use crate::gather::{Moved, gathered};
+use crate::gather::{Moved, gathered, read_named};
+use crate::open::OpenFault;
 use crate::version::VERSION;
 use office_tables_schema::are_of_office;
 use office_tables_statements::statement::SqlFault;
 use sqlite::{Alter, Connection};
-use sqlite_schema::schema::{Column, Table};
+use sqlite_schema::names::same_name;
+use sqlite_schema::schema::{Column, Schema, Table};
 use sqlite_trees::error::StoreError;
-use sqlite_trees::store::{Direction, Shape, Store};
+use sqlite_trees::store::Store;
 use sqlite_value::row::Row;
 use sqlite_value::value::ValueRef;
 use std::alloc::Global;
 
-/// The names of the eight tables.
-pub const EIGHT: [&str; 8] = [
+/// The names of the tables.
+pub const OURS: [&str; 9] = [
     "intersection",
     "timing",
     "draft",
@@ -36,6 +44,7 @@ pub const EIGHT: [&str; 8] = [
     "part",
     "delivery",
     "used_part",
+    KEEPER,
 ];
 
 /// The name of the table that keeps the version.
@@ -44,28 +53,30 @@ pub const KEEPER: &str = "office_version";
 /// Its columns: the number 1, which is its rowid, and the version.
 const COLUMNS: [&str; 2] = ["one", "version"];
 
-/// What the tables hold.
-#[derive(Clone, Copy)]
-pub enum Found {
-    /// No row.
-    Nothing,
-    /// Rows, and no version.
-    RowsAlone,
-    /// The number of another version than today's.
-    OtherVersion,
-    /// Today's version.
-    Today,
-    /// Rows that tell no number of a version.
-    Unknown,
-}
-
-pub fn is_one_of(name: &[u8], names: &[&str]) -> bool
+fn is_one_of(name: &[u8], names: &[&str]) -> bool
     ensures { IsTrue result → IsNameAmong name.now (map (λ text. text.now) names.now) }
 {
     let Some((first, names)) = names.split_first() else {
         return false;
     };
     name == first.as_bytes() || is_one_of(name, names)
+}
+
+fn are_ours(tables: &[Table]) -> bool
+    ensures { IsTrue result → AllByRecursion (λ t. IsOurs t.name) tables.now }
+{
+    let Some((table, tables)) = tables.split_first() else {
+        return true;
+    };
+    is_one_of(table.name.as_slice(), &OURS) && are_ours(tables)
+}
+
+/// Whether each table has one of the nine names, and there is no view.
+pub fn has_only_ours(schema: &Schema) -> bool
+    ensures named { IsTrue result → AllByRecursion (λ t. IsOurs t.name) schema.now.tables }
+    ensures no_views { IsTrue result → schema.now.views ≡ [] }
+{
+    schema.views.is_empty() && are_ours(schema.tables.as_slice())
 }
 
 fn are_named(columns: &[Column], names: &[&str]) -> bool
@@ -80,34 +91,32 @@ fn are_named(columns: &[Column], names: &[&str]) -> bool
     column.name.as_slice() == name.as_bytes() && are_named(columns, names)
 }
 
-/// Whether the table keeps a version as the office does.
+/// Whether a table keeps a version as the office does.
 fn keeps_version(table: &Table) -> bool
-    ensures named { IsTrue result → table.now.name ≡ KEEPER.now }
-    ensures rowid { IsTrue result → table.now.key ≡ Some 0 }
-    ensures columns { IsTrue result →
-        map (λ c. c.name) table.now.columns ≡ map (λ text. text.now) COLUMNS }
+    ensures { IsTrue result → KeepsVersion table.now }
 {
-    table.name.as_slice() == KEEPER.as_bytes()
-        && table.key == Some(0)
-        && are_named(table.columns.as_slice(), &COLUMNS)
+    table.key == Some(0) && are_named(table.columns.as_slice(), &COLUMNS)
 }
 
-/// Whether a tree has no row.
-fn is_vacant<S: Store>(alloc: Global, store: &mut S, tree: u32) -> Result<bool, StoreError>
-    ensures vacant { IsClean (S.Store.view store.new) →
-        IfOk result (λ vacant. IsTrue vacant → (S.Store.view store.old).trees tree ≡ []) }
-    ensures filled { IsClean (S.Store.view store.new) →
-        IfOk result (λ vacant. ¬ IsTrue vacant → (S.Store.view store.old).trees tree ≢ []) }
-    ensures same { IsClean (S.Store.view store.new) →
-        OnOk result (IsUnchanged (S.Store.view store.old) (S.Store.view store.new)) }
-    ensures quiet { IsQuiet S.Store.view S.Store.faults S.Store.recovers S.Store.is_shielded
-        store.old store.new }
+/// Whether each table of the version's name does so.
+fn keep_version(tables: &[Table]) -> bool
+    ensures { IsTrue result → KeepVersion tables.now }
 {
-    let key = Row::new(alloc);
-    let mut row = Row::new(alloc);
-    store.seek(0, tree, &key, Direction::Forward)?;
-    let found = store.next(0, &mut row)?;
-    Ok(!found)
+    let Some((table, tables)) = tables.split_first() else {
+        return true;
+    };
+    let is_keeper = same_name(table.name.as_slice(), KEEPER.as_bytes());
+    (!is_keeper || keeps_version(table)) && keep_version(tables)
+}
+
+fn is_one(value: ValueRef<'_>) -> bool
+    ensures one { IsTrue result → owned value.entry ≡ Int (pos 1) }
+    ensures other { ¬ IsTrue result → owned value.entry ≢ Int (pos 1) }
+{
+    match value {
+        ValueRef::Int(number) => number == 1,
+        _ => false,
+    }
 }
 
 /// The number that a value is, if it is one.
@@ -120,94 +129,79 @@ fn number_of(value: ValueRef<'_>) -> Option<i64>
     }
 }
 
-/// The number that a table stores as its version, where it keeps one as the office does.
-fn stored_number<S: Store>(
-    alloc: Global,
-    store: &mut S,
-    table: &Table,
-) -> Result<Option<i64>, StoreError>
-    ensures stored { IsClean (S.Store.view store.new) → IfOk result (λ told.
-        IfSome told (λ number. StoresAt table.now number (S.Store.view store.old).trees)) }
-    ensures same { IsClean (S.Store.view store.new) →
-        OnOk result (IsUnchanged (S.Store.view store.old) (S.Store.view store.new)) }
-    ensures quiet { IsQuiet S.Store.view S.Store.faults S.Store.recovers S.Store.is_shielded
-        store.old store.new }
+/// The number that the rows store as the version, if it is one.
+fn stored_number(rows: &[Row]) -> Option<i64>
+    ensures { IfSome result (λ stored. version_of rows.now ≡ Some (number stored ∷ [])) }
 {
-    if !keeps_version(table) {
-        return Ok(None);
+    for row in rows {
+        if is_one(row.get(0)) {
+            return number_of(row.get(2));
+        }
     }
-    let Shape::Table = store.shape(table.tree) else {
-        return Ok(None);
-    };
-    let mut row = Row::new(alloc);
-    if !store.get(table.tree, 1, &mut row)? {
-        return Ok(None);
-    }
-    Ok(number_of(row.get(2)))
+    None
 }
 
-/// What one table holds.
-fn found_at<S: Store>(alloc: Global, store: &mut S, table: &Table) -> Result<Found, StoreError>
-    ensures found { IsClean (S.Store.view store.new) →
-        IfOk result (λ found. IsFoundAt found table.now (S.Store.view store.old).trees) }
-    ensures same { IsClean (S.Store.view store.new) →
-        OnOk result (IsUnchanged (S.Store.view store.old) (S.Store.view store.new)) }
-    ensures quiet { IsQuiet S.Store.view S.Store.faults S.Store.recovers S.Store.is_shielded
-        store.old store.new }
+fn have_no_row(eight: &[Moved]) -> bool
+    ensures all { IsTrue result → HaveNoRow (map part_moved eight.now) }
+    ensures some { ¬ IsTrue result → ¬ HaveNoRow (map part_moved eight.now) }
 {
-    if is_vacant(alloc, store, table.tree)? {
-        return Ok(Found::Nothing);
+    let Some((first, eight)) = eight.split_first() else {
+        return true;
+    };
+    first.rows.is_empty() && have_no_row(eight)
+}
+
+/// Why tables are not made anew, by the rows of the version's and those of the eight.
+fn refusal(tables: &[Table], version: &[Row], eight: &[Moved]) -> Option<OpenFault>
+    ensures made { result ≡ None →
+        MayBeMade tables.now version.now (map part_moved eight.now) }
+    ensures told { IfSome result (λ why.
+        TellsHeld why tables.now version.now (map part_moved eight.now)) }
+{
+    if version.is_empty() {
+        if have_no_row(eight) {
+            return None;
+        }
+        return Some(OpenFault::Damaged);
     }
-    if is_one_of(table.name.as_slice(), &EIGHT) {
-        return Ok(Found::RowsAlone);
+    if !keep_version(tables) {
+        return Some(OpenFault::Store);
     }
-    let Some(number) = stored_number(alloc, store, table)? else {
-        return Ok(Found::Unknown);
+    let Some(number) = stored_number(version) else {
+        return Some(OpenFault::Store);
     };
     if number != i64::from(VERSION) {
-        return Ok(Found::OtherVersion);
+        return Some(OpenFault::Version);
     }
-    Ok(Found::Today)
+    if !are_of_office(tables) {
+        return Some(OpenFault::Store);
+    }
+    None
 }
 
-/// What a table and the tables after it hold.
-fn both(first: Found, more: Found) -> Found
-    ensures { (table : Table) (tables : _) (trees : Trees) → IsFoundAt first table trees →
-        IsFound more tables trees → IsFound result (table ∷ tables) trees }
-{
-    match first {
-        Found::Nothing => more,
-        Found::OtherVersion => Found::OtherVersion,
-        Found::Today => Found::Today,
-        Found::RowsAlone => match more {
-            Found::Nothing => Found::RowsAlone,
-            Found::RowsAlone => Found::RowsAlone,
-            Found::OtherVersion => Found::OtherVersion,
-            Found::Today => Found::Today,
-            Found::Unknown => Found::Unknown,
-        },
-        Found::Unknown => match more {
-            Found::OtherVersion => Found::OtherVersion,
-            _ => Found::Unknown,
-        },
-    }
-}
+/// The rows of tables that may be made anew, or why they are not.
+pub(crate) type Looked = Result<Vec<Moved>, OpenFault>;
 
-/// What the tables hold.
-fn found_in<S: Store>(alloc: Global, store: &mut S, tables: &[Table]) -> Result<Found, StoreError>
-    ensures found { IsClean (S.Store.view store.new) →
-        IfOk result (λ found. IsFound found tables.now (S.Store.view store.old).trees) }
+/// Reads the rows of all tables.
+fn look<S: Store>(alloc: Global, store: &mut S, tables: &[Table]) -> Result<Looked, StoreError>
+    ensures made { IsClean (S.Store.view store.new) → IfOk result (λ looked. IfOk looked (λ eight.
+        (map part_moved eight.items ≡ eight_rows tables.now (S.Store.view store.old).trees)
+        × MayBeMade tables.now (keeper_rows tables.now (S.Store.view store.old).trees)
+        (eight_rows tables.now (S.Store.view store.old).trees))) }
+    ensures told { IsClean (S.Store.view store.new) → IfOk result (λ looked. IfErr looked (λ why.
+        TellsHeld why tables.now (keeper_rows tables.now (S.Store.view store.old).trees)
+        (eight_rows tables.now (S.Store.view store.old).trees))) }
     ensures same { IsClean (S.Store.view store.new) →
         OnOk result (IsUnchanged (S.Store.view store.old) (S.Store.view store.new)) }
     ensures quiet { IsQuiet S.Store.view S.Store.faults S.Store.recovers S.Store.is_shielded
         store.old store.new }
 {
-    let Some((table, tables)) = tables.split_first() else {
-        return Ok(Found::Nothing);
-    };
-    let first = found_at(alloc, store, table)?;
-    let more = found_in(alloc, store, tables)?;
-    Ok(both(first, more))
+    let version = read_named(alloc, store, tables, KEEPER)?;
+    let eight = gathered(alloc, store, tables)?;
+    match refusal(tables, version.as_slice(), eight.as_slice()) {
+        None => Ok(Ok(eight)),
+        Some(why) => Ok(Err(why)),
+    }
 }
 
 /// The store of a connection that is given up, as the last commit left it, if no failure has broken
@@ -250,50 +244,21 @@ fn fault_of(error: StoreError) -> SqlFault {
     }
 }
 
-/// What tables hold, and their rows where they store today's version and each is the office's but
-/// for its number.
-#[derive(Drop)]
-pub struct Seen {
-    pub found: Found,
-    pub moved: Vec<Moved>,
-}
-
-/// What the tables hold, and the rows of the office's where today's version is stored.
-fn look<S: Store>(alloc: Global, store: &mut S, tables: &[Table]) -> Result<Seen, StoreError>
-    ensures found { IsClean (S.Store.view store.new) →
-        IfOk result (λ s. IsFound s.found tables.now (S.Store.view store.old).trees) }
-    ensures moved { IsClean (S.Store.view store.new) →
-        IfOk result (λ s. IsMovedToday s tables.now (S.Store.view store.old).trees) }
-    ensures same { IsClean (S.Store.view store.new) →
-        OnOk result (IsUnchanged (S.Store.view store.old) (S.Store.view store.new)) }
-    ensures quiet { IsQuiet S.Store.view S.Store.faults S.Store.recovers S.Store.is_shielded
-        store.old store.new }
-{
-    let found = found_in(alloc, store, tables)?;
-    let moved = Vec::new(alloc);
-    let Found::Today = found else {
-        return Ok(Seen { found, moved });
-    };
-    if !are_of_office(tables) {
-        let found = Found::Unknown;
-        return Ok(Seen { found, moved });
-    }
-    let moved = gathered(alloc, store, tables)?;
-    Ok(Seen { found, moved })
-}
-
-/// The same database, checked again, and what its tables hold. Where it is refused its store comes
-/// back.
-pub fn looked<S: Alter + Drop>(
+/// The same database, checked again, and the rows of its tables if they may be made anew, or why
+/// not. Where it is refused its store comes back.
+pub(crate) fn looked<S: Alter + Drop>(
     alloc: Global,
     conn: Connection<S>,
-) -> Result<(Seen, Connection<S>), (SqlFault, S)>
+) -> Result<(Looked, Connection<S>), (SqlFault, S)>
+    requires { IsSettled (state S.Store conn) }
     ensures again { IfOk result (λ f. IsCheckedAgain (state S.Store conn) (state S.Store f.1)) }
-    ensures found { IfOk result (λ f. HasCleanDisk (state S.Store f.1) →
-        IsFoundIn f.0.found (state S.Store conn)) }
-    ensures moved { IfOk result (λ f. HasCleanDisk (state S.Store f.1) →
-        IsMovedToday f.0 (state S.Store conn).now.schema.tables
-        (state S.Store conn).committed.trees) }
+    ensures made { IfOk result (λ f. HasCleanDisk (state S.Store f.1) → IfOk f.0 (λ eight.
+        MayMake (all_put no_content (map part_moved eight.items))
+        (state S.Store conn).committed.trees)) }
+    ensures version { IfOk result (λ f. HasCleanDisk (state S.Store f.1) →
+        f.0 ≡ Err OpenFault.Version → HasOtherVersion (state S.Store conn).committed.trees) }
+    ensures damaged { IfOk result (λ f. HasCleanDisk (state S.Store f.1) →
+        f.0 ≡ Err OpenFault.Damaged → HasRowsAlone (state S.Store conn).committed.trees) }
     ensures left { IfErr result (λ e. IsAsFound S.Store conn e.1) }
 {
     let copied = conn.schema().copy(alloc);
@@ -304,12 +269,12 @@ pub fn looked<S: Alter + Drop>(
     let Ok(schema) = copied else {
         return Err((SqlFault::NoMemory, store));
     };
-    let held = match look(alloc, &mut store, schema.tables.as_slice()) {
-        Ok(held) => held,
+    let told = match look(alloc, &mut store, schema.tables.as_slice()) {
+        Ok(told) => told,
         Err(error) => return Err((fault_of(error), store)),
     };
     match Connection::over(alloc, store) {
-        Ok(conn) => Ok((held, conn)),
+        Ok(conn) => Ok((told, conn)),
         Err((error, store)) => Err((SqlFault::from(error), store)),
     }
 }

@@ -4,8 +4,8 @@ ghost use Rattle.std.specs.Prelude.{◌≡◌, ◌++◌, map, IfOk, OnOk};
 ghost use Rattle.sqlite_trees.specs.View.{IsClean, IsQuiet};
 ghost use Rattle.office_tables_statements.specs.Tables.{schema_at};
 ghost use Rattle.office_tables_open.specs.Arranged.{IsUnchanged};
+ghost use Rattle.office_tables_open.specs.Found.{eight_rows};
 ghost use Rattle.office_tables_open.specs.Moved.{part_moved, rows_named, moved_from};
-ghost use Rattle.office_tables_open.specs.declared.gather.TheConstants.{CHILDREN_FIRST};
 
 use office_tables_shelf::rows::Table;
 use sqlite_exec::check::all_rows;
@@ -52,7 +52,7 @@ fn name_of(table: Table) -> &'static str
 }
 
 /// The rows of the table of that name; none where it is missing.
-fn read_named<S: Store>(
+pub(crate) fn read_named<S: Store>(
     alloc: Global,
     store: &mut S,
     tables: &[SqlTable],
@@ -85,7 +85,7 @@ fn gather<S: Store>(
 ) -> Result<(), StoreError>
     ensures rows { IsClean (S.Store.view store.new) → OnOk result (
         map part_moved moved.new.items ≡ map part_moved moved.old.items
-        ++ moved_from homes.now tables.now (S.Store.view store.old).trees) }
+        ++ moved_from homes.now (rows_named tables.now (S.Store.view store.old).trees)) }
     ensures same { IsClean (S.Store.view store.new) →
         OnOk result (IsUnchanged (S.Store.view store.old) (S.Store.view store.new)) }
     ensures quiet { IsQuiet S.Store.view S.Store.faults S.Store.recovers S.Store.is_shielded
@@ -107,8 +107,7 @@ pub(crate) fn gathered<S: Store>(
     tables: &[SqlTable],
 ) -> Result<Vec<Moved>, StoreError>
     ensures rows { IsClean (S.Store.view store.new) → IfOk result (λ all.
-        map part_moved all.items ≡ moved_from CHILDREN_FIRST tables.now
-        (S.Store.view store.old).trees) }
+        map part_moved all.items ≡ eight_rows tables.now (S.Store.view store.old).trees) }
     ensures same { IsClean (S.Store.view store.new) →
         OnOk result (IsUnchanged (S.Store.view store.old) (S.Store.view store.new)) }
     ensures quiet { IsQuiet S.Store.view S.Store.faults S.Store.recovers S.Store.is_shielded

@@ -2,8 +2,7 @@
 #![tactic(auto)]
 
 pub mod found;
-pub mod gather;
-mod missing;
+mod gather;
 pub mod open;
 mod refill;
 pub mod version;

@@ -210,8 +210,9 @@ pub(crate) fn put_all<S: Alter>(
     ensures stands { StandsOn (state S.Store tx.old.conn.now) (state S.Store tx.new.conn.now) }
     ensures crash { LeavesNoMore (state S.Store tx.old.conn.now) (state S.Store tx.new.conn.now) }
 {
-    while let Some(moved) = all.pop() {
-        put_rows(alloc, tx, moved.table, moved.rows)?;
-    }
-    Ok(())
+    let Some(moved) = all.pop() else {
+        return Ok(());
+    };
+    put_rows(alloc, tx, moved.table, moved.rows)?;
+    put_all(alloc, tx, all)
 }

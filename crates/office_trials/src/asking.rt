@@ -6,7 +6,7 @@ use office_http_responses::ask_fault_answer;
 use office_tables::sql_shelf::SqlShelf;
 use office_tables_maps::map_shelf::MapShelf;
 use office_tables_shelf::shelf::Shelf;
-use sqlite::MemStore;
+use sqlite::{Connection, MemStore};
 use std::alloc::Global;
 use std::process::Abort;
 
@@ -33,21 +33,17 @@ impl Tables for InMaps {
     }
 }
 
-/// In a database in memory, which is checked and opened again before it is used.
+/// In a database in memory, which is opened again before it is used.
 pub(crate) struct InDatabase;
 
 impl Tables for InDatabase {
     type Shelf = SqlShelf<MemStore>;
 
     fn office(rt: &Bench<impl Abort>) -> Office<SqlShelf<MemStore>> {
-        let new = SqlShelf::open_in_memory(rt.1).ok().expect(rt, "new tables");
-        let conn = SqlShelf::checked(rt.1, new.into_conn()).ok();
-        let conn = conn.expect(rt, "a database");
-        Office::new(
-            SqlShelf::open_over_memory(rt.1, conn)
-                .ok()
-                .expect(rt, "tables"),
-        )
+        let conn = Connection::open_in_memory(rt.1).ok();
+        let new = SqlShelf::open(rt.1, conn.expect(rt, "a database")).ok();
+        let conn = new.expect(rt, "new tables").into_conn();
+        Office::new(SqlShelf::open(rt.1, conn).ok().expect(rt, "tables"))
     }
 }
 

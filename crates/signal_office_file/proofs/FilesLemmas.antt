@@ -7,8 +7,8 @@ use Rattle.sqlite_disk.specs.declared.Disk.{Ghosts as Disk}
 use Rattle.sqlite_disk.specs.declared.Files.{Files}
 use Rattle.sqlite_trees.specs.Props.{Trees-set}
 use Rattle.office_tables.specs.{Content.Content, Stored.content_now, Stored.content_of}
-use Rattle.office_tables_open.specs.{Lacking.Hold, SqlShelf.IsCurrent, SqlShelf.MayLeave, Version.AreToday}
-use Rattle.office_tables_open.proofs.LackingLemmas.{hold_office}
+use Rattle.office_tables_open.specs.{Found.Hold, SqlShelf.IsCurrent, SqlShelf.MayLeave, Version.AreToday}
+use Rattle.office_tables_open.proofs.MovedLemmas.{hold_office}
 use Rattle.signal_office_faults.specs.declared.fault.Fault.{Fault}
 use Rattle.signal_office_file.specs.Files.{AreThoseOf, HoldIn, IsImageOf, KeepTables}
 use Rattle.signal_office_file.specs.Left.{IsCleanFile, IsUnclosed, LeavesDatabases, LeavesToday, MayLeaveOf}

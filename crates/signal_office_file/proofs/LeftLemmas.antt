@@ -9,16 +9,12 @@ use Rattle.sqlite.specs.declared.error.ErrorCode.TheVariants.{OutOfMemory}
 use Rattle.sqlite_disk.specs.declared.Disk.{Ghosts as Disk}
 use Rattle.sqlite_disk.specs.declared.Files.{Files}
 use Rattle.sqlite_trees.specs.{Props.Trees-set, declared.store.Store.Ghosts}
-use Rattle.office_tables_open.specs.{Found.HasOtherVersion, Found.HasRowsAlone, Found.IsUnclaimed, Version.AreToday}
-use Rattle.sqlite_catalog.specs.Listing.{AreListed}
-use Rattle.sqlite_schema.specs.declared.schema.Schema.{Schema}
-use Rattle.sqlite_trees.specs.Objects.{catalog_tree}
+use Rattle.office_tables_open.specs.{Found.HasOtherVersion, Found.HasRowsAlone, Found.Hold, Version.AreToday}
 use Rattle.office_tables.specs.Stored.{content_of}
-use Rattle.office_tables_open.specs.Moved.{content_in}
 use Rattle.office_tables_open.specs.Opening.{IsCleanStore, IsRefused, store_left}
 use Rattle.office_tables_open.specs.declared.open.OpenFault.{OpenFault}
 use Rattle.office_tables_open.specs.declared.open.OpenFault.TheVariants as why
-use Rattle.office_tables_open.proofs.LackingLemmas.{hold_office, today_claimed, today_rows, today_version}
+use Rattle.office_tables_open.proofs.MovedLemmas.{hold_office, today_rows, today_version}
 use Rattle.signal_office_faults.specs.declared.fault.Fault.{Fault}
 use Rattle.signal_office_file.specs.{Files.HoldToday, Files.IsAlike, Told.told_of, Told.told_of_error}
 use Rattle.signal_office_file.specs.Left.{IsOpenedIn, IsRefusedIn, KeepsToday, TellsNoTables}
@@ -48,17 +44,10 @@ module _ {S : Type 0} (g : Ghosts S) (conn : Held S) (cause : OpenFault) (back :
     (λ is. today_rows trees today (subst HasRowsAlone same (it.damaged is clean))),
   )
 
-  -- whatever tables the trees list, they hold what the office's hold
-  whole : (schema : Schema) → AreListed (trees catalog_tree) schema → content_in schema.tables trees ≡ content_of trees
-  whole schema listed = hold_office trees (content_in schema.tables trees) today.sound.lists.listed (schema, listed, refl)
-
   leaves_same : ((db : Trees) → (state g conn).may_leave db → db ≡ (state g conn).committed.trees) → (db : Trees) → g.recovers (store_left g back) db → IsAlike trees db
   leaves_same settled db may = elim (it.left.crash clean db may) [
     | inl was ↦ let is = settled db was ∙ same in record { today = subst AreToday (sym is) today; content = ap content_of is }
-    | inr new ↦ elim new [
-      | inl gone ↦ absurd (today_claimed trees today (subst IsUnclaimed same gone.0))
-      | inr made ↦ record { today = made.completes.today; content = made.completes.content ∙ ap (content_in made.schema.tables) same ∙ whole made.schema (subst (λ (t : Trees). AreListed (t catalog_tree) made.schema) same made.lacks.listed) }
-    ]
+    | inr over ↦ record { today = over.today; content = hold_office trees (content_of db) today.sound.lists.listed (subst (λ (t : Trees). Hold t (content_of db)) same over.kept) }
   ]
 
 module _ {D : Type 0} {g : Disk D} (files : Files D) (trees : Trees) (held : HoldToday g files trees) where

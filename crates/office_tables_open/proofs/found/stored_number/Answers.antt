@@ -1,17 +1,23 @@
-use Rattle.std.proofs.Common.{pos, sym, subst, Bool, ◌∙◌}
-use Rattle.std.proofs.lemmas.Option.{IfSome_then}
-use Rattle.sqlite.specs.View.{IsShaped}
-use Rattle.sqlite_trees.specs.{View.Finds, declared.store.Shape.Shape}
-use Rattle.office_tables_open.proofs.FoundLemmas.{number_stored}
+use Rattle.std.proofs.Common.{◌≡◌, ◌∷◌, ◌+◌, drop, sym, ap, ◌∙◌}
+use Rattle.std.proofs.lemmas.{Option.IfSome_then, Bool.both_ways, List.drop_more}
+use Rattle.office_tables_open.specs.Version.{version_of}
+use Rattle.office_tables_open.proofs.FoundLemmas.{version_first, version_later}
 use Rattle.office_tables_open.proofs.found.stored_number.Goals as goal
 
-pub returns-clause-stored : goal.returns-clause-stored
-returns-clause-stored g c clean =
-    let old = g.S.Store.view c.args.store.now in
-    let table = c.args.table.now in
-    let it = c.in_ok-get.ensures in
-    let shaped = subst (λ (s : Shape). IsShaped s (old.trees table.tree)) (sym c.in-Table.ensures) (g.met.S.Store.ordered c.args.store.now (it.sound clean) table.tree) in
-    IfSome_then c.number_of.result c.number_of.ensures (λ number told.
-    number_stored table old.trees c.get.new.row shaped (subst (λ (b : Bool). Finds (old.trees table.tree) (pos 1) c.get.new.row b) c.if-not-branch.false (it.ok clean))
-    (record { named = c.keeps_version.ensures.named c.if-not-keeps_version.false; rowid = c.keeps_version.ensures.rowid c.if-not-keeps_version.false; columns = c.keeps_version.ensures.columns c.if-not-keeps_version.false })
-    number (sym c.get-2.ensures ∙ told))
+pub returns-then-is_one : goal.returns-then-is_one
+returns-then-is_one c =
+    let rows = c.args.rows.now in
+    let row = c.row-item.result in
+    let rest = drop (c.loop-row.row-index + 1) rows in
+    let more : drop c.loop-row.row-index rows ≡ row ∷ rest = drop_more rows c.loop-row.row-index row c.loop-row-test.true ∙ ap (λ r. r ∷ rest) (sym c.row-item.is) in
+    IfSome_then c.number_of.result c.number_of.ensures (λ n told. sym c.loop-row.invariant ∙ ap version_of more
+    ∙ version_first row rest n (sym c.get.ensures ∙ c.is_one.ensures.one c.if-is_one.true) (sym c.get-then-is_one.ensures ∙ told))
+
+pub loop-row-preserved : goal.loop-row-preserved
+loop-row-preserved c =
+    let rows = c.args.rows.now in
+    let row = c.row-item.result in
+    let rest = drop (c.loop-row.row-index + 1) rows in
+    let more : drop c.loop-row.row-index rows ≡ row ∷ rest = drop_more rows c.loop-row.row-index row c.loop-row-test.true ∙ ap (λ r. r ∷ rest) (sym c.row-item.is) in
+    sym (version_later row rest (λ one. c.is_one.ensures.other (λ yes. both_ways _ c.if-is_one.false yes) (c.get.ensures ∙ one)))
+    ∙ ap version_of (sym more) ∙ c.loop-row.invariant

@@ -1,6 +1,6 @@
 use Rattle.std.proofs.Common.{arith}
 use Rattle.sqlite.specs.{Held.state, State.HasCleanDisk}
-use Rattle.office_tables_open.proofs.{MadeLemmas.office_ready, MadeLemmas.office_empty, MadeLemmas.new_if, VersionLemmas.empty_content}
+use Rattle.office_tables_open.proofs.{MadeLemmas.office_ready, MadeLemmas.office_empty, MadeLemmas.made_if}
 use Rattle.office_tables_open.proofs.open.make_all.Goals as goal
 
 pub returns-clause-made : goal.returns-clause-made
@@ -11,5 +11,5 @@ returns-clause-made g c clean begun blank =
     let early : HasCleanDisk (state g.S.Store mid) = omega (arith, clean, it.crash.clean) in
     let run = c.in_ok-run_all.ensures.run early begun in
     let ready = office_ready g.S.Store old mid run blank in
-    let none = empty_content (state g.S.Store mid).now.trees (office_empty g.S.Store old mid run blank) in
-    new_if c.put_version.result (state g.S.Store mid) (state g.S.Store c.put_version.new.tx.conn.now) ready none (it.ready clean) (it.same clean) (it.stored clean)
+    let none = office_empty g.S.Store old mid run blank in
+    made_if c.put_version.result (state g.S.Store mid) (state g.S.Store c.put_version.new.tx.conn.now) ready none (it.ready clean) (it.same clean) (it.stored clean)
