@@ -30,6 +30,7 @@ MEANT = {
         "timing_columns view_code width_of",
     "what the desk does with a record, of the register and of a plan":
         "Makes WantsMemory row_change_of row_changes_of",
+    "what was made: tables that were found, and a text of what was seen": "IsMade",
     "a record under its key, in the register and in the maps":
         "IsDeliveryAt IsInspectionAt IsOrderAt",
 }
