@@ -1,7 +1,6 @@
 //! The rows of version 1 of the tables, read to be written anew.
 #![tactic(auto)]
 
-mod growing;
 mod kept;
 pub mod listing;
 pub mod puts;

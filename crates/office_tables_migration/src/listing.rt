@@ -11,7 +11,6 @@ ghost use Rattle.office_tables_migration.specs.Former.{HaveFive, ShowNoFormer};
 ghost use Rattle.office_tables_migration.specs.Listing.{ListsKept, ListsEach};
 ghost use Rattle.office_tables_migration.specs.Listing.{TellsNoFormer, TellsNoFormerOfEach};
 
-use crate::growing::push;
 use crate::kept::read;
 use office_tables_shelf::shelf::ShelfFault;
 use office_tables_statements::statement::select;
@@ -33,7 +32,9 @@ fn read_all(alloc: Global, rows: Vec<SqlRow>) -> Result<Vec<(InterId, Change)>, 
     let mut kept = Vec::new(alloc);
     for row in rows {
         let found = read(alloc, &row)?;
-        push(&mut kept, found)?;
+        let Ok(()) = kept.push(found) else {
+            return Err(ShelfFault::NoMemory);
+        };
     }
     Ok(kept)
 }

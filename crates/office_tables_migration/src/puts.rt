@@ -3,7 +3,6 @@
 ghost use Rattle.std.specs.Prelude.{◌≡◌, true, false, IfOk, OnOk};
 ghost use Rattle.office_tables_migration.specs.Former.{has_ped, are_rows, timing_puts, draft_puts};
 
-use crate::growing::push;
 use office_tables_shelf::rows::RowChange;
 use office_tables_shelf::shelf::ShelfFault;
 use signal_records::{Change, InterId, NoMemory, Row};
@@ -46,7 +45,9 @@ pub fn timing_changes(
             return Err(ShelfFault::Damaged);
         };
         if is_rewritten {
-            push(&mut changes, RowChange::PutTiming(id, row))?;
+            let Ok(()) = changes.push(RowChange::PutTiming(id, row)) else {
+                return Err(ShelfFault::NoMemory);
+            };
         }
     }
     Ok(changes)
@@ -62,7 +63,7 @@ pub fn draft_changes(
     let mut changes = Vec::new(alloc);
     for (id, change) in kept {
         if has_pedestrian_part(&change) {
-            push(&mut changes, RowChange::PutDraft(id, change))?;
+            changes.push(RowChange::PutDraft(id, change))?;
         }
     }
     Ok(changes)

@@ -17,7 +17,7 @@ pub loop-row-preserved : goal.loop-row-preserved
 loop-row-preserved c =
     let rest = into_iter_items c.next.new.self in
     let kept = c.loop-row.kept.items in
-    let more = c.in_ok-push.ensures in
+    let more = c.in-Ok.ensures.items in
     record {
       cells = ap (λ items. map former_cells items ++ map shown_cells rest) more ∙ one_more former_cells shown_cells kept c.in_ok-found.found c.in-Some.row rest c.in_ok-found.ensures.cells
           ∙ ap (λ rows. map former_cells kept ++ map shown_cells rows) (sym c.in-Some.ensures.steps.0) ∙ c.loop-row.invariant.cells;
