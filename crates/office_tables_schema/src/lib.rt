@@ -4,7 +4,7 @@
 
 ghost use Rattle.std.specs.Prelude.{◌≡◌, IsTrue};
 ghost use Rattle.std.specs.List.{AllByRecursion};
-ghost use Rattle.office_tables_schema.specs.Schema.{office_schema, no_schema, IsOffices};
+ghost use Rattle.office_tables_schema.specs.Schema.{office_schema, IsOffices};
 
 mod parts;
 mod tables;
@@ -45,12 +45,4 @@ pub fn are_of_office(tables: &[Table]) -> bool
         return true;
     };
     is_one_of(table, all_tables()) && are_of_office(tables)
-}
-
-/// Whether there is no table yet.
-pub fn is_blank(schema: &Schema) -> bool
-    ensures blank { IsTrue result → schema.now ≡ no_schema }
-    ensures other { schema.now ≡ no_schema → IsTrue result }
-{
-    schema.tables.is_empty() && schema.indexes.is_empty() && schema.views.is_empty()
 }
