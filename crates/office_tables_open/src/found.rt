@@ -218,7 +218,7 @@ fn store_of<S: Alter + Drop>(conn: Connection<S>) -> Result<S, S>
     Ok(store)
 }
 
-/// The same database, which was checked again, so that each tree is known to hold what its list
+/// The database, which was checked again, so that each tree is known to hold what its list
 /// of objects says. Where it is refused its store comes back.
 pub fn checked<S: Alter + Drop>(
     alloc: Global,
@@ -244,7 +244,7 @@ fn fault_of(error: StoreError) -> SqlFault {
     }
 }
 
-/// The same database, checked again, and the rows of its tables if they may be made anew, or why
+/// The database, checked again, and the rows of its tables if they may be made anew, or why
 /// not. Where it is refused its store comes back.
 pub(crate) fn looked<S: Alter + Drop>(
     alloc: Global,

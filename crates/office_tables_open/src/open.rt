@@ -144,7 +144,7 @@ fn make_again<S: Alter>(
     put_all(alloc, tx, eight)
 }
 
-/// The same, all or nothing.
+/// Makes the tables again with these rows, in one transaction: all of it, or nothing.
 fn make_tables<S: Alter>(
     alloc: Global,
     conn: &mut Connection<S>,
@@ -176,7 +176,7 @@ pub type Left<S> = Result<Connection<S>, S>;
 /// Why tables were refused, and what is left of the database.
 pub type Refused<S> = (OpenFault, Left<S>);
 
-/// The same database, whose tables are made again with the rows that they have, and today's
+/// The database, whose tables are made again with the rows that they have, and today's
 /// version, where that is stored in tables of the office's, or none is and there is no row.
 fn made_again<S: Alter + Drop>(
     alloc: Global,
@@ -203,7 +203,7 @@ fn made_again<S: Alter + Drop>(
     }
 }
 
-/// The same database, whose tables are the office's: as they are where today's version is stored.
+/// The database, whose tables are the office's: as they are where today's version is stored.
 fn taken<S: Alter + Drop>(
     alloc: Global,
     mut conn: Connection<S>,
@@ -220,7 +220,7 @@ fn taken<S: Alter + Drop>(
     }
 }
 
-/// The same database with the tables of the office and today's version. They are made where there
+/// The database with the tables of the office and today's version. They are made where there
 /// are none, some are missing, or no row is stored; those that are there keep their rows.
 pub fn prepared<S: Alter + Drop>(
     alloc: Global,

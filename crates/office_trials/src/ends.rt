@@ -12,7 +12,7 @@ use std::io::{ErrorKind, Read, Write};
 pub(crate) enum After<'a> {
     End,
     Failure,
-    /// The same bytes again.
+    /// All bytes of the reader once more, and so on.
     Again,
     /// These bytes, once a writer took so many; before, a read fails.
     Answer(&'a [u8], &'a Cell<usize>, usize),
