@@ -1,13 +1,14 @@
 """Runs of the program over a disk that fails, or that are killed: a library between the program and
 the system counts its calls of files, and at one of them ends the program, has no more room, or
 fails."""
-import contextlib
 import dataclasses
 import os
 import socket
 import subprocess
 import threading
 import time
+
+from serving import exchange
 
 DISK = r"""
 #define _GNU_SOURCE
@@ -255,30 +256,10 @@ class Program:
         run = self.begun([*words, *ports], trouble, subprocess.DEVNULL)
         line, answers = run.process.stdout.readline(), b""
         if line:
-            answers = b"".join(exchanged(port, sent) for sent in streams)
+            answers = b"".join(exchange(port, sent, PATIENCE / 2) for sent in streams)
         came, _ = run.came()
         if came.told == "fault: bind":
             return self.serve(words, trouble, streams)
         if came.out or line not in (b"", b"listening on 127.0.0.1:%d\n" % port):
             raise Off(f"it printed {line!r} and {came.out!r}")
         return dataclasses.replace(came, out=answers)
-
-
-def exchanged(port, sent):
-    """What is answered to these bytes over a connection; less where the server is killed."""
-    came = b""
-    with contextlib.suppress(OSError):
-        with socket.create_connection(("127.0.0.1", port), timeout=PATIENCE / 2) as wire:
-            sender = threading.Thread(target=send, args=(wire, sent))
-            sender.start()
-            while part := wire.recv(65_536):
-                came += part
-            sender.join()
-    return came
-
-
-def send(wire, sent):
-    """Sends these bytes over a connection, and that there are no more."""
-    with contextlib.suppress(OSError):
-        wire.sendall(sent)
-        wire.shutdown(socket.SHUT_WR)

@@ -4,6 +4,7 @@ import json
 import re
 import socket
 import subprocess
+import threading
 import time
 
 PATIENCE = 5  # seconds after which a client gives up
@@ -14,6 +15,28 @@ ANSWER = re.compile(rb"HTTP/1\.1 (\d+) [^\r]*\r\n(?:[^\r]+\r\n)*?Content-Length:
 
 class Off(Exception):
     """What came is not what has to come."""
+
+
+def exchange(port, sent, patience):
+    """What is answered to these bytes over a connection, until it is closed or broken, or nothing
+    comes for so many seconds."""
+    came = b""
+    with contextlib.suppress(OSError):
+        with socket.create_connection(("127.0.0.1", port), timeout=patience) as wire:
+            sender = threading.Thread(target=send, args=(wire, sent))
+            sender.start()
+            with contextlib.suppress(OSError):
+                while part := wire.recv(65_536):
+                    came += part
+            sender.join()
+    return came
+
+
+def send(wire, sent):
+    """Sends these bytes over a connection, and that there are no more."""
+    with contextlib.suppress(OSError):
+        wire.sendall(sent)
+        wire.shutdown(socket.SHUT_WR)
 
 
 def started(program):

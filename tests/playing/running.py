@@ -7,6 +7,8 @@ import socket
 import subprocess
 import threading
 
+from serving import exchange
+
 ENDS = r"""
 #define _GNU_SOURCE
 #include <errno.h>
@@ -209,7 +211,7 @@ class Runner:
             words = ["serve", "--port", port, "--count", str(len(streams))]
             with ended(self.begun(words, ends, stdin=subprocess.DEVNULL)) as process:
                 line = process.stdout.readline()
-                answers = [exchanged(int(port), it[0]) for it in streams if line]
+                answers = [exchange(int(port), it[0], PATIENCE) for it in streams if line]
                 out, err = process.communicate()
             came = checked(Came(process.returncode, line + out, err))
             if came.err != b"fault: bind\n":
@@ -224,24 +226,3 @@ def checked(came):
     if came.status < 0:
         raise Off(f"an end by itself, came signal {-came.status}; a run may take {PATIENCE} s")
     return came
-
-
-def exchanged(port, sent):
-    """What is answered to these bytes over a connection, until it is closed."""
-    came = b""
-    with contextlib.suppress(OSError):
-        with socket.create_connection(("127.0.0.1", port), timeout=PATIENCE) as wire:
-            sender = threading.Thread(target=send, args=(wire, sent))
-            sender.start()
-            with contextlib.suppress(OSError):
-                while part := wire.recv(65_536):
-                    came += part
-            sender.join()
-    return came
-
-
-def send(wire, sent):
-    """Sends these bytes, and that there are no more."""
-    with contextlib.suppress(OSError):
-        wire.sendall(sent)
-        wire.shutdown(socket.SHUT_WR)
