@@ -9,8 +9,8 @@ Each part has a server of its own on 127.0.0.1, over tables in memory, and ends 
 - `processes`: three send 300 deliveries each over connections that are kept, closed late or
   dropped; beside them a dashboard polls every 50 ms over one connection. A call whose connection
   ended before a byte of its answer is sent again. None is lost, none was done without an answer,
-  none takes over a second. That second is one in which the machine runs: what a host takes from a
-  virtual machine at a time does not count.
+  none waits for over a second. Time in which the client or the server runs, or waits for a
+  processor, is no waiting: so a busy machine does not count.
 - `sessions`: three sessions of `requests` do the same, with retries as REFERENCE shows them, but
   no pauses before a retry.
 - `turns`: three calls in turn, of which the earlier connections are still open, take under 0.1 s
@@ -48,7 +48,7 @@ import threading
 import time
 
 from program import TOP, found
-from serving import (PATIENCE, STOCK, STOPWATCH, Off, Wire, delivery, expect, on_hand, served,
+from serving import (PATIENCE, STOCK, Off, Waited, Wire, delivery, expect, on_hand, served,
                      spelled, within)
 from tour import blocks
 
@@ -58,7 +58,7 @@ except ImportError:
     requests = None
 
 CALLS, CLIENTS = 300, 3  # deliveries of each process, and processes
-LONGEST = 1  # seconds that a call may take
+LONGEST = 1  # seconds that a call may wait
 LIMIT = 30  # seconds that the server waits for the next bytes of a request
 MOST = 10_000  # requests of a connection
 TURNS = 6  # of one call
@@ -68,35 +68,34 @@ PORT = "8081"  # of the examples in REFERENCE
 
 
 class Longest:
-    """The longest of some calls, in seconds in which the machine ran. One that takes too long is
-    refused, with what happened when."""
+    """The longest of some calls, in seconds by the clock. One that kept its client waiting for too
+    long is refused, with what happened when."""
 
-    def __init__(self):
-        self.seconds = 0
+    def __init__(self, port):
+        self.port, self.seconds = port, 0
 
     @contextlib.contextmanager
     def call(self, what):
         """Something that a client waits for. It may note what happens meanwhile."""
-        begun, clock, notes = STOPWATCH.now(), time.monotonic(), []
-        yield lambda text: notes.append(f"{text} after {STOPWATCH.now() - begun:.3f} s")
-        took = STOPWATCH.now() - begun
+        waited, notes = Waited(self.port), []
+        yield lambda text: notes.append(f"{text} after {waited.seconds():.3f} s")
+        took, idle = waited.seconds(), waited.idle()
         self.seconds = max(self.seconds, took)
-        if took > LONGEST:
-            stood = time.monotonic() - clock - took
-            happened = "; ".join([*notes, f"meanwhile the machine stood still for {stood:.2f} s"])
-            raise Off(f"{what} took {took:.2f} s, and may take {LONGEST} s: {happened}")
+        if idle > LONGEST:
+            happened = "; ".join([f"{took:.2f} s by the clock", *notes])
+            raise Off(f"{what} waited {idle:.2f} s, and may wait {LONGEST} s: {happened}")
 
 
 class Caller:
     """A client of http.client, which sends a call again where no byte of its answer came."""
 
     def __init__(self, port):
-        self.port, self.again, self.longest = port, 0, Longest()
+        self.port, self.again, self.longest = port, 0, Longest(port)
         self.line, self.open = None, collections.deque()
 
     def connected(self):
         if self.line is None:
-            self.line = http.client.HTTPConnection("127.0.0.1", self.port, timeout=PATIENCE)
+            self.line = http.client.HTTPConnection("127.0.0.1", int(self.port), timeout=PATIENCE)
         return self.line
 
     def close(self):
@@ -176,7 +175,7 @@ def post_session(port, number):
     retry = requests.packages.urllib3.util.Retry(total=5, allowed_methods=None)
     session.trust_env = False
     session.mount(office, requests.adapters.HTTPAdapter(max_retries=retry))
-    dice, again, longest = random.Random(f"session {number}"), 0, Longest()
+    dice, again, longest = random.Random(f"session {number}"), 0, Longest(port)
     for each in range(1, CALLS + 1):
         keys = delivery(f"P{number}", each)
         with longest.call(f"call {each} of session {number}") as note:
@@ -247,16 +246,16 @@ def half(port):
     with contextlib.ExitStack() as open_wires:
         first = open_wires.enter_context(Wire(port))
         first.socket.sendall(b"GET /stock HTTP/1.1\r\nHost: 127")
-        begun, clock, others = STOPWATCH.now(), time.monotonic(), []
+        waited, others = Waited(port), []
         for _ in range(3):
             others.append(open_wires.enter_context(Wire(port)))
             others[-1].socket.sendall(STOCK)
         others[0].socket.settimeout(LIMIT + 2 * PATIENCE)
         expect("the first of those who wait", others[0].answer(), b'{"hand":[]}')
-        took, least = time.monotonic() - clock, STOPWATCH.now() - begun
-        if took < LIMIT - 1 or least > LIMIT + 3:
+        took = waited.seconds()
+        if took < LIMIT - 1 or waited.idle() > LIMIT + 3:
             raise Off(f"half a request kept others out for {took:.2f} s, not {LIMIT} s")
-        with within(LONGEST, "the two behind it"):
+        with within(LONGEST, port, "the two behind it"):
             expect("the others", [it.answer() for it in others[1:]], [b'{"hand":[]}'] * 2)
         first.expect_end("half a request")
     return f"others waited {took:.1f} s"
@@ -282,7 +281,7 @@ def most(port):
                 wire.socket.shutdown(socket.SHUT_RDWR)
             sender.join()
         expect("answers of a connection", count, MOST)
-        with within(LONGEST, "the next connection"), Wire(port) as other:
+        with within(LONGEST, port, "the next connection"), Wire(port) as other:
             expect("the next connection", other.ask(), b'{"hand":[]}')
     return f"{count} answers, and an end"
 
@@ -295,7 +294,7 @@ def pipelined(port):
             if select.select([wire.socket, other.socket], [], [], 0.5)[0]:
                 raise Off("it gave way, or the other was served, while half a request was there")
             expect("the second", wire.ask(STOCK[8:]), b'{"hand":[]}')
-            with within(LONGEST, "the other"):
+            with within(LONGEST, port, "the other"):
                 expect("the other", other.answer(), b'{"hand":[]}')
         wire.expect_end("both requests")
     return "both were served"
@@ -332,7 +331,7 @@ def idle(port):
         if select.select([wire.socket], [], [], 3)[0]:
             raise Off("it was ended although nobody waits")
         expect("three seconds later", wire.ask(), b'{"hand":[]}')
-        with within(LONGEST, "another"), Wire(port) as other:
+        with within(LONGEST, port, "another"), Wire(port) as other:
             expect("another", other.ask(), b'{"hand":[]}')
         wire.expect_end("another came")
     return "it stayed for 3 s, and gave way"
@@ -394,11 +393,7 @@ def main():
     signal.signal(signal.SIGTERM, lambda *_: sys.exit(1))  # ends the server too
     os.environ["NO_PROXY"] = "*"
     parts = [it for it in PARTS if not names or it.__name__ in names]
-    STOPWATCH.start()
-    try:
-        failed = [it.__name__ for it in parts if not comes_of(program, it)]
-    finally:
-        STOPWATCH.stop()
+    failed = [it.__name__ for it in parts if not comes_of(program, it)]
     print(f"clients.py: failed: {', '.join(failed)}" if failed else "ok")
     sys.exit(bool(failed))
 
