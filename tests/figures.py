@@ -38,7 +38,7 @@ SENTENCES = [
     (COMMANDS, f"`used_part` to `work_order`. The version is {ANY}", "VERSION"),
     (HTTP, f"from the first {ANY} bytes, with at most {ANY} fields", "HEAD_LIMIT", "FIELD_LIMIT"),
     (HTTP, f"Content-Length says, at most {ANY} bytes", "LARGEST_BODY"),
-    (HTTP, f"the first {ANY} bytes hold no whole head", "HEAD_LIMIT"),
+    (HTTP, f"the first {ANY} bytes contain no whole head", "HEAD_LIMIT"),
     (HTTP, f"the body is longer than {ANY} bytes", "LARGEST_BODY"),
     (HTTP, f"`id`, `{{id}}`: {ANY} to {ANY}", "InterId.low", "InterId.high"),
     (HTTP, f"`interval`: {ANY} to {ANY} days", "Interval.low", "Interval.high"),
