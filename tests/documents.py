@@ -12,8 +12,8 @@
   whom the document is for, and no document says in so many words what another says. README.md has
   at most 200 lines. README.md and docs/PROOF.md have one headline, and where its exact sentence
   stands it is that of docs/PROOF.md.
-- Each command that a document shows is one of the program, docs/COMMANDS.md has each of them, and
-  docs/HTTP.md has each route.
+- Each command that a document shows is one of the program, docs/COMMANDS.md has each of them,
+  docs/HTTP.md has each route, and docs/OPERATING.md names each fault.
 - What `--version` prints is the newest heading of CHANGELOG.md.
 - No line of crates.txt names a crate of this repository that its crate does not use.
 
@@ -30,6 +30,7 @@ TOP = pathlib.Path(__file__).resolve().parent.parent
 DOCUMENTS = [TOP / "README.md", TOP / "CONTRIBUTING.md", TOP / "CHANGELOG.md"]
 DOCUMENTS += [*sorted((TOP / "docs").glob("*.md")), TOP / "examples" / "README.md"]
 COLUMNS, README_LINES = 100, 200
+LONG_CODE = 70  # columns of code that is not broken
 REPEATED = 12  # words in a row that two documents share
 HEADLINE, EXACT = "The answers and the stored", "For every stream"  # how the two sentences begin
 NAME = re.compile(r"`([^`]+)`")
@@ -102,7 +103,8 @@ def wrong_lines():
     private = re.compile(r"\b(?:issue|paper) \d+|/(?:work|opt|home|root)/")
     for document in DOCUMENTS:
         for number, line in enumerate(document.read_text().splitlines(), 1):
-            is_free = line.startswith(("|", "    ")) or re.search("`[^`]{70,}`", line)
+            is_free = line.startswith(("|", "    ")) or any(
+                len(it) > LONG_CODE for it in re.findall("`[^`]*`", line))
             if len(line) > COLUMNS and not is_free:
                 yield f"{document.name}:{number} has {len(line)} columns"
             yield from (f"{document.name} names {it}, which no reader has"
@@ -193,6 +195,11 @@ def wrong_commands():
     for document in DOCUMENTS:
         shown = {*re.findall(r"(?:\./office|\bsignal_office) ([a-z][\w-]*) ", document.read_text())}
         yield from (f"{document.name} shows {it}, which is no command" for it in shown - known)
+    faults = (TOP / "docs/COMMANDS.md").read_text().partition("## Faults")[2].partition("## ")[0]
+    after = (TOP / "docs/OPERATING.md").read_text().partition("## After a fault")[2]
+    for names in re.findall(r"^- ((?:`[\w ]+`(?:, )?)+)", faults, re.MULTILINE):
+        yield from (f"OPERATING.md does not say what to do after {it}" for it in NAME.findall(names)
+                    if not re.search(rf"\b{it.split()[0]}\b", after))
     routes = (TOP / "crates/office_http_requests/src/route.rt").read_text()
     text = (TOP / "docs/HTTP.md").read_text()
     yield from (f"HTTP.md lacks {it}" for it in re.findall(r'"(/[\w/{}-]+)"', routes)
