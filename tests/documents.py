@@ -15,6 +15,7 @@
 - Each command that a document shows is one of the program, docs/COMMANDS.md has each of them,
   docs/HTTP.md has each route, and docs/OPERATING.md names each fault.
 - What `--version` prints is the newest heading of CHANGELOG.md.
+- The code that docs/CONTRACTS.md and CONTRIBUTING.md show is that of the sources.
 - No line of crates.txt names a crate of this repository that its crate does not use.
 
 Builds nothing. Prints what is wrong, and ends with status 1 then.
@@ -206,6 +207,24 @@ def wrong_commands():
                 if f" {it}`" not in text)
 
 
+def wrong_quotes():
+    """Code that docs/CONTRACTS.md and CONTRIBUTING.md show and that the sources do not have."""
+    paths = [path for kind in ("rt", "antt") for path in (TOP / "crates").rglob(f"*.{kind}")]
+    sources = [" ".join(path.read_text().split()) for path in sorted(paths)]
+    for document in (TOP / "docs/CONTRACTS.md", TOP / "CONTRIBUTING.md"):
+        text = document.read_text()
+        for block in re.findall(r"(?:^ {4,}.*\n|^\n(?= {4}))+", text, re.MULTILINE):
+            for part in re.split(r"\n\s*\n", block.strip()):
+                shown = " ".join(part.split())
+                is_code = shown.startswith(("pub fn", "pub(crate)", "/// ", "-- ", "abbrev"))
+                if is_code and not any(shown in it for it in sources):
+                    yield f"{document.name} shows code that no source has: {shown[:60]}"
+        for number, line in re.findall(r"Line (\d+) is\s+`([^`]*)`", text):
+            code = (TOP / "crates/cabinet_core/src/decide.rt").read_text().splitlines()
+            if line not in code[int(number) - 1]:
+                yield f"{document.name}: line {number} of decide.rt is not {line}"
+
+
 def unused_crates():
     """Each crate that a line of crates.txt names in vain: it would be waited for."""
     for crate, below in drawing.crates()[0].items():
@@ -225,7 +244,7 @@ def main():
     wrong += [*missing_links(), *missing_files(), *wrong_lines(), *wrong_sizes(),
               *wrong_headlines(), *wrong_beginnings(), *repeated(), *wrong_commands()]
     wrong += [*written_by_scripts(), *wrong_version()]
-    wrong += unused_crates()
+    wrong += [*wrong_quotes(), *unused_crates()]
     print("\n".join(wrong) if wrong else "ok")
     sys.exit(1 if wrong else 0)
 
