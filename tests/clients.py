@@ -11,7 +11,7 @@ Each part has a server of its own on 127.0.0.1, over tables in memory, and ends 
   ended before a byte of its answer is sent again. None is lost, none was done without an answer,
   none waits for over a second. Time in which the client or the server runs, or waits for a
   processor, is no waiting: so a busy machine does not count.
-- `sessions`: three sessions of `requests` do the same, with retries as REFERENCE shows them, but
+- `sessions`: three sessions of `requests` do the same, with retries as docs/HTTP.md shows them, but
   no pauses before a retry.
 - `turns`: three calls in turn, of which the earlier connections are still open, take under 0.1 s
   together; of `requests.get` too.
@@ -25,7 +25,7 @@ Each part has a server of its own on 127.0.0.1, over tables in memory, and ends 
   sends after 30 ms is served before it.
 - `idle`: a connection stays open while nobody waits (three seconds), and ends when another comes.
 - `late`: a request that comes after its connection gave way sees an end, no reset, and is not done.
-- `examples`: those of REFERENCE in Python print what they show, beside an idle connection.
+- `examples`: those of docs/HTTP.md in Python print what they show, beside an idle connection.
 
 Where Python's `requests` is not installed, its cases are not tried. Prints what it tries, and ends
 with status 1 if a part failed. Takes less than a minute.
@@ -63,8 +63,8 @@ LIMIT = 30  # seconds that the server waits for the next bytes of a request
 MOST = 10_000  # requests of a connection
 TURNS = 6  # of one call
 HOWS = ("keep", "keep", "keep", "close late", "close late", "drop", "half", "unread")
-REFERENCE = TOP / "docs" / "REFERENCE.md"
-PORT = "8081"  # of the examples in REFERENCE
+EXAMPLES = TOP / "docs" / "HTTP.md"
+PORT = "8081"  # of the examples in that document
 
 
 class Longest:
@@ -358,7 +358,7 @@ def shown(text):
 
 def examples(port):
     add = {"id": 12, "interval": 365, "name": "Main St"}
-    texts = ["\n".join(block).strip() for block in blocks(REFERENCE.read_text())]
+    texts = ["\n".join(block).strip() for block in blocks(EXAMPLES.read_text())]
     tried = [it for it in texts if it.startswith("import ")]
     expect("examples in Python", len(tried), 2)
     tried = [it for it in tried if requests or not it.startswith("import requests")]
