@@ -33,18 +33,21 @@ record_of opening = record { number = opening.number; opened = opening.day; cler
 abbrev pub with_closing : Order → Closing → Order
 with_closing order closing = record order { closing = Some closing }
 
--- two records are equal
+-- two inspections are equal in all that they say
 abbrev pub is_same_inspection : Inspection → Inspection → Bool
 is_same_inspection there asked =
     there.number == asked.number && (there.day == asked.day && (bytes_eq there.clerk asked.clerk && bytes_eq there.text asked.text))
 
+-- two closings are equal in all that they say
 abbrev pub is_same_closing : Closing → Closing → Bool
 is_same_closing there asked = there.day == asked.day && bytes_eq there.closer asked.closer
 
+-- two used parts are equal in all that they say
 abbrev pub is_same_line : UsedLine → UsedLine → Bool
 is_same_line there asked =
     there.order == asked.order && (there.line == asked.line && (bytes_eq there.part asked.part && there.count == asked.count))
 
+-- two deliveries are equal in all that they say
 abbrev pub is_same_delivery : Delivery → Delivery → Bool
 is_same_delivery there asked =
     bytes_eq there.part asked.part && (there.number == asked.number && (there.day == asked.day && there.count == asked.count))
@@ -100,7 +103,7 @@ close_changes (Some order) asked = PutOrder (with_closing order asked) ∷ []
 abbrev pub receive_changes : Option ℕ → Delivery → List CabinetChange
 receive_changes hand asked = PutPart asked.part (on_hand hand + asked.count) ∷ PutDelivery asked ∷ []
 
--- a decision says which line it is, and where something is added, which rows are put; want of memory is told only where something is to be added
+-- a decision says which line it is, and where something is added, which rows are put; want of memory is reported only where something is to be added
 abbrev pub Records : Result Recorded CabinetRefusal → Line → List CabinetChange → Type 0
 Records (Ok (Added changes)) line list = (line ≡ added) × (changes.items ≡ list)
 Records (Ok Same) line list = line ≡ same

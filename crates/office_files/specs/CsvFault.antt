@@ -17,7 +17,7 @@ abbrev pub fault_at : ℕ → RowFault → CsvFault
 fault_at at row.NoMemory = file.NoMemory
 fault_at at fault = file.Row (bad_row at fault)
 
--- what is told of the record with this number, by what was read of it
+-- the record with this number as it was read, or its fault
 abbrev pub told_at : {T : Type 0} → ℕ → Result T RowFault → Result T CsvFault
 told_at at (Ok row) = Ok row
 told_at at (Err fault) = Err (fault_at at fault)

@@ -21,13 +21,13 @@ abbrev pub Gives : {A : Type 0} → Result A AskFault → Result A AskFault → 
 Gives (Ok x) wanted = wanted ≡ Ok x
 Gives (Err fault) wanted = fault ≢ NoMemory → wanted ≡ Err fault
 
--- want of memory is told only where the fact holds
+-- want of memory is reported only where the fact is so
 abbrev pub WantsMemoryOnlyIf : {A : Type 0} → Result A AskFault → Type 0 → Type 0
 WantsMemoryOnlyIf (Ok x) P = ⊤
 WantsMemoryOnlyIf (Err fault) P = fault ≡ NoMemory → P
 
--- Want of memory may be told in place of this: of a value, which takes memory; of a row, whose reader may tell it of any;
--- and of itself, as it was told below. No other fault is told so.
+-- Want of memory may be reported in place of this result: of a value, which takes memory; of a bad row, whose reader may
+-- report it of any; and where it was reported below. No other fault may be replaced by it.
 abbrev pub MayWant : {A : Type 0} → Result A AskFault → Type 0
 MayWant (Ok x) = Unit {0}
 MayWant (Err NoMemory) = Unit {0}

@@ -40,8 +40,8 @@ object_in _ = None
 unfoldable pub body_of : List ℕ → Result Data AskFault
 body_of bytes = or_fault Json (option_and_then object_in (json_of bytes))
 
--- What is told of a body, by what the reader of JSON answered for its bytes: an object; want of memory exactly where the reader
--- told it, of bytes that open an object; else that it is no JSON object, however long it is.
+-- What is answered of a body, by what the reader of JSON answered for its bytes: an object; want of memory exactly where the
+-- reader reported it, of bytes that open an object; else that it is no JSON object, however long it is.
 abbrev pub IsBodyTold : Result Value Error → Bool → Result Value AskFault → Type 0
 IsBodyTold (Ok value) opens told = told ≡ (if is_some (as_object (view value)) then Ok value else Err Json)
 IsBodyTold (Err fault) opens told =

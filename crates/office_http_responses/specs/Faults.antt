@@ -85,7 +85,7 @@ framing_kind framing.Coded = kind.Coded
 abbrev pub framing_fault_text : Fault → List ℕ
 framing_fault_text fault = fault_bytes (framing_kind fault) Nothing
 
--- the answer of a request that asks nothing
+-- the answer of a request that is no command
 abbrev pub ask_fault_text : AskFault → List ℕ
 ask_fault_text ask.NoRoute = fault_bytes kind.NoRoute Nothing
 ask_fault_text ask.Method = fault_bytes kind.Method Nothing

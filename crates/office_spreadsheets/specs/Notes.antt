@@ -60,5 +60,6 @@ abbrev pub notes_on : (other : Bool) → Result (List Change) CsvFault → List 
 notes_on other (Err fault) = []
 notes_on other (Ok changes) = notes_within other changes (length changes)
 
+-- the notes on a plan's CSV file: none where one of its records is bad
 abbrev pub notes_in : (other : Bool) → (csv : List ℕ) → List ℕ
 notes_in other csv = notes_on other (changes_of csv)

@@ -28,6 +28,7 @@ begins_record _ b = false
 abbrev pub begins_line : (before b : ℕ) → Bool
 begins_line before b = (before == 10) || ((before == 13) && not (b == 10))
 
+-- the line on which a byte stands, by that of the byte before it
 abbrev pub line_with : (line before b : ℕ) → ℕ
 line_with line before b = if begins_line before b then line + 1 else line
 
@@ -39,14 +40,15 @@ lines_from at line before (b ∷ bs) =
     let later = lines_from (after_byte at b) here b bs in
     if begins_record at b then here ∷ later else later
 
--- the bytes of a file behind the mark that one in UTF-8 may begin with
+-- three bytes are the mark that a file in UTF-8 may begin with
 abbrev pub is_mark : (a b c : ℕ) → Bool
 is_mark a b c = (a == 239) && ((b == 187) && (c == 191))
 
+-- the bytes of a file behind the mark that a file in UTF-8 may begin with
 abbrev pub unmarked : List ℕ → List ℕ
 unmarked (a ∷ b ∷ c ∷ rest) = if is_mark a b c then rest else a ∷ b ∷ c ∷ rest
 unmarked bytes = bytes
 
--- of a file, whose lines are counted from 1
+-- the lines on which the records of a file begin, counted from 1
 abbrev pub record_lines : List ℕ → List ℕ
 record_lines csv = lines_from reading.Between 1 32 (unmarked csv)

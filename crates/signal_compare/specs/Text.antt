@@ -76,6 +76,7 @@ difference_text (Changed before after) =
     codes "~ " ++ key_text (key_of after) ++ codes ": "
     ++ separated (codes ", ") (changed_fields before after)
 
+-- the line of a difference
 abbrev pub difference_line : Difference → List ℕ
 difference_line d = difference_text d ++ codes "\n"
 
