@@ -44,8 +44,7 @@ pub record ChangesMake (id : ℕ) (r : Register) (changes : List CabinetChange) 
   pub hands : (code : List ℕ) → hand_after code (hand_of r code) changes ≡ hand_of next code
   pub sound : IsSoundRegister next
 
--- in a register: the decision is the command's line there, and its changes, where it adds, make
--- the register with the record
+-- In a register, a decision is the command's line there, and its changes, where it adds, make the register with the record.
 abbrev pub MakesIn : ℕ → Register → RecordCommand → Result Recorded CabinetRefusal → Type 0
 MakesIn id r command (Ok (Added changes)) =
     (line_at r command ≡ added) × ChangesMake id r changes.items (with_record r command)

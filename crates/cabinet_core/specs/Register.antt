@@ -24,7 +24,7 @@ RecordKey = ℕ × ℕ
 abbrev pub record_cmp : RecordKey → RecordKey → Ordering
 record_cmp = pair_cmp nat_cmp nat_cmp
 
--- a used part under its intersection, the order and the line
+-- a used part stands under its intersection, the order and the line
 abbrev pub LineKey : Type 0
 LineKey = ℕ × RecordKey
 
@@ -32,7 +32,7 @@ LineKey = ℕ × RecordKey
 abbrev pub line_cmp : LineKey → LineKey → Ordering
 line_cmp = pair_cmp nat_cmp record_cmp
 
--- a delivery under the code of the part and its number
+-- a delivery stands under the code of the part and its number
 abbrev pub DeliveryKey : Type 0
 DeliveryKey = List ℕ × ℕ
 

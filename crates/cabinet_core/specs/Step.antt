@@ -30,7 +30,7 @@ standing_in r (CloseOrder id order closing) = get r.orders (id, order)
 standing_in r (Receive delivery) =
     (get r.deliveries (delivery.part, delivery.number), hand_of r delivery.part)
 
--- the command's line of the table on that
+-- the line of a command in the table, by what it is decided on
 abbrev pub line_on : (command : RecordCommand) → Standing command → Line
 line_on (Inspect id inspection) there = inspect_line there inspection
 line_on (OpenOrder id opening) there = open_line there opening

@@ -30,7 +30,7 @@ said_by (Remove key) = removes
 abbrev pub said_at : Change → Key → Said
 said_at change key = cond (eq_by_cmp key_cmp key (changed_key change)) (said_by change) silent
 
--- the later of two, unless it is silent
+-- what the later of two changes says of a key, unless it is silent
 abbrev pub later_of : Said → Said → Said
 later_of silent earlier = earlier
 later_of (leaves row) earlier = leaves row
@@ -41,7 +41,7 @@ abbrev pub row_at : List Change → Key → Said
 row_at [] key = silent
 row_at (change ∷ changes) key = later_of (row_at changes key) (said_at change key)
 
--- what stands at a key once that is laid over what is committed there
+-- what stands at a key once a draft row is laid over what is committed there
 abbrev pub overlaid : Option Row → Said → Option Row
 overlaid committed silent = committed
 overlaid committed (leaves row) = Some row

@@ -21,7 +21,7 @@ use Rattle.draft_core.specs.News.{AreNew}
 abbrev pub SaysCommitted : Rows → Change → Type 0
 SaysCommitted committed change = get committed (changed_key change) ≡ left_by change
 
--- whether anything is said
+-- whether changes say anything of a key
 abbrev pub is_said : Said → Bool
 is_said silent = false
 is_said (leaves row) = true

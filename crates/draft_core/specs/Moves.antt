@@ -104,7 +104,7 @@ next_holder (Kept stage) clerk holder =
     option_map (λ (who : Holder). record who { stage = stage }) holder
 next_holder Dropped clerk holder = None
 
--- the state then
+-- the state of an intersection after a step, by what the step does to who owns the draft
 abbrev pub state_after : Holding → DbState
 state_after Begun = InTransaction
 state_after (Kept stage) = in_stage stage

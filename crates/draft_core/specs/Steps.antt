@@ -55,7 +55,7 @@ IsUnsettled RevisionFull = Unit {0}
 IsUnsettled NoMemory = Unit {0}
 IsUnsettled _ = ⊥
 
--- what the test of state and owner refuses
+-- why a step is refused by the test of state and owner, if it is
 abbrev pub first_refusal : Step → Option Holder → List ℕ → Option DraftRefusal
 first_refusal step.Begin holder clerk = refused_if_held holder
 first_refusal (step.Edit changes) holder clerk = refused_by holder Transaction NotTransaction clerk
@@ -65,7 +65,7 @@ first_refusal step.Commit holder clerk = refused_by holder Done NotDone clerk
 first_refusal step.Reopen holder clerk = refused_by holder Done NotDone clerk
 first_refusal step.Abandon holder clerk = refused_if_free holder
 
--- what may be refused after it
+-- what a step may be refused for after the test of state and owner
 abbrev pub IsLater : Step → DraftRefusal → Type 0
 IsLater (step.Edit changes) = IsMemory
 IsLater step.Check = IsMemory
@@ -75,12 +75,12 @@ IsLater _ = Never
 
 -- ---- what it writes
 
--- the changes that it brings
+-- the changes that a step brings
 abbrev pub asked_changes : Step → List Change
 asked_changes (step.Edit changes) = changes
 asked_changes _ = []
 
--- the most timing rows that it writes, of a draft with so many rows
+-- the most timing rows that a step writes, of a draft with so many rows
 abbrev pub most_committed : Step → ℕ → ℕ
 most_committed step.Commit rows = rows
 most_committed _ rows = 0

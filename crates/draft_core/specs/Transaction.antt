@@ -18,7 +18,7 @@ use Rattle.draft_core.specs.declared.step.Step.TheVariants as step
 use Rattle.draft_core.specs.declared.refusal.DraftRefusal.{DraftRefusal}
 use Rattle.draft_core.specs.declared.refusal.DraftRefusal.TheVariants.{NotNormal, NotTransaction, NotOwner, NotVerify, NotDone, VerifyFailed, RevisionFull}
 
--- a draft is a whole set
+-- a draft: a whole set, who owns it, and its stage
 pub record Draft : Type 0 where
   pub stage : Stage
   pub owner : List ℕ

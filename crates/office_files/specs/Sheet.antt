@@ -63,7 +63,7 @@ patterns_section rows = codes "Patterns\n    No Cycle  Offs Split   Seq\n" ++ fl
 abbrev pub sections : List Row → List ℕ
 sections rows = phases_section rows ++ sequences_section rows ++ splits_section rows ++ patterns_section rows
 
--- the two lines at the top
+-- the two lines at the top of a sheet
 abbrev pub title : ℕ → List ℕ → ℕ → List ℕ
 title id name revision =
     codes "Intersection " ++ decimal id ++ codes ": " ++ name ++ codes "\nRevision " ++ decimal revision ++ codes "\n"

@@ -12,7 +12,7 @@ abbrev pub or_bad_row : {A : Type 0} → Result A CsvFault → Result A AskFault
 or_bad_row (Ok x) = Ok x
 or_bad_row (Err fault) = Err (ask_fault fault)
 
--- what is lent of a body, as this sees it, or the fault
+-- a value of a body that is lent, as a definition sees it, or the fault
 abbrev pub lent : {A B : Type 0} → (A → B) → Result A AskFault → Result B AskFault
 lent see = result_map_both see (λ fault. fault)
 
@@ -48,10 +48,10 @@ abbrev pub or_fault : {A : Type 0} → AskFault → Option A → Result A AskFau
 or_fault fault None = Err fault
 or_fault fault (Some x) = Ok x
 
--- a value that a path may lack
+-- a value of a path, or the fault NoRoute where the path lacks it
 abbrev pub or_no_route : {A : Type 0} → Option A → Result A AskFault
 or_no_route found = or_fault NoRoute found
 
--- a value of a field
+-- the value of a field, or its fault where there is none
 abbrev pub or_field : {A : Type 0} → Field → Option A → Result A AskFault
 or_field field found = or_fault (FieldFault field) found

@@ -18,7 +18,7 @@ use Rattle.office_http_requests.specs.Asks.{or_fault, or_field}
 use Rattle.office_http_faults.specs.Fields.{field_name}
 use Rattle.signal_records.specs.Reading.{within}
 
--- the data that the bytes are
+-- the data that bytes in JSON are
 abbrev pub json_of : List ℕ → Option Data
 json_of bytes = if is_utf8 bytes then read bytes else None
 
@@ -31,7 +31,7 @@ opens_object (b ∷ bytes) = if is_space b then opens_object bytes else b == 123
 abbrev pub MayBeObject : List ℕ → Type 0
 MayBeObject bytes = IsUtf8 bytes × IsTrue (opens_object bytes)
 
--- the data, if it is an object
+-- a value in JSON, if it is an object
 abbrev pub object_in : Data → Option Data
 object_in (object members) = Some (object members)
 object_in _ = None

@@ -83,7 +83,7 @@ field_words field.Pattern = codes "pattern"
 field_words field.Cycle = codes "cycle"
 field_words field.Offset = codes "offset"
 
--- what it may be, as the records are read
+-- what a field may be, as the records are read
 abbrev pub field_values : Field → List ℕ
 field_values field.Phase = codes "1 to 32"
 field_values field.Ring = codes "1 to 8"
@@ -156,7 +156,7 @@ pattern_field place =
     else if place == 6 then Some field.Sequence
     else None
 
--- a key that is removed has its fields from the third on
+-- the field at a place of a removal; a key that is removed has its fields from the third on
 abbrev pub key_field : (first : Field) → (second : Option Field) → ℕ → Option Field
 key_field first second place = if place == 3 then Some first else if place == 4 then second else None
 
@@ -185,24 +185,24 @@ abbrev pub hint_found : Hint → Option ℕ
 hint_found (hint.Count found of) = Some found
 hint_found _ = None
 
--- what it may be
+-- what the kind, the number of fields or a field may be, as a hint shows it
 abbrev pub hint_values : Hint → List ℕ
 hint_values (hint.Kind false) = codes "phase, seq, split, pattern or remove; no header row"
 hint_values (hint.Kind true) = codes "phase, seq, split or pattern after remove"
 hint_values (hint.Count found of) = widths of
 hint_values (hint.Field it is_numeral) = field_values it
 
--- how a number is written, where a field is none
+-- the end of a hint: how a number is written, where a field is none
 abbrev pub hint_ending : Hint → List ℕ
 hint_ending (hint.Field it false) = codes ", in digits without leading zeros"
 hint_ending _ = []
 
--- the text of that number in a hint: `7, not `, or nothing
+-- how many fields there are, in a hint: `7, not `, or nothing
 abbrev pub found_text : Option ℕ → List ℕ
 found_text None = []
 found_text (Some found) = decimal found ++ codes ", not "
 
--- `offset: 0 to 255 seconds`, `fields: 7, not 6`
+-- the text of a hint: `offset: 0 to 255 seconds`, `fields: 7, not 6`
 abbrev pub hint_text : Hint → List ℕ
 hint_text it = hint_name it ++ codes ": " ++ found_text (hint_found it) ++ hint_values it ++ hint_ending it
 

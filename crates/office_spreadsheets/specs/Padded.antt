@@ -9,7 +9,7 @@ abbrev pub is_blank : List ℕ → Bool
 is_blank [] = true
 is_blank (b ∷ bs) = false
 
--- all of these fields are empty
+-- all fields of a list are empty
 abbrev pub are_blank : List (List ℕ) → Bool
 are_blank fields = list_all is_blank fields
 

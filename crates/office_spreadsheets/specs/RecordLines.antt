@@ -3,7 +3,7 @@ use Rattle.std.specs.Prelude.{ℕ, ◌+◌, Bool, ◌&&◌, ◌||◌, ◌==◌, 
 use Rattle.office_spreadsheets.specs.declared.lines.Reading.{Reading}
 use Rattle.office_spreadsheets.specs.declared.lines.Reading.TheVariants as reading
 
--- a line feed, or a carriage return
+-- a byte that ends a line: a line feed, or a carriage return
 abbrev pub is_end : ℕ → Bool
 is_end b = (b == 10) || (b == 13)
 
@@ -11,7 +11,7 @@ is_end b = (b == 10) || (b == 13)
 abbrev pub after_plain : ℕ → Reading
 after_plain b = if b == 44 then reading.Start else if is_end b then reading.Between else reading.Plain
 
--- after any byte: a quote at the start of a field begins what is in quotes, and two quotes there are one
+-- where a reader stands after any byte: a quote at the start of a field begins what is in quotes, and two quotes there are one
 abbrev pub after_byte : Reading → ℕ → Reading
 after_byte reading.Between b = if b == 34 then reading.Quoted else after_plain b
 after_byte reading.Start b = if b == 34 then reading.Quoted else after_plain b

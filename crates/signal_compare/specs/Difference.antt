@@ -12,7 +12,7 @@ use Rattle.signal_records.specs.TimingSet.{Rows}
 use Rattle.signal_compare.specs.declared.difference.Difference.{Difference}
 use Rattle.signal_compare.specs.declared.difference.Difference.TheVariants.{Added, Removed, Changed}
 
--- the key at which the sets differ
+-- the key at which two sets differ, of a difference
 abbrev pub place_of : Difference → Key
 place_of (Added row) = key_of row
 place_of (Removed row) = key_of row
