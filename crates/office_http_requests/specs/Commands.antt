@@ -45,7 +45,7 @@ id_and_clerk_in path read = do
   clerk ← words_in 40 body Clerk
   Ok (id, clerk)
 
--- the clerk and the rows of a body: its keys by name, then the rows
+-- the body's keys by name, then the rows
 unfoldable pub clerk_and_rows_in : Data → Result (List ℕ × List Change) AskFault
 clerk_and_rows_in body = do
   clerk ← words_in 40 body Clerk
@@ -60,7 +60,7 @@ edited_in path read = do
   found ← clerk_and_rows_in body
   Ok (asked_in_json (command.Edit id found.0 found.1))
 
--- the clerk and the changes of a body: its keys by name, then the records of the CSV text
+-- the body's keys by name, then the records of the CSV text
 unfoldable pub clerk_and_csv_in : Data → Result (List ℕ × List Change) AskFault
 clerk_and_csv_in body = do
   clerk ← words_in 40 body Clerk
@@ -75,7 +75,7 @@ edited_by_csv path read = do
   found ← clerk_and_csv_in body
   Ok (asked_in_json (command.Edit id found.0 found.1))
 
--- an import, of the body alone: its path has no fields
+-- an import is of no path
 unfoldable pub imported_in : Result Data AskFault → Result Asked AskFault
 imported_in read = do
   body ← read
