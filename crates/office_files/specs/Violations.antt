@@ -3,7 +3,7 @@ use Rattle.std.specs.Prelude.{ℕ, List, [], ◌∷◌, ◌++◌, flat_map, code
 use Rattle.signal_rules.specs.declared.violation.Violation.{Violation}
 use Rattle.signal_rules.specs.Texts.{violation_text}
 
--- `pattern 1 V13` and a line feed
+-- the line of a violation: `pattern 1 V13` and a line feed
 abbrev pub violation_line : Violation → List ℕ
 violation_line violation = violation_text violation ++ codes "\n"
 
