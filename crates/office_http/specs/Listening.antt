@@ -89,7 +89,7 @@ EndsListening count old new served (Err stop.NoMemory) =
     × Turns old new (served ++ connected same same ∷ [])
     (more_accepted (suc (length served)) old.counts)
 
--- the source was called only while a request of the connection was awaited, and so often at most
+-- the source was called only while a request of the connection was awaited, not again after a call that gave no byte, and so often at most
 pub record AsksConnection (start end : Ends) : Type 0 where
   pub asks : OnlyAsks (λ told. told) connection_limit start.source end.source
   pub reads : end.source.counts.calls ≤ longest_request * (connection_limit + 1) + 1
