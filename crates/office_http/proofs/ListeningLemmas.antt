@@ -1,13 +1,15 @@
 -- How connections that were served follow one another.
 use Rattle.std.proofs.Common.{◌≡◌, ◌≢◌, ◌∙◌, ℕ, zero, suc, ◌+◌, ◌*◌, ◌≤◌, true, false, true≢false, List, [], ◌∷◌, ◌++◌, length, map, Option, Some, None, refl, sym, ap, subst, arith, append_assoc}
 use Rattle.std.proofs.lemmas.List.{append-nil, length-append, map-append}
-use Rattle.std.specs.Prelude.{Result, Ok, Err, OnOk, OnErr, IfErr, is_err}
+use Rattle.std.specs.Prelude.{Result, Ok, Err, OnOk, OnErr, IfErr, is_err, ⊤}
 use Rattle.office_machine.specs.Office.{Office}
 use Rattle.office_tables_shelf.specs.Content.{Content}
 use Rattle.office_http.specs.Laws.{Serves}
-use Rattle.office_http.specs.Listening.{GrewBy, AsksConnection, Connected, Listening, Listens, ServesConnection, ServesEach, Turns, connected, connection_limit, more_accepted, one_accepted}
+use Rattle.office_http.specs.Listening.{GrewBy, AsksConnection, Connected, EndsListening, Listening, Listens, ServesAsMany, ServesConnection, ServesEach, Turns, connected, connection_limit, more_accepted, one_accepted}
 use Rattle.office_http.specs.Protocol.{office_protocol}
 use Rattle.office_http.specs.declared.listening.ListenCounts.{ListenCounts}
+use Rattle.office_http.specs.declared.listening.ServeStop.{ServeStop}
+use Rattle.office_http.specs.declared.listening.ServeStop.TheVariants as stop
 use Rattle.office_http_framing.specs.{Asks.Asks, Asks.IsAwaited, Asks.OnlyAsks, Ends.Told, Ends.no_calls, Limits.longest_request, Serve.Did, Serve.Ends}
 use Rattle.office_http_framing.specs.{Serve.TellsFault, Serve.Untouched, Serve.ends_of, Stops.KeepsState, Stops.Storage, Stops.moment_of}
 use Rattle.office_http_framing.specs.{declared.engine.Served.Served, declared.engine.ServeFault.ServeFault}
@@ -156,3 +158,9 @@ pub accepted-next : (served : List Connected) (connection : Connected) (c : List
 accepted-next served connection c =
     let next : suc (length served) ≡ length (served ++ connection ∷ []) = omega (arith, length-append served (connection ∷ [])) in
     ap (λ k. more_accepted k c) next
+
+-- how many connections were served
+pub serves_as_many : (count : ℕ) (old new : Listening) (served : List Connected) (result : Result ⊤ ServeStop) → EndsListening count old new served result → ServesAsMany count served result
+serves_as_many count old new served (Ok done) ends = ends.0
+serves_as_many count old new served (Err stop.Accept) ends = omega (arith, ends.0)
+serves_as_many count old new served (Err stop.NoMemory) ends = omega (arith, ends.0)
