@@ -74,10 +74,10 @@ pub returns-then-is_err-2-clause-did : goal.returns-then-is_err-2-clause-did
 returns-then-is_err-2-clause-did g c clean before held keeps =
     let so_far = c.loop-left.invariant.progress clean before held keeps in
     let closing = c.serve_fault.ensures.answer in
+    let broken = written_in_part c.serve_fault.result _ _ closing.0 (sym c.if-is_err-2.ensures.value) closing.2 in
     let at_fault : IsFaulty c.loop-left.buffer c.in-Bad.fault = subst (λ b. IsFaulty b c.in-Bad.fault) c.held.ensures.bytes c.in-Bad.ensures in (
       so_far.0,
       so_far.1,
-      let broken = written_in_part c.serve_fault.result _ _ closing.0 (sym c.if-is_err-2.ensures.value) closing.2 in
       Did-ended g.M.Machine.protocol _ c.args.max_requests c.loop-left.requests c.loop-left.left c.loop-left.buffer _ _ so_far.2 _ (closing.0 ∷ []) (g.W.Sink.told c.serve_fault.new.writer) broken.part broken.taken
           refl (inr (c.in-Bad.fault, record { ends = (c.loop-left-test.true, at_fault); closes = (closing.0, closing.1, refl) }))
           (λ answers taken. one_more_begun _ _ _ answers closing.0 taken broken),
@@ -87,10 +87,10 @@ pub returns-in-Bad-clause-did : goal.returns-in-Bad-clause-did
 returns-in-Bad-clause-did g c clean before held keeps =
     let so_far = c.loop-left.invariant.progress clean before held keeps in
     let closing = c.serve_fault.ensures.answer in
+    let written = written_whole c.serve_fault.result _ _ closing.0 (sym c.if-is_err-2.ensures.value) closing.2 in
     let at_fault : IsFaulty c.loop-left.buffer c.in-Bad.fault = subst (λ b. IsFaulty b c.in-Bad.fault) c.held.ensures.bytes c.in-Bad.ensures in (
       so_far.0,
       so_far.1,
-      let written = written_whole c.serve_fault.result _ _ closing.0 (sym c.if-is_err-2.ensures.value) closing.2 in
       Did-ended g.M.Machine.protocol _ c.args.max_requests c.loop-left.requests c.loop-left.left c.loop-left.buffer _ _ so_far.2 _ (closing.0 ∷ []) (g.W.Sink.told c.serve_fault.new.writer) closing.0 written
           refl (faulty c.in-Bad.fault, record { ends = (c.loop-left-test.true, at_fault); closes = (closing.0, closing.1, refl) }, λ not_so. cc)
           (λ answers taken. one_more_taken _ _ _ answers closing.0 taken written),
@@ -108,6 +108,7 @@ returns-in-Ok-eq0-clause-did g c clean before held keeps =
     let incomplete : IsIncomplete c.loop-left.buffer = subst IsIncomplete c.held.ensures.bytes c.in-More.ensures in
     let bytes = c.in-Ok-eq0.ensures.bytes in
     let counts = c.in-Ok-eq0.ensures.counts in
+    let grown : (g.R.Source.told c.args.reader.now).counts.empties ≤ (g.R.Source.told c.loop-left.reader).counts.empties = omega (arith, c.loop-left.invariant.reader.empties) in
     let last = Progress-more _ c.args.max_requests c.loop-left.requests c.loop-left.left c.loop-left.buffer _ _ so_far.2 (g.R.Source.told c.fill.new.source) [] c.loop-left.buffer c.loop-left-test.true incomplete c.loop-left.invariant.reader
     (Consumes-none _ _ bytes.0 (bytes.1 ∙ c.in-Ok-eq0.field-0-test) bytes.3) (ap (λ k. k.calls) counts) (ap (λ k. k.next_reads) counts) (sym (append-nil c.loop-left.buffer)) in (
       so_far.0,
@@ -116,7 +117,7 @@ returns-in-Ok-eq0-clause-did g c clean before held keeps =
           refl (
             unfinished,
             record { ends = (c.loop-left-test.true, incomplete); closes = refl },
-            λ _. Rose-after _ _ _ (omega (arith, c.loop-left.invariant.reader.empties)) (Rose-empty _ _ c.in-Ok-eq0.field-0 c.in-Ok-eq0.field-0-test (ap (λ k. k.empties) counts)),
+            λ _. Rose-after _ _ _ grown (Rose-empty _ _ c.in-Ok-eq0.field-0 c.in-Ok-eq0.field-0-test (ap (λ k. k.empties) counts)),
           )
           (λ answers taken. all_taken _ _ answers taken),
     )
