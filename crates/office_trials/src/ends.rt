@@ -19,6 +19,7 @@ pub(crate) enum After<'a> {
 }
 
 /// How long a reader waits: until a writer took so many bytes. It counts the reads that came before.
+#[derive(Drop)]
 pub(crate) struct Patience {
     pub(crate) taken: Cell<usize>,
     pub(crate) wanted: usize,
