@@ -1,14 +1,16 @@
 -- How connections that were served follow one another.
 use Rattle.std.proofs.Common.{◌≡◌, ◌≢◌, ◌∙◌, ℕ, zero, suc, ◌+◌, ◌*◌, ◌≤◌, true, false, true≢false, List, [], ◌∷◌, ◌++◌, length, map, Option, Some, None, refl, sym, ap, subst, arith, append_assoc}
 use Rattle.std.proofs.lemmas.List.{append-nil, length-append, map-append}
-use Rattle.std.specs.Prelude.{Result, Ok, Err, OnOk, OnErr, IfErr, is_err}
+use Rattle.std.specs.Prelude.{Result, Ok, Err, OnOk, OnErr, IfErr, is_err, ⊤}
 use Rattle.office_machine.specs.Office.{Office}
 use Rattle.office_tables_shelf.specs.Content.{Content}
 use Rattle.office_http.specs.Laws.{Serves}
-use Rattle.office_http.specs.Listening.{GrewBy, AsksConnection, Connected, Listening, Listens, ServesConnection, ServesEach, Turns, connected, connection_limit, more_accepted, one_accepted}
+use Rattle.office_http.specs.Listening.{GrewBy, AsksConnection, Connected, EndsListening, Listening, Listens, ServesAsMany, ServesConnection, ServesEach, Turns, connected, connection_limit, more_accepted, one_accepted}
 use Rattle.office_http.specs.Protocol.{office_protocol}
 use Rattle.office_http.specs.declared.listening.ListenCounts.{ListenCounts}
-use Rattle.office_http_framing.specs.{Asks.Asks, Asks.OnlyAsks, Ends.Told, Ends.no_calls, Limits.longest_request, Serve.Did, Serve.Ends}
+use Rattle.office_http.specs.declared.listening.ServeStop.{ServeStop}
+use Rattle.office_http.specs.declared.listening.ServeStop.TheVariants as stop
+use Rattle.office_http_framing.specs.{Asks.Asks, Asks.IsAwaited, Asks.OnlyAsks, Ends.Told, Ends.no_calls, Limits.longest_request, Serve.Did, Serve.Ends}
 use Rattle.office_http_framing.specs.{Serve.TellsFault, Serve.Untouched, Serve.ends_of, Stops.KeepsState, Stops.Storage, Stops.moment_of}
 use Rattle.office_http_framing.specs.{declared.engine.Served.Served, declared.engine.ServeFault.ServeFault}
 use Rattle.office_http_framing.specs.declared.engine.ServeFault.TheVariants.{NoMemory}
@@ -26,24 +28,25 @@ when_err P (Err x) e holds = holds
 -- ---- one connection
 
 -- a source that was called only while a request was awaited, as it tells
-asks_told : {Source : Type 0} (told : Source → Told) (limit : ℕ) (first : Source) (calls : ℕ) (given : List ℕ) (source : Source)
-    → Asks told limit first calls given source → Asks (λ t. t) limit (told first) calls given (told source)
-asks_told told limit first zero given source asks = (asks.0, ap told asks.1)
-asks_told told limit first (suc calls) given source asks = (
+asks_told : {Source : Type 0} (told : Source → Told) (limit : ℕ) (IsDue : List ℕ → Type 0) (first : Source) (calls : ℕ) (given : List ℕ) (source : Source)
+    → Asks told limit IsDue first calls given source → Asks (λ t. t) limit IsDue (told first) calls given (told source)
+asks_told told limit IsDue first zero given source asks = (asks.0, ap told asks.1)
+asks_told told limit IsDue first (suc calls) given source asks = (
   told asks.0,
   asks.1,
   asks.2,
-  asks_told told limit first calls asks.1 asks.0 asks.3,
+  asks_told told limit IsDue first calls asks.1 asks.0 asks.3,
   asks.4,
-  record { reads = asks.5.reads; calls = asks.5.calls },
-  asks.6,
+  asks.5,
+  record { reads = asks.6.reads; calls = asks.6.calls },
   asks.7,
+  asks.8,
 )
 
 pub asks_connection : {Source : Type 0} (told : Source → Told) (old new : Source) (sink sink' : Told) → (told old).counts ≡ no_calls → OnlyAsks told connection_limit old new
     → (told new).counts.calls ≤ (told old).counts.calls + longest_request * (connection_limit + 1) + 1 → AsksConnection (ends_of (told old) sink) (ends_of (told new) sink')
 asks_connection told old new sink sink' fresh asks reads = record {
-  asks = (asks.0, asks.1, asks_told told connection_limit old asks.0 asks.1 new asks.2);
+  asks = (asks.0, asks.1, asks_told told connection_limit (IsAwaited connection_limit) old asks.0 asks.1 new asks.2);
   reads = subst (λ n. (told new).counts.calls ≤ n + longest_request * (connection_limit + 1) + 1) (ap (λ k. k.calls) fresh) reads;
 }
 
@@ -155,3 +158,9 @@ pub accepted-next : (served : List Connected) (connection : Connected) (c : List
 accepted-next served connection c =
     let next : suc (length served) ≡ length (served ++ connection ∷ []) = omega (arith, length-append served (connection ∷ [])) in
     ap (λ k. more_accepted k c) next
+
+-- how many connections were served
+pub serves_as_many : (count : ℕ) (old new : Listening) (served : List Connected) (result : Result ⊤ ServeStop) → EndsListening count old new served result → ServesAsMany count served result
+serves_as_many count old new served (Ok done) ends = ends.0
+serves_as_many count old new served (Err stop.Accept) ends = omega (arith, ends.0)
+serves_as_many count old new served (Err stop.NoMemory) ends = omega (arith, ends.0)

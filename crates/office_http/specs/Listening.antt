@@ -1,5 +1,5 @@
 -- What a listener tells of its calls, and what the office did for its connections.
-use Rattle.std.specs.Prelude.{◌≡◌, ◌≢◌, ℕ, zero, suc, ◌+◌, ◌*◌, ◌<◌, ◌≤◌, List, [], ◌∷◌, ◌++◌, length, map, Option, Some, None, Result, Ok, Err, ⊤}
+use Rattle.std.specs.Prelude.{◌≡◌, ◌≢◌, ℕ, zero, suc, ◌+◌, ◌*◌, ◌<◌, ◌≤◌, List, [], ◌∷◌, ◌++◌, length, map, Option, Some, None, Result, Ok, Err, MatchResult, ⊤}
 use Rattle.office_machine.specs.Office.{Office}
 use Rattle.office_http.specs.Laws.{Serves}
 use Rattle.office_http.specs.Protocol.{office_protocol}
@@ -89,7 +89,12 @@ EndsListening count old new served (Err stop.NoMemory) =
     × Turns old new (served ++ connected same same ∷ [])
     (more_accepted (suc (length served)) old.counts)
 
--- the source was called only while a request of the connection was awaited, and so often at most
+-- as many connections were served as were asked for, or no more where the serving ended before
+abbrev pub ServesAsMany : ℕ → List Connected → Result ⊤ ServeStop → Type 0
+ServesAsMany count served result =
+    MatchResult result (λ _. length served ≡ count) (λ _. length served ≤ count)
+
+-- the source was called only while a request of the connection was awaited, not again after a call that gave no byte, and so often at most
 pub record AsksConnection (start end : Ends) : Type 0 where
   pub asks : OnlyAsks (λ told. told) connection_limit start.source end.source
   pub reads : end.source.counts.calls ≤ longest_request * (connection_limit + 1) + 1

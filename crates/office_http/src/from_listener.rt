@@ -1,14 +1,21 @@
 //! The connections of a listener of the system.
 
-ghost use Rattle.std.specs.Prelude.{◌≡◌, IfOk};
+ghost use Rattle.std.specs.Prelude.{◌≡◌, IfOk, List};
+ghost use Rattle.office_machine.specs.Office.{Office as OfficeState};
+ghost use Rattle.office_tables_shelf.specs.Content.{Content};
 ghost use Rattle.office_http_framing.specs.Ends.{no_calls};
-ghost use Rattle.office_http.specs.Listening.{no_listening};
+ghost use Rattle.office_http_framing.specs.Stops.{KeepsState};
+ghost use Rattle.office_http.specs.Protocol.{office_storage};
+ghost use Rattle.office_http.specs.Listening.{Connected, Listens, ServesAsMany, no_listening};
 
 use crate::connection_reader::ConnectionReader;
 use crate::ended::Ended;
-use crate::listening::{Connection, Listen, ListenCounts};
+use crate::listening::{Connection, Listen, ListenCounts, ServeStop, serve_each};
 use crate::waiting::WaitsOnce;
+use office_desk::office::Office;
 use office_http_framing::ends::ToWrite;
+use office_tables_shelf::shelf::Shelf;
+use std::alloc::Global;
 use std::io;
 use std::marker::Model;
 use std::net::{TcpListener, TcpStream};
@@ -104,4 +111,27 @@ impl Listen for FromListener {
         drop(writer);
         self.ended.add(reader.end());
     }
+}
+
+/// Serves so many connections of a listener of the system, one after the other, each at most 10,000
+/// requests, as `serve_each` does. `Accept` also where the system gives no second handle of the
+/// listener. Connections that were ended are closed at the end.
+pub fn serve_on<S: Shelf>(
+    alloc: Global,
+    listener: &TcpListener,
+    count: u32,
+    office: &mut Office<S>,
+) -> Result<(), ServeStop>
+    ensures clean { S.is_clean office.new → S.is_clean office.old }
+    ensures honest { S.is_honest office.new → S.is_honest office.old }
+    ensures did { let storage = office_storage S.is_honest S.content S.written S.may_leave in
+        S.is_clean office.new →
+        (before : OfficeState) (tables : Content) → KeepsState storage office.old tables before →
+        (served : List Connected) × Listens storage office.old tables before office.new served
+        × ServesAsMany count served result }
+{
+    let Ok(listener) = listener.try_clone() else {
+        return Err(ServeStop::Accept);
+    };
+    serve_each(alloc, &mut FromListener::new(listener), count, office)
 }

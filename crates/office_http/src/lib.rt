@@ -14,7 +14,7 @@ mod service;
 mod waiting;
 
 pub use connection_reader::ConnectionReader;
-pub use from_listener::FromListener;
+pub use from_listener::{FromListener, serve_on};
 pub use listening::{Connection, Listen, ListenCounts, ServeStop, serve_each};
 pub use office_http_framing::ends::{
     Counts, FromRead, Sink, Source, ToWrite, WriteFailed, write_all,

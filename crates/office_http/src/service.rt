@@ -36,11 +36,11 @@ pub fn serve<S: Shelf, R: Source, W: Sink>(
     ensures honest { S.is_honest office.new → S.is_honest office.old }
 
     // On a clean disk, whether or not a failure shut the tables: the bytes answered are those of
-    // the office machine, run over the requests of the bytes read; each request wrote the rows that
-    // its command may, and a query, a refused command or no command left the tables as they were;
-    // the tables that are kept stand for the office after them; a crash leaves the office after the
-    // last request that was answered and changed rows, or after a later one; and the run keeps the
-    // laws.
+    // the office machine, run over the requests of the bytes read, each written whole before the
+    // next read; each request wrote the rows that its command may, and a query, a refused command
+    // or no command left the tables as they were; the tables that are kept stand for the office
+    // after them; a crash leaves the office after the last request that was answered and changed
+    // rows, or after a later one; and the run keeps the laws.
     ensures did { let storage = office_storage S.is_honest S.content S.written S.may_leave in
         S.is_clean office.new →
         (before : OfficeState) (tables : Content) → KeepsState storage office.old tables before →
@@ -54,15 +54,15 @@ pub fn serve<S: Shelf, R: Source, W: Sink>(
     // the street.
     ensures street { KeepsTheStreet }
 
-    // Read and Write are answered only where that end told a fault.
+    // No call of an end failed or moved no byte but the last one of that end, as the result says.
     ensures fault { TellsFault (ends_of (R.told reader.old) (W.told writer.old))
         (ends_of (R.told reader.new) (W.told writer.new)) result }
     // Where the buffer was refused nothing was touched, whatever the tables stood for.
     ensures untouched { IfErr result (λ why. why ≡ ServeFault.NoMemory →
         Untouched (ends_of (R.told reader.old) (W.told writer.old))
         (ends_of (R.told reader.new) (W.told writer.new)) office.old office.new) }
-    // The reader is called only while a request is awaited: not again after the last one or a
-    // fault.
+    // The reader is called only while a request is awaited: not again after the last one, a fault,
+    // a failure or a read of no byte.
     ensures asks { OnlyAsks R.told max_requests reader.old reader.new }
     ensures reads { (R.told reader.new).counts.calls
         ≤ (R.told reader.old).counts.calls + longest_request * (max_requests + 1) + 1 }

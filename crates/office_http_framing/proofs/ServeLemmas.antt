@@ -1,26 +1,32 @@
 -- How far a stream has been served, and what each step adds.
-use Rattle.std.proofs.Common.{◌≡◌, inl, ℕ, ◌+◌, ◌<◌, List, [], ◌∷◌, ◌++◌, length, drop, refl, sym, ap, subst, ◌∙◌, arith, append_assoc}
-use Rattle.std.specs.Prelude.{Option, Some, None, Result, Ok, Err, MatchResult, true, false}
+use Rattle.std.proofs.Common.{◌≡◌, inl, ℕ, suc, ◌+◌, ◌<◌, List, [], ◌∷◌, ◌++◌, length, drop, refl, sym, ap, subst, ◌∙◌, arith, append_assoc}
+use Rattle.std.specs.Prelude.{Option, Some, None, Result, Ok, Err, MatchResult, true, false, nat_lt, if◌then◌else◌}
 use Rattle.std.specs.{Result.is_err, List.concat, Io.KnownBytes.Appends, Io.KnownBytes.Consumes, Io.KnownBytes.Keeps}
 use Rattle.std.proofs.KnownBytes.{Consumes-nil, Consumes-trans, Appends-nil, Appends-trans}
-use Rattle.std.proofs.lemmas.List.{append-nil, length-append}
-use Rattle.office_http_framing.specs.{declared.engine.Served.Served, declared.engine.ServeFault.ServeFault, Ends.AppendsPart}
-use Rattle.office_http_framing.specs.{Front.PlainRequest, Front.BeginsWithRequest, Protocol.Protocol, Stream.left_after, Stream.BeginsWith}
-use Rattle.office_http_framing.specs.Serve.{BreaksOff, Did, Ends, EndsBy, Runs, SinkTook, told_requests}
+use Rattle.std.proofs.lemmas.List.{append-nil, length-append, take-append-le, take_all}
+use Rattle.office_http_framing.specs.{declared.engine.Served.Served, declared.engine.ServeFault.ServeFault, Ends.AppendsPart, Ends.NoneStops, Ends.Told, Ends.raised}
+use Rattle.office_http_framing.specs.{Front.PlainRequest, Front.BeginsWithRequest, Front.IsIncomplete, Protocol.Protocol, Stream.left_after, Stream.unfinished, Stream.AreRequests, Stream.BeginsWith}
+use Rattle.office_http_framing.specs.Asks.{Asks, OwesNoAnswer}
+use Rattle.office_http_framing.specs.Serve.{BreaksOff, Did, Ends, EndsBy, Runs, SinkTook, ends_of, told_requests}
 use Rattle.office_http_framing.specs.declared.engine.ServeFault.TheVariants as stop
+use Rattle.office_http_framing.proofs.AskLemmas.{asks-weaker, begins-between}
 use Rattle.office_http_framing.proofs.StreamLemmas.{BeginsWith-append, BeginsWith-next}
 
 -- The source gave bytes that begin with so many requests and then `held`; the machine ran over them;
--- the sink took their answers; and so many more requests may come.
-pub record Progress (runs : Runs) (limit count left : ℕ) (held : List ℕ) (source source' sink sink' : Option (List ℕ)) : Type 0 where
+-- the sink took their answers, each before the next call of the source; and so many more requests may
+-- come.
+pub record Progress (runs : Runs) (limit count left : ℕ) (held : List ℕ) (start now : Ends) : Type 0 where
   pub given : List ℕ
   pub requests : List PlainRequest
   pub answers : List (List ℕ)
-  pub reads : Consumes source source' given
+  pub reads : Consumes start.source.bytes now.source.bytes given
   pub begins : BeginsWith limit given requests held left
   pub ran : runs requests answers
   pub count_is : count ≡ length requests
-  pub writes : Appends sink sink' (concat answers)
+  pub as_many : length answers ≡ length requests
+  pub writes : Appends start.sink.bytes now.sink.bytes (concat answers)
+  pub calls : ℕ
+  pub asks : Asks (λ told. told) limit (OwesNoAnswer limit requests answers start.sink.bytes now.sink.bytes) start.source calls given now.source
 
 concat-push : (xs : List (List ℕ)) (x : List ℕ) → concat (xs ++ x ∷ []) ≡ concat xs ++ x
 concat-push [] x = append-nil x
@@ -32,42 +38,112 @@ GoesOn runs runs' request answer =
     (requests : List PlainRequest) (answers : List (List ℕ)) → runs requests answers → runs' (requests ++ request ∷ []) (answers ++ answer ∷ [])
 
 -- nothing was read yet
-pub Progress-start : (runs : Runs) (limit : ℕ) (source sink : Option (List ℕ)) → runs [] [] → Progress runs limit 0 limit [] source source sink sink
-Progress-start runs limit source sink ran = record {
+pub Progress-start : (runs : Runs) (limit : ℕ) (ends : Ends) → runs [] [] → Progress runs limit 0 limit [] ends ends
+Progress-start runs limit ends ran = record {
   given = [];
   requests = [];
   answers = [];
-  reads = Consumes-nil source;
+  reads = Consumes-nil ends.source.bytes;
   begins = (refl, refl);
   ran = ran;
   count_is = refl;
-  writes = Appends-nil sink;
+  as_many = refl;
+  writes = Appends-nil ends.sink.bytes;
+  calls = 0;
+  asks = (refl, refl);
 }
 
-module _ (runs : Runs) (limit count left : ℕ) (held : List ℕ) (source source' sink sink' : Option (List ℕ))
-    (so_far : Progress runs limit count left held source source' sink sink') where
-  -- more bytes were read
-  pub Progress-more : (piece : List ℕ) (source'' : Option (List ℕ)) → Consumes source' source'' piece
-      → Progress runs limit count left (held ++ piece) source source'' sink sink'
-  Progress-more piece source'' more = record {
-    given = so_far.given ++ piece;
-    requests = so_far.requests;
-    answers = so_far.answers;
-    reads = Consumes-trans source source' source'' so_far.given piece so_far.reads more;
-    begins = BeginsWith-append limit so_far.given piece so_far.requests held left so_far.begins;
-    ran = so_far.ran;
-    count_is = so_far.count_is;
-    writes = so_far.writes;
-  }
+-- what was answered at a call of the source stays so when the sink takes more
+owes-none-later : (limit : ℕ) (requests : List PlainRequest) (answers : List (List ℕ)) (old new new' : Option (List ℕ)) (text : List ℕ) → Appends new new' text
+    → (held : List ℕ) → OwesNoAnswer limit requests answers old new held → OwesNoAnswer limit requests answers old new' held
+owes-none-later limit requests answers old new new' text more held is = record {
+  count = is.count;
+  at = is.at;
+  later = is.later ++ text;
+  in_range = is.in_range;
+  awaited = is.awaited;
+  taken = is.taken;
+  goes_on = Appends-trans is.at new new' is.later text is.goes_on more;
+}
+
+-- and when one request more is answered
+owes-none-next : (limit : ℕ) (requests : List PlainRequest) (answers : List (List ℕ)) (request : PlainRequest) (answer : List ℕ) (old new : Option (List ℕ)) → length answers ≡ length requests
+    → (held : List ℕ) → OwesNoAnswer limit requests answers old new held → OwesNoAnswer limit (requests ++ request ∷ []) (answers ++ answer ∷ []) old new held
+owes-none-next limit requests answers request answer old new as_many held is = record {
+  count = is.count;
+  at = is.at;
+  later = is.later;
+  in_range = omega (arith, is.in_range, length-append requests (request ∷ []));
+  awaited = subst (λ (xs : List PlainRequest). AreRequests limit held xs unfinished) (sym (take-append-le is.count requests (request ∷ []) is.in_range)) is.awaited;
+  taken = subst (λ (xs : List (List ℕ)). Appends old is.at (concat xs)) (sym (take-append-le is.count answers (answer ∷ []) (omega (arith, is.in_range, as_many)))) is.taken;
+  goes_on = is.goes_on;
+}
+
+-- all requests are answered now
+owes-none-now : (limit left : ℕ) (requests : List PlainRequest) (answers : List (List ℕ)) (old new : Option (List ℕ)) (given held : List ℕ) → length answers ≡ length requests
+    → BeginsWith limit given requests held left → 0 < left → IsIncomplete held → Appends old new (concat answers) → OwesNoAnswer limit requests answers old new given
+owes-none-now limit left requests answers old new given held as_many begins some incomplete taken = record {
+  count = length requests;
+  at = new;
+  later = [];
+  in_range = omega arith;
+  awaited = subst (λ (xs : List PlainRequest). AreRequests limit given xs unfinished) (sym (take_all (length requests) requests (omega arith)))
+      (record { rest = held; left = left; begins = begins; ends = (some, incomplete) });
+  taken = subst (λ (xs : List (List ℕ)). Appends old new (concat xs)) (sym (take_all (length requests) answers (omega (arith, as_many)))) taken;
+  goes_on = Appends-nil new;
+}
+
+module _ (runs : Runs) (limit count left : ℕ) (held : List ℕ) (start now : Ends) (so_far : Progress runs limit count left held start now) where
+  -- the source was called while a request was awaited, and gave these bytes
+  pub Progress-more : (source' : Told) (piece held' : List ℕ) → 0 < left → IsIncomplete held → NoneStops start.source.counts now.source.counts
+      → Consumes now.source.bytes source'.bytes piece → source'.counts.calls ≡ raised now.source.counts.calls
+      → source'.counts.next_reads ≡ (if nat_lt 0 (length held) then now.source.counts.next_reads else raised now.source.counts.next_reads)
+      → held' ≡ held ++ piece → Progress runs limit count left held' start (ends_of source' now.sink)
+  Progress-more source' piece held' some incomplete none_stops reads counts next_reads same_held =
+      subst (λ h. Progress runs limit count left h start (ends_of source' now.sink)) (sym same_held)
+      (record {
+        given = so_far.given ++ piece;
+        requests = so_far.requests;
+        answers = so_far.answers;
+        reads = Consumes-trans start.source.bytes now.source.bytes source'.bytes so_far.given piece so_far.reads reads;
+        begins = BeginsWith-append limit so_far.given piece so_far.requests held left so_far.begins;
+        ran = so_far.ran;
+        count_is = so_far.count_is;
+        as_many = so_far.as_many;
+        writes = so_far.writes;
+        calls = suc so_far.calls;
+        asks = (
+          now.source,
+          so_far.given,
+          piece,
+          so_far.asks,
+          owes-none-now limit left so_far.requests so_far.answers start.sink.bytes now.sink.bytes so_far.given held so_far.as_many so_far.begins some incomplete so_far.writes,
+          none_stops,
+          record { reads = reads; calls = counts },
+          refl,
+          begins-between limit left so_far.given held so_far.requests now.source.counts source'.counts so_far.begins next_reads,
+        );
+      })
 
   next_count : (request : PlainRequest) → count + 1 ≡ length (so_far.requests ++ request ∷ [])
   next_count request = omega (arith, so_far.count_is, length-append so_far.requests (request ∷ []))
 
+  -- the calls so far, after the sink took more of the answer to one request more
+  asks-answered : (request : PlainRequest) (answer text : List ℕ) (sink' : Option (List ℕ)) → Appends now.sink.bytes sink' text
+      → Asks (λ told. told) limit (OwesNoAnswer limit (so_far.requests ++ request ∷ []) (so_far.answers ++ answer ∷ []) start.sink.bytes sink') start.source so_far.calls so_far.given now.source
+  asks-answered request answer text sink' written =
+      asks-weaker (λ (told : Told). told) limit
+      (OwesNoAnswer limit so_far.requests so_far.answers start.sink.bytes now.sink.bytes)
+      (OwesNoAnswer limit (so_far.requests ++ request ∷ []) (so_far.answers ++ answer ∷ []) start.sink.bytes sink')
+      (λ given is. owes-none-next limit so_far.requests so_far.answers request answer start.sink.bytes sink' so_far.as_many given
+      (owes-none-later limit so_far.requests so_far.answers start.sink.bytes now.sink.bytes sink' text written given is))
+      start.source so_far.calls so_far.given now.source so_far.asks
+
   -- a request was answered, and its answer written
-  pub Progress-next : (runs' : Runs) (request : PlainRequest) (len : ℕ) (answer : List ℕ) (sink'' : Option (List ℕ))
-      → 0 < left → BeginsWithRequest held request len → GoesOn runs runs' request answer → Appends sink' sink'' answer
-      → Progress runs' limit (count + 1) (left_after left request) (drop len held) source source' sink sink''
-  Progress-next runs' request len answer sink'' some whole goes_on written = record {
+  pub Progress-next : (runs' : Runs) (request : PlainRequest) (len : ℕ) (answer : List ℕ) (sink' : Told)
+      → 0 < left → BeginsWithRequest held request len → GoesOn runs runs' request answer → Appends now.sink.bytes sink'.bytes answer
+      → Progress runs' limit (count + 1) (left_after left request) (drop len held) start (ends_of now.source sink')
+  Progress-next runs' request len answer sink' some whole goes_on written = record {
     given = so_far.given;
     requests = so_far.requests ++ request ∷ [];
     answers = so_far.answers ++ answer ∷ [];
@@ -75,7 +151,10 @@ module _ (runs : Runs) (limit count left : ℕ) (held : List ℕ) (source source
     begins = BeginsWith-next limit so_far.given so_far.requests held left request len so_far.begins some whole;
     ran = goes_on so_far.requests so_far.answers so_far.ran;
     count_is = next_count request;
-    writes = subst (Appends sink sink'') (sym (concat-push so_far.answers answer)) (Appends-trans sink sink' sink'' (concat so_far.answers) answer so_far.writes written);
+    as_many = omega (arith, so_far.as_many, length-append so_far.requests (request ∷ []), length-append so_far.answers (answer ∷ []));
+    writes = subst (Appends start.sink.bytes sink'.bytes) (sym (concat-push so_far.answers answer)) (Appends-trans start.sink.bytes now.sink.bytes sink'.bytes (concat so_far.answers) answer so_far.writes written);
+    calls = so_far.calls;
+    asks = asks-answered request answer answer sink'.bytes written;
   }
 
 -- what a write that was made, or that broke off, did
@@ -111,43 +190,48 @@ one_more_begun old middle new answers answer taken broken = record {
   taken = Appends-trans old middle new (concat answers) broken.part taken broken.taken;
 }
 
-module _ {State : Type 0} (protocol : Protocol State) (runs : Runs) (limit count left : ℕ) (held : List ℕ) (start middle end : Ends)
-    (so_far : Progress runs limit count left held start.source.bytes middle.source.bytes start.sink.bytes middle.sink.bytes) where
-  -- no request follows
-  pub Did-ended : (result : Result Served ServeFault) (closing : List (List ℕ)) → Consumes middle.source.bytes end.source.bytes []
-      → told_requests result ≡ count → EndsBy protocol result (record { rest = held; left = left; closing = closing }) start end
-      → ((answers : List (List ℕ)) → Appends start.sink.bytes middle.sink.bytes (concat answers) → SinkTook result start.sink.bytes end.sink.bytes (answers ++ closing))
-      → Did protocol runs limit start end result
-  Did-ended result closing none counted ends writes = record {
+module _ {State : Type 0} (protocol : Protocol State) (runs : Runs) (limit count left : ℕ) (held : List ℕ) (start now : Ends) (so_far : Progress runs limit count left held start now) where
+  -- no request follows, and the sink took this text at last
+  pub Did-ended : (result : Result Served ServeFault) (closing : List (List ℕ)) (sink' : Told) (text : List ℕ) → Appends now.sink.bytes sink'.bytes text
+      → told_requests result ≡ count → EndsBy protocol result (record { rest = held; left = left; closing = closing }) start (ends_of now.source sink')
+      → ((answers : List (List ℕ)) → Appends start.sink.bytes now.sink.bytes (concat answers) → SinkTook result start.sink.bytes sink'.bytes (answers ++ closing))
+      → Did protocol runs limit start (ends_of now.source sink') result
+  Did-ended result closing sink' text written counted ends writes = record {
     given = so_far.given;
     requests = so_far.requests;
     answers = so_far.answers;
     tail = record { rest = held; left = left; closing = closing };
-    reads = subst (Consumes start.source.bytes end.source.bytes) (append-nil so_far.given)
-        (Consumes-trans start.source.bytes middle.source.bytes end.source.bytes so_far.given [] so_far.reads none);
+    reads = so_far.reads;
     begins = so_far.begins;
     ran = so_far.ran;
     counted = counted ∙ so_far.count_is;
     ends = ends;
     writes = writes so_far.answers so_far.writes;
+    calls = so_far.calls;
+    asks = asks-weaker (λ (told : Told). told) limit
+        (OwesNoAnswer limit so_far.requests so_far.answers start.sink.bytes now.sink.bytes)
+        (OwesNoAnswer limit so_far.requests so_far.answers start.sink.bytes sink'.bytes)
+        (owes-none-later limit so_far.requests so_far.answers start.sink.bytes now.sink.bytes sink'.bytes text written)
+        start.source so_far.calls so_far.given now.source so_far.asks;
   }
 
   -- a request was answered, and its answer written up to some place
-  pub Did-broken : (runs' : Runs) (request : PlainRequest) (len : ℕ) (answer : List ℕ) → 0 < left → BeginsWithRequest held request len → GoesOn runs runs' request answer
-      → Consumes middle.source.bytes end.source.bytes [] → AppendsPart middle.sink.bytes end.sink.bytes answer → Did protocol runs' limit start end (Err (stop.Write (count + 1)))
-  Did-broken runs' request len answer some whole goes_on none broken = record {
+  pub Did-broken : (runs' : Runs) (request : PlainRequest) (len : ℕ) (answer : List ℕ) (sink' : Told) → 0 < left → BeginsWithRequest held request len → GoesOn runs runs' request answer
+      → AppendsPart now.sink.bytes sink'.bytes answer → Did protocol runs' limit start (ends_of now.source sink') (Err (stop.Write (count + 1)))
+  Did-broken runs' request len answer sink' some whole goes_on broken = record {
     given = so_far.given;
     requests = so_far.requests ++ request ∷ [];
     answers = so_far.answers ++ answer ∷ [];
     tail = record { rest = drop len held; left = left_after left request; closing = [] };
-    reads = subst (Consumes start.source.bytes end.source.bytes) (append-nil so_far.given)
-        (Consumes-trans start.source.bytes middle.source.bytes end.source.bytes so_far.given [] so_far.reads none);
+    reads = so_far.reads;
     begins = BeginsWith-next limit so_far.given so_far.requests held left request len so_far.begins some whole;
     ran = goes_on so_far.requests so_far.answers so_far.ran;
-    counted = next_count runs limit count left held start.source.bytes middle.source.bytes start.sink.bytes middle.sink.bytes so_far request;
+    counted = next_count runs limit count left held start now so_far request;
     ends = inl refl;
-    writes = subst (BreaksOff start.sink.bytes end.sink.bytes) (sym (append-nil (so_far.answers ++ answer ∷ [])))
-        (one_more_begun start.sink.bytes middle.sink.bytes end.sink.bytes so_far.answers answer so_far.writes broken);
+    writes = subst (BreaksOff start.sink.bytes sink'.bytes) (sym (append-nil (so_far.answers ++ answer ∷ [])))
+        (one_more_begun start.sink.bytes now.sink.bytes sink'.bytes so_far.answers answer so_far.writes broken);
+    calls = so_far.calls;
+    asks = asks-answered runs limit count left held start now so_far request answer broken.part sink'.bytes broken.taken;
   }
 
 -- nothing was begun
@@ -163,6 +247,8 @@ Did-nothing protocol runs limit ends ran = record {
   counted = refl;
   ends = (refl, refl);
   writes = Appends-nil ends.sink.bytes;
+  calls = 0;
+  asks = (refl, refl);
 }
 
 -- a piece of no bytes
@@ -176,11 +262,11 @@ Consumes-from_Keeps (Some xs) None keeps = absurd keeps
 Consumes-from_Keeps (Some xs) (Some ys) keeps = sym keeps
 
 -- the same, as the code holds it
-pub Progress-as : (runs : Runs) (limit count left : ℕ) (held : List ℕ) (source source' sink sink' : Option (List ℕ)) (left' : ℕ) (held' : List ℕ)
-    → left ≡ left' → held ≡ held' → Progress runs limit count left held source source' sink sink' → Progress runs limit count left' held' source source' sink sink'
-Progress-as runs limit count left held source source' sink sink' left' held' same_left same_held so_far =
-    subst (λ h. Progress runs limit count left' h source source' sink sink') same_held
-    (subst (λ l. Progress runs limit count l held source source' sink sink') same_left so_far)
+pub Progress-as : (runs : Runs) (limit count left : ℕ) (held : List ℕ) (start now : Ends) (left' : ℕ) (held' : List ℕ)
+    → left ≡ left' → held ≡ held' → Progress runs limit count left held start now → Progress runs limit count left' held' start now
+Progress-as runs limit count left held start now left' held' same_left same_held so_far =
+    subst (λ h. Progress runs limit count left' h start now) same_held
+    (subst (λ l. Progress runs limit count l held start now) same_left so_far)
 
 -- where less is said of the requests and their answers
 pub Did-weaker : {State : Type 0} (protocol : Protocol State) (runs runs' : Runs) (limit : ℕ) (start end : Ends) (result : Result Served ServeFault)
@@ -197,4 +283,6 @@ Did-weaker protocol runs runs' limit start end result weaker did = record {
   counted = did.counted;
   ends = did.ends;
   writes = did.writes;
+  calls = did.calls;
+  asks = did.asks;
 }

@@ -1,7 +1,8 @@
 -- When the source is asked for bytes: only while a request is awaited, and so never after the last one.
-use Rattle.std.specs.Prelude.{◌≡◌, ℕ, zero, suc, ◌⊎◌, List, [], ◌++◌}
-use Rattle.std.specs.Io.KnownBytes.{Consumes}
-use Rattle.office_http_framing.specs.Ends.{Told, raised}
+use Rattle.std.specs.Prelude.{◌≡◌, ℕ, zero, suc, ◌≤◌, ◌⊎◌, List, [], ◌++◌, length, take, Option}
+use Rattle.std.specs.List.{concat}
+use Rattle.std.specs.Io.KnownBytes.{Appends, Consumes}
+use Rattle.office_http_framing.specs.Ends.{NoneStops, Told, raised}
 use Rattle.office_http_framing.specs.declared.ends.Counts.{Counts}
 use Rattle.office_http_framing.specs.Front.{PlainRequest}
 use Rattle.office_http_framing.specs.Stream.{unfinished, AreRequests, BeginsWith}
@@ -9,6 +10,19 @@ use Rattle.office_http_framing.specs.Stream.{unfinished, AreRequests, BeginsWith
 -- a request is awaited after these bytes: none was the last, and they end in no fault
 abbrev pub IsAwaited : ℕ → List ℕ → Type 0
 IsAwaited limit given = (requests : List PlainRequest) × AreRequests limit given requests unfinished
+
+-- No answer is owed after these bytes: they hold the first so many requests and a part of the next,
+-- and the sink, whose bytes were `at` then, had taken the answers to all of these whole, and no more.
+pub record OwesNoAnswer
+    (limit : ℕ) (requests : List PlainRequest) (answers : List (List ℕ))
+    (old new : Option (List ℕ)) (given : List ℕ) : Type 0 where
+  pub count : ℕ
+  pub at : Option (List ℕ)
+  pub later : List ℕ
+  pub in_range : count ≤ length requests
+  pub awaited : AreRequests limit given (take count requests) unfinished
+  pub taken : Appends old at (concat (take count answers))
+  pub goes_on : Appends at new later
 
 -- one call of the source, which counts it, gave these bytes; none where it failed or is at its end
 pub record OneRead {Source : Type 0} (told : Source → Told) (old new : Source) (piece : List ℕ) : Type 0 where
@@ -23,14 +37,17 @@ IsBetween limit given = (requests : List PlainRequest) × (left : ℕ) × Begins
 abbrev pub GivesWayBetween : ℕ → List ℕ → Counts → Counts → Type 0
 GivesWayBetween limit held old new = (new.next_reads ≡ old.next_reads) ⊎ IsBetween limit held
 
--- so many calls of the source, one after the other from the first on, gave these bytes, and a request was awaited at each
-abbrev pub Asks : {Source : Type 0} → (Source → Told) → ℕ → Source → ℕ → List ℕ → Source → Type 0
-Asks told limit first zero given source = (given ≡ []) × (source ≡ first)
-Asks {Source} told limit first (suc calls) given source =
-    (before : Source) × (held piece : List ℕ) × Asks told limit first calls held before
-    × IsAwaited limit held × OneRead told before source piece × (given ≡ held ++ piece)
+-- So many calls of the source, one after the other from the first on, gave these bytes. At each, no
+-- call before it had failed or given no byte, and `IsDue` holds of the bytes given so far.
+abbrev pub Asks : {Source : Type 0} → (Source → Told) → ℕ → (List ℕ → Type 0) → Source → ℕ → List ℕ → Source → Type 0
+Asks told limit IsDue first zero given source = (given ≡ []) × (source ≡ first)
+Asks {Source} told limit IsDue first (suc calls) given source =
+    (before : Source) × (held piece : List ℕ) × Asks told limit IsDue first calls held before
+    × IsDue held × NoneStops (told first).counts (told before).counts
+    × OneRead told before source piece × (given ≡ held ++ piece)
     × GivesWayBetween limit held (told before).counts (told source).counts
 
--- the source was called only while a request was awaited
+-- the source was called only while a request was awaited, and not again after a call that failed or gave no byte
 abbrev pub OnlyAsks : {Source : Type 0} → (Source → Told) → ℕ → Source → Source → Type 0
-OnlyAsks told limit first source = (calls : ℕ) × (given : List ℕ) × Asks told limit first calls given source
+OnlyAsks told limit first source =
+    (calls : ℕ) × (given : List ℕ) × Asks told limit (IsAwaited limit) first calls given source

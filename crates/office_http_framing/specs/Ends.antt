@@ -58,6 +58,27 @@ pub record Grows (old new : Counts) : Type 0 where
   pub failures : old.failures ≤ new.failures
   pub empties : old.empties ≤ new.empties
 
+-- no call between these counts failed or moved no byte
+pub record NoneStops (old new : Counts) : Type 0 where
+  pub failures : new.failures ≡ old.failures
+  pub empties : new.empties ≡ old.empties
+
+-- one call between these counts failed, and none moved no byte
+pub record OneFails (old new : Counts) : Type 0 where
+  pub failures : new.failures ≡ raised old.failures
+  pub empties : new.empties ≡ old.empties
+
+-- one call between these counts moved no byte, and none failed
+pub record OneIsEmpty (old new : Counts) : Type 0 where
+  pub failures : new.failures ≡ old.failures
+  pub empties : new.empties ≡ raised old.empties
+
+-- The calls of a write of all the bytes: none failed or took no byte; or, on an error, one alone,
+-- after which the sink was not called again.
+abbrev pub StopsAtOnce : {T E : Type 0} → Result T E → Counts → Counts → Type 0
+StopsAtOnce result old new =
+    MatchResult result (λ _. NoneStops old new) (λ _. OneFails old new ⊎ OneIsEmpty old new)
+
 -- a call failed, or answered 0 bytes
 abbrev pub FailsOrGivesNone : Counts → Counts → Type 0
 FailsOrGivesNone old new = Rose old.failures new.failures ⊎ Rose old.empties new.empties

@@ -6,7 +6,8 @@ use Rattle.office_http_framing.specs.declared.front.Fault.{Fault}
 use Rattle.office_http_framing.specs.declared.engine.Served.{Served}
 use Rattle.office_http_framing.specs.declared.engine.ServeFault.{ServeFault}
 use Rattle.office_http_framing.specs.declared.engine.ServeFault.TheVariants as stop
-use Rattle.office_http_framing.specs.Ends.{Told, Rose, FailsOrGivesNone}
+use Rattle.office_http_framing.specs.Asks.{Asks, OwesNoAnswer}
+use Rattle.office_http_framing.specs.Ends.{NoneStops, OneFails, OneIsEmpty, Rose, Told}
 use Rattle.office_http_framing.specs.Front.{PlainRequest}
 use Rattle.office_http_framing.specs.Protocol.{Protocol, AnswersFault}
 use Rattle.office_http_framing.specs.Stream.{BeginsWith, Ending, closed, unfinished, faulty, EndsAt}
@@ -79,7 +80,8 @@ SinkTook (Err (stop.Write n)) old new texts = BreaksOff old new texts
 SinkTook (Err stop.NoMemory) old new texts = Appends old new (concat texts)
 
 -- THE SERVING. The source gave bytes, which begin with the requests; the machine ran over these;
--- and the sink took the answers to them, in order, and then what follows, as the outcome tells.
+-- and the sink took the answers to them, in order, and then what follows, as the outcome tells. At
+-- each call of the source the sink had taken whole the answers to all requests given until then.
 pub record Did
     {State : Type 0} (protocol : Protocol State) (runs : Runs) (limit : ℕ) (start end : Ends)
     (result : Result Served ServeFault) : Type 0 where
@@ -93,17 +95,26 @@ pub record Did
   pub counted : told_requests result ≡ length requests
   pub ends : EndsBy protocol result tail start end
   pub writes : SinkTook result start.sink.bytes end.sink.bytes (answers ++ tail.closing)
+  pub calls : ℕ
+  pub asks : Asks (λ told. told) limit
+      (OwesNoAnswer limit requests answers start.sink.bytes end.sink.bytes)
+      start.source calls given end.source
 
 -- nothing was read, written or changed
 pub record Untouched {Machine : Type 0} (start end : Ends) (old new : Machine) : Type 0 where
   pub ends_are : end ≡ start
   pub machine_is : new ≡ old
 
--- a fault of an end is answered only where that end tells one
+-- How the calls of the two ends went, by their own counts: none failed or moved no byte, but one at
+-- most, which the outcome tells.
 abbrev pub TellsFault : Ends → Ends → Result Served ServeFault → Type 0
-TellsFault start end (Ok served) = ⊤
+TellsFault start end (Ok served) =
+    (NoneStops start.source.counts end.source.counts
+    ⊎ OneIsEmpty start.source.counts end.source.counts)
+    × NoneStops start.sink.counts end.sink.counts
 TellsFault start end (Err (stop.Read requests)) =
-    Rose start.source.counts.failures end.source.counts.failures
+    OneFails start.source.counts end.source.counts × NoneStops start.sink.counts end.sink.counts
 TellsFault start end (Err (stop.Write requests)) =
-    FailsOrGivesNone start.sink.counts end.sink.counts
+    NoneStops start.source.counts end.source.counts
+    × (OneFails start.sink.counts end.sink.counts ⊎ OneIsEmpty start.sink.counts end.sink.counts)
 TellsFault start end (Err stop.NoMemory) = ⊤

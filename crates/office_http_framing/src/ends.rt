@@ -4,7 +4,7 @@ ghost use Rattle.std.specs.Prelude.{◌≡◌, ◌<◌, length, OnErr};
 ghost use Rattle.std.specs.Io.{ReadsAtMost, WritesAtMost};
 ghost use Rattle.std.specs.Io.KnownBytes.{ReadConsumes, WriteAppends};
 ghost use Rattle.office_http_framing.specs.Ends.{Grows, FailsOrGivesNone, WritesOrBreaksOff};
-ghost use Rattle.office_http_framing.specs.Ends.{no_calls};
+ghost use Rattle.office_http_framing.specs.Ends.{StopsAtOnce, no_calls};
 
 use std::io;
 use std::io::{Read, Write};
@@ -162,6 +162,8 @@ pub fn write_all<W: Sink>(writer: &mut W, bytes: &[u8]) -> Result<(), WriteFaile
     ensures counts { Grows (W.told writer.old).counts (W.told writer.new).counts }
     ensures fault { OnErr result
         (FailsOrGivesNone (W.told writer.old).counts (W.told writer.new).counts) }
+    // After a write that failed or took no byte the sink is not called again.
+    ensures stops { StopsAtOnce result (W.told writer.old).counts (W.told writer.new).counts }
 {
     let mut rest = bytes;
     while !rest.is_empty() {

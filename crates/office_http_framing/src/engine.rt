@@ -1,9 +1,9 @@
 //! The engine: it serves the requests of a stream, one after another.
 
-ghost use Rattle.std.specs.Prelude.{◌≡◌, ◌+◌, ◌-◌, ◌*◌, ◌≤◌, ℕ, List, IfErr, OnErr};
+ghost use Rattle.std.specs.Prelude.{◌≡◌, ◌+◌, ◌-◌, ◌*◌, ◌≤◌, ℕ, List, IfErr};
 ghost use Rattle.std.specs.Prelude.{if◌then◌else◌};
 ghost use Rattle.office_http_framing.specs.Asks.{OnlyAsks};
-ghost use Rattle.office_http_framing.specs.Ends.{Grows, FailsOrGivesNone, WritesOrBreaksOff};
+ghost use Rattle.office_http_framing.specs.Ends.{StopsAtOnce, WritesOrBreaksOff};
 ghost use Rattle.office_http_framing.specs.Front.{plain};
 ghost use Rattle.office_http_framing.specs.Limits.{longest_request};
 ghost use Rattle.office_http_framing.specs.Protocol.{AnswersFault};
@@ -50,9 +50,7 @@ fn serve_request<Tools, M: Machine<Tools>, W: Sink>(
         × Deals M.protocol M.storage how (plain request.now) answer machine.old machine.new
         (moment_of M.storage machine.old held before) (moment_of M.storage machine.new kept after)
         × WritesOrBreaksOff result (W.told writer.old) (W.told writer.new) answer }
-    ensures counts { Grows (W.told writer.old).counts (W.told writer.new).counts }
-    ensures fault { OnErr result
-        (FailsOrGivesNone (W.told writer.old).counts (W.told writer.new).counts) }
+    ensures stops { StopsAtOnce result (W.told writer.old).counts (W.told writer.new).counts }
 {
     match machine.answer(alloc, tools, request) {
         Ok(answer) => write_all(writer, answer.as_bytes()),
@@ -68,9 +66,7 @@ fn serve_fault<Tools, M: Machine<Tools>, W: Sink>(
 ) -> Result<(), WriteFailed>
     ensures answer { (answer : List ℕ) × AnswersFault M.protocol fault answer
         × WritesOrBreaksOff result (W.told writer.old) (W.told writer.new) answer }
-    ensures counts { Grows (W.told writer.old).counts (W.told writer.new).counts }
-    ensures fault { OnErr result
-        (FailsOrGivesNone (W.told writer.old).counts (W.told writer.new).counts) }
+    ensures stops { StopsAtOnce result (W.told writer.old).counts (W.told writer.new).counts }
 {
     match M::fault_answer(alloc, fault) {
         Ok(answer) => write_all(writer, &answer),
@@ -100,8 +96,9 @@ pub fn serve<Tools, M: Machine<Tools>, R: Source, W: Sink>(
     ensures honest { M.storage.is_honest machine.new → M.storage.is_honest machine.old }
 
     // What was read, answered and written is a run of the protocol, whether or not a failure shut
-    // the machine; each request made the writes that it may; what is kept stands for the state
-    // after it; and a crash leaves no more than the run lets it.
+    // the machine; each answer was written whole before the next read; each request made the writes
+    // that it may; what is kept stands for the state after it; and a crash leaves no more than the
+    // run lets it.
     ensures did { M.is_clean machine.new →
         (before : M.State) (held : M.Stored) → KeepsState M.storage machine.old held before →
         (after : M.State) × (kept : M.Stored) × Did M.protocol
@@ -109,15 +106,16 @@ pub fn serve<Tools, M: Machine<Tools>, R: Source, W: Sink>(
         (moment_of M.storage machine.old held before) machine.new kept after)
         max_requests (ends_of (R.told reader.old) (W.told writer.old))
         (ends_of (R.told reader.new) (W.told writer.new)) result }
-    // Read and Write are answered only where that end told a failure, or a write of no byte.
+    // No call of an end failed or moved no byte but the last one of that end, as the result says:
+    // Read where the source failed, Write where the sink failed or took no byte.
     ensures fault { TellsFault (ends_of (R.told reader.old) (W.told writer.old))
         (ends_of (R.told reader.new) (W.told writer.new)) result }
     // Where the buffer was refused nothing was touched, whatever the machine stood for.
     ensures untouched { IfErr result (λ why. why ≡ ServeFault.NoMemory →
         Untouched (ends_of (R.told reader.old) (W.told writer.old))
         (ends_of (R.told reader.new) (W.told writer.new)) machine.old machine.new) }
-    // The reader is called only while a request is awaited: not again after the last one or a
-    // fault.
+    // The reader is called only while a request is awaited: not again after the last one, a fault,
+    // a failure or a read of no byte.
     ensures asks { OnlyAsks R.told max_requests reader.old reader.new }
     ensures reads { (R.told reader.new).counts.calls
         ≤ (R.told reader.old).counts.calls + longest_request * (max_requests + 1) + 1 }

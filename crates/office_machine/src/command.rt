@@ -1,9 +1,11 @@
 //! What the office is asked.
 
+ghost use Rattle.std.specs.Prelude.{◌≡◌};
+
 use crate::records::Records;
-use cabinet_core::{Day, RecordCommand};
+use cabinet_core::{Closing, Day, Delivery, Inspection, Opening, RecordCommand, UsedLine};
 use draft_core::changes::Changes;
-use signal_records::{InterId, Interval, Words};
+use signal_records::{InterId, Interval, RecordNo, Words};
 
 /// What the office is asked. A clerk is who asks: only the one who began a transaction may go on
 /// with it.
@@ -84,4 +86,42 @@ pub enum Command {
     Overdue {
         day: Day,
     },
+}
+
+/// The commands of the register, one for each kind of record.
+impl Command {
+    /// Records an inspection of a cabinet.
+    pub fn inspect(id: InterId, inspection: Inspection) -> Command
+        ensures { result ≡ Command.Record (RecordCommand.Inspect id inspection) }
+    {
+        Command::Record(RecordCommand::Inspect { id, inspection })
+    }
+
+    /// Opens an order on a cabinet.
+    pub fn open_order(id: InterId, opening: Opening) -> Command
+        ensures { result ≡ Command.Record (RecordCommand.OpenOrder id opening) }
+    {
+        Command::Record(RecordCommand::OpenOrder { id, opening })
+    }
+
+    /// Takes a part from stock for an order.
+    pub fn use_part(id: InterId, line: UsedLine) -> Command
+        ensures { result ≡ Command.Record (RecordCommand.UsePart id line) }
+    {
+        Command::Record(RecordCommand::UsePart { id, line })
+    }
+
+    /// Closes an order.
+    pub fn close_order(id: InterId, order: RecordNo, closing: Closing) -> Command
+        ensures { result ≡ Command.Record (RecordCommand.CloseOrder id order closing) }
+    {
+        Command::Record(RecordCommand::CloseOrder { id, order, closing })
+    }
+
+    /// Takes a delivery into stock.
+    pub fn receive(delivery: Delivery) -> Command
+        ensures { result ≡ Command.Record (RecordCommand.Receive delivery) }
+    {
+        Command::Record(RecordCommand::Receive { delivery })
+    }
 }

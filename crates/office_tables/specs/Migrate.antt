@@ -1,6 +1,6 @@
 -- What bringing version 1 of the tables to today's version makes of a database, and what it leaves
 -- where it refuses.
-use Rattle.std.specs.Prelude.{◌≡◌, ◌≢◌, ◌⊎◌, ℤ, pos, true, List, [], ◌∷◌, codes, Some, Result, Err, IfOk, OnOk}
+use Rattle.std.specs.Prelude.{◌≡◌, ◌≢◌, ◌⊎◌, ℤ, pos, true, false, List, [], ◌∷◌, codes, Some, Result, Err, IfOk, OnOk}
 use Rattle.std.specs.List.{AllByRecursion}
 use Rattle.sqlite.specs.declared.types.Value.TheVariants.{Int}
 use Rattle.sqlite.specs.Held.{Held, state}
@@ -113,6 +113,10 @@ Migrates result old new =
 -- today's version stays, or version 1 is brought to it
 abbrev pub Brings : {E : Type 0} → Result Migrated E → State → State → Type 0
 Brings result old new = IsHonest new → IfOk result (IsBrought old.committed.trees new.now.trees)
+
+-- where no transaction was open, none is
+abbrev pub StaysIdle : State → State → Type 0
+StaysIdle old new = old.in_transaction ≡ false → new.in_transaction ≡ false
 
 -- version 1 is stored, and as it reads the tables they stand for the office, which is sound by its
 -- rules

@@ -7,7 +7,7 @@ ghost use Rattle.office_tables_statements.specs.Stored.{content_now};
 ghost use Rattle.office_tables_statements.specs.Calls.{IsHonest, IsOffice, StandsOn, StaysOpen};
 ghost use Rattle.office_tables.specs.Migrate.{KeepNoVersion, IsChangedToday, IsSpelledToday};
 ghost use Rattle.office_tables.specs.Migrate.{MayBecome, WritesToday, WritesAllToday, Migrates};
-ghost use Rattle.office_tables.specs.Migrate.{AreNeither, Brings, ShowsNeither};
+ghost use Rattle.office_tables.specs.Migrate.{AreNeither, Brings, ShowsNeither, StaysIdle};
 ghost use Rattle.office_tables.specs.Migrate.{TellsVersion, TellsFormerDamage, TellsDamage};
 ghost use Rattle.office_tables_open.specs.Promises.{WasHonest, StaysReady, LeavesNoMore};
 ghost use Rattle.office_tables_open.specs.Promises.{KeepsTrees};
@@ -139,6 +139,7 @@ fn shows_neither<S: Alter>(conn: &mut Connection<S>) -> Result<bool, SqlFault>
     ensures neither { HasCleanDisk (state S.Store conn.new) →
         IfOk result (λ neither. IsTrue neither → ShowsNeither S.Store conn.old) }
     ensures stands { StandsOn (state S.Store conn.old) (state S.Store conn.new) }
+    ensures idle { (state S.Store conn.new).in_transaction ≡ false }
     ensures crash { LeavesNoMore (state S.Store conn.old) (state S.Store conn.new) }
 {
     let mut tx = conn.transaction();
@@ -155,6 +156,7 @@ fn fault_in<S: Alter>(conn: &mut Connection<S>) -> OpenFault
         ShowsNeither S.Store conn.old }
     ensures damaged { result ≢ OpenFault.Damaged }
     ensures stands { StandsOn (state S.Store conn.old) (state S.Store conn.new) }
+    ensures idle { (state S.Store conn.new).in_transaction ≡ false }
     ensures crash { LeavesNoMore (state S.Store conn.old) (state S.Store conn.new) }
 {
     match shows_neither(conn) {
@@ -178,6 +180,7 @@ pub(crate) fn migrate<S: Alter>(
     ensures crash { Survives (state S.Store conn.old) (state S.Store conn.new)
         (MayBecome (state S.Store conn.old).committed.trees) }
     ensures open { StaysOpen result (state S.Store conn.new) }
+    ensures idle { StaysIdle (state S.Store conn.old) (state S.Store conn.new) }
 {
     if !conn.is_autocommit() {
         return Err(OpenFault::Store);

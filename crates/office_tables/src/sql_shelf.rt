@@ -153,6 +153,8 @@ impl<S: Alter> SqlShelf<S> {
             (MayBecome (state S.Store conn.old).committed.trees) }
         ensures settled { Settles result (state S.Store conn.new) }
         ensures open { StaysOpen result (state S.Store conn.new) }
+        // Done or refused, it leaves no transaction open, and so nothing that is not committed.
+        ensures idle { StaysIdle (state S.Store conn.old) (state S.Store conn.new) }
     {
         migrate(alloc, conn)
     }

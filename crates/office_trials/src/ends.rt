@@ -1,7 +1,7 @@
-//! A reader of bytes that are there already, after which it ends, fails, waits or goes on, and a
-//! writer that tells how much it took.
+//! A reader of bytes that are there already, after which it ends, fails, waits or goes on; a writer
+//! that tells how much it took; and an end that moves no byte and counts its calls.
 
-ghost use Rattle.std.specs.Prelude.{◌≤◌, length};
+ghost use Rattle.std.specs.Prelude.{◌≡◌, ◌≤◌, length, IfOk};
 
 use std::cell::Cell;
 use std::io;
@@ -14,8 +14,27 @@ pub(crate) enum After<'a> {
     Failure,
     /// All bytes of the reader once more, and so on.
     Again,
-    /// These bytes, once a writer took so many; before, a read fails.
-    Answer(&'a [u8], &'a Cell<usize>, usize),
+    /// These bytes, once a writer took an answer. A read before that is early, and fails.
+    Answer(&'a [u8], &'a Patience),
+}
+
+/// How long a reader waits: until a writer took so many bytes. It counts the reads that came before.
+#[derive(Drop)]
+pub(crate) struct Patience {
+    pub(crate) taken: Cell<usize>,
+    pub(crate) wanted: usize,
+    pub(crate) early: Cell<usize>,
+}
+
+impl Patience {
+    /// Whether the bytes were taken; else the read is counted as early.
+    fn is_over(&self) -> bool {
+        if self.taken.get() < self.wanted {
+            self.early.set(self.early.get().saturating_add(1));
+            return false;
+        }
+        true
+    }
 }
 
 /// A reader of bytes, of which one read gives so many at most.
@@ -55,7 +74,7 @@ impl Read for Feed<'_> {
             _ if !self.rest.is_empty() => {}
             After::End => {}
             After::Again => self.rest = self.bytes,
-            After::Answer(next, taken, wanted) if taken.get() >= wanted => {
+            After::Answer(next, patience) if patience.is_over() => {
                 self.rest = next;
                 self.after = After::End;
             }
@@ -75,6 +94,41 @@ impl Write for Telling<'_> {
     fn write(&mut self, buf: &[u8]) -> io::Result<usize> {
         self.taken.set(self.taken.get().saturating_add(buf.len()));
         Ok(buf.len())
+    }
+
+    fn flush(&mut self) -> io::Result<()> {
+        Ok(())
+    }
+}
+
+/// A reader and a writer that counts its calls. The first is interrupted, and each later one moves
+/// no byte.
+#[derive(Drop)]
+pub(crate) struct Reluctant<'a> {
+    pub(crate) calls: &'a Cell<usize>,
+}
+
+impl Reluctant<'_> {
+    fn move_none(&self) -> io::Result<usize>
+        ensures { IfOk result (λ n. n ≡ 0) }
+    {
+        self.calls.set(self.calls.get().saturating_add(1));
+        if self.calls.get() == 1 {
+            return Err(io::Error::from(ErrorKind::Interrupted));
+        }
+        Ok(0)
+    }
+}
+
+impl Read for Reluctant<'_> {
+    fn read(&mut self, _buf: &mut [u8]) -> io::Result<usize> {
+        self.move_none()
+    }
+}
+
+impl Write for Reluctant<'_> {
+    fn write(&mut self, _buf: &[u8]) -> io::Result<usize> {
+        self.move_none()
     }
 
     fn flush(&mut self) -> io::Result<()> {

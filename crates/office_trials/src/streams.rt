@@ -2,11 +2,12 @@
 //! full, wait or never stop, and connections.
 
 use crate::asking::{Bench, InDatabase, InMaps, Step, Tables, same, told, whole, words};
-use crate::ends::{After, Feed, Telling};
+use crate::ends::{After, Feed, Patience, Reluctant, Telling};
 use crate::rows::{LIST, rows, steps};
 use office_desk::office::Office;
 use office_http::{
-    FromListener, FromRead, ServeFault, Served, ToWrite, WaitsOnce, serve, serve_each,
+    FromListener, FromRead, ServeFault, Served, Sink, Source, ToWrite, WaitsOnce, serve,
+    serve_each, serve_on,
 };
 use office_tables_shelf::shelf::Shelf;
 use std::cell::Cell;
@@ -126,11 +127,16 @@ fn serve_ends<R: Read + Drop, W: Write + Drop>(
 }
 
 /// A reader that fails or ends behind so many bytes, never ends, or gives its second request only
-/// once the answer to the first was taken.
+/// once the answer to the first was taken, and is not called before.
 #[test]
 fn readers_end_and_fail(host: HostRuntime) {
     let rt = (&host, host.alloc());
-    let taken = Cell::new(0);
+    let patience = Patience {
+        taken: Cell::new(0),
+        wanted: 89,
+        early: Cell::new(0),
+    };
+    let taken = &patience.taken;
     for (end, after, wanted, answers) in [
         (0, After::Failure, Err(ServeFault::Read { requests: 0 }), 0),
         (
@@ -149,19 +155,38 @@ fn readers_end_and_fail(host: HostRuntime) {
         (93, After::Again, Ok(Served { requests: 9 }), 89 + 8 * 88),
         (
             93,
-            After::Answer(sent(93, 203), &taken, 89),
+            After::Answer(sent(93, 203), &patience),
             Ok(Served { requests: 3 }),
             399,
         ),
     ] {
         taken.set(0);
         let reader = Feed::new(sent(0, end), usize::MAX, after);
-        let served = serve_ends(&rt, reader, Telling { taken: &taken });
+        let served = serve_ends(&rt, reader, Telling { taken });
         assert!(rt;
-            served == wanted && taken.get() == answers,
+            served == wanted && taken.get() == answers && patience.early.get() == 0,
             "a reader of {end} bytes"
         );
     }
+}
+
+/// Each call of a source or a sink is one call of its reader or writer, also where that was
+/// interrupted or moved no byte.
+#[test]
+fn each_call_is_handed_on_once(host: HostRuntime) {
+    let rt = (&host, host.alloc());
+    let calls = Cell::new(0);
+    let mut source = FromRead::new(Reluctant { calls: &calls });
+    let mut buf = [0u8; 4];
+    assert!(rt; source.read(&mut buf).is_err() && calls.get() == 1);
+    assert!(rt; source.read(&mut buf).is_ok() && calls.get() == 2);
+    assert!(rt; source.read_next(&mut buf).is_ok() && calls.get() == 3);
+    calls.set(0);
+    assert!(rt; source.read_next(&mut buf).is_err() && calls.get() == 1);
+    calls.set(0);
+    let mut sink = ToWrite::new(Reluctant { calls: &calls });
+    assert!(rt; sink.write(&buf).is_err() && calls.get() == 1);
+    assert!(rt; sink.write(&buf).is_ok() && calls.get() == 2);
 }
 
 /// A writer that takes none; one that takes 100 bytes, and then none; and one that fails then.
@@ -203,10 +228,12 @@ fn two_connections_are_served(host: HostRuntime) -> Result<(), Fail> {
     let listener = TcpListener::bind(&host, SocketAddr::from((Ipv4Addr::LOCALHOST, 0)))?;
     let first = send(&host, &listener)?;
     let second = send(&host, &listener)?;
+    let mut office = InMaps::office(&rt);
+    assert!(rt; serve_on(rt.1, &listener, 1, &mut office).is_ok());
     let mut listener = FromListener::new(listener);
-    assert!(rt; serve_each(rt.1, &mut listener, 2, &mut InMaps::office(&rt)).is_ok());
+    assert!(rt; serve_each(rt.1, &mut listener, 1, &mut office).is_ok());
     let counts = listener.counts();
-    assert!(rt; counts.accepted == 2 && counts.failures == 0);
+    assert!(rt; counts.accepted == 1 && counts.failures == 0);
     let came = io::read_to_string(rt.1, first)?;
     same(
         &rt,

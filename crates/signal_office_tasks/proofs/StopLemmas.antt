@@ -57,6 +57,8 @@ module _ {S : Type 0} (g : Ghosts S) where
             counted = it.did.counted;
             ends = it.did.ends;
             writes = it.did.writes;
+            calls = it.did.calls;
+            asks = it.did.asks;
           },
         )
       ]

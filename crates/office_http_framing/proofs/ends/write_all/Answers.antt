@@ -1,5 +1,6 @@
 use Rattle.std.proofs.Common.{◌≡◌, ℕ, List, ◌++◌, take, drop, sym, ap, ◌∙◌, append_assoc, arith}
 use Rattle.std.proofs.{lemmas.List.take-append-drop, lemmas.List.take_rest, lemmas.Bool.Decides.nat_tests, KnownBytes.Appends-trans}
+use Rattle.office_http_framing.proofs.EndLemmas.{NoneStops-trans}
 use Rattle.office_http_framing.proofs.ends.write_all.Goals as goal
 
 -- a longer front, and the rest as the code takes it
@@ -22,4 +23,8 @@ loop-rest-preserved g c =
         failures = grind (arith, nat_tests, ap (λ k. k.failures) c.in-Ok.ensures.counts);
         empties = grind (arith, nat_tests, ap (λ k. k.empties) c.in-Ok.ensures.counts);
       };
+      stops = NoneStops-trans c.loop-rest.invariant.stops (record {
+        failures = grind (arith, nat_tests, ap (λ k. k.failures) c.in-Ok.ensures.counts);
+        empties = grind (arith, nat_tests, ap (λ k. k.empties) c.in-Ok.ensures.counts);
+      });
     }

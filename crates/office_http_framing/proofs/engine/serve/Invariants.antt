@@ -1,5 +1,5 @@
 use Rattle.std.proofs.Common.{◌+◌, ◌-◌, ◌*◌, ◌≤◌, length}
-use Rattle.office_http_framing.specs.{Ends.Grows, Stops.KeepsState, Stops.Ran, Stops.moment_of}
+use Rattle.office_http_framing.specs.{Ends.NoneStops, Serve.ends_of, Stops.KeepsState, Stops.Ran, Stops.moment_of}
 use Rattle.office_http_framing.proofs.{ServeLemmas.Progress, AskLemmas.AsksSoFar}
 use Rattle.office_http_framing.proofs.engine.serve.Given as goal
 
@@ -10,14 +10,13 @@ invariant-loop-left g l = record {
   progress : g.M.Machine.is_clean l.machine → (before : g.M.Machine.State) (held : g.M.Machine.Stored) → KeepsState g.M.Machine.storage l.fn.machine held before →
       (after : g.M.Machine.State) × (kept : g.M.Machine.Stored)
       × Progress (Ran g.M.Machine.protocol g.M.Machine.storage (g.M.Machine.storage.may_leave l.fn.machine) (moment_of g.M.Machine.storage l.fn.machine held before) l.machine kept after) l.fn.max_requests l.requests l.left l.buffer
-      (g.R.Source.told l.fn.reader).bytes (g.R.Source.told l.reader).bytes
-      (g.W.Sink.told l.fn.writer).bytes (g.W.Sink.told l.writer).bytes;
+      (ends_of (g.R.Source.told l.fn.reader) (g.W.Sink.told l.fn.writer)) (ends_of (g.R.Source.told l.reader) (g.W.Sink.told l.writer));
   asks : AsksSoFar g.R.Source.told l.fn.max_requests l.left l.buffer l.fn.reader l.reader;
   room : l.requests + l.left ≤ l.fn.max_requests;
   held : length l.buffer ≤ 270336;
   reads : (g.R.Source.told l.reader).counts.calls ≤ (g.R.Source.told l.fn.reader).counts.calls + 270336 * l.requests + length l.buffer;
-  reader : Grows (g.R.Source.told l.fn.reader).counts (g.R.Source.told l.reader).counts;
-  writer : Grows (g.W.Sink.told l.fn.writer).counts (g.W.Sink.told l.writer).counts;
+  reader : NoneStops (g.R.Source.told l.fn.reader).counts (g.R.Source.told l.reader).counts;
+  writer : NoneStops (g.W.Sink.told l.fn.writer).counts (g.W.Sink.told l.writer).counts;
 }
 
 -- each request takes at most as many bytes as the buffer has, and each read gives one at least
