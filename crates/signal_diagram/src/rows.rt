@@ -35,6 +35,7 @@ pub(crate) fn longest_of(set: &TimingSet, pattern: &Pattern, rings: &[RingNo]) -
 }
 
 /// V9: the sequence has a row, and each phase of the set has a split row.
+#[tactic(auto, using(Rattle.signal_rules.proofs.Parts.rows_by_parts))]
 pub(crate) fn has_rows(set: &TimingSet, pattern: &Pattern) -> bool
     ensures { result ≡ has_rows set.now pattern.now }
 {
