@@ -1,6 +1,5 @@
 -- Where no phase has a lead, today's violations are those of version 1.
-use Rattle.std.proofs.Common.{◌≡◌, ℕ, Bool, not, [], ◌∷◌, ◌++◌, filter, Option, Some, None, option_map, refl, ap, sym, ◌∙◌}
-use Rattle.std.proofs.lemmas.List.{append-nil, Concat.flat_map-append}
+use Rattle.std.proofs.Common.{◌≡◌, ℕ, not, [], ◌∷◌, ◌++◌, filter, Option, Some, None, option_map, refl, ap, sym}
 use Rattle.std.specs.List.{flat_map}
 use Rattle.std.specs.Prelude.{IfSome}
 use Rattle.signal_records.specs.declared.record.{Ped.Ped, Phase.Phase, Split.Split}
@@ -14,8 +13,8 @@ use Rattle.signal_rules.specs.BeforeLead.{HasNoLead, is_of_lead, no_lead, withou
 
 -- a rule that holds is no violation
 dropped : (s : Subject) (fs : Findings) (r : Rule) (cs : Cases Reason) → first_true cs ≡ None → broken s (fs ++ (r, cs) ∷ []) ≡ broken s fs
-dropped s fs r cs none =
-    flat_map-append (λ (f : Rule × Cases Reason). explained s f.0 (first_true f.1)) fs ((r, cs) ∷ []) ∙ ap (λ o. broken s fs ++ (explained s r o ++ [])) none ∙ append-nil (broken s fs)
+dropped s [] r cs none = ap (λ o. explained s r o []) none
+dropped s (f ∷ fs) r cs none = ap (explained s f.0 (first_true f.1)) (dropped s fs r cs none)
 
 -- V14 holds where there is no lead
 no_lead_right : (ped : Option Ped) → IfSome ped (λ p. p.lead ≡ 0) → first_true (of_ped ped lead_cases) ≡ None

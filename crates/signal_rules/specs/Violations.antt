@@ -72,14 +72,15 @@ findings set (subject.Seq n) = for_sequence set n (has_sequence set n)
 findings set (subject.Split n p) = for_split set p (split_at set n p)
 findings set (subject.Pattern n) = for_pattern set (pattern_at set n)
 
--- a rule that does not hold, with its reason
-abbrev pub explained : Subject → Rule → Option Reason → List Explained
-explained s r None = []
-explained s r (Some why) = record { violation = record { subject = s; rule = r }; reason = why } ∷ []
+-- a rule with its reason, if it has one, before others
+abbrev pub explained : Subject → Rule → Option Reason → List Explained → List Explained
+explained s r None others = others
+explained s r (Some why) others = record { violation = record { subject = s; rule = r }; reason = why } ∷ others
 
 -- the rules that do not hold, each once and with the first of its reasons
 abbrev pub broken : Subject → Findings → List Explained
-broken s fs = flat_map (λ f. explained s f.0 (first_true f.1)) fs
+broken s [] = []
+broken s (f ∷ fs) = explained s f.0 (first_true f.1) (broken s fs)
 
 abbrev pub explained_at : Rows → Subject → List Explained
 explained_at set s = broken s (findings set s)
@@ -119,5 +120,7 @@ abbrev pub AreReasons : Rows → List Explained → Type 0
 AreReasons set found = found ≡ reasons_of set
 
 -- a reason is true of a rule on a subject, whether it is the first or not
-abbrev pub IsReason : Rows → Subject → Rule → Reason → Type 0
-IsReason set s r why = (cs : Cases Reason) × Contains (findings set s) (r, cs) × IsTrueIn cs why
+pub record IsReason (set : Rows) (s : Subject) (r : Rule) (why : Reason) : Type 0 where
+  pub cases : Cases Reason
+  pub of_rule : Contains (findings set s) (r, cases)
+  pub is_true : IsTrueIn cases why

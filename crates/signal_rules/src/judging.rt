@@ -1,6 +1,6 @@
 //! The violations of a timing set and their reasons, subject by subject.
 
-ghost use Rattle.std.specs.Prelude.{◌≡◌, Contains, ◌++◌, false, map, length};
+ghost use Rattle.std.specs.Prelude.{◌≡◌, Contains, [], ◌++◌, false, map, length};
 ghost use Rattle.std.specs.Prelude.{Some, OnOk, IfOk};
 ghost use Rattle.std.specs.List.{flat_map};
 ghost use Rattle.signal_rules.specs.declared.reason.Explained.{Explained as ExplainedOf};
@@ -142,7 +142,7 @@ fn report<F: Finding>(
     found: &mut Vec<F>,
 ) -> Result<(), NoMemory>
     ensures { OnOk result (found.new.items ≡ found.old.items
-        ++ map F.of (explained subject rule reason)) }
+        ++ map F.of (explained subject rule reason [])) }
 {
     if let Some(reason) = reason {
         found.push(F::of(Violation { subject, rule }, reason))?;
@@ -250,7 +250,7 @@ fn judge_slots<F: Finding>(
     requires { holds (conflicts_in cycle slots.now) ≡ agree_where_begun slots.now slots.now }
     ensures ticks { RisesAtMost (length slots.now) ticks.old ticks.new }
     ensures found { OnOk result (found.new.items ≡ found.old.items
-        ++ map F.of (explained subject Rule.V13 (first_true (conflicts_in cycle slots.now)))) }
+        ++ map F.of (explained subject Rule.V13 (first_true (conflicts_in cycle slots.now)) [])) }
 {
     if !lanes::rings_agree(slots, ticks) {
         let rule = Rule::V13;
