@@ -25,12 +25,14 @@ abbrev all_are_mates : List Listing → Bool
 all_are_mates [] = true
 all_are_mates (p ∷ ps) = list_all (are_mates p) ps && all_are_mates ps
 
+laters_hold : (t : ℕ) (x : Span) (later : List Span) → holds (later_cases t x later) ≡ list_all (are_mates x.listing) (map (λ (s : Span). s.listing) later)
+laters_hold t x later =
+    holds-map (λ (other : Span). are_mates x.listing other.listing) (λ (other : Span). reason.Pattern (Conflict t (min x.until other.until) x.listing.phase other.listing.phase)) later
+    ∙ sym (list_all-map (are_mates x.listing) (λ (s : Span). s.listing) later)
+
 pairs_hold : (t : ℕ) (spans : List Span) → holds (pair_cases t spans) ≡ all_are_mates (map (λ (s : Span). s.listing) spans)
 pairs_hold t [] = refl
-pairs_hold t (x ∷ later) =
-    holds-append (later_cases t x later) (pair_cases t later)
-    ∙ (λ i. (holds-map (λ (other : Span). are_mates x.listing other.listing) (λ other. reason.Pattern (Conflict t (min x.until other.until) x.listing.phase other.listing.phase)) later
-    ∙ sym (list_all-map (are_mates x.listing) (λ (s : Span). s.listing) later)) i && pairs_hold t later i)
+pairs_hold t (x ∷ later) = holds-append (later_cases t x later) (pair_cases t later) ∙ (λ i. laters_hold t x later i && pairs_hold t later i)
 
 -- listings list each other as their phases do
 mates_of_phases : (set : Rows) (ps : List ℕ) → all_are_mates (map (listing_at set) ps) ≡ all_list_each_other set ps
@@ -157,7 +159,7 @@ module _ (set : Rows) (pattern : Pattern) where
       ap (λ spans. holds (conflicts_in pattern.cycle spans)) (e ∙ ap (spans_of set pattern) used)
       ∙ holds-flat_map (λ t. pair_cases t (spans_in t (spans_of set pattern (used_rings set)))) (numbers pattern.cycle 0)
       ∙ each_number (λ t. holds (pair_cases t (spans_in t (spans_of set pattern (used_rings set))))) (λ t. all_list_each_other set (phases_at (lanes set pattern) t)) pattern.cycle 0
-      (λ t lt. agree_in_rows (used_rings set) t ∙ agree_in_lanes set pattern t fill lt)
+      (λ t lt. agree_in_rows (used_rings set) t ∙ agree_in_lanes set pattern t fill (omega arith))
 
   pub slots_rise : (rings : List ℕ) (slots : List Span) (before after : ℕ) → rings ≡ used_rings set → slots ≡ spans_of set pattern rings → RisesAtMost (length slots) before after → RisesAtMost (sequence_entries set pattern.seq) before after
   slots_rise rings slots before after used e h =
