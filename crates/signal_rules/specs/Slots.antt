@@ -65,6 +65,10 @@ later_cases second span later =
       reason.Pattern (Conflict second (min span.until other.until) span.listing.phase other.listing.phase),
     )) later
 
+-- a span and those later ones that have a second, if it has the second itself
+abbrev pub slot_cases : ℕ → Span → List Span → Cases Reason
+slot_cases second span later = if has_second second span then later_cases second span (spans_in second later) else []
+
 -- any two of some spans, each and each later one
 abbrev pub pair_cases : ℕ → List Span → Cases Reason
 pair_cases second [] = []

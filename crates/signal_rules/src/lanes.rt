@@ -11,7 +11,7 @@ ghost use Rattle.signal_rules.specs.CutPoints.{timed};
 ghost use Rattle.signal_rules.specs.Starts.{times};
 ghost use Rattle.signal_rules.specs.Slots.{spans_at, spans_from, spans_of, has_second, are_mates};
 ghost use Rattle.signal_rules.specs.Slots.{spans_in, later_cases, pair_cases, conflicts_in};
-ghost use Rattle.signal_rules.specs.Slots.{agree_where_begun};
+ghost use Rattle.signal_rules.specs.Slots.{slot_cases, agree_where_begun};
 ghost use Rattle.signal_rules.specs.Counts.{RisesAtLeast, RisesAtMost};
 
 use crate::lookup::{phase_at, ring_row, split_at};
@@ -167,19 +167,24 @@ pub(crate) fn conflict_reason(slots: &[Slot<'_>], cycle: Cycle) -> Option<Reason
 }
 
 /// The first two slots, in their order, that have a second and whose phases do not list each other.
-#[tactic(auto, using(crate::proofs::Cases::first_past, crate::proofs::Cases::first_here))]
+#[tactic(auto, using(crate::proofs::Pairs::pair_here, crate::proofs::Pairs::pair_past))]
 fn pair_reason(slots: &[Slot<'_>], second: u32) -> Option<Reason>
     ensures { result ≡ first_true (pair_cases second (spans_in second slots.now)) }
 {
     let [slot, later @ ..] = slots else {
         return None;
     };
-    if has_second(slot, second) {
-        if let Some(reason) = later_reason(slot, later, second) {
-            return Some(reason);
-        }
+    match slot_reason(slot, later, second) {
+        Some(reason) => Some(reason),
+        None => pair_reason(later, second),
     }
-    pair_reason(later, second)
+}
+
+/// A slot with later ones, if it has a second.
+fn slot_reason(slot: &Slot<'_>, later: &[Slot<'_>], second: u32) -> Option<Reason>
+    ensures { result ≡ first_true (slot_cases second slot.now later.now) }
+{
+    if has_second(slot, second) { later_reason(slot, later, second) } else { None }
 }
 
 /// The first of some later slots that has the second of a slot and conflicts with it, for as long

@@ -88,8 +88,9 @@ pub(crate) fn setback_reason(phase: &Phase) -> Option<Reason>
     let Some(ped) = &phase.ped else {
         return None;
     };
+    let Ped { walk, .. } = ped;
     let length = ped.width.get() + ped.setback.get();
-    let there = 10 * u32::from(ped.walk) + clearance(phase, ped);
+    let there = 10 * u32::from(*walk) + clearance(phase, ped);
     if length <= 3 * there {
         return None;
     }
