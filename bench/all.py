@@ -37,7 +37,6 @@ PAUSE = 0.005  # seconds between two looks at what a program holds
 DAY = "2027-03-02"
 VALGRIND = ("valgrind", "--tool=callgrind", "--callgrind-out-file=/dev/null")
 PYTHON = (sys.executable, str(HERE / "baseline.py"))
-KEPT = ("add", "file: add", "new imports", "overdue", "orders", "opening")  # of former states
 HEAD = ["work", "office", "C", "Python", "Python checks"]
 
 
@@ -267,11 +266,6 @@ def main():
     heading = measured.paragraph(f"{measured.state()}; {measured.machine()}:")
     part = "instructions" if counts else "clock" if by_clock else "speed"
     measured.written(part, f"{heading}\n{text}")
-    if part == "speed":
-        chosen = [it for it in told if it[0].startswith(KEPT)]
-        head = ["State", *(it[0].rpartition(", ")[0] for it in chosen)]
-        cells = [measured.state(), *(it[1] for it in chosen)]
-        measured.add_state("speed of three states", head, cells)
 
 
 if __name__ == "__main__":

@@ -50,7 +50,7 @@ def main():
     cells = [where, str(crates), *shown, f"{minutes} min"]
     print(measured.table(HEAD, [cells]), end="")
     if sys.argv[1:]:
-        measured.add_state("first build", HEAD, cells)
+        measured.written("first build", measured.table(HEAD, [cells]))
 
 
 if __name__ == "__main__":

@@ -26,7 +26,6 @@ import measured
 TICKS = os.sysconf("SC_CLK_TCK")
 PAUSE = 0.2  # seconds between two looks at the processes
 HEAD = ["crate", "proof, s", "edits, s"]
-STATE = ["State", "Proofs, min", "Edits, min", "All, min", "By the clock, min", "Machine"]
 REST = "linking, runs, all else"
 SCRIPTS = "scripts, over the program"
 
@@ -162,7 +161,8 @@ def main():
     rows = [*of_gate, ("together", proofs, edits), *(row for row in rows if row[0] == SCRIPTS)]
     cells = [[name, f"{proof:,}", f"{edit:,}" if edit else ""] for name, proof, edit in rows]
     text = measured.block(HEAD, cells)
-    text = measured.paragraph(f"{state}; {machine}; {last}:") + "\n" + text
+    minutes = f"{(proofs + edits) / 60:.0f} processor minutes, {clock} by the clock"
+    text = measured.paragraph(f"{state}; {machine}; {minutes}; {last}:") + "\n" + text
     took, chain = longest_chain({name: proof for name, proof, _ in of_gate})
     names = ", ".join(f"`{it}`" for it in chain)
     told = f"The longest chain of crates takes {took / 60:.0f} minutes by itself: {names}."
@@ -170,9 +170,6 @@ def main():
     print(text, end="")
     if "--write" in sys.argv:
         measured.written("gate", text)
-        minutes = [f"{it / 60:.0f}" for it in (proofs, edits, proofs + edits)]
-        cells = [state, *minutes, clock.split()[0], machine]
-        measured.add_state("gate of three states", STATE, cells)
 
 
 if __name__ == "__main__":

@@ -1,13 +1,16 @@
 #!/usr/bin/env python3
-"""Writes docs/CALLS.md from the sources: each public call of a library, its clauses, and the files
-of the definitions that these name.
+"""Lists each public call of the libraries with its clauses, and the files of the definitions that
+these name.
 
-    tests/calls.py             checks that the page is what the sources say, and says how many
-                               calls have no clause, and which
-    tests/calls.py --write     writes it
+    tests/calls.py [CRATE..]      by default of all crates of libraries
+    tests/calls.py --without      how many calls have no clause, and which
 
 A call is a `pub fn`, a method of a `pub trait`, or a method of an impl of a trait that states a
-named clause. Private functions are left out. Builds nothing.
+named clause. Private functions are left out. Clauses stand in lower case, files of `specs/`
+capitalized: those of other crates only if a call's own crate has none. A clause without a name is
+not listed; `none` is a call without any. A `*` marks what the caller must show before the call. A
+trait's methods apply to each of its types. Calls of one type that say the same share a line. Builds
+nothing.
 """
 import dataclasses
 import pathlib
@@ -17,8 +20,6 @@ import sys
 import drawing
 
 TOP = pathlib.Path(__file__).resolve().parent.parent
-PAGE = TOP / "docs" / "CALLS.md"
-BEGIN, END = "<!-- calls: begin -->\n", "<!-- calls: end -->\n"
 PROGRAM, WIDTH = "signal_office", 34
 CALL = re.compile(r"( *)(pub )?(?:pub\([^)]*\) )?(?:const )?fn (\w+)")
 CLAUSE = re.compile(r" *(ensures|requires)(?: (\w+))? (\{.*)")
@@ -125,44 +126,32 @@ def shown(crate):
         yield f"    {name:{WIDTH}} {said}".rstrip()
 
 
-def table():
-    named, _ = drawing.crates()
-    for crate in named:
-        lines = [*shown(crate)] if crate not in drawing.TESTS and crate != PROGRAM else []
-        if lines:
-            yield "\n".join([f"## {crate}", "", *lines, "", ""])
+def libraries():
+    """The crates whose calls others use."""
+    return [it for it in drawing.crates()[0] if it not in drawing.TESTS and it != PROGRAM]
 
 
-def written(text):
-    """The page with this table between its marks."""
-    before, _, rest = text.partition(BEGIN)
-    return before + BEGIN + "\n" + "".join(table()) + END + rest.partition(END)[2]
+def listed(crates):
+    for crate in crates:
+        if lines := [*shown(crate)]:
+            yield "\n".join([crate, *lines, ""])
 
 
 def without_clause():
     """How many calls have no clause, of how many, and which."""
-    crates = [it for it in drawing.crates()[0] if it not in drawing.TESTS and it != PROGRAM]
-    found = [item for crate in crates for item in found_in(crate).items()]
+    found = [item for crate in libraries() for item in found_in(crate).items()]
     none = ["::".join(filter(None, key)) for key, said in found if said == "none"]
     return f"{len(none)} of {len(found)} calls have no clause: {', '.join(none)}"
 
 
-def is_written():
-    return written(PAGE.read_text()) == PAGE.read_text()
-
-
 def main():
-    if sys.argv[1:] not in ([], ["--check"], ["--write"]):
-        sys.exit("usage: tests/calls.py [--check|--write]")
-    text = PAGE.read_text()
-    if BEGIN not in text or END not in text:
-        sys.exit(f"{PAGE.name} lacks the marks of the table")
-    if sys.argv[1:] == ["--write"]:
-        PAGE.write_text(written(text))
-    elif not is_written():
-        sys.exit(f"{PAGE.name} is not what the sources say: tests/calls.py --write")
-    print(without_clause())
-    print("ok")
+    words, known = sys.argv[1:], libraries()
+    if words == ["--without"]:
+        print(without_clause())
+    elif wrong := [it for it in words if it not in known]:
+        sys.exit(f"calls.py: {', '.join(wrong)}: no crate of a library")
+    else:
+        print("\n".join(listed(words or known)), end="")
 
 
 if __name__ == "__main__":

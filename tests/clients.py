@@ -9,8 +9,9 @@ Each part has a server of its own on 127.0.0.1, over tables in memory, and ends 
 - `processes`: three send 300 deliveries each over connections that are kept, closed late or
   dropped; beside them a dashboard polls every 50 ms over one connection. A call whose connection
   ended before a byte of its answer is sent again. None is lost, none was done without an answer,
-  none takes over a second.
-- `sessions`: three sessions of `requests` do the same, with retries as REFERENCE shows them, but
+  none waits for over a second. Time in which the client or the server runs, or waits for a
+  processor, is no waiting: so a busy machine does not count.
+- `sessions`: three sessions of `requests` do the same, with retries as docs/HTTP.md shows them, but
   no pauses before a retry.
 - `turns`: three calls in turn, of which the earlier connections are still open, take under 0.1 s
   together; of `requests.get` too.
@@ -24,7 +25,7 @@ Each part has a server of its own on 127.0.0.1, over tables in memory, and ends 
   sends after 30 ms is served before it.
 - `idle`: a connection stays open while nobody waits (three seconds), and ends when another comes.
 - `late`: a request that comes after its connection gave way sees an end, no reset, and is not done.
-- `examples`: those of REFERENCE in Python print what they show, beside an idle connection.
+- `examples`: those of docs/HTTP.md in Python print what they show, beside an idle connection.
 
 Where Python's `requests` is not installed, its cases are not tried. Prints what it tries, and ends
 with status 1 if a part failed. Takes less than a minute.
@@ -47,8 +48,8 @@ import threading
 import time
 
 from program import TOP, found
-from serving import (PATIENCE, STOCK, Off, Wire, delivery, expect, on_hand, served, spelled,
-                     within)
+from serving import (PATIENCE, STOCK, Off, Waited, Wire, delivery, expect, on_hand, served,
+                     spelled, within)
 from tour import blocks
 
 try:
@@ -57,25 +58,44 @@ except ImportError:
     requests = None
 
 CALLS, CLIENTS = 300, 3  # deliveries of each process, and processes
-LONGEST = 1  # seconds that a call may take
+LONGEST = 1  # seconds that a call may wait
 LIMIT = 30  # seconds that the server waits for the next bytes of a request
 MOST = 10_000  # requests of a connection
 TURNS = 6  # of one call
 HOWS = ("keep", "keep", "keep", "close late", "close late", "drop", "half", "unread")
-REFERENCE = TOP / "docs" / "REFERENCE.md"
-PORT = "8081"  # of the examples in REFERENCE
+EXAMPLES = TOP / "docs" / "HTTP.md"
+PORT = "8081"  # of the examples in that document
+
+
+class Longest:
+    """The longest of some calls, in seconds by the clock. One that kept its client waiting for too
+    long is refused, with what happened when."""
+
+    def __init__(self, port):
+        self.port, self.seconds = port, 0
+
+    @contextlib.contextmanager
+    def call(self, what):
+        """Something that a client waits for. It may note what happens meanwhile."""
+        waited, notes = Waited(self.port), []
+        yield lambda text: notes.append(f"{text} after {waited.seconds():.3f} s")
+        took, idle = waited.seconds(), waited.idle()
+        self.seconds = max(self.seconds, took)
+        if idle > LONGEST:
+            happened = "; ".join([f"{took:.2f} s by the clock", *notes])
+            raise Off(f"{what} waited {idle:.2f} s, and may wait {LONGEST} s: {happened}")
 
 
 class Caller:
     """A client of http.client, which sends a call again where no byte of its answer came."""
 
     def __init__(self, port):
-        self.port, self.again, self.worst = port, 0, 0
+        self.port, self.again, self.longest = port, 0, Longest(port)
         self.line, self.open = None, collections.deque()
 
     def connected(self):
         if self.line is None:
-            self.line = http.client.HTTPConnection("127.0.0.1", self.port, timeout=PATIENCE)
+            self.line = http.client.HTTPConnection("127.0.0.1", int(self.port), timeout=PATIENCE)
         return self.line
 
     def close(self):
@@ -92,23 +112,21 @@ class Caller:
 
     def call(self, method, path, keys=None):
         """The body of an answer."""
-        begun = time.monotonic()
-        for _ in range(TURNS):
-            try:
-                self.connected().request(method, path, keys and json.dumps(keys))
-                answer = self.line.getresponse()
-                break
-            except ConnectionError:
-                self.close()
-                self.again += 1
-        else:
-            raise Off(f"no answer came to {method} {path} in {TURNS} turns")
-        body = answer.read()
-        expect(f"the status of {method} {path}, {body!r}", answer.status, 200)
-        took = time.monotonic() - begun
-        self.worst = max(self.worst, took)
-        if took > LONGEST:
-            raise Off(f"{method} {path} took {took:.2f} s, and may take {LONGEST} s")
+        with self.longest.call(f"{method} {path}") as note:
+            for _ in range(TURNS):
+                try:
+                    self.connected().request(method, path, keys and json.dumps(keys))
+                    note("it was sent")
+                    answer = self.line.getresponse()
+                    break
+                except ConnectionError as it:
+                    note(f"it ended by {it!r}")
+                    self.close()
+                    self.again += 1
+            else:
+                raise Off(f"no answer came to {method} {path} in {TURNS} turns")
+            body = answer.read()
+            expect(f"the status of {method} {path}, {body!r}", answer.status, 200)
         return body
 
     def abandon(self, request):
@@ -134,7 +152,7 @@ def deliver(port, number):
             caller.close_late()
         elif how == "drop":
             caller.close()
-    return caller.again, caller.worst
+    return caller.again, caller.longest.seconds
 
 
 def watch(port):
@@ -144,11 +162,11 @@ def watch(port):
         now = on_hand(caller.call("GET", "/stock"))
         if any(now.get(part, 0) < count for part, count in seen.items()):
             raise Off(f"the dashboard saw {now} after {seen}")
-        if time.monotonic() - begun > LIMIT:
-            raise Off(f"the dashboard saw {now} after {LIMIT} seconds")
+        if time.monotonic() - begun > LONGEST * CALLS:
+            raise Off(f"the dashboard saw {now} after {LONGEST * CALLS} seconds")
         seen = now
         time.sleep(0.05)
-    return caller.again, caller.worst
+    return caller.again, caller.longest.seconds
 
 
 def post_session(port, number):
@@ -157,16 +175,17 @@ def post_session(port, number):
     retry = requests.packages.urllib3.util.Retry(total=5, allowed_methods=None)
     session.trust_env = False
     session.mount(office, requests.adapters.HTTPAdapter(max_retries=retry))
-    dice, again, worst = random.Random(f"session {number}"), 0, 0
+    dice, again, longest = random.Random(f"session {number}"), 0, Longest(port)
     for each in range(1, CALLS + 1):
-        begun, keys = time.monotonic(), delivery(f"P{number}", each)
-        came = session.post(f"{office}/deliveries", json=keys, timeout=PATIENCE)
+        keys = delivery(f"P{number}", each)
+        with longest.call(f"call {each} of session {number}") as note:
+            came = session.post(f"{office}/deliveries", json=keys, timeout=PATIENCE)
+            for it in came.raw.retries.history:
+                note(f"sent again since {it.error!r}, before the end, which came")
         expect(f"delivery {each}", came.json(), {"result": "added"})
-        again, worst = again + len(came.raw.retries.history), max(worst, time.monotonic() - begun)
-        if worst > LONGEST:
-            raise Off(f"a call of a session took {worst:.2f} s, and may take {LONGEST} s")
+        again += len(came.raw.retries.history)
         time.sleep(dice.choice((0, 0.001, 0.02)))
-    return again, worst
+    return again, longest.seconds
 
 
 def side_by_side(port, *works):
@@ -177,8 +196,8 @@ def side_by_side(port, *works):
         results = [it.result() for it in running]
     with Wire(port) as wire:
         expect("on hand", on_hand(wire.ask()), {f"P{it}": CALLS for it in range(CLIENTS)})
-    again, worst = sum(it[0] for it in results), max(it[1] for it in results)
-    return f"{again} calls sent again, the longest {worst:.3f} s"
+    again, longest = sum(it[0] for it in results), max(it[1] for it in results)
+    return f"{again} calls sent again, the longest {longest:.3f} s"
 
 
 def processes(port):
@@ -227,16 +246,16 @@ def half(port):
     with contextlib.ExitStack() as open_wires:
         first = open_wires.enter_context(Wire(port))
         first.socket.sendall(b"GET /stock HTTP/1.1\r\nHost: 127")
-        begun, others = time.monotonic(), []
+        waited, others = Waited(port), []
         for _ in range(3):
             others.append(open_wires.enter_context(Wire(port)))
             others[-1].socket.sendall(STOCK)
         others[0].socket.settimeout(LIMIT + 2 * PATIENCE)
         expect("the first of those who wait", others[0].answer(), b'{"hand":[]}')
-        took = time.monotonic() - begun
-        if not LIMIT - 1 < took < LIMIT + 3:
+        took = waited.seconds()
+        if took < LIMIT - 1 or waited.idle() > LIMIT + 3:
             raise Off(f"half a request kept others out for {took:.2f} s, not {LIMIT} s")
-        with within(LONGEST, "the two behind it"):
+        with within(LONGEST, port, "the two behind it"):
             expect("the others", [it.answer() for it in others[1:]], [b'{"hand":[]}'] * 2)
         first.expect_end("half a request")
     return f"others waited {took:.1f} s"
@@ -262,7 +281,7 @@ def most(port):
                 wire.socket.shutdown(socket.SHUT_RDWR)
             sender.join()
         expect("answers of a connection", count, MOST)
-        with within(LONGEST, "the next connection"), Wire(port) as other:
+        with within(LONGEST, port, "the next connection"), Wire(port) as other:
             expect("the next connection", other.ask(), b'{"hand":[]}')
     return f"{count} answers, and an end"
 
@@ -275,7 +294,7 @@ def pipelined(port):
             if select.select([wire.socket, other.socket], [], [], 0.5)[0]:
                 raise Off("it gave way, or the other was served, while half a request was there")
             expect("the second", wire.ask(STOCK[8:]), b'{"hand":[]}')
-            with within(LONGEST, "the other"):
+            with within(LONGEST, port, "the other"):
                 expect("the other", other.answer(), b'{"hand":[]}')
         wire.expect_end("both requests")
     return "both were served"
@@ -312,7 +331,7 @@ def idle(port):
         if select.select([wire.socket], [], [], 3)[0]:
             raise Off("it was ended although nobody waits")
         expect("three seconds later", wire.ask(), b'{"hand":[]}')
-        with within(LONGEST, "another"), Wire(port) as other:
+        with within(LONGEST, port, "another"), Wire(port) as other:
             expect("another", other.ask(), b'{"hand":[]}')
         wire.expect_end("another came")
     return "it stayed for 3 s, and gave way"
@@ -339,7 +358,7 @@ def shown(text):
 
 def examples(port):
     add = {"id": 12, "interval": 365, "name": "Main St"}
-    texts = ["\n".join(block).strip() for block in blocks(REFERENCE.read_text())]
+    texts = ["\n".join(block).strip() for block in blocks(EXAMPLES.read_text())]
     tried = [it for it in texts if it.startswith("import ")]
     expect("examples in Python", len(tried), 2)
     tried = [it for it in tried if requests or not it.startswith("import requests")]

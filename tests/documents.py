@@ -3,14 +3,19 @@
 
     tests/documents.py
 
-- docs/CALLS.md is what tests/calls.py writes, and the pictures are what tests/drawing.py draws.
+- docs/layers.svg is what tests/drawing.py draws, and each file of definitions begins with a comment
+  (tests/definitions.py).
 - docs/PROOF.md and docs/ARCHITECTURE.md: each name in the sources' spelling is a word of the
   sources, and each file or definition is where it is said to be.
 - In all documents: each link leads somewhere, each file named by its path is there, no line passes
-  100 columns but in tables, and nothing is named that a reader does not have. README.md has at most
-  200 lines. README.md and docs/PROOF.md have one headline, and where its exact sentence stands it
-  is that of docs/PROOF.md.
+  100 columns but in tables, and nothing is named that a reader does not have. The first line says
+  whom the document is for, and no document says in so many words what another says. README.md has
+  at most 200 lines. README.md and docs/PROOF.md have one headline, and where its exact sentence
+  stands it is that of docs/PROOF.md.
+- Each command that a document shows is one of the program, docs/COMMANDS.md has each of them,
+  docs/HTTP.md has each route, and docs/OPERATING.md names each fault.
 - What `--version` prints is the newest heading of CHANGELOG.md.
+- The code that docs/CONTRACTS.md and CONTRIBUTING.md show is that of the sources.
 - No line of crates.txt names a crate of this repository that its crate does not use.
 
 Builds nothing. Prints what is wrong, and ends with status 1 then.
@@ -19,13 +24,15 @@ import pathlib
 import re
 import sys
 
-import calls
+import definitions
 import drawing
 
 TOP = pathlib.Path(__file__).resolve().parent.parent
 DOCUMENTS = [TOP / "README.md", TOP / "CONTRIBUTING.md", TOP / "CHANGELOG.md"]
 DOCUMENTS += [*sorted((TOP / "docs").glob("*.md")), TOP / "examples" / "README.md"]
 COLUMNS, README_LINES = 100, 200
+LONG_CODE = 70  # columns of code that is not broken
+REPEATED = 12  # words in a row that two documents share
 HEADLINE, EXACT = "The answers and the stored", "For every stream"  # how the two sentences begin
 NAME = re.compile(r"`([^`]+)`")
 FILE = r"`(\w+/(?:specs|src)/[\w/.{},]+)`"
@@ -97,7 +104,8 @@ def wrong_lines():
     private = re.compile(r"\b(?:issue|paper) \d+|/(?:work|opt|home|root)/")
     for document in DOCUMENTS:
         for number, line in enumerate(document.read_text().splitlines(), 1):
-            is_free = line.startswith(("|", "    ")) or re.search("`[^`]{70,}`", line)
+            is_free = line.startswith(("|", "    ")) or any(
+                len(it) > LONG_CODE for it in re.findall("`[^`]*`", line))
             if len(line) > COLUMNS and not is_free:
                 yield f"{document.name}:{number} has {len(line)} columns"
             yield from (f"{document.name} names {it}, which no reader has"
@@ -140,10 +148,81 @@ def wrong_version():
 
 
 def written_by_scripts():
-    if not calls.is_written():
-        yield "docs/CALLS.md is out of date: tests/calls.py --write"
     if not drawing.is_drawn():
-        yield "docs/crates.svg or docs/layers.svg is out of date: tests/drawing.py --write"
+        yield "docs/layers.svg is out of date: tests/drawing.py --write"
+    yield from (f"no comment begins {it}" for it in definitions.without_comment())
+
+
+def wrong_beginnings():
+    """Each document whose first line does not say whom it is for."""
+    for document in DOCUMENTS:
+        title, _, first = document.read_text().partition("\n\n")
+        if not title.startswith("# ") or not first.startswith("For "):
+            yield f"{document.name} does not begin with whom it is for"
+
+
+def prose(document):
+    """The sentences of a document, without code, tables and what is shared on purpose."""
+    bold = rf"(?s)\*\*(?:{HEADLINE}|{EXACT}).*?\*\*"
+    text = re.sub(bold, "", document.read_text())
+    lines = [it for it in text.splitlines() if not it.startswith(("    ", "|", "#", "<"))]
+    for part in re.split(r"\n\s*\n|\n- |\n\d+\. ", "\n".join(lines)):
+        yield re.findall(r"[\w`/.'-]+", re.sub(r"\]\([^)]*\)", "", part))
+
+
+def repeated():
+    """What a document says in the same words as another: its first words that both have. README.md
+    sums up what others say."""
+    seen = {}
+    for document in DOCUMENTS[1:]:
+        for words in prose(document):
+            rows = [" ".join(words[at:at + REPEATED]) for at in range(len(words) - REPEATED + 1)]
+            wrong = next((it for it in rows if seen.get(it, document) != document), None)
+            if wrong:
+                yield f"{document.name} and {seen[wrong].name} both say: {wrong}"
+            seen.update((it, seen.get(it, document)) for it in rows)
+
+
+def wrong_commands():
+    """Commands that are shown and are none, and those and routes that their document lacks."""
+    paths = (TOP / "crates/signal_office_line/src").glob("*.rt")
+    source = "\n".join(it.read_text() for it in paths)
+    listed = (TOP / "docs/COMMANDS.md").read_text().partition("## Files")[0]
+    known = set(re.findall(r"^- `([\w-]+) ", listed, re.MULTILINE))
+    yield from (f"COMMANDS.md lists {it}, which is no command" for it in sorted(known)
+                if f'"{it}"' not in source)
+    yield from (f"COMMANDS.md lacks {it}" for it in re.findall(r'Usage\(\s*"([\w-]+)"', source)
+                if it not in known)
+    for document in DOCUMENTS:
+        shown = {*re.findall(r"(?:\./office|\bsignal_office) ([a-z][\w-]*) ", document.read_text())}
+        yield from (f"{document.name} shows {it}, which is no command" for it in shown - known)
+    faults = (TOP / "docs/COMMANDS.md").read_text().partition("## Faults")[2].partition("## ")[0]
+    after = (TOP / "docs/OPERATING.md").read_text().partition("## After a fault")[2]
+    for names in re.findall(r"^- ((?:`[\w ]+`(?:, )?)+)", faults, re.MULTILINE):
+        yield from (f"OPERATING.md does not say what to do after {it}" for it in NAME.findall(names)
+                    if not re.search(rf"\b{it.split()[0]}\b", after))
+    routes = (TOP / "crates/office_http_requests/src/route.rt").read_text()
+    text = (TOP / "docs/HTTP.md").read_text()
+    yield from (f"HTTP.md lacks {it}" for it in re.findall(r'"(/[\w/{}-]+)"', routes)
+                if f" {it}`" not in text)
+
+
+def wrong_quotes():
+    """Code that docs/CONTRACTS.md and CONTRIBUTING.md show and that the sources do not have."""
+    paths = [path for kind in ("rt", "antt") for path in (TOP / "crates").rglob(f"*.{kind}")]
+    sources = [" ".join(path.read_text().split()) for path in sorted(paths)]
+    for document in (TOP / "docs/CONTRACTS.md", TOP / "CONTRIBUTING.md"):
+        text = document.read_text()
+        for block in re.findall(r"(?:^ {4,}.*\n|^\n(?= {4}))+", text, re.MULTILINE):
+            for part in re.split(r"\n\s*\n", block.strip()):
+                shown = " ".join(part.split())
+                is_code = shown.startswith(("pub fn", "pub(crate)", "/// ", "-- ", "abbrev"))
+                if is_code and not any(shown in it for it in sources):
+                    yield f"{document.name} shows code that no source has: {shown[:60]}"
+        for number, line in re.findall(r"Line (\d+) is\s+`([^`]*)`", text):
+            code = (TOP / "crates/cabinet_core/src/decide.rt").read_text().splitlines()
+            if line not in code[int(number) - 1]:
+                yield f"{document.name}: line {number} of decide.rt is not {line}"
 
 
 def unused_crates():
@@ -163,9 +242,9 @@ def main():
     known = words()
     wrong = [*missing_names("PROOF.md", known), *missing_names("ARCHITECTURE.md", known)]
     wrong += [*missing_links(), *missing_files(), *wrong_lines(), *wrong_sizes(),
-              *wrong_headlines()]
+              *wrong_headlines(), *wrong_beginnings(), *repeated(), *wrong_commands()]
     wrong += [*written_by_scripts(), *wrong_version()]
-    wrong += unused_crates()
+    wrong += [*wrong_quotes(), *unused_crates()]
     print("\n".join(wrong) if wrong else "ok")
     sys.exit(1 if wrong else 0)
 

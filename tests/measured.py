@@ -7,8 +7,6 @@ import subprocess
 import textwrap
 
 DOCUMENT = pathlib.Path(__file__).resolve().parent.parent / "docs" / "MEASUREMENTS.md"
-DAY = len("2026-11-26")
-STATES = 3  # rows of a table that has one for each state of the repository
 
 
 def line(cells):
@@ -53,13 +51,6 @@ def rows_of(name):
     """The rows of the table of that name."""
     lines = [it for it in parted(name)[1].splitlines() if it.startswith("| ")][1:]
     return [[cell.strip() for cell in re.split(r"(?<!\\)\|", it)[1:-1]] for it in lines]
-
-
-def add_state(name, head, cells):
-    """Puts a row into the table of that name, in the place of one of the same day, of which its
-    first cell tells. The last three stay."""
-    rows = [*(row for row in rows_of(name) if row[0][:DAY] != cells[0][:DAY]), cells]
-    written(name, table(head, rows[-STATES:]))
 
 
 def state():

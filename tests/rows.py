@@ -78,7 +78,7 @@ def main():
             failed += bool(wrong)
             for it in wrong:
                 print(f"{name} {it}", flush=True)
-            if time.monotonic() - told > PAUSE:
+            if count < len(paths) and time.monotonic() - told > PAUSE:
                 told = time.monotonic()
                 print(f"{count} of {len(paths)} rows are played", file=sys.stderr, flush=True)
     print(f"{len(paths) - failed} passed, {failed} failed")

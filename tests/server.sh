@@ -1,11 +1,12 @@
 #!/usr/bin/env bash
 # Starts the program as a server on the loopback network over a file, sends requests over one
 # connection that is kept open, then a whole transaction and the cabinet register over seventeen
-# more, and compares the answers. Then come clients that send half a head, or read nothing of a large
-# answer, each of which the server ends after 30 seconds, and clients that send nothing, or close in
-# the middle, behind which nobody waits; after each the next one is answered. It waits for the
-# server's end, and prints the timing sheet from the file. Needs curl and Python 3, and takes some
-# one and a half minutes. Prints ok.
+# more, and compares the answers. On the machine's other addresses its port refuses connections.
+# Then come clients that send half a head, or read nothing of a large answer, each of which the
+# server ends after 30 seconds, and clients that send nothing, or close in the middle, behind which
+# nobody waits; after each the next one is answered. It waits for the server's end, and prints the
+# timing sheet from the file. Needs curl and Python 3, and takes some one and a half minutes. Prints
+# ok.
 #
 #     tests/server.sh [PROGRAM [PORT]]      by default the program that ./office built, and a free
 #                                           port
@@ -47,6 +48,14 @@ for _ in $(seq 100); do
   sleep 0.1
 done
 expect "what it prints" "$folder/told" "listening on 127.0.0.1:$port"$'\n'
+
+# Nobody listens on the other addresses of this machine: another one of its loopback network, that of
+# IPv6, and its own in other networks.
+for other in 127.0.0.2 '[::1]' $(hostname -I 2>/dev/null | tr ' ' '\n' | grep -F . || true); do
+  status=0
+  curl --silent --max-time 10 --noproxy '*' --output "$folder/answer" "http://$other:$port/stock" || status=$?
+  [ "$status" = 7 ] || fail "at $other, where nobody should listen, curl ended with status $status"
+done
 
 curl --silent --show-error --max-time 10 --noproxy '*' --write-out '%{http_code} %{num_connects}\n' \
   --data-binary '{"id":12,"interval":365,"name":"Main St"}' --output "$folder/added" "$address/intersections" \

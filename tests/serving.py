@@ -1,6 +1,7 @@
 """Servers of the program on 127.0.0.1, and connections to them, for scripts that try both."""
 import contextlib
 import json
+import os
 import re
 import socket
 import subprocess
@@ -17,12 +18,45 @@ class Off(Exception):
     """What came is not what has to come."""
 
 
+class Port(int):
+    """The port of a server, which knows the server's process."""
+
+    process = None
+
+
+def busy(process):
+    """The seconds for which a process ran or waited for a processor, as Linux counts them; 0 where
+    that is not known."""
+    try:
+        with open(f"/proc/{process}/schedstat") as counts:
+            return sum(map(int, counts.read().split()[:2])) / 1e9
+    except OSError:
+        return 0
+
+
+class Waited:
+    """How long a client waited for something: the seconds by the clock, and those of them in which
+    neither it nor the server ran or waited for a processor. So a busy machine keeps nobody out, and
+    a server that sleeps while a client is there does."""
+
+    def __init__(self, port):
+        self.processes = os.getpid(), port.process
+        self.begun = time.monotonic(), *map(busy, self.processes)
+
+    def seconds(self):
+        return time.monotonic() - self.begun[0]
+
+    def idle(self):
+        """A lower bound of the seconds in which both slept."""
+        return self.seconds() - sum(map(busy, self.processes)) + sum(self.begun[1:])
+
+
 def exchange(port, sent, patience):
     """What is answered to these bytes over a connection, until it is closed or broken, or nothing
     comes for so many seconds."""
     came = b""
     with contextlib.suppress(OSError):
-        with socket.create_connection(("127.0.0.1", port), timeout=patience) as wire:
+        with socket.create_connection(("127.0.0.1", int(port)), timeout=patience) as wire:
             sender = threading.Thread(target=send, args=(wire, sent))
             sender.start()
             with contextlib.suppress(OSError):
@@ -58,7 +92,9 @@ def started(program):
 @contextlib.contextmanager
 def served(program):
     """The port of a server, which is ended afterwards."""
-    server, port = started(program)
+    server, number = started(program)
+    port = Port(number)
+    port.process = server.pid
     try:
         yield port
         if server.poll() is not None:
@@ -69,13 +105,12 @@ def served(program):
 
 
 @contextlib.contextmanager
-def within(seconds, what):
-    """Something that may take so many seconds."""
-    begun = time.monotonic()
+def within(seconds, port, what):
+    """Something that may wait for a server for so many seconds."""
+    waited = Waited(port)
     yield
-    took = time.monotonic() - begun
-    if took > seconds:
-        raise Off(f"{what} took {took:.2f} s, and may take {seconds} s")
+    if (took := waited.idle()) > seconds:
+        raise Off(f"{what} waited {took:.2f} s, and may wait {seconds} s")
 
 
 def expect(what, came, wanted):
@@ -87,7 +122,7 @@ class Wire:
     """A connection whose answers are read one by one."""
 
     def __init__(self, port):
-        self.socket = socket.create_connection(("127.0.0.1", port), timeout=PATIENCE)
+        self.socket = socket.create_connection(("127.0.0.1", int(port)), timeout=PATIENCE)
         self.socket.setsockopt(socket.IPPROTO_TCP, socket.TCP_NODELAY, 1)
         self.came = b""
 

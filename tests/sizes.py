@@ -1,8 +1,7 @@
 #!/usr/bin/env python3
 """Counts the lines of each crate, blank ones too, and its edits.
 
-    tests/sizes.py [--write]      with --write the table of docs/MEASUREMENTS.md is replaced, and
-                                  today's row is added to those of former states
+    tests/sizes.py [--write]      with --write the table of docs/MEASUREMENTS.md is replaced
 
 Builds nothing.
 """
@@ -43,8 +42,6 @@ def main():
         print(text, end="")
         return
     measured.written("lines", f"{measured.state()}:\n\n{text}")
-    cells = shown(measured.state(), together)
-    measured.add_state("lines of three states", ["State", *KINDS], cells)
 
 
 if __name__ == "__main__":

@@ -1,6 +1,5 @@
 #!/usr/bin/env python3
-"""Runs each command that README, docs/REFERENCE.md, docs/ARCHITECTURE.md, docs/FIRST-DAY.md and
-examples/README.md show, and compares what it prints with what stands below it.
+"""Runs each command that the documents show, and compares what it prints with what stands below it.
 
     tests/tour.py [PROGRAM]
 
@@ -23,8 +22,8 @@ import textwrap
 
 from program import TOP, found
 
-DOCUMENTS = ("README.md", "docs/REFERENCE.md", "docs/ARCHITECTURE.md", "docs/FIRST-DAY.md",
-             "examples/README.md")
+DOCUMENTS = ("README.md", "docs/COMMANDS.md", "docs/HTTP.md", "docs/ARCHITECTURE.md",
+             "docs/FIRST-DAY.md", "examples/README.md")
 LONGEST = 60  # seconds of one command
 CURL = 'silent\nshow-error\nnoproxy = "*"\n'
 

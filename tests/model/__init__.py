@@ -1,8 +1,8 @@
 """An office in Python, written from the rules alone: a request in, the bytes of its answer out.
 
-It shares nothing with the program but docs/REFERENCE.md and the definitions in crates/*/specs, and
-is slow and plain on purpose: a draft is a whole set, a lane a list with an entry for each second,
-what is on hand a sum over all records. tests/draw_rows.py makes rows of what it answers, and
+It shares nothing with the program but docs/PLANS.md, docs/HTTP.md, docs/COMMANDS.md and the
+definitions in crates/*/specs, and is slow and plain on purpose: a draft is a whole set, a lane a
+list with an entry for each second, what is on hand a sum over all records. tests/draw_rows.py makes rows of what it answers, and
 tests/drawn.py holds it against the program, as tests/lives.py does over files.
 
     fields.py     numbers, days, words and codes, as rows, paths and bodies spell them; CSV

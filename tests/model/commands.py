@@ -1,4 +1,4 @@
-"""What commands of the program do to an office, and what they print of it (docs/REFERENCE.md).
+"""What commands of the program do to an office, and what they print of it (docs/COMMANDS.md).
 
 A command is a function of an office and of its values. It yields after each change that it makes,
 since a stop may leave those before it, and gives the status and the text that it prints."""

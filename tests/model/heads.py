@@ -1,5 +1,5 @@
 """Requests as bytes: heads that are spelled in one way or another and mean the same, and how a
-stream may end (RFC 9112, in the profile of docs/REFERENCE.md)."""
+stream may end (RFC 9112, in the profile of docs/HTTP.md)."""
 from .refusal import Refused
 from .wire import answer, answer_bytes
 

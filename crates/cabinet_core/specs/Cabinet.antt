@@ -29,22 +29,25 @@ on_hand (Some stored) = stored
 abbrev pub record_of : Opening → Order
 record_of opening = record { number = opening.number; opened = opening.day; clerk = opening.clerk; text = opening.text; closing = None }
 
--- the order closed
+-- an order with this closing
 abbrev pub with_closing : Order → Closing → Order
 with_closing order closing = record order { closing = Some closing }
 
--- two records are equal
+-- two inspections are equal in all that they say
 abbrev pub is_same_inspection : Inspection → Inspection → Bool
 is_same_inspection there asked =
     there.number == asked.number && (there.day == asked.day && (bytes_eq there.clerk asked.clerk && bytes_eq there.text asked.text))
 
+-- two closings are equal in all that they say
 abbrev pub is_same_closing : Closing → Closing → Bool
 is_same_closing there asked = there.day == asked.day && bytes_eq there.closer asked.closer
 
+-- two used parts are equal in all that they say
 abbrev pub is_same_line : UsedLine → UsedLine → Bool
 is_same_line there asked =
     there.order == asked.order && (there.line == asked.line && (bytes_eq there.part asked.part && there.count == asked.count))
 
+-- two deliveries are equal in all that they say
 abbrev pub is_same_delivery : Delivery → Delivery → Bool
 is_same_delivery there asked =
     bytes_eq there.part asked.part && (there.number == asked.number && (there.day == asked.day && there.count == asked.count))
@@ -87,20 +90,20 @@ abbrev pub receive_line : Option Delivery → Option ℕ → Delivery → Line
 receive_line (Some there) hand asked = if is_same_delivery there asked then same else refused DeliveryDiffers
 receive_line None hand asked = if nat_lt MOST_ON_HAND (on_hand hand + asked.count) then refused StockFull else added
 
--- the line goes in, and its pieces leave the stock
+-- the rows of a used part: its line goes in, and its pieces leave the stock
 abbrev pub use_changes : Option ℕ → UsedLine → List CabinetChange
 use_changes hand asked = PutLine asked ∷ PutPart asked.part (on_hand hand - asked.count) ∷ []
 
--- the order that is there is put back closed
+-- the rows of a closing: the order that is there is put back closed
 abbrev pub close_changes : Option Order → Closing → List CabinetChange
 close_changes None asked = []
 close_changes (Some order) asked = PutOrder (with_closing order asked) ∷ []
 
--- the pieces come into stock, and the delivery goes in, which refers to the part
+-- the rows of a delivery: its pieces come into stock, and it goes in, which refers to the part
 abbrev pub receive_changes : Option ℕ → Delivery → List CabinetChange
 receive_changes hand asked = PutPart asked.part (on_hand hand + asked.count) ∷ PutDelivery asked ∷ []
 
--- a decision says which line it is, and where something is added, which rows are put; want of memory is told only where something is to be added
+-- a decision says which line it is, and where something is added, which rows are put; want of memory is reported only where something is to be added
 abbrev pub Records : Result Recorded CabinetRefusal → Line → List CabinetChange → Type 0
 Records (Ok (Added changes)) line list = (line ≡ added) × (changes.items ≡ list)
 Records (Ok Same) line list = line ≡ same

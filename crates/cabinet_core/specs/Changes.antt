@@ -15,7 +15,7 @@ use Rattle.cabinet_core.specs.declared.decide.Recorded.TheVariants.{Added, Same}
 use Rattle.cabinet_core.specs.declared.refusal.CabinetRefusal.{CabinetRefusal}
 use Rattle.cabinet_core.specs.declared.refusal.CabinetRefusal.TheVariants.{NoMemory}
 
--- the register after a change on an intersection; a count on hand is no record, but a sum of records
+-- the register after a change on an intersection; a count on hand is a sum of records, and none itself
 abbrev pub with_change : ℕ → Register → CabinetChange → Register
 with_change id r (PutInspection inspection) = record r { inspections = insert r.inspections (id, inspection.number) inspection }
 with_change id r (PutOrder order) = record r { orders = insert r.orders (id, order.number) order }
@@ -23,28 +23,28 @@ with_change id r (PutLine line) = record r { lines = insert r.lines (id, (line.o
 with_change id r (PutDelivery delivery) = record r { deliveries = insert r.deliveries (delivery.part, delivery.number) delivery }
 with_change id r (PutPart code hand) = r
 
--- and after changes, in their order
+-- the register after changes, made in their order
 abbrev pub with_changes : ℕ → Register → List CabinetChange → Register
 with_changes id r [] = r
 with_changes id r (change ∷ changes) = with_changes id (with_change id r change) changes
 
--- what is told of a part's number on hand by a change, and by changes
+-- a part's number on hand after a change: what the change puts, if it is of this part
 abbrev pub hand_told : List ℕ → Option ℕ → CabinetChange → Option ℕ
 hand_told code before (PutPart part hand) = if bytes_eq part code then Some hand else before
 hand_told code before _ = before
 
+-- a part's number on hand after changes, in their order: that of the last change that puts it
 abbrev pub hand_after : List ℕ → Option ℕ → List CabinetChange → Option ℕ
 hand_after code before [] = before
 hand_after code before (change ∷ changes) = hand_after code (hand_told code before change) changes
 
--- the changes bring the records of the next register, which is sound, and tell how many of each part are then on hand
+-- the changes bring the records of the next register, which is sound, and put how many of each part are then on hand
 pub record ChangesMake (id : ℕ) (r : Register) (changes : List CabinetChange) (next : Register) : Type 0 where
   pub records : with_changes id r changes ≡ next
   pub hands : (code : List ℕ) → hand_after code (hand_of r code) changes ≡ hand_of next code
   pub sound : IsSoundRegister next
 
--- in a register: the decision is the command's line there, and its changes, where it adds, make
--- the register with the record
+-- In a register, a decision is the command's line there, and its changes, where it adds, make the register with the record.
 abbrev pub MakesIn : ℕ → Register → RecordCommand → Result Recorded CabinetRefusal → Type 0
 MakesIn id r command (Ok (Added changes)) =
     (line_at r command ≡ added) × ChangesMake id r changes.items (with_record r command)
@@ -52,8 +52,8 @@ MakesIn id r command (Ok Same) = line_at r command ≡ same
 MakesIn id r command (Err NoMemory) = line_at r command ≡ added
 MakesIn id r command (Err refusal) = line_at r command ≡ refused refusal
 
--- so in every sound register in which what it was decided on stands under the command's keys;
--- the changes are put under the intersection
+-- A decision makes the next register in every sound register in which what it was decided on stands under the
+-- command's keys; the changes are put under the intersection.
 abbrev pub Makes : ℕ → (command : RecordCommand) → Standing command
     → Result Recorded CabinetRefusal → Type 0
 Makes id command there result =

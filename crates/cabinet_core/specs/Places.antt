@@ -8,7 +8,7 @@ use Rattle.cabinet_core.specs.declared.record.UsedLine.{UsedLine}
 abbrev pub inspection_place : Inspection → ℕ
 inspection_place inspection = inspection.number
 
--- and so do orders
+-- orders stand by their numbers
 abbrev pub order_place : Order → ℕ
 order_place order = order.number
 

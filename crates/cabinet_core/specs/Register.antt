@@ -20,25 +20,29 @@ pair_cmp first second x y = ordering_then (first x.0 y.0) (second x.1 y.1)
 abbrev pub RecordKey : Type 0
 RecordKey = ℕ × ℕ
 
+-- inspections and orders are ordered by intersection, then by number
 abbrev pub record_cmp : RecordKey → RecordKey → Ordering
 record_cmp = pair_cmp nat_cmp nat_cmp
 
--- a used part under its intersection, the order and the line
+-- a used part stands under its intersection, the order and the line
 abbrev pub LineKey : Type 0
 LineKey = ℕ × RecordKey
 
+-- used parts are ordered by intersection, order and line
 abbrev pub line_cmp : LineKey → LineKey → Ordering
 line_cmp = pair_cmp nat_cmp record_cmp
 
--- a delivery under the code of the part and its number
+-- a delivery stands under the code of the part and its number
 abbrev pub DeliveryKey : Type 0
 DeliveryKey = List ℕ × ℕ
 
+-- deliveries are ordered by the bytes of the part's code, then by number
 abbrev pub delivery_cmp : DeliveryKey → DeliveryKey → Ordering
 delivery_cmp = pair_cmp (slice_cmp nat_cmp) nat_cmp
 
 -- ---- the register
 
+-- the register of all cabinets, and the deliveries into stock
 pub record Register : Type 0 where
   pub inspections : FinMap record_cmp Inspection
   pub orders : FinMap record_cmp Order

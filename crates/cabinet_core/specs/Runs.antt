@@ -22,7 +22,7 @@ open_with id n before (Inspect other inspection) = before
 open_with id n before (UsePart other line) = before
 open_with id n before (Receive delivery) = before
 
--- and after commands
+-- whether the order is open after commands that were accepted in turn: by the last of them that opens or closes it
 abbrev pub open_by : ℕ → ℕ → Bool → List RecordCommand → Bool
 open_by id n before [] = before
 open_by id n before (command ∷ commands) = open_by id n (open_with id n before command) commands
@@ -45,11 +45,12 @@ spent code (OpenOrder id opening) = 0
 spent code (CloseOrder id order closing) = 0
 spent code (Receive delivery) = 0
 
--- the pieces that commands bring, and take
+-- how many pieces of a part commands bring as deliveries
 abbrev pub received_by : List ℕ → List RecordCommand → ℕ
 received_by code [] = 0
 received_by code (command ∷ commands) = received code command + received_by code commands
 
+-- how many pieces of a part commands use for orders
 abbrev pub spent_by : List ℕ → List RecordCommand → ℕ
 spent_by code [] = 0
 spent_by code (command ∷ commands) = spent code command + spent_by code commands

@@ -33,6 +33,7 @@ pub record IsDeliveryAt (key : DeliveryKey) (delivery : Delivery) : Type 0 where
   pub number : delivery.number ≡ key.1
   pub within : IsDeliveryWithin delivery
 
+-- a sound register: each record is within its limits under its own key, and the stock of each part covers what was used
 pub record IsSoundRegister (r : Register) : Type 0 where
   pub inspections : (key : RecordKey) → IfSome (get r.inspections key) (IsInspectionAt key)
   pub orders : (key : RecordKey) → IfSome (get r.orders key) (IsOrderAt key)

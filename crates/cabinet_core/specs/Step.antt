@@ -20,7 +20,7 @@ Standing (UsePart id line) = Option UsedLine × Option Order × Option ℕ
 Standing (CloseOrder id order closing) = Option Order
 Standing (Receive delivery) = Option Delivery × Option ℕ
 
--- as it is in a register
+-- what a command on the register has to look at, as it is in a register
 abbrev pub standing_in : Register → (command : RecordCommand) → Standing command
 standing_in r (Inspect id inspection) = get r.inspections (id, inspection.number)
 standing_in r (OpenOrder id opening) = get r.orders (id, opening.number)
@@ -30,7 +30,7 @@ standing_in r (CloseOrder id order closing) = get r.orders (id, order)
 standing_in r (Receive delivery) =
     (get r.deliveries (delivery.part, delivery.number), hand_of r delivery.part)
 
--- the command's line of the table on that
+-- the line of a command in the table, by what it is decided on
 abbrev pub line_on : (command : RecordCommand) → Standing command → Line
 line_on (Inspect id inspection) there = inspect_line there inspection
 line_on (OpenOrder id opening) there = open_line there opening
@@ -38,7 +38,7 @@ line_on (UsePart id line) (there, order, hand) = use_line there order hand line
 line_on (CloseOrder id order closing) there = close_line there closing
 line_on (Receive delivery) (there, hand) = receive_line there hand delivery
 
--- and in a register
+-- the line of a command in a register
 abbrev pub line_at : Register → RecordCommand → Line
 line_at r command = line_on command (standing_in r command)
 

@@ -18,11 +18,11 @@ brought code e = if bytes_eq e.1.part code then e.1.count else 0
 abbrev pub taken : List ℕ → LineKey × UsedLine → ℕ
 taken code e = if bytes_eq e.1.part code then e.1.count else 0
 
--- all deliveries of a part
+-- the pieces of a part that all deliveries brought
 abbrev pub delivered : Register → List ℕ → ℕ
 delivered r code = sum_by (brought code) (entries r.deliveries)
 
--- all used lines of a part, over all orders of all intersections
+-- the pieces of a part that all lines used, over all orders of all intersections
 abbrev pub used : Register → List ℕ → ℕ
 used r code = sum_by (taken code) (entries r.lines)
 
@@ -42,7 +42,7 @@ hand_of r code = if was_delivered r code then Some (pieces r code) else None
 abbrev pub stock_by_code : Register → FinMap (slice_cmp nat_cmp) ℕ
 stock_by_code r = from_entries (map {B = List ℕ × ℕ} (λ e. (e.1.part, pieces r e.1.part)) (entries r.deliveries))
 
--- in the order of their codes
+-- the parts that were delivered, with what is on hand of each, in the order of their codes
 abbrev pub stock_of : Register → List (List ℕ × ℕ)
 stock_of r = entries (stock_by_code r)
 

@@ -1,4 +1,4 @@
--- The form in which a draft is kept: its changed rows over the committed ones.
+-- The form in which a draft is stored: its changed rows over the committed ones.
 use Rattle.std.specs.Prelude.{◌≡◌, List, [], ◌∷◌, cond, Option, Some, None}
 use Rattle.std.specs.Option.{option_map}
 use Rattle.std.specs.FinMap.{get}
@@ -30,7 +30,7 @@ said_by (Remove key) = removes
 abbrev pub said_at : Change → Key → Said
 said_at change key = cond (eq_by_cmp key_cmp key (changed_key change)) (said_by change) silent
 
--- the later of two, unless it is silent
+-- what the later of two changes says of a key, unless it is silent
 abbrev pub later_of : Said → Said → Said
 later_of silent earlier = earlier
 later_of (leaves row) earlier = leaves row
@@ -41,13 +41,13 @@ abbrev pub row_at : List Change → Key → Said
 row_at [] key = silent
 row_at (change ∷ changes) key = later_of (row_at changes key) (said_at change key)
 
--- what stands at a key once that is laid over what is committed there
+-- what stands at a key once a draft row is laid over what is committed there
 abbrev pub overlaid : Option Row → Said → Option Row
 overlaid committed silent = committed
 overlaid committed (leaves row) = Some row
 overlaid committed removes = None
 
--- THE FORM OF A DRAFT. A draft row overlays the committed row of its key; no draft row stands where nobody holds a draft.
+-- THE FORM OF A DRAFT. A draft row overlays the committed row of its key; no draft row stands where nobody owns a draft.
 abbrev pub RowStands : Option Row → Said → Option Draft → Key → Type 0
 RowStands committed said None key = said ≡ silent
 RowStands committed said (Some draft) key = get draft.set key ≡ overlaid committed said
@@ -63,8 +63,8 @@ IsRead reach.Drafts timing rows side = (key : Key) → row_at timing.delta key �
 IsRead reach.Plan timing rows side =
     ((key : Key) → row_at timing.delta key ≡ rows key) × (timing.committed ≡ side.committed)
 
--- draft rows stand for the draft of an intersection's timing side, and what a step reads is that
--- side's
+-- draft rows represent the draft of an intersection's timing side, and what a step reads is what that side
+-- has
 pub record Stands (reach : Reach) (timing : Timing) (rows : RowsByKey)
     (side : TimingSide) : Type 0 where
   pub same_revision : timing.revision ≡ side.revision

@@ -1,4 +1,4 @@
--- What an edit keeps: a draft row for each key that it names and at which the draft differs from
+-- What an edit stores: a draft row for each key that it names and at which the draft differs from
 -- what is committed.
 use Rattle.std.specs.Prelude.{◌≡◌, ◌≢◌, ◌⊎◌, ◌≤◌, Bool, true, false, List, length, Option}
 use Rattle.std.specs.BTreeSet.{BTreeSet, contains}
@@ -21,7 +21,7 @@ use Rattle.draft_core.specs.News.{AreNew}
 abbrev pub SaysCommitted : Rows → Change → Type 0
 SaysCommitted committed change = get committed (changed_key change) ≡ left_by change
 
--- whether anything is said
+-- whether changes say anything of a key
 abbrev pub is_said : Said → Bool
 is_said silent = false
 is_said (leaves row) = true
@@ -31,7 +31,7 @@ is_said removes = true
 abbrev pub AreNamed : List Change → BTreeSet Key → Type 0
 AreNamed changes keys = (key : Key) → contains key_cmp keys key ≡ is_said (row_at changes key)
 
--- what was said of a key is kept where it changes the committed row; where not, nothing is kept
+-- what was said of a key is stored where it changes the committed row; where not, nothing is stored
 abbrev pub KeepsIfDiffers : Option Row → Said → Said → Type 0
 KeepsIfDiffers committed said kept =
     ((overlaid committed said ≢ committed) × (kept ≡ said))
@@ -44,7 +44,7 @@ KeepsOnlyChange committed before silent after = after ≡ before
 KeepsOnlyChange committed before (leaves row) after = KeepsIfDiffers committed (leaves row) after
 KeepsOnlyChange committed before removes after = KeepsIfDiffers committed removes after
 
--- the same of all keys, for draft rows over which this is written
+-- an edit stores a draft row under each key that it names, where draft and committed set differ there, and leaves the others
 abbrev pub KeepsOnlyChanges : Rows → List Change → List Change → List TimingChange → Type 0
 KeepsOnlyChanges committed delta changes written =
     (key : Key) → KeepsOnlyChange (get committed key) (row_at delta key) (row_at changes key)

@@ -85,7 +85,7 @@ abbrev pub draft_writes : List TimingChange → ℕ
 draft_writes [] = 0
 draft_writes (change ∷ changes) = draft_writes changes + draft_write change
 
--- the changes that are kept as draft rows, in their order
+-- the changes that are stored as draft rows, in their order
 abbrev pub drafted_in : List TimingChange → List Change
 drafted_in [] = []
 drafted_in (CommittedNew row ∷ changes) = drafted_in changes
@@ -97,14 +97,14 @@ drafted_in (DraftDropped ∷ changes) = drafted_in changes
 
 -- ---- a move, and the timing side that it makes
 
--- who holds the draft after a step that this clerk asked for
+-- who owns the draft, and in which stage it is, after a step of this clerk
 abbrev pub next_holder : Holding → List ℕ → Option Holder → Option Holder
 next_holder Begun clerk holder = Some (record { stage = Transaction; owner = clerk })
 next_holder (Kept stage) clerk holder =
     option_map (λ (who : Holder). record who { stage = stage }) holder
 next_holder Dropped clerk holder = None
 
--- the state then
+-- the state of an intersection after a step, by what the step does to who owns the draft
 abbrev pub state_after : Holding → DbState
 state_after Begun = InTransaction
 state_after (Kept stage) = in_stage stage

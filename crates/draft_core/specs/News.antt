@@ -24,8 +24,8 @@ use Rattle.draft_core.specs.Moves.{committed_by, said_after}
 abbrev pub AreInOrder : List Change → Type 0
 AreInOrder changes = IsStrictlySortedBy key_cmp (map changed_key changes)
 
--- where the change adds a row under the key, none stands there: neither a committed row, of which
--- this one is told, nor a draft row, of which this is
+-- Where the change adds a row under the key, none stands there: neither a committed row nor a draft row, which
+-- are given.
 abbrev pub IsNewAt : TimingChange → Key → Option Row → Said → Type 0
 IsNewAt (CommittedNew row) key committed said = key ≡ key_of row → committed ≡ None
 IsNewAt (Committed change) key committed said = Unit {0}
@@ -34,14 +34,14 @@ IsNewAt (Drafted change) key committed said = Unit {0}
 IsNewAt (DraftGone gone) key committed said = Unit {0}
 IsNewAt DraftDropped key committed said = Unit {0}
 
--- so it is of each change, after those before it
+-- under a key, each row that the changes add is new when its turn comes
 abbrev pub AreNewAt : List TimingChange → Key → Option Row → Said → Type 0
 AreNewAt [] key committed said = Unit {0}
 AreNewAt (change ∷ changes) key committed said =
     IsNewAt change key committed said
     × AreNewAt changes key (committed_by change key committed) (said_after change key said)
 
--- the same of all keys, over these committed rows and draft rows
+-- under every key, each row that the changes add is new when its turn comes, over these committed rows and draft rows
 abbrev pub AreNew : Rows → List Change → List TimingChange → Type 0
 AreNew committed delta changes =
     (key : Key) → AreNewAt changes key (get committed key) (row_at delta key)

@@ -3,7 +3,7 @@ use Rattle.std.specs.Prelude.{ℕ, List, codes}
 use Rattle.draft_core.specs.declared.refusal.DraftRefusal.{DraftRefusal}
 use Rattle.draft_core.specs.declared.refusal.DraftRefusal.TheVariants.{NotNormal, NotTransaction, NotOwner, NotVerify, NotDone, VerifyFailed, RevisionFull, NoMemory}
 
--- number and name; want of memory has those of what the office answers for it
+-- a refusal's number and name; want of memory has those of what the office answers for it
 abbrev pub line_of : DraftRefusal → ℕ × List ℕ
 line_of NotNormal = (12, codes "NotNormal")
 line_of NotTransaction = (13, codes "NotTransaction")

@@ -12,11 +12,11 @@ use Rattle.signal_rules.specs.BeforeLead.{violations_before_lead}
 use Rattle.signal_rules.specs.declared.violation.Violation.{Violation}
 use Rattle.draft_core.specs.Transaction.{TimingSide, Draft}
 
--- nothing was committed yet, and nobody holds a draft
+-- nothing was committed yet, and there is no draft
 abbrev pub no_timing : TimingSide
 no_timing = record { revision = 0; committed = empty; draft = None }
 
--- a version of the tables: the limits of its rows, and the rules that it holds a set to
+-- a version of the tables: the limits of its rows, and the rules by which it judges a set
 pub record Version : Type 0 where
   pub limits : Limits
   pub violations : Rows → List Violation
@@ -25,7 +25,7 @@ pub record Version : Type 0 where
 abbrev pub today : Version
 today = record { limits = current_limits; violations = violations_of }
 
--- version 1, which knew no leading pedestrian interval: its rows have lead 0, and are held to V1 to V13
+-- version 1, which knew no leading pedestrian interval: its rows have lead 0, and are judged by V1 to V13
 abbrev pub version_1 : Version
 version_1 = record { limits = version_1_limits; violations = violations_before_lead }
 
@@ -33,6 +33,7 @@ version_1 = record { limits = version_1_limits; violations = violations_before_l
 abbrev pub AreRecordsIn : Version → Rows → Type 0
 AreRecordsIn v set = (key : Key) → IfSome (get set key) (λ row. IsRowWithin v.limits row × (key_of row ≡ key))
 
+-- each row is within the limits of today, and stands under its own key
 abbrev pub AreRecords : Rows → Type 0
 AreRecords = AreRecordsIn today
 
@@ -41,5 +42,6 @@ pub record IsSoundDraftIn (v : Version) (draft : Draft) : Type 0 where
   pub owner : AreWords 40 draft.owner
   pub rows : AreRecordsIn v draft.set
 
+-- the owner of a draft is a name, and its rows are records of today
 abbrev pub IsSoundDraft : Draft → Type 0
 IsSoundDraft = IsSoundDraftIn today

@@ -18,7 +18,7 @@ use Rattle.draft_core.specs.Moves.{Follows, draft_writes, drafted_in, timing_wri
 use Rattle.draft_core.specs.News.{AddsOnlyNew}
 use Rattle.draft_core.specs.Transaction.{TimingSide, refused_by, refused_if_free, refused_if_held, table_line}
 
--- how much of the timing side it reads: the edit keeps what differs from the committed rows, the
+-- how much of the timing side a step reads: the edit stores what differs from the committed rows, the
 -- check and the commit judge the draft, the abandon drops its rows
 abbrev pub reach_of : Step → Reach
 reach_of (step.Edit changes) = reach.Plan
@@ -40,9 +40,11 @@ abbrev pub RefusesFirst : Option DraftRefusal → (DraftRefusal → Type 0) → 
 RefusesFirst (Some why) Later result = result ≡ Err why
 RefusesFirst None Later result = IfErr result Later
 
+-- no refusal may come
 abbrev pub Never : DraftRefusal → Type 0
 Never why = ⊥
 
+-- the refusal is want of memory
 abbrev pub IsMemory : DraftRefusal → Type 0
 IsMemory why = why ≡ NoMemory
 
@@ -53,7 +55,7 @@ IsUnsettled RevisionFull = Unit {0}
 IsUnsettled NoMemory = Unit {0}
 IsUnsettled _ = ⊥
 
--- what the test of state and owner refuses
+-- why a step is refused by the test of state and owner, if it is
 abbrev pub first_refusal : Step → Option Holder → List ℕ → Option DraftRefusal
 first_refusal step.Begin holder clerk = refused_if_held holder
 first_refusal (step.Edit changes) holder clerk = refused_by holder Transaction NotTransaction clerk
@@ -63,7 +65,7 @@ first_refusal step.Commit holder clerk = refused_by holder Done NotDone clerk
 first_refusal step.Reopen holder clerk = refused_by holder Done NotDone clerk
 first_refusal step.Abandon holder clerk = refused_if_free holder
 
--- what may be refused after it
+-- what a step may be refused for after the test of state and owner
 abbrev pub IsLater : Step → DraftRefusal → Type 0
 IsLater (step.Edit changes) = IsMemory
 IsLater step.Check = IsMemory
@@ -73,24 +75,24 @@ IsLater _ = Never
 
 -- ---- what it writes
 
--- the changes that it brings
+-- the changes that a step brings
 abbrev pub asked_changes : Step → List Change
 asked_changes (step.Edit changes) = changes
 asked_changes _ = []
 
--- the most timing rows that it writes, of a draft with so many rows
+-- the most timing rows that a step writes, of a draft with so many rows
 abbrev pub most_committed : Step → ℕ → ℕ
 most_committed step.Commit rows = rows
 most_committed _ rows = 0
 
--- the most draft rows that it writes
+-- the most draft rows that a step writes
 abbrev pub most_drafted : Step → ℕ → ℕ
 most_drafted (step.Edit changes) rows = length changes
 most_drafted step.Commit rows = rows
 most_drafted step.Abandon rows = rows
 most_drafted _ rows = 0
 
--- the rows that it adds are new, its draft rows are of the changes that it brings, and so many are written
+-- the rows that a step adds are new, its draft rows are of the changes that it brings, and so many are written
 pub record StepWrites (step : Step) (timing : Timing) (move : Move) : Type 0 where
   pub news : AddsOnlyNew (reach_of step) timing move.changes
   pub drafts : AreAmong (drafted_in move.changes) (asked_changes step)
@@ -98,7 +100,7 @@ pub record StepWrites (step : Step) (timing : Timing) (move : Move) : Type 0 whe
   pub drafted : draft_writes move.changes ≤ most_drafted step (length timing.delta)
 
 -- A STEP IS TAKEN. What is decided on as much as it reads follows its line of the table, for
--- whichever timing side that is read of, and whichever draft rows stand for its draft.
+-- whichever timing side that is read of, and whichever draft rows represent its draft.
 pub record Takes (step : Step) (timing : Timing) (clerk : List ℕ)
     (result : Result Move DraftRefusal) : Type 0 where
   pub line : (rows : RowsByKey) (side : TimingSide) → Stands (reach_of step) timing rows side

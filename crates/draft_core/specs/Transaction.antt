@@ -18,46 +18,51 @@ use Rattle.draft_core.specs.declared.step.Step.TheVariants as step
 use Rattle.draft_core.specs.declared.refusal.DraftRefusal.{DraftRefusal}
 use Rattle.draft_core.specs.declared.refusal.DraftRefusal.TheVariants.{NotNormal, NotTransaction, NotOwner, NotVerify, NotDone, VerifyFailed, RevisionFull}
 
--- a draft is a whole set
+-- a draft: a whole set, who owns it, and its stage
 pub record Draft : Type 0 where
   pub stage : Stage
   pub owner : List ℕ
   pub set : Rows
 
--- how often a set was committed, the committed set, and the draft where a clerk holds one
+-- how often a set was committed, the committed set, and the draft where a clerk owns one
 pub record TimingSide : Type 0 where
   pub revision : ℕ
   pub committed : Rows
   pub draft : Option Draft
 
+-- who owns a draft, and in which stage it is
 abbrev pub holder_of : Draft → Holder
 holder_of draft = record { stage = draft.stage; owner = draft.owner }
 
+-- the state of an intersection whose draft is in a stage
 abbrev pub in_stage : Stage → DbState
 in_stage Transaction = InTransaction
 in_stage Verify = InVerify
 in_stage Done = InDone
 
+-- the state of an intersection by its draft: Normal without one (NTCIP 1201, `dbCreateTransaction`)
 abbrev pub state_of : Option Draft → DbState
 state_of None = Normal
 state_of (Some draft) = in_stage draft.stage
 
--- the same, read from who holds the draft
+-- the state of an intersection by who owns its draft, and in which stage: Normal where nobody does
 abbrev pub state_of_holder : Option Holder → DbState
 state_of_holder None = Normal
 state_of_holder (Some holder) = in_stage holder.stage
 
+-- what the check of a draft found, by its stage and the rules that it breaks: nothing before it is done (NTCIP 1201, `dbVerifyStatus`)
 abbrev pub verdict_on : Stage → List Violation → Verdict
 verdict_on Transaction violations = NotJudged
 verdict_on Verify violations = NotJudged
 verdict_on Done [] = DoneWithNoError
 verdict_on Done (violation ∷ violations) = DoneWithError
 
--- it is read from the draft, and never kept (NTCIP 1201, `dbVerifyStatus`)
+-- what the check of a draft found: computed from the draft, and never stored (NTCIP 1201, `dbVerifyStatus`)
 abbrev pub verdict_of : Option Draft → Verdict
 verdict_of None = NotJudged
 verdict_of (Some draft) = verdict_on draft.stage (violations_of draft.set)
 
+-- two stages are equal
 abbrev pub is_stage : Stage → Stage → Bool
 is_stage Transaction Transaction = true
 is_stage Verify Verify = true
@@ -65,8 +70,8 @@ is_stage Done Done = true
 is_stage _ _ = false
 
 -- A STEP OF THE OWNER, in one stage. Without a draft, or with one in another stage, the state
--- is wrong; for another clerk it is NotOwner; else the step is taken. It is asked of a draft, or of
--- its holder alone.
+-- is wrong; for another clerk it is NotOwner; else the step is taken. It is decided on a draft,
+-- or on its holder alone.
 abbrev pub owned : {Held T : Type 0} → (Held → Holder) → Option Held → Stage → DraftRefusal
     → List ℕ → (Held → Result T DraftRefusal) → Result T DraftRefusal
 owned holder None stage wrong clerk step = Err wrong
@@ -75,24 +80,25 @@ owned holder (Some held) stage wrong clerk step =
     else if not (bytes_eq (holder held).owner clerk) then Err NotOwner
     else step held
 
--- its refusal alone, whatever the step is
+-- why a step of the owner alone is refused before it begins, if it is: by the stage of the draft, else by its owner
 abbrev pub refused_by : Option Holder → Stage → DraftRefusal → List ℕ → Option DraftRefusal
 refused_by holder stage wrong clerk = result_err (owned (λ who. who) holder stage wrong clerk Ok)
 
--- a draft is held already
+-- why a draft is not begun: there is one
 abbrev pub refused_if_held : Option Holder → Option DraftRefusal
 refused_if_held None = None
 refused_if_held (Some holder) = Some NotNormal
 
--- there is no draft
+-- why a draft is not abandoned: there is none
 abbrev pub refused_if_free : Option Holder → Option DraftRefusal
 refused_if_free None = Some NotTransaction
 refused_if_free (Some holder) = None
 
+-- the timing side with this draft
 abbrev pub with_draft : TimingSide → Draft → TimingSide
 with_draft side draft = record side { draft = Some draft }
 
--- a draft begins as the committed set, where nobody holds one
+-- a draft begins as the committed set, where nobody owns one
 abbrev pub begun_from : TimingSide → List ℕ → Option Draft → Result TimingSide DraftRefusal
 begun_from side clerk None = Ok (with_draft side (record { stage = Transaction; owner = clerk; set = side.committed }))
 begun_from side clerk (Some draft) = Err NotNormal
@@ -102,7 +108,7 @@ abbrev pub next_revision : ℕ → List Violation → Result ℕ DraftRefusal
 next_revision revision [] = if revision == LAST_REVISION then Err RevisionFull else Ok (revision + 1)
 next_revision revision (violation ∷ violations) = Err (VerifyFailed (length (violation ∷ violations)))
 
--- with violations first, and then at the last revision, nothing is committed
+-- a draft is committed unless it has violations, and then unless the revision is the last
 abbrev pub committed_with : TimingSide → Draft → List Violation → Result TimingSide DraftRefusal
 committed_with side draft [] = if side.revision == LAST_REVISION then Err RevisionFull else Ok (record { revision = side.revision + 1; committed = draft.set; draft = None })
 committed_with side draft (violation ∷ violations) = Err (VerifyFailed (length (violation ∷ violations)))

@@ -10,12 +10,12 @@ use Rattle.draft_core.specs.declared.timing.TimingChange.{TimingChange}
 use Rattle.draft_core.specs.declared.timing.TimingChange.TheVariants.{CommittedNew, Committed}
 use Rattle.draft_core.specs.declared.timing.TimingChange.TheVariants.{DraftDropped}
 
--- the draft rows go, where there are any
+-- the change that drops the draft rows, where there are any
 abbrev pub dropping : List Change → List TimingChange
 dropping [] = []
 dropping (change ∷ changes) = DraftDropped ∷ []
 
--- a row that is put where this is committed; it is new where nothing is
+-- a row that is put where another may be committed; it is new where none is
 abbrev pub put_over : Option Row → Row → TimingChange
 put_over None row = CommittedNew row
 put_over (Some stands) row = Committed (Put row)
@@ -25,6 +25,6 @@ abbrev pub settled_by : Rows → Change → TimingChange
 settled_by committed (Put row) = put_over (get committed (key_of row)) row
 settled_by committed (Remove key) = Committed (Remove key)
 
--- the draft rows go, and each is made a change of the committed set
+-- a commit: the draft rows go, and each is made a change of the committed set
 abbrev pub settling : Rows → List Change → List TimingChange
 settling committed changes = dropping changes ++ map (settled_by committed) changes

@@ -8,7 +8,7 @@ use Rattle.office_files.specs.declared.fault.CsvFault.{CsvFault}
 use Rattle.office_files.specs.Csv.{csv_records}
 use Rattle.office_files.specs.CsvRow.{csv_rows}
 
--- each record is a row, or the removal of a key
+-- the changes that a CSV file spells: each record is a row, or the removal of a key
 abbrev pub changes_of : List ℕ → Result (List Change) CsvFault
 changes_of text = csv_rows (change_at current_limits) (csv_records text)
 

@@ -17,7 +17,7 @@ abbrev pub fault_at : ℕ → RowFault → CsvFault
 fault_at at row.NoMemory = file.NoMemory
 fault_at at fault = file.Row (bad_row at fault)
 
--- what is told of the record with this number, by what was read of it
+-- the record with this number as it was read, or its fault
 abbrev pub told_at : {T : Type 0} → ℕ → Result T RowFault → Result T CsvFault
 told_at at (Ok row) = Ok row
 told_at at (Err fault) = Err (fault_at at fault)
@@ -27,18 +27,18 @@ abbrev pub NamesFault : CsvFault → Type 0
 NamesFault (file.Row bad) = bad.fault ≢ row.NoMemory
 NamesFault file.NoMemory = Unit
 
--- ` 3` for field 3
+-- how the field of a fault is written: ` 3` for field 3
 abbrev pub field_text : Option ℕ → List ℕ
 field_text None = []
 field_text (Some field) = codes " " ++ decimal field
 
--- `record 4: Count`, `record 4: Number 3`
+-- how a bad record is written: `record 4: Count`, `record 4: Number 3`
 abbrev pub bad_row_text : BadRow → List ℕ
 bad_row_text bad =
     codes "record " ++ decimal bad.at ++ codes ": " ++ fault_name bad.fault
     ++ field_text (fault_field bad.fault)
 
--- the bad record, or `memory`
+-- how a fault of a file is written: its bad record, or `memory`
 abbrev pub fault_text : CsvFault → List ℕ
 fault_text (file.Row bad) = bad_row_text bad
 fault_text file.NoMemory = codes "memory"

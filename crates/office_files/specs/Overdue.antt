@@ -9,7 +9,7 @@ abbrev pub due_written : Option ℕ → List ℕ
 due_written None = codes "never     "
 due_written (Some due) = day_text due
 
--- `  12  2027-03-01  Main St`
+-- the line of an overdue intersection: `  12  2027-03-01  Main St`
 abbrev pub overdue_line : OverdueRow → List ℕ
 overdue_line row =
     right_aligned 4 (decimal row.id) ++ codes "  " ++ due_written row.due ++ codes "  " ++ row.name ++ codes "\n"

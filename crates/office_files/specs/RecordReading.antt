@@ -32,7 +32,7 @@ is_printed b = nat_le 32 b && not (b == 127)
 abbrev pub is_words : ℕ → List ℕ → Bool
 is_words max text = is_utf8 text && (nat_le 1 (length text) && (nat_le (length text) max && list_all is_printed text))
 
--- the text, where it is one of words
+-- a text, where it is one of words
 unfoldable pub words_of : ℕ → List ℕ → Option (List ℕ)
 words_of max text = if is_words max text then Some text else None
 
@@ -44,7 +44,7 @@ words_at max place fields = ok_or (words_of max (text_at place fields)) (fault.T
 abbrev pub is_part_code : List ℕ → Bool
 is_part_code text = nat_le 1 (length text) && (nat_le (length text) 20 && list_all is_code_byte text)
 
--- the text, where it is the code of a part
+-- a text, where it is the code of a part
 unfoldable pub part_of : List ℕ → Option (List ℕ)
 part_of text = if is_part_code text then Some text else None
 
@@ -52,7 +52,7 @@ part_of text = if is_part_code text then Some text else None
 unfoldable pub part_at : ℕ → List (List ℕ) → Result (List ℕ) RowFault
 part_at place fields = ok_or (part_of (text_at place fields)) (fault.Text place)
 
--- an inspection
+-- the inspection that the fields of a record spell
 unfoldable pub inspection_at : List (List ℕ) → Result RecordCommand RowFault
 inspection_at fields = do
   id ← number_at 1 9999 2 fields
@@ -62,7 +62,7 @@ inspection_at fields = do
   text ← words_at 500 6 fields
   Ok (command.Inspect id (record { number = number; day = day; clerk = clerk; text = text }))
 
--- the opening of an order
+-- the opening of an order that the fields of a record spell
 unfoldable pub opening_at : List (List ℕ) → Result RecordCommand RowFault
 opening_at fields = do
   id ← number_at 1 9999 2 fields
@@ -72,7 +72,7 @@ opening_at fields = do
   text ← words_at 500 6 fields
   Ok (command.OpenOrder id (record { number = number; day = day; clerk = clerk; text = text }))
 
--- a part that is used for an order
+-- the used part that the fields of a record spell
 unfoldable pub use_at : List (List ℕ) → Result RecordCommand RowFault
 use_at fields = do
   id ← number_at 1 9999 2 fields
@@ -82,7 +82,7 @@ use_at fields = do
   count ← number_at 1 999_999_999 6 fields
   Ok (command.UsePart id (record { order = order; line = line; part = part; count = count }))
 
--- the closing of an order
+-- the closing of an order that the fields of a record spell
 unfoldable pub close_at : List (List ℕ) → Result RecordCommand RowFault
 close_at fields = do
   id ← number_at 1 9999 2 fields
@@ -91,7 +91,7 @@ close_at fields = do
   closer ← words_at 40 5 fields
   Ok (command.CloseOrder id order (record { day = day; closer = closer }))
 
--- a delivery
+-- the delivery that the fields of a record spell
 unfoldable pub delivery_at : List (List ℕ) → Result RecordCommand RowFault
 delivery_at fields = do
   part ← part_at 2 fields

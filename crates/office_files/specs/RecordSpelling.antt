@@ -14,19 +14,19 @@ use Rattle.cabinet_core.specs.declared.command.RecordCommand.TheVariants as comm
 abbrev pub inspection_fields : ℕ → Inspection → List (List ℕ)
 inspection_fields id r = codes "inspection" ∷ decimal id ∷ decimal r.number ∷ day_text r.day ∷ r.clerk ∷ r.text ∷ []
 
--- of the opening of an order
+-- the fields of the opening of an order
 abbrev pub opening_fields : ℕ → Opening → List (List ℕ)
 opening_fields id r = codes "order" ∷ decimal id ∷ decimal r.number ∷ day_text r.day ∷ r.clerk ∷ r.text ∷ []
 
--- of a part that is used for an order
+-- the fields of a part that is used for an order
 abbrev pub use_fields : ℕ → UsedLine → List (List ℕ)
 use_fields id r = codes "use" ∷ decimal id ∷ decimal r.order ∷ decimal r.line ∷ r.part ∷ decimal r.count ∷ []
 
--- of the closing of an order
+-- the fields of the closing of an order
 abbrev pub close_fields : ℕ → ℕ → Closing → List (List ℕ)
 close_fields id order r = codes "close" ∷ decimal id ∷ decimal order ∷ day_text r.day ∷ r.closer ∷ []
 
--- of a delivery
+-- the fields of a delivery
 abbrev pub delivery_fields : Delivery → List (List ℕ)
 delivery_fields r = codes "delivery" ∷ r.part ∷ decimal r.number ∷ day_text r.day ∷ decimal r.count ∷ []
 

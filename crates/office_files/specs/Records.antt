@@ -17,7 +17,7 @@ use Rattle.office_files.specs.RecordReading.{record_at}
 use Rattle.office_files.specs.RecordSpelling.{record_spelling}
 use Rattle.cabinet_core.specs.Within.{IsRecordWithin}
 
--- each record is a command of the register
+-- the commands that a CSV file spells, one in each record
 abbrev pub commands_of : List ℕ → Result (List RecordCommand) CsvFault
 commands_of text = csv_rows record_at (csv_records text)
 
@@ -33,7 +33,7 @@ opening_of order = record { number = order.number; day = order.opened; clerk = o
 abbrev pub is_line_of : ℕ → UsedLine → Bool
 is_line_of order line = line.order == order
 
--- the closing, where there is one
+-- the closing of an order as a command, where there is one
 abbrev pub close_commands : ℕ → ℕ → Option Closing → List RecordCommand
 close_commands id order None = []
 close_commands id order (Some closing) = command.CloseOrder id order closing ∷ []
@@ -55,6 +55,6 @@ abbrev pub view_commands : ℕ → CabinetView → List RecordCommand
 view_commands id view = map (command.Inspect id) view.inspections ++ flat_map
     (order_commands id view.lines) view.orders
 
--- a record for each of them
+-- the CSV file of commands: a record for each
 abbrev pub records_csv_text : ℕ → CabinetView → List ℕ
 records_csv_text id view = csv_text (map record_spelling (view_commands id view))

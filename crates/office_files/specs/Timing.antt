@@ -9,7 +9,7 @@ use Rattle.signal_records.specs.Within.{current_limits}
 use Rattle.office_files.specs.Changes.{spellings}
 use Rattle.office_files.specs.Csv.{csv_text}
 
--- the rows in key order, a record for each
+-- the CSV file of a timing set: its rows in key order, a record for each
 abbrev pub timing_csv_text : Rows → List ℕ
 timing_csv_text set = csv_text (map (spelling current_limits) (values set))
 
@@ -17,6 +17,6 @@ timing_csv_text set = csv_text (map (spelling current_limits) (values set))
 abbrev pub puts_of : Rows → List Change
 puts_of set = map Put (values set)
 
--- a record for each change
+-- the CSV file of changes: a record for each
 abbrev pub changes_csv_text : List Change → List ℕ
 changes_csv_text changes = csv_text (spellings changes)

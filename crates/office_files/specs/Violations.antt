@@ -4,7 +4,7 @@ use Rattle.signal_rules.specs.declared.reason.Explained.{Explained}
 use Rattle.signal_rules.specs.declared.violation.Violation.{Violation}
 use Rattle.signal_rules.specs.Texts.{explained_text, violation_text}
 
--- `pattern 1 V13` and a line feed
+-- the line of a violation: `pattern 1 V13` and a line feed
 abbrev pub violation_line : Violation → List ℕ
 violation_line violation = violation_text violation ++ codes "\n"
 

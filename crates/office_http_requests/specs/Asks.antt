@@ -12,7 +12,7 @@ abbrev pub or_bad_row : {A : Type 0} → Result A CsvFault → Result A AskFault
 or_bad_row (Ok x) = Ok x
 or_bad_row (Err fault) = Err (ask_fault fault)
 
--- what is lent of a body, as this sees it, or the fault
+-- a value of a body that is lent, as a definition sees it, or the fault
 abbrev pub lent : {A B : Type 0} → (A → B) → Result A AskFault → Result B AskFault
 lent see = result_map_both see (λ fault. fault)
 
@@ -21,13 +21,13 @@ abbrev pub Gives : {A : Type 0} → Result A AskFault → Result A AskFault → 
 Gives (Ok x) wanted = wanted ≡ Ok x
 Gives (Err fault) wanted = fault ≢ NoMemory → wanted ≡ Err fault
 
--- want of memory is told only where the fact holds
+-- want of memory is reported only where the fact is so
 abbrev pub WantsMemoryOnlyIf : {A : Type 0} → Result A AskFault → Type 0 → Type 0
 WantsMemoryOnlyIf (Ok x) P = ⊤
 WantsMemoryOnlyIf (Err fault) P = fault ≡ NoMemory → P
 
--- Want of memory may be told in place of this: of a value, which takes memory; of a row, whose reader may tell it of any;
--- and of itself, as it was told below. No other fault is told so.
+-- Want of memory may be reported in place of this result: of a value, which takes memory; of a bad row, whose reader may
+-- report it of any; and where it was reported below. No other fault may be replaced by it.
 abbrev pub MayWant : {A : Type 0} → Result A AskFault → Type 0
 MayWant (Ok x) = Unit {0}
 MayWant (Err NoMemory) = Unit {0}
@@ -48,10 +48,10 @@ abbrev pub or_fault : {A : Type 0} → AskFault → Option A → Result A AskFau
 or_fault fault None = Err fault
 or_fault fault (Some x) = Ok x
 
--- a value that a path may lack
+-- a value of a path, or the fault NoRoute where the path lacks it
 abbrev pub or_no_route : {A : Type 0} → Option A → Result A AskFault
 or_no_route found = or_fault NoRoute found
 
--- a value of a field
+-- the value of a field, or its fault where there is none
 abbrev pub or_field : {A : Type 0} → Field → Option A → Result A AskFault
 or_field field found = or_fault (FieldFault field) found

@@ -18,7 +18,7 @@ use Rattle.office_http_requests.specs.Asks.{or_fault, or_field}
 use Rattle.office_http_faults.specs.Fields.{field_name}
 use Rattle.signal_records.specs.Reading.{within}
 
--- the data that the bytes are
+-- the data that bytes in JSON are
 abbrev pub json_of : List ℕ → Option Data
 json_of bytes = if is_utf8 bytes then read bytes else None
 
@@ -31,7 +31,7 @@ opens_object (b ∷ bytes) = if is_space b then opens_object bytes else b == 123
 abbrev pub MayBeObject : List ℕ → Type 0
 MayBeObject bytes = IsUtf8 bytes × IsTrue (opens_object bytes)
 
--- the data, if it is an object
+-- a value in JSON, if it is an object
 abbrev pub object_in : Data → Option Data
 object_in (object members) = Some (object members)
 object_in _ = None
@@ -40,8 +40,8 @@ object_in _ = None
 unfoldable pub body_of : List ℕ → Result Data AskFault
 body_of bytes = or_fault Json (option_and_then object_in (json_of bytes))
 
--- What is told of a body, by what the reader of JSON answered for its bytes: an object; want of memory exactly where the reader
--- told it, of bytes that open an object; else that it is no JSON object, however long it is.
+-- What is answered of a body, by what the reader of JSON answered for its bytes: an object; want of memory exactly where the
+-- reader reported it, of bytes that open an object; else that it is no JSON object, however long it is.
 abbrev pub IsBodyTold : Result Value Error → Bool → Result Value AskFault → Type 0
 IsBodyTold (Ok value) opens told = told ≡ (if is_some (as_object (view value)) then Ok value else Err Json)
 IsBodyTold (Err fault) opens told =

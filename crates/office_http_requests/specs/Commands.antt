@@ -28,7 +28,7 @@ asked_in_json command = record { command = command; form = Json }
 abbrev pub asked_in_csv : Command → Asked
 asked_in_csv command = record { command = command; form = Csv }
 
--- the body's keys by name
+-- an addition of an intersection: the body's keys by name
 unfoldable pub added_intersection : Result Data AskFault → Result Asked AskFault
 added_intersection read = do
   body ← read
@@ -52,6 +52,7 @@ clerk_and_rows_in body = do
   changes ← changes_in body
   Ok (clerk, changes)
 
+-- an edit with its rows in JSON: the path, then the body, then its fields
 unfoldable pub edited_in : List ℕ → Result Data AskFault → Result Asked AskFault
 edited_in path read = do
   id ← id_at path
@@ -66,6 +67,7 @@ clerk_and_csv_in body = do
   changes ← csv_changes_in body
   Ok (clerk, changes)
 
+-- an edit with its rows as CSV: the path, then the body, then its fields
 unfoldable pub edited_by_csv : List ℕ → Result Data AskFault → Result Asked AskFault
 edited_by_csv path read = do
   id ← id_at path
@@ -139,7 +141,7 @@ command_with method path read = do
   endpoint ← or_no_route (endpoint_of path)
   if bytes_eq method (method_of endpoint) then asked_at endpoint path read else Err Method
 
--- what is told of the body of a request to an endpoint: that of a GET is taken for none
+-- the body of a request to an endpoint, as it is read: that of a GET is taken for none
 abbrev pub body_for : Endpoint → List ℕ → Result Data AskFault
 body_for endpoint bytes = if takes_body endpoint then body_of bytes else Err NoObject
 
@@ -147,7 +149,7 @@ body_for endpoint bytes = if takes_body endpoint then body_of bytes else Err NoO
 unfoldable pub command_at : List ℕ → List ℕ → List ℕ → Result Asked AskFault
 command_at method path bytes = command_with method path (body_of bytes)
 
--- Want of memory may be told of a request: by POST, and in place of a command or a bad row, or of its body, which may be an object.
+-- Want of memory may be reported of a request: by POST, and in place of a command or a bad row, or of its body, which may be an object.
 abbrev pub MayWantFor : List ℕ → List ℕ → List ℕ → Type 0
 MayWantFor method path bytes =
     IsTrue (bytes_eq method (codes "POST"))

@@ -16,7 +16,7 @@ use Rattle.office_http_requests.specs.Paths.{id_at, order_at}
 use Rattle.office_http_requests.specs.declared.kind.RecordKind.{RecordKind}
 use Rattle.office_http_requests.specs.declared.kind.RecordKind.TheVariants.{Inspect, OpenOrder, UsePart, CloseOrder, Receive}
 
--- an inspection
+-- the inspection of a path and a body
 unfoldable pub inspection_in : Data → Result Inspection AskFault
 inspection_in body = do
   clerk ← words_in 40 body Clerk
@@ -25,7 +25,7 @@ inspection_in body = do
   text ← words_in 500 body Text
   Ok (record { number = number; day = day; clerk = clerk; text = text })
 
--- what opens an order
+-- the opening of an order, of a path and a body
 unfoldable pub opening_in : Data → Result Opening AskFault
 opening_in body = do
   clerk ← words_in 40 body Clerk
@@ -34,7 +34,7 @@ opening_in body = do
   text ← words_in 500 body Text
   Ok (record { number = number; day = day; clerk = clerk; text = text })
 
--- a part that is used for an order
+-- the used part of a path and a body
 unfoldable pub used_in : ℕ → Data → Result UsedLine AskFault
 used_in order body = do
   count ← ranged_in 1 999_999_999 body Count
@@ -42,14 +42,14 @@ used_in order body = do
   part ← part_in body
   Ok (record { order = order; line = line; part = part; count = count })
 
--- what closes an order
+-- the closing of an order, of a path and a body
 unfoldable pub closing_in : Data → Result Closing AskFault
 closing_in body = do
   clerk ← words_in 40 body Clerk
   day ← day_in body
   Ok (record { day = day; closer = clerk })
 
--- a delivery
+-- the delivery of a body
 unfoldable pub delivery_in : Data → Result Delivery AskFault
 delivery_in body = do
   count ← ranged_in 1 999_999_999 body Count
@@ -58,7 +58,7 @@ delivery_in body = do
   part ← part_in body
   Ok (record { part = part; number = number; day = day; count = count })
 
--- a delivery is of no path
+-- a delivery, of the body alone: its path has no fields
 unfoldable pub received_in : Result Data AskFault → Result RecordCommand AskFault
 received_in read = do
   body ← read

@@ -66,7 +66,7 @@ method_of OpenOrders = codes "GET"
 method_of Stock = codes "GET"
 method_of Overdue = codes "GET"
 
--- the body of a request is looked at: that of a GET is not
+-- whether an endpoint's requests have a body that is read: those of a GET have none
 abbrev pub takes_body : Endpoint → Bool
 takes_body endpoint = bytes_eq (codes "POST") (method_of endpoint)
 

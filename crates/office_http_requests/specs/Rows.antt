@@ -23,7 +23,7 @@ list_of (item d ds) = d ∷ list_of ds
 abbrev pub list_in : Data → Option (List Data)
 list_in d = option_map list_of (as_array d)
 
--- the value of each element, where each has one
+-- the values of all elements of a list, where each has one
 abbrev pub each : {A B : Type 0} → (A → Option B) → List A → Option (List B)
 each f [] = Some []
 each f (x ∷ xs) = option_and_then (λ y. option_map (λ ys. y ∷ ys) (each f xs)) (f x)

@@ -32,12 +32,12 @@ line_of kind.Json = line 8 (codes "Json") 400
 line_of kind.Field = line 9 (codes "Field") 400
 line_of kind.BadRow = line 31 (codes "BadRow") 400
 
--- the first of these with a number, or BadRow
+-- the first of these kinds of fault with a number, or BadRow
 abbrev pub first_numbered : ℕ → List FaultKind → FaultKind
 first_numbered n [] = kind.BadRow
 first_numbered n (k ∷ rest) = if n == (line_of k).number then k else first_numbered n rest
 
--- the fault with a number
+-- the kind of fault with a number
 abbrev pub kind_numbered : ℕ → FaultKind
 kind_numbered n = first_numbered n (
     kind.Head ∷ kind.HeadTooLarge ∷ kind.Length ∷ kind.BodyTooLarge ∷ kind.Coded
@@ -73,7 +73,7 @@ fault_tree k (RowMore bad) =
 unfoldable pub fault_bytes : FaultKind → More → List ℕ
 fault_bytes k more = answer_text (line_of k).status (fault_tree k more)
 
--- a fault of a request's framing, among them
+-- a fault of a request's framing, as a line of the table of faults
 abbrev pub framing_kind : Fault → FaultKind
 framing_kind framing.Head = kind.Head
 framing_kind framing.HeadTooLarge = kind.HeadTooLarge
@@ -85,7 +85,7 @@ framing_kind framing.Coded = kind.Coded
 abbrev pub framing_fault_text : Fault → List ℕ
 framing_fault_text fault = fault_bytes (framing_kind fault) Nothing
 
--- the answer of a request that asks nothing
+-- the answer of a request that is no command
 abbrev pub ask_fault_text : AskFault → List ℕ
 ask_fault_text ask.NoRoute = fault_bytes kind.NoRoute Nothing
 ask_fault_text ask.Method = fault_bytes kind.Method Nothing

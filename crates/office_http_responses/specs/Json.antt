@@ -3,11 +3,11 @@ use Rattle.std.specs.Prelude.{ℕ, List, [], ◌∷◌, map, Option, Some, None}
 use Rattle.serde_json.specs.Data.{Data, null, number, string, array, object, unsigned, Members, no_members, member}
 use Rattle.serde_json.specs.View.{items_of}
 
--- a number
+-- a number as a JSON tree
 abbrev pub count : ℕ → Data
 count n = number (unsigned n)
 
--- a text
+-- a text as a JSON tree
 abbrev pub text : List ℕ → Data
 text bytes = string bytes
 

@@ -11,11 +11,11 @@ use Rattle.cabinet_core.specs.declared.record.UsedLine.{UsedLine}
 use Rattle.office_files.specs.Records.{is_line_of}
 use Rattle.office_http_responses.specs.Json.{count, text, or_null, array_of, keys}
 
--- a day, as it is spelt
+-- the tree of a day, as it is spelt
 abbrev pub day_tree : ℕ → Data
 day_tree day = text (day_text day)
 
--- an inspection
+-- the tree of an inspection
 abbrev pub inspection_tree : Inspection → Data
 inspection_tree inspection =
     keys (
@@ -26,16 +26,16 @@ inspection_tree inspection =
     ∷ []
     )
 
--- a part that was used
+-- the tree of a part that was used
 abbrev pub used_tree : UsedLine → Data
 used_tree used =
     keys ((codes "count", count used.count) ∷ (codes "line", count used.line) ∷ (codes "part", text used.part) ∷ [])
 
--- the parts that were used for an order
+-- the tree of the parts that were used for an order
 abbrev pub uses_tree : ℕ → List UsedLine → Data
 uses_tree order lines = array_of used_tree (filter (is_line_of order) lines)
 
--- an order, without its parts
+-- the members of the tree of an order, without its parts
 abbrev pub order_members : Order → List (List ℕ × Data)
 order_members order =
     (codes "clerk", text order.clerk)
@@ -46,7 +46,7 @@ order_members order =
     ∷ (codes "text", text order.text)
     ∷ []
 
--- an order, with those of the lines that are its own
+-- the tree of an order, with those of the lines that are its own
 abbrev pub order_tree : List UsedLine → Order → Data
 order_tree lines order = keys (order_members order ++ (codes "used", uses_tree order.number lines) ∷ [])
 

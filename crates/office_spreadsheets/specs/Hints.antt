@@ -24,6 +24,7 @@ removed_by key =
     else if bytes_eq key (codes "pattern") then kind.RemovePattern
     else kind.RemoveOther
 
+-- the kind of a record that removes something, by the fields behind `remove`
 abbrev pub removal_of : List (List ℕ) → RowKind
 removal_of [] = kind.RemoveOther
 removal_of (key ∷ rest) = removed_by key
@@ -37,7 +38,7 @@ row_kind name =
     else if bytes_eq name (codes "pattern") then kind.Pattern
     else kind.Other
 
--- of any record
+-- the kind of any record, by its first fields
 abbrev pub row_kind_of : List (List ℕ) → RowKind
 row_kind_of [] = kind.Other
 row_kind_of (name ∷ rest) = if bytes_eq name (codes "remove") then removal_of rest else row_kind name
@@ -56,6 +57,7 @@ widths _ = codes "none"
 
 -- ---- fields
 
+-- the name of a field, as a hint shows it
 abbrev pub field_words : Field → List ℕ
 field_words field.Phase = codes "phase"
 field_words field.Ring = codes "ring"
@@ -81,7 +83,7 @@ field_words field.Pattern = codes "pattern"
 field_words field.Cycle = codes "cycle"
 field_words field.Offset = codes "offset"
 
--- what it may be, as the records are read
+-- what a field may be, as the records are read
 abbrev pub field_values : Field → List ℕ
 field_values field.Phase = codes "1 to 32"
 field_values field.Ring = codes "1 to 8"
@@ -107,7 +109,7 @@ field_values field.Mode = codes "2 to 7"
 field_values field.Pattern = codes "1 to 48"
 field_values field.Cycle = codes "1 to 255 seconds"
 
--- the field of a record at a place, counted from 1, the kind being the first
+-- the field of a phase at a place, counted from 1; the kind is the first
 abbrev pub phase_field : ℕ → Option Field
 phase_field place =
     if place == 2 then Some field.Phase
@@ -126,6 +128,7 @@ phase_field place =
     else if place == 15 then Some field.Lead
     else None
 
+-- the field of a sequence row at a place, counted from 1
 abbrev pub seq_field : ℕ → Option Field
 seq_field place =
     if place == 2 then Some field.Sequence
@@ -133,6 +136,7 @@ seq_field place =
     else if place == 4 then Some field.Phases
     else None
 
+-- the field of a split row at a place, counted from 1
 abbrev pub split_field : ℕ → Option Field
 split_field place =
     if place == 2 then Some field.Split
@@ -142,6 +146,7 @@ split_field place =
     else if place == 6 then Some field.Coordinated
     else None
 
+-- the field of a pattern at a place, counted from 1
 abbrev pub pattern_field : ℕ → Option Field
 pattern_field place =
     if place == 2 then Some field.Pattern
@@ -151,10 +156,11 @@ pattern_field place =
     else if place == 6 then Some field.Sequence
     else None
 
--- a key that is removed has its fields from the third on
+-- the field at a place of a removal; a key that is removed has its fields from the third on
 abbrev pub key_field : (first : Field) → (second : Option Field) → ℕ → Option Field
 key_field first second place = if place == 3 then Some first else if place == 4 then second else None
 
+-- the field of a record of a kind at a place, counted from 1
 abbrev pub field_at : RowKind → ℕ → Option Field
 field_at kind.Phase place = phase_field place
 field_at kind.Seq place = seq_field place
@@ -168,44 +174,48 @@ field_at _ place = None
 
 -- ---- hints
 
--- what is wrong
+-- the name of what is wrong with a record: its kind, the number of its fields, or a field
 abbrev pub hint_name : Hint → List ℕ
 hint_name (hint.Kind removed) = codes "kind"
 hint_name (hint.Count found of) = codes "fields"
 hint_name (hint.Field it is_numeral) = field_words it
 
+-- the number that a hint shows before what it may be: how many fields there are
 abbrev pub hint_found : Hint → Option ℕ
 hint_found (hint.Count found of) = Some found
 hint_found _ = None
 
--- what it may be
+-- what the kind, the number of fields or a field may be, as a hint shows it
 abbrev pub hint_values : Hint → List ℕ
 hint_values (hint.Kind false) = codes "phase, seq, split, pattern or remove; no header row"
 hint_values (hint.Kind true) = codes "phase, seq, split or pattern after remove"
 hint_values (hint.Count found of) = widths of
 hint_values (hint.Field it is_numeral) = field_values it
 
--- how a number is written, where a field is none
+-- the end of a hint: how a number is written, where a field is none
 abbrev pub hint_ending : Hint → List ℕ
 hint_ending (hint.Field it false) = codes ", in digits without leading zeros"
 hint_ending _ = []
 
+-- how many fields there are, in a hint: `7, not `, or nothing
 abbrev pub found_text : Option ℕ → List ℕ
 found_text None = []
 found_text (Some found) = decimal found ++ codes ", not "
 
--- `offset: 0 to 255 seconds`, `fields: 7, not 6`
+-- the text of a hint: `offset: 0 to 255 seconds`, `fields: 7, not 6`
 abbrev pub hint_text : Hint → List ℕ
 hint_text it = hint_name it ++ codes ": " ++ found_text (hint_found it) ++ hint_values it ++ hint_ending it
 
+-- the hint on a field of a record of a kind, at a place
 abbrev pub hint_at : RowKind → ℕ → (is_numeral : Bool) → Option Hint
 hint_at of place is_numeral = option_map (λ it. hint.Field it is_numeral) (field_at of place)
 
+-- a record that removes something of no kind
 abbrev pub is_removal : RowKind → Bool
 is_removal kind.RemoveOther = true
 is_removal _ = false
 
--- by the kind of a record, the number of its fields and its fault
+-- the hint on a record, by its kind, the number of its fields and its fault
 abbrev pub hint_by : RowKind → (count : ℕ) → RowFault → Option Hint
 hint_by of count fault.Kind = Some (hint.Kind (is_removal of))
 hint_by of count fault.Count = Some (hint.Count count of)
@@ -215,6 +225,7 @@ hint_by of count (fault.List place) = hint_at of place true
 hint_by of count fault.Mode = Some (hint.Field field.Mode true)
 hint_by of count _ = None
 
+-- the hint on a record, by its fields and its fault
 abbrev pub hint_for : List (List ℕ) → RowFault → Option Hint
 hint_for fields why = hint_by (row_kind_of fields) (length fields) why
 
@@ -224,6 +235,7 @@ hint_for fields why = hint_by (row_kind_of fields) (length fields) why
 abbrev pub record_numbered : List ℕ → (number : ℕ) → Option (List (List ℕ))
 record_numbered csv number = if number == 0 then None else slice_get (csv_records csv) (number - 1)
 
+-- the hint on a record of a file, if the file has a record of that number
 abbrev pub hint_in : Option (List (List ℕ)) → RowFault → Option Hint
 hint_in None why = None
 hint_in (Some fields) why = hint_for fields why

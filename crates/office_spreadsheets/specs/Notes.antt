@@ -16,29 +16,29 @@ abbrev pub is_for : Key → Option Change → Bool
 is_for key None = false
 is_for key (Some change) = eq_by_cmp key_cmp (changed_key change) key
 
--- of the first so many changes, the number of the last one of this key
+-- the number of the last change of this key, among the first so many
 abbrev pub last_within : Key → List Change → ℕ → Option ℕ
 last_within key changes zero = None
 last_within key changes (suc n) = if is_for key (slice_get changes n) then Some (suc n) else last_within key changes n
 
--- `puts`, or `removes`
+-- what a change does, in a note: `puts`, or `removes`
 abbrev pub deed : Change → List ℕ
 deed (Put row) = codes "puts"
 deed (Remove key) = codes "removes"
 
--- `phase 2`, `sequence 1 ring 2`, `split 3 phase 4`, `pattern 1`
+-- a key in a note: `phase 2`, `sequence 1 ring 2`, `split 3 phase 4`, `pattern 1`
 abbrev pub key_words : Key → List ℕ
 key_words (key.Phase p) = codes "phase " ++ decimal p
 key_words (key.Seq n ring) = codes "sequence " ++ decimal n ++ codes " ring " ++ decimal ring
 key_words (key.Split n p) = codes "split " ++ decimal n ++ codes " phase " ++ decimal p
 key_words (key.Pattern n) = codes "pattern " ++ decimal n
 
--- `record`, or where two files are compared `other record` for one of the second
+-- how a note names a record: `record`, or `other record` for one of the second of two files
 abbrev pub record_word : (other : Bool) → List ℕ
 record_word true = codes "other record "
 record_word false = codes "record "
 
--- `note: record 12 puts pattern 1 again, after record 9`, where there is such an earlier record
+-- the note on a change of a key that an earlier record has: `note: record 12 puts pattern 1 again, after record 9`
 abbrev pub note_on : (other : Bool) → (number : ℕ) → Change → (earlier : Option ℕ) → List ℕ
 note_on other number change None = []
 note_on other number change (Some earlier) =
@@ -60,5 +60,6 @@ abbrev pub notes_on : (other : Bool) → Result (List Change) CsvFault → List 
 notes_on other (Err fault) = []
 notes_on other (Ok changes) = notes_within other changes (length changes)
 
+-- the notes on a plan's CSV file: none where one of its records is bad
 abbrev pub notes_in : (other : Bool) → (csv : List ℕ) → List ℕ
 notes_in other csv = notes_on other (changes_of csv)

@@ -9,6 +9,7 @@ abbrev pub is_blank : List ℕ → Bool
 is_blank [] = true
 is_blank (b ∷ bs) = false
 
+-- all fields of a list are empty
 abbrev pub are_blank : List (List ℕ) → Bool
 are_blank fields = list_all is_blank fields
 
@@ -25,6 +26,7 @@ key_width kind =
     else if bytes_eq kind (codes "pattern") then Some 3
     else None
 
+-- how many fields a record has that removes something, by the fields behind `remove`
 abbrev pub removal_width : List (List ℕ) → Option ℕ
 removal_width [] = None
 removal_width (kind ∷ rest) = key_width kind
@@ -49,11 +51,12 @@ width_by kind rest =
     else if bytes_eq kind (codes "remove") then removal_width rest
     else record_width kind
 
+-- how many fields a record has, by its kind, which is its first field; nothing of an unknown kind
 abbrev pub width_of : List (List ℕ) → Option ℕ
 width_of [] = None
 width_of (kind ∷ rest) = width_by kind rest
 
--- the fields that are kept: those of its kind, where all that come after are empty
+-- a record with the fields that its kind has, where all that come after them are empty; else with all of its fields
 abbrev pub kept_by : Option ℕ → List (List ℕ) → List (List ℕ)
 kept_by None fields = fields
 kept_by (Some width) fields = if are_blank (drop width fields) then take width fields else fields
@@ -62,6 +65,6 @@ kept_by (Some width) fields = if are_blank (drop width fields) then take width f
 abbrev pub unpadded : List (List ℕ) → List (List ℕ)
 unpadded fields = kept_by (width_of fields) fields
 
--- the file of the records so, after a byte order mark, which keeps what its first field begins with
+-- the file of the records without their padding, behind a byte order mark, so that the first field is read as it stands here
 abbrev pub unpadded_text : List ℕ → List ℕ
 unpadded_text text = 0xEF ∷ 0xBB ∷ 0xBF ∷ csv_text (map unpadded (csv_records text))

@@ -3,7 +3,7 @@ use Rattle.std.specs.Prelude.{ℕ, ◌+◌, Bool, ◌&&◌, ◌||◌, ◌==◌, 
 use Rattle.office_spreadsheets.specs.declared.lines.Reading.{Reading}
 use Rattle.office_spreadsheets.specs.declared.lines.Reading.TheVariants as reading
 
--- a line feed, or a carriage return
+-- a byte that ends a line: a line feed, or a carriage return
 abbrev pub is_end : ℕ → Bool
 is_end b = (b == 10) || (b == 13)
 
@@ -11,7 +11,7 @@ is_end b = (b == 10) || (b == 13)
 abbrev pub after_plain : ℕ → Reading
 after_plain b = if b == 44 then reading.Start else if is_end b then reading.Between else reading.Plain
 
--- after any byte: a quote at the start of a field begins what is in quotes, and two quotes there are one
+-- where a reader stands after any byte: a quote at the start of a field begins what is in quotes, and two quotes there are one
 abbrev pub after_byte : Reading → ℕ → Reading
 after_byte reading.Between b = if b == 34 then reading.Quoted else after_plain b
 after_byte reading.Start b = if b == 34 then reading.Quoted else after_plain b
@@ -28,6 +28,7 @@ begins_record _ b = false
 abbrev pub begins_line : (before b : ℕ) → Bool
 begins_line before b = (before == 10) || ((before == 13) && not (b == 10))
 
+-- the line on which a byte stands, by that of the byte before it
 abbrev pub line_with : (line before b : ℕ) → ℕ
 line_with line before b = if begins_line before b then line + 1 else line
 
@@ -39,14 +40,15 @@ lines_from at line before (b ∷ bs) =
     let later = lines_from (after_byte at b) here b bs in
     if begins_record at b then here ∷ later else later
 
--- the bytes of a file behind the mark that one in UTF-8 may begin with
+-- three bytes are the mark that a file in UTF-8 may begin with
 abbrev pub is_mark : (a b c : ℕ) → Bool
 is_mark a b c = (a == 239) && ((b == 187) && (c == 191))
 
+-- the bytes of a file behind the mark that a file in UTF-8 may begin with
 abbrev pub unmarked : List ℕ → List ℕ
 unmarked (a ∷ b ∷ c ∷ rest) = if is_mark a b c then rest else a ∷ b ∷ c ∷ rest
 unmarked bytes = bytes
 
--- of a file, whose lines are counted from 1
+-- the lines on which the records of a file begin, counted from 1
 abbrev pub record_lines : List ℕ → List ℕ
 record_lines csv = lines_from reading.Between 1 32 (unmarked csv)

@@ -26,15 +26,19 @@ pub record ShelfView : Type 0 where
 
 -- ---- the tables that records in memory stand for
 
+-- the key cells of the place of a row of a plan
 abbrev pub place_key : Place → List Cell
 place_key place = timing_key place.inter place.key
 
+-- the rows of a map of intersections
 abbrev pub intersection_rows : List (ℕ × IntersectionRow) → TableRows
 intersection_rows = tree_rows intersection_key intersection_columns
 
+-- the rows of a map of committed rows
 abbrev pub timing_rows : List (Place × Row) → TableRows
 timing_rows = tree_rows place_key timing_columns
 
+-- the rows of a map of draft rows
 abbrev pub draft_rows : List (Place × Option Row) → TableRows
 draft_rows = tree_rows place_key left_columns
 
@@ -42,9 +46,11 @@ draft_rows = tree_rows place_key left_columns
 abbrev pub with_intersections : List (ℕ × IntersectionRow) → Content
 with_intersections es = record no_content { intersection = intersection_rows es }
 
+-- tables that have these committed rows, and nothing else
 abbrev pub with_timing : List (Place × Row) → Content
 with_timing es = record no_content { timing = timing_rows es }
 
+-- tables that have these draft rows, and nothing else
 abbrev pub with_drafts : List (Place × Option Row) → Content
 with_drafts es = record no_content { draft = draft_rows es }
 
@@ -65,7 +71,7 @@ IsLeftAt key left = IfSome left (λ row. key_of row ≡ key) × IsKeyWithin curr
 abbrev pub AreRowsPlaced : List (Place × Row) → Type 0
 AreRowsPlaced = AllByRecursion (λ e. IsRowAt e.0.key e.1)
 
--- and each row that a draft row leaves
+-- each row that a draft row leaves is within its limits, under its own key
 abbrev pub AreLeftPlaced : List (Place × Option Row) → Type 0
 AreLeftPlaced = AllByRecursion (λ e. IsLeftAt e.0.key e.1)
 
@@ -83,5 +89,6 @@ pub record IsFreeOfStore {A : Type 0} (result : Result A ShelfFault) : Type 0 wh
 
 -- ---- how the logic stores it
 
+-- what is seen of the maps, as codes that a proof can compare
 abbrev pub view_code : Coded ShelfView
 view_code = code_by (Content × WriteCounts) (coded× content_code counts_code) (λ v. (v.tables, v.counts)) (λ p. record { tables = p.0; counts = p.1 }) (λ _. refl)

@@ -37,6 +37,7 @@ numbers_exact = exact_pairs ranged_cmp ranged_cmp number_exact number_exact
 
 -- ---- the place of a timing or draft row
 
+-- places of rows of plans are ordered by intersection, then by key
 abbrev pub place_cmp : Place → Place → Ordering
 place_cmp a b = ordering_then (ranged_cmp a.inter b.inter) (key_cmp a.key b.key)
 
@@ -54,6 +55,7 @@ place_exact a b tie =
 
 -- ---- of an inspection, or an order
 
+-- places of inspections and orders are ordered by intersection, then by number
 abbrev pub record_place_cmp : RecordPlace → RecordPlace → Ordering
 record_place_cmp a b = ordering_then (ranged_cmp a.inter b.inter) (ranged_cmp a.number b.number)
 
@@ -67,6 +69,7 @@ record_exact a b tie =
 
 -- ---- of a used part
 
+-- places of used parts are ordered by intersection, order and line
 abbrev pub line_place_cmp : LinePlace → LinePlace → Ordering
 line_place_cmp a b = ordering_then (ranged_cmp a.inter b.inter) (ordering_then (ranged_cmp a.order b.order) (ranged_cmp a.line b.line))
 
@@ -84,6 +87,7 @@ line_exact a b tie =
 pub part_exact : CmpEqualImpliesEq part_cmp
 part_exact = slice_cmp-IsAntisymmetric exact_unsigned
 
+-- places of deliveries are ordered by the part's code, then by number
 abbrev pub delivery_place_cmp : DeliveryPlace → DeliveryPlace → Ordering
 delivery_place_cmp a b = ordering_then (part_cmp a.part b.part) (ranged_cmp a.number b.number)
 

@@ -8,6 +8,7 @@ use Rattle.office_tables_maps.specs.MapShelf.{intersection_rows, timing_rows, dr
 use Rattle.office_tables_maps.specs.MapShelf.{AreIntersectionsWithin, AreRowsPlaced, AreLeftPlaced}
 use Rattle.office_tables_maps.specs.declared.maps.Maps.TheInside.{Inside}
 
+-- the content of the tables that the maps stand for
 abbrev pub tables_of : Inside → Content
 tables_of maps = record {
   intersection = intersection_rows maps.intersection.entries;

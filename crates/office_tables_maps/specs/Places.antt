@@ -11,9 +11,11 @@ use Rattle.office_tables_maps.specs.declared.place.RecordPlace.{RecordPlace}
 abbrev pub first_place : ℕ → Place
 first_place id = record { inter = id; key = Phase 1 }
 
+-- the last place of an intersection in a plan
 abbrev pub last_place : ℕ → Place
 last_place id = record { inter = id; key = Pattern 48 }
 
+-- the bounds of all places of an intersection in a plan
 abbrev pub all_places : ℕ → Bound Place × Bound Place
 all_places id = (Included (first_place id), Included (last_place id))
 
@@ -21,9 +23,11 @@ all_places id = (Included (first_place id), Included (last_place id))
 abbrev pub first_record : ℕ → RecordPlace
 first_record id = record { inter = id; number = 1 }
 
+-- the last place of an intersection for inspections, and for orders
 abbrev pub last_record : ℕ → RecordPlace
 last_record id = record { inter = id; number = 999_999 }
 
+-- the bounds of all places of an intersection for inspections, and for orders
 abbrev pub all_records : ℕ → Bound RecordPlace × Bound RecordPlace
 all_records id = (Included (first_record id), Included (last_record id))
 
@@ -31,9 +35,11 @@ all_records id = (Included (first_record id), Included (last_record id))
 abbrev pub first_line : ℕ → LinePlace
 first_line id = record { inter = id; order = 1; line = 1 }
 
+-- the last place of an intersection for used parts
 abbrev pub last_line : ℕ → LinePlace
 last_line id = record { inter = id; order = 999_999; line = 99 }
 
+-- the bounds of all places of an intersection for used parts
 abbrev pub all_lines : ℕ → Bound LinePlace × Bound LinePlace
 all_lines id = (Included (first_line id), Included (last_line id))
 

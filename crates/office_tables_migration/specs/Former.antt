@@ -73,6 +73,7 @@ abbrev pub is_row : Change → Bool
 is_row (Put r) = true
 is_row (Remove key) = false
 
+-- each of these changes puts a row
 abbrev pub are_rows : List (ℕ × Change) → Bool
 are_rows kept = list_all (λ k. is_row k.1) kept
 
@@ -86,7 +87,7 @@ abbrev pub timing_put : ℕ → Change → List RowChange
 timing_put id (Put r) = if has_ped (Put r) then PutTiming id r ∷ [] else []
 timing_put id (Remove key) = []
 
--- those of a list
+-- the committed rows of a list that a migration writes anew
 abbrev pub timing_puts : List (ℕ × Change) → List RowChange
 timing_puts [] = []
 timing_puts (k ∷ ks) = timing_put k.0 k.1 ++ timing_puts ks
@@ -95,6 +96,7 @@ timing_puts (k ∷ ks) = timing_put k.0 k.1 ++ timing_puts ks
 abbrev pub draft_put : ℕ → Change → List RowChange
 draft_put id change = if has_ped change then PutDraft id change ∷ [] else []
 
+-- the draft rows of a list that a migration writes anew
 abbrev pub draft_puts : List (ℕ × Change) → List RowChange
 draft_puts [] = []
 draft_puts (k ∷ ks) = draft_put k.0 k.1 ++ draft_puts ks

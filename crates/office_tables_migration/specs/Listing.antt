@@ -25,14 +25,15 @@ pub record ListsAll (t : Table) (sql : List ℕ) : Type 0 where
 abbrev pub ListsKept : Result (Vec (ℕ × Change) Global) ShelfFault → State → TableRows → Type 0
 ListsKept result new rows = IfOk result (λ kept. IsHonest new → AreKept rows kept.items)
 
--- and where it tells damage, version 1 kept no such cells
+-- where a list reports damage, the table has cells that no row of version 1 has, if the database is open after it
 abbrev pub TellsNoFormer : Result (Vec (ℕ × Change) Global) ShelfFault → State → TableRows → Type 0
 TellsNoFormer result new rows = result ≡ Err fault.Damaged → IsHonest new → HasNoFormer rows
 
--- the same of each table that the text lists
+-- where a list gives rows, they are all of those of each table that the text lists, if the database is open after it
 abbrev pub ListsEach : Result (Vec (ℕ × Change) Global) ShelfFault → State → List ℕ → (Table → TableRows) → Type 0
 ListsEach result new sql rows = IfOk result (λ kept. IsHonest new → (t : Table) → ListsAll t sql → AreKept (rows t) kept.items)
 
+-- where a list reports damage, each table that the text lists has cells that no row of version 1 has, if the database is open after it
 abbrev pub TellsNoFormerOfEach : Result (Vec (ℕ × Change) Global) ShelfFault → State → List ℕ → (Table → TableRows) → Type 0
 TellsNoFormerOfEach result new sql rows = result ≡ Err fault.Damaged → IsHonest new → (t : Table) → ListsAll t sql → HasNoFormer (rows t)
 

@@ -17,6 +17,7 @@ use Rattle.office_tables_migration.specs.Former.{AreKept, is_row, has_ped}
 abbrev pub kept_key : ℕ × Change → List Cell
 kept_key kept = draft_key kept.0 kept.1
 
+-- the cells of a row that was read in version 1, beside its key, as today spells it
 abbrev pub kept_columns : ℕ × Change → List Cell
 kept_columns kept = draft_columns kept.1
 

@@ -77,24 +77,31 @@ pub record TellsHeld (why : OpenFault) (tables : List Table) (keeper : List Row)
 
 -- ---- of trees that list them
 
+-- the rows of the table of the tables' version
 abbrev pub keeper_rows : List Table → Trees → List Row
 keeper_rows tables trees = rows_named tables trees KEEPER.now
 
+-- the rows of the eight tables, by table
 abbrev pub eight_rows : List Table → Trees → List Part
 eight_rows tables trees = moved_from CHILDREN_FIRST (rows_named tables trees)
 
+-- a fact about the tables of a file, the rows of the version's table, and those of the eight
 abbrev pub InTables : (List Table → List Row → List Part → Type 0) → Trees → Type 0
 InTables Holds trees = (schema : Schema) × AreListed (trees catalog_tree) schema × Holds schema.tables (keeper_rows schema.tables trees) (eight_rows schema.tables trees)
 
+-- a file stores another version than that of today
 abbrev pub HasOtherVersion : Trees → Type 0
 HasOtherVersion = InTables (λ tables keeper eight. StoreAnother tables keeper)
 
+-- a file has rows and no version
 abbrev pub HasRowsAlone : Trees → Type 0
 HasRowsAlone = InTables (λ tables. HaveRowsAlone)
 
+-- a file stores no version, and none of its tables has a row
 abbrev pub IsUnclaimed : Trees → Type 0
 IsUnclaimed = InTables (λ tables. AreUnclaimed)
 
+-- a file stores today's version, and each of its tables is the office's but for its number
 abbrev pub IsLacking : Trees → Type 0
 IsLacking = InTables (λ tables keeper eight. Lack tables keeper)
 

@@ -41,9 +41,11 @@ content_by rows = record {
 
 -- ---- on the way
 
+-- the rows of one table
 abbrev pub Part : Type 0
 Part = Table × List Row
 
+-- rows that were read to be put into a table made anew, as that table with these rows
 abbrev pub part_moved : Moved → Part
 part_moved moved = (moved.table, moved.rows.items)
 

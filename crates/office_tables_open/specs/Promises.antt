@@ -30,7 +30,7 @@ StoresToday result old new = HasCleanDisk new → OnOk result (IsReady old → v
 abbrev pub LeavesNoMore : State → State → Type 0
 LeavesNoMore old new = Survives old new (λ _. ⊥)
 
--- and the version that is stored
+-- a call leaves the version that is stored as it was, if the database is open after it
 abbrev pub KeepsVersion : State → State → Type 0
 KeepsVersion old new = IsHonest new → version_in new.now.trees ≡ version_in old.now.trees
 
@@ -44,7 +44,7 @@ pub record HoldUnder (tables : Content) (old trees : Trees) : Type 0 where
 abbrev pub KeepsTrees : {A E : Type 0} → Result A E → State → State → Type 0
 KeepsTrees result old new = IsHonest new → OnErr result (new.now.trees ≡ old.now.trees)
 
--- and so is the last commit
+-- a call that fails leaves the last commit as it was, if the database is open after it
 abbrev pub KeepsCommitted : {A E : Type 0} → Result A E → State → State → Type 0
 KeepsCommitted result old new = IsHonest new → OnErr result (new.committed.trees ≡ old.committed.trees)
 
@@ -52,7 +52,7 @@ KeepsCommitted result old new = IsHonest new → OnErr result (new.committed.tre
 abbrev pub Commits : {A E : Type 0} → Result A E → State → Type 0
 Commits result new = IsHonest new → OnOk result (new.committed.trees ≡ new.now.trees)
 
--- and a stop leaves that alone
+-- after a call that succeeds, a stop leaves what the database then holds, if it is open
 abbrev pub Settles : {A E : Type 0} → Result A E → State → Type 0
 Settles result new = IsHonest new → OnOk result ((trees : Trees) → new.may_leave trees → trees ≡ new.now.trees)
 

@@ -28,5 +28,6 @@ MayLeave s tables = HasCleanDisk s × (trees : Trees) × s.may_leave trees × (c
 
 -- ---- how the logic stores it
 
+-- what is seen of a shelf in SQL, as codes that a proof can compare
 abbrev pub view_code : {S : Type 0} → Coded S → Coded (SqlView S)
 view_code {S} store = code_by (Held S × WriteCounts) (coded× (held_code store) counts_code) (λ v. (v.conn, v.counts)) (λ p. record { conn = p.0; counts = p.1 }) (λ _. refl)

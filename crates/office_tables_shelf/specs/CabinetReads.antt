@@ -35,7 +35,7 @@ HasDamagedPart tables =
 
 -- ---- the records of an intersection
 
--- its inspections, in the order of their numbers, are those of the list
+-- the inspections of an intersection that the tables hold, in the order of their numbers, are those of the list
 abbrev pub ListsInspections : Content → ℕ → List Inspection → Type 0
 ListsInspections tables id inspections = map (λ inspection. (inspection_key id inspection.number, inspection_columns inspection)) inspections ≡ rows_of id tables.inspection
 
@@ -45,19 +45,21 @@ HasDamagedInspection tables id =
     HasDamagedRow table.Inspection IsInspectionWithin
     (λ inspection. inspection_key id inspection.number) inspection_columns tables (Some id)
 
--- its used parts, in the order of orders and lines
+-- the used parts of an intersection that the tables hold, in the order of orders and lines, are those of the list
 abbrev pub ListsUsed : Content → ℕ → List UsedLine → Type 0
 ListsUsed tables id lines = map (λ used. (used_key id used.order used.line, used_columns used)) lines ≡ rows_of id tables.used_part
 
+-- a row of the used parts of an intersection is damaged
 abbrev pub HasDamagedUsed : Content → ℕ → Type 0
 HasDamagedUsed tables id =
     HasDamagedRow table.UsedPart IsUsedLineWithin (λ used. used_key id used.order used.line)
     used_columns tables (Some id)
 
--- its orders, in the order of their numbers
+-- the orders of an intersection that the tables hold, in the order of their numbers, are those of the list
 abbrev pub ListsOrders : Content → ℕ → List Order → Type 0
 ListsOrders tables id orders = map (λ order. (order_key id order.number, order_columns order)) orders ≡ rows_of id tables.work_order
 
+-- a row of the orders of an intersection is damaged
 abbrev pub HasDamagedOrder : Content → ℕ → Type 0
 HasDamagedOrder tables id =
     HasDamagedRow table.WorkOrder IsOrderWithin (λ order. order_key id order.number) order_columns
@@ -69,7 +71,7 @@ HasDamagedOrder tables id =
 abbrev pub IsOfOne : {X : Type 0} → (X → Type 0) → ℕ × X → Type 0
 IsOfOne IsWithin e = IsInRange 1 9999 e.0 × IsWithin e.1
 
--- those of one intersection, in their order
+-- the entries of one intersection, in their order
 abbrev pub of_one : {X : Type 0} → ℕ → List (ℕ × X) → List X
 of_one id [] = []
 of_one id (e ∷ es) = cond (e.0 == id) (e.1 ∷ of_one id es) (of_one id es)
@@ -80,6 +82,7 @@ HasAnyDamagedInspection tables =
     HasDamagedRow table.Inspection (IsOfOne IsInspectionWithin)
     (λ e. inspection_key e.0 e.1.number) (λ e. inspection_columns e.1) tables None
 
+-- a row of any order is damaged
 abbrev pub HasAnyDamagedOrder : Content → Type 0
 HasAnyDamagedOrder tables =
     HasDamagedRow table.WorkOrder (IsOfOne IsOrderWithin) (λ e. order_key e.0 e.1.number)

@@ -9,6 +9,7 @@ use Rattle.cabinet_core.specs.declared.record.Delivery.{Delivery}
 
 -- ---- parts, by their codes
 
+-- the key cells of a part's row: its code
 abbrev pub part_key : List ℕ → List Cell
 part_key code = text code ∷ []
 
@@ -18,6 +19,7 @@ part_columns hand = number (pos hand) ∷ []
 
 -- ---- deliveries, by the part and their numbers
 
+-- the key cells of a delivery's row: its part and its number
 abbrev pub delivery_key : List ℕ → ℕ → List Cell
 delivery_key part n = text part ∷ number (pos n) ∷ []
 
@@ -27,6 +29,7 @@ delivery_columns delivery = number (pos delivery.day) ∷ number (pos delivery.c
 
 -- ---- inspections, by the intersection and their numbers
 
+-- the key cells of an inspection's row: its intersection and its number
 abbrev pub inspection_key : ℕ → ℕ → List Cell
 inspection_key id n = number (pos id) ∷ number (pos n) ∷ []
 
@@ -36,6 +39,7 @@ inspection_columns inspection = number (pos inspection.day) ∷ text inspection.
 
 -- ---- used parts, by the intersection, the order and the line
 
+-- the key cells of a used part's row: its intersection, order and line
 abbrev pub used_key : ℕ → ℕ → ℕ → List Cell
 used_key id order line = number (pos id) ∷ number (pos order) ∷ number (pos line) ∷ []
 
@@ -45,6 +49,7 @@ used_columns used = text used.part ∷ number (pos used.count) ∷ []
 
 -- ---- orders, by the intersection and their numbers
 
+-- the key cells of an order's row: its intersection and its number
 abbrev pub order_key : ℕ → ℕ → List Cell
 order_key id n = number (pos id) ∷ number (pos n) ∷ []
 
@@ -53,6 +58,7 @@ abbrev pub closed_cell : Option Closing → Cell
 closed_cell None = null
 closed_cell (Some closing) = number (pos closing.day)
 
+-- the cell of the clerk who closed an order: null while it is open
 abbrev pub closer_cell : Option Closing → Cell
 closer_cell None = null
 closer_cell (Some closing) = text closing.closer

@@ -33,6 +33,7 @@ no_content = record {
 
 -- ---- one table
 
+-- the rows of one of the eight tables
 abbrev pub rows_at : Content → Table → TableRows
 rows_at tables table.Intersection = tables.intersection
 rows_at tables table.Timing = tables.timing
@@ -43,7 +44,7 @@ rows_at tables table.Part = tables.part
 rows_at tables table.Delivery = tables.delivery
 rows_at tables table.UsedPart = tables.used_part
 
--- its place among the eight
+-- the place of a table among the eight
 abbrev pub place_at : Table → ℕ
 place_at table.Intersection = 0
 place_at table.Timing = 1
@@ -54,6 +55,7 @@ place_at table.Part = 5
 place_at table.Delivery = 6
 place_at table.UsedPart = 7
 
+-- two tables are the same one
 abbrev pub is_same_table : Table → Table → Bool
 is_same_table t other = place_at t == place_at other
 
@@ -93,6 +95,7 @@ drop_in tables t id = with_rows tables t (rows_but id (rows_at tables t))
 
 -- ---- how the logic stores it
 
+-- the content of the tables, as codes that a proof can compare
 abbrev pub content_code : Coded Content
 content_code = code_by (TableRows × (TableRows × (TableRows × (TableRows × (TableRows × (TableRows × (TableRows × TableRows)))))))
     (coded× rows_code (coded× rows_code (coded× rows_code (coded× rows_code (coded× rows_code (coded× rows_code (coded× rows_code rows_code)))))))

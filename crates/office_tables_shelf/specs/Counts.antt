@@ -8,9 +8,11 @@ use Rattle.office_tables_shelf.specs.declared.rows.RowChange.{RowChange}
 use Rattle.office_tables_shelf.specs.declared.rows.Table.{Table}
 use Rattle.office_tables_shelf.specs.declared.rows.Table.TheVariants as table
 
+-- no table was written to
 abbrev pub no_writes : WriteCounts
 no_writes = record { intersection = 0; timing = 0; draft = 0; inspection = 0; work_order = 0; part = 0; delivery = 0; used_part = 0 }
 
+-- how often a table was written to
 abbrev pub count_of : WriteCounts → Table → ℕ
 count_of counts table.Intersection = counts.intersection
 count_of counts table.Timing = counts.timing
@@ -48,9 +50,11 @@ writes_in table (change ∷ changes) = cond (is_same_table (table_of change) tab
 
 -- ---- how the logic stores them
 
+-- eight numbers, one for each table
 abbrev pub Eight : Type 0
 Eight = ℕ × (ℕ × (ℕ × (ℕ × (ℕ × (ℕ × (ℕ × ℕ))))))
 
+-- counts of writes, as codes that a proof can compare
 abbrev pub counts_code : Coded WriteCounts
 counts_code = code_by Eight (coded× coded_ℕ (coded× coded_ℕ (coded× coded_ℕ (coded× coded_ℕ (coded× coded_ℕ (coded× coded_ℕ (coded× coded_ℕ coded_ℕ)))))))
     (λ c. (c.intersection, (c.timing, (c.draft, (c.inspection, (c.work_order, (c.part, (c.delivery, c.used_part))))))))

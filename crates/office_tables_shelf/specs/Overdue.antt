@@ -34,7 +34,7 @@ seen_row id row last = record { id = id; name = row.name; interval = row.interva
 abbrev pub seen_on : List (ℕ × ℕ) → ℕ × IntersectionRow → Seen
 seen_on days e = seen_row e.0 e.1 (last_day_in days e.0)
 
--- and with the inspections that the tables hold of it, where all that they hold of them are inspections
+-- an intersection as it is seen with the inspections that the tables hold of it, where all that they hold of them are inspections
 abbrev pub IsSeen : Content → ℕ × IntersectionRow → Seen → Type 0
 IsSeen tables e seen = (inspections : List Inspection) → ListsInspections tables e.0 inspections → seen ≡ seen_row e.0 e.1 (latest_day inspections)
 

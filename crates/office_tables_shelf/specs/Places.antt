@@ -23,7 +23,7 @@ pub data Place : Type 0 where
   Part : List ℕ → Place
   Delivery : List ℕ → ℕ → Place
 
--- its table, and the cells of its key there
+-- the table of a place
 abbrev pub table_at : Place → Table
 table_at (Inspection id n) = table.Inspection
 table_at (Order id n) = table.WorkOrder
@@ -31,6 +31,7 @@ table_at (Line id order line) = table.UsedPart
 table_at (Part code) = table.Part
 table_at (Delivery code n) = table.Delivery
 
+-- the key cells of the row at a place
 abbrev pub key_cells : Place → List Cell
 key_cells (Inspection id n) = inspection_key id n
 key_cells (Order id n) = order_key id n
@@ -46,6 +47,7 @@ RecordAt (Line id order line) = UsedLine
 RecordAt (Part code) = ℕ
 RecordAt (Delivery code n) = DeliveryRecord
 
+-- the key cells of a record, by its own fields
 abbrev pub own_key : (place : Place) → RecordAt place → List Cell
 own_key (Inspection id n) = λ inspection. inspection_key id inspection.number
 own_key (Order id n) = λ order. order_key id order.number
@@ -53,6 +55,7 @@ own_key (Line id order line) = λ used. used_key id used.order used.line
 own_key (Part code) = λ _. part_key code
 own_key (Delivery code n) = λ delivery. delivery_key delivery.part delivery.number
 
+-- the cells of a record beside its key
 abbrev pub columns_at : (place : Place) → RecordAt place → List Cell
 columns_at (Inspection id n) = inspection_columns
 columns_at (Order id n) = order_columns
@@ -60,6 +63,7 @@ columns_at (Line id order line) = used_columns
 columns_at (Part code) = part_columns
 columns_at (Delivery code n) = delivery_columns
 
+-- a record of the kind at a place is within its limits
 abbrev pub WithinAt : (place : Place) → RecordAt place → Type 0
 WithinAt (Inspection id n) = IsInspectionWithin
 WithinAt (Order id n) = IsOrderWithin

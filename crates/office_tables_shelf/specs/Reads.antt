@@ -8,6 +8,7 @@ use Rattle.office_tables_shelf.specs.declared.rows.Table.{Table}
 
 -- ---- the rows of a list: those of an intersection, or all of a table
 
+-- a key is of one intersection, or of any where none is given
 abbrev pub is_among : Option ℕ → List Cell → Bool
 is_among None key = true
 is_among (Some id) key = is_of id key

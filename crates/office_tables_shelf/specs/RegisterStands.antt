@@ -12,12 +12,15 @@ use Rattle.office_tables_shelf.specs.CabinetRows.{inspection_key, inspection_col
 abbrev pub inspection_cells : RecordKey → List Cell
 inspection_cells key = inspection_key key.0 key.1
 
+-- the key cells of an order or an inspection, by its key in the register
 abbrev pub order_cells : RecordKey → List Cell
 order_cells key = order_key key.0 key.1
 
+-- the key cells of a used part, by its key in the register
 abbrev pub line_cells : LineKey → List Cell
 line_cells key = used_key key.0 key.1.0 key.1.1
 
+-- the key cells of a delivery, by its key in the register
 abbrev pub delivery_cells : DeliveryKey → List Cell
 delivery_cells key = delivery_key key.0 key.1
 

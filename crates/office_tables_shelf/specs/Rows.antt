@@ -23,6 +23,7 @@ stage_number Transaction = 1
 stage_number Verify = 2
 stage_number Done = 3
 
+-- the number of a state in the intersection table: 0 Normal, 1 Transaction, 2 Verify, 3 Done
 abbrev pub state_number : Option Holder → ℕ
 state_number None = 0
 state_number (Some holder) = stage_number holder.stage
@@ -32,6 +33,7 @@ abbrev pub owner_cell : Option Holder → Cell
 owner_cell None = null
 owner_cell (Some holder) = text holder.owner
 
+-- the key cells of an intersection's row: its number
 abbrev pub intersection_key : ℕ → List Cell
 intersection_key id = number (pos id) ∷ []
 
@@ -42,6 +44,7 @@ intersection_columns row =
 
 -- ---- timing and draft rows: intersection, kind, the numbers of the key
 
+-- the key cells of a row of a plan: its intersection, kind and two numbers
 abbrev pub timing_key : ℕ → Key → List Cell
 timing_key id key = number (pos id) ∷ number (pos (kind_of key)) ∷ number (pos (first_of key)) ∷ number (pos (second_of key)) ∷ []
 
@@ -49,13 +52,15 @@ timing_key id key = number (pos id) ∷ number (pos (kind_of key)) ∷ number (p
 unfoldable pub body_in : Limits → Row → List ℕ
 body_in limits row = join_with_byte 44 (spelling limits row)
 
--- the same in today's version
+-- the fields of a row, as today's version spells them, with a comma between
 abbrev pub body_of : Row → List ℕ
 body_of row = body_in current_limits row
 
+-- the cells of a committed row beside its key, as the version with these limits spells it
 abbrev pub timing_columns_in : Limits → Row → List Cell
 timing_columns_in limits row = text (body_in limits row) ∷ []
 
+-- the cells of a committed row beside its key, as today's version spells it
 abbrev pub timing_columns : Row → List Cell
 timing_columns = timing_columns_in current_limits
 
@@ -64,12 +69,15 @@ abbrev pub left_columns_in : Limits → Option Row → List Cell
 left_columns_in limits None = null ∷ []
 left_columns_in limits (Some row) = timing_columns_in limits row
 
+-- the cells of a draft row beside its key, as today's version spells what it leaves
 abbrev pub left_columns : Option Row → List Cell
 left_columns = left_columns_in current_limits
 
+-- the key cells of a draft row, by its change
 abbrev pub draft_key : ℕ → Change → List Cell
 draft_key id change = timing_key id (changed_key change)
 
+-- the cells of a draft row beside its key, by its change
 abbrev pub draft_columns : Change → List Cell
 draft_columns change = left_columns (left_by change)
 

@@ -10,6 +10,7 @@ use Rattle.office_tables_statements.specs.Tables.{IsListText, IsDropText, IsRemo
 use Rattle.office_tables_sql.specs.Texts.{SqlTexts, AreTextsOf}
 use Rattle.office_tables_sql.specs.declared.draft.TheConstants.{LIST, FIND, UPDATE, INSERT, REMOVE, DROP}
 
+-- the four texts in SQL of the table of draft rows
 abbrev pub table_texts : SqlTexts
 table_texts = record { list = LIST.now; find = FIND.now; update = UPDATE.now; insert = INSERT.now }
 

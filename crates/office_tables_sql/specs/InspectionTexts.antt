@@ -9,10 +9,11 @@ use Rattle.office_tables_statements.specs.Tables.{IsListText, Fits}
 use Rattle.office_tables_sql.specs.Texts.{SqlTexts, AreTextsOf}
 use Rattle.office_tables_sql.specs.declared.inspection.TheConstants.{LIST, WALK, FIND, UPDATE, INSERT}
 
+-- the four texts in SQL of the table of inspections
 abbrev pub table_texts : SqlTexts
 table_texts = record { list = LIST.now; find = FIND.now; update = UPDATE.now; insert = INSERT.now }
 
--- those of the list of all
+-- the texts in SQL of the table of inspections, of which the list is that of all intersections
 abbrev pub walk_texts : SqlTexts
 walk_texts = record table_texts { list = WALK.now }
 

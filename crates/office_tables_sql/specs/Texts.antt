@@ -3,12 +3,14 @@ use Rattle.std.specs.Prelude.{ℕ, List}
 use Rattle.office_tables_shelf.specs.declared.rows.Table.{Table}
 use Rattle.office_tables_statements.specs.Tables.{IsFindText, IsUpdateText, IsInsertText}
 
+-- the texts in SQL of a table: they list, find, change and add its rows
 pub record SqlTexts : Type 0 where
   pub list : List ℕ
   pub find : List ℕ
   pub update : List ℕ
   pub insert : List ℕ
 
+-- the texts in SQL find, change and add the rows of a table
 pub record AreTextsOf (t : Table) (texts : SqlTexts) : Type 0 where
   pub finds : IsFindText t texts.find
   pub updates : IsUpdateText t texts.update

@@ -19,6 +19,7 @@ use Rattle.office_machine.specs.Office.{Office, Intersection, Version, IsSoundIn
 abbrev pub row_of : Intersection → IntersectionRow
 row_of i = record { name = i.name; interval = i.interval; revision = i.timing.revision; holder = option_map holder_of i.timing.draft }
 
+-- the cells of an intersection's row beside its key
 abbrev pub columns_of : Intersection → List Cell
 columns_of i = intersection_columns (row_of i)
 
@@ -40,15 +41,17 @@ IsSaidIn v key silent = Unit {0}
 IsSaidIn v key (leaves row) = IsRowWithin v.limits row × (key_of row ≡ key)
 IsSaidIn v key removes = IsKeyWithin v.limits key
 
+-- what a draft row says of a key is within the limits of today
 abbrev pub IsSaid : Key → Said → Type 0
 IsSaid = IsSaidIn today
 
--- its columns; none where no draft row stands
+-- the cells of a draft row beside its key, as a version spells it; none where no draft row stands
 abbrev pub said_columns_in : Limits → Said → Option (List Cell)
 said_columns_in limits silent = None
 said_columns_in limits (leaves row) = Some (left_columns_in limits (Some row))
 said_columns_in limits removes = Some (left_columns_in limits None)
 
+-- the cells of a draft row beside its key, as today spells it; none where no draft row stands
 abbrev pub said_columns : Said → Option (List Cell)
 said_columns = said_columns_in current_limits
 
@@ -59,6 +62,7 @@ pub record DraftRowStandsIn (v : Version) (tables : Content) (office : Office) (
   pub stands : RowStands (get (side_at office id).committed key) said (side_at office id).draft key
   pub within : IsSaidIn v key said
 
+-- the draft table has at a key what the draft of an office says of it, as today spells it
 abbrev pub DraftRowStands : Content → Office → ℕ → Key → Type 0
 DraftRowStands = DraftRowStandsIn today
 
@@ -71,6 +75,7 @@ pub record StandForIn (v : Version) (tables : Content) (office : Office) : Type 
   pub draft_keys : HasTimingKeys tables.draft
   pub register : RegisterStands tables office.register
 
+-- the tables represent an office, as today spells its rows
 abbrev pub StandFor : Content → Office → Type 0
 StandFor = StandForIn today
 
@@ -79,5 +84,6 @@ pub record StandForSoundIn (v : Version) (tables : Content) (office : Office) : 
   pub stand : StandForIn v tables office
   pub sound : IsSoundIn v office
 
+-- the tables represent an office that is sound by the rules of today
 abbrev pub StandForSound : Content → Office → Type 0
 StandForSound = StandForSoundIn today

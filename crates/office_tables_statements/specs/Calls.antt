@@ -60,7 +60,7 @@ pub record Keeps (old new : State) : Type 0 where
 abbrev pub StaysOpen : {A E : Type 0} → Result A E → State → Type 0
 StaysOpen result new = HasCleanDisk new → OnOk result (IsHonest new)
 
--- and so does a call that tells that a stored row is no record
+-- a call that answers, or reports a damaged row, leaves the database open, if its disk is clean
 abbrev pub TellsOpen : {A : Type 0} → Result A ShelfFault → State → Type 0
 TellsOpen result new = HasCleanDisk new → IsTold result → IsHonest new
 
@@ -69,6 +69,7 @@ abbrev pub command_of : Result Compiled CompileError → Command
 command_of (Ok c) = c.command
 command_of (Err e) = Nothing
 
+-- the text of a statement that was compiled; none where it was not
 abbrev pub statement_of : List ℕ → Result Compiled CompileError → List ℕ
 statement_of sql (Ok c) = text_of sql c
 statement_of sql (Err e) = []

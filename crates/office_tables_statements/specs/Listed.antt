@@ -8,5 +8,6 @@ use Rattle.office_tables_statements.specs.Stored.{cells_at}
 abbrev pub shown_key : Row → List Cell
 shown_key = cells_at (0 ∷ 1 ∷ 2 ∷ 3 ∷ [])
 
+-- the body that a list of rows of a plan shows
 abbrev pub shown_body : Row → List Cell
 shown_body = cells_at (4 ∷ [])

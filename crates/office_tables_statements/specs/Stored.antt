@@ -11,6 +11,7 @@ use Rattle.office_tables_shelf.specs.Content.{Content}
 use Rattle.office_tables_statements.specs.Layout as layout
 use Rattle.office_tables_statements.specs.Layout.{Layout, values_at}
 
+-- a value of SQL as a cell
 abbrev pub cell_of : Value → Cell
 cell_of Null = null
 cell_of (Int n) = number n
@@ -18,13 +19,16 @@ cell_of (Real x) = odd
 cell_of (Text t) = text t
 cell_of (Blob b) = odd
 
+-- a text as a cell, null where there is none
 abbrev pub text_or_null : Option (List ℕ) → Cell
 text_or_null None = null
 text_or_null (Some t) = text t
 
+-- the values of a row of SQL as cells
 abbrev pub cells : Row → List Cell
 cells values = map cell_of values
 
+-- the values of a row of SQL at some places, as cells
 abbrev pub cells_at : List ℕ → Row → List Cell
 cells_at places row = cells (values_at places row)
 
@@ -32,6 +36,7 @@ cells_at places row = cells (values_at places row)
 abbrev pub rows_in : Layout → List Row → TableRows
 rows_in t = rows_by (cells_at t.keys) (cells_at t.columns)
 
+-- the rows that the trees hold of a table, by the cells of their keys
 abbrev pub rows_stored : Layout → Trees → TableRows
 rows_stored t trees = rows_in t (trees t.tree)
 

@@ -44,6 +44,7 @@ use Rattle.office_tables_statements.specs.Stored.{cells_at, are_sound}
 
 -- ---- where each table is
 
+-- the layout of a table
 abbrev pub layout_at : Table → Layout
 layout_at table.Intersection = layout.intersection
 layout_at table.Timing = layout.timing
@@ -54,6 +55,7 @@ layout_at table.Part = layout.part
 layout_at table.Delivery = layout.delivery
 layout_at table.UsedPart = layout.used_part
 
+-- the table of the schema for one of the eight
 abbrev pub schema_at : Table → SqlTable
 schema_at table.Intersection = schema.intersection_table
 schema_at table.Timing = schema.timing_table
@@ -87,36 +89,45 @@ of_key (p ∷ ps) (q ∷ qs) = op2 (Compare Eq Binary) (col 1 p) (col 0 q) ∷ o
 abbrev pub of_first : Table → List Term
 of_first t = of_key (layout_at t).keys (0 ∷ [])
 
+-- the filter of a query: rows of one intersection, or all
 abbrev pub filter_of : Table → Option ℕ → List Term
 filter_of t None = []
 filter_of t (Some id) = of_first t
 
+-- the parameters of a query: the intersection, or none
 abbrev pub params_of : Option ℕ → Row
 params_of None = []
 params_of (Some id) = Int (pos id) ∷ []
 
+-- the rows of one intersection, or all, in the order of their keys
 abbrev pub rows_among : Option ℕ → TableRows → List (List Cell × List Cell)
 rows_among None rows = entries rows
 rows_among (Some id) rows = rows_of id rows
 
 -- ---- a row as a list shows it: the columns of the key, and then the others
 
+-- places that follow each other from one on, as many as a list has
 abbrev pub places_from : ℕ → List ℕ → List ℕ
 places_from n [] = []
 places_from n (p ∷ ps) = n ∷ places_from (suc n) ps
 
+-- the places that a query of all columns shows: keys, then columns
 abbrev pub places_of : Table → List ℕ
 places_of t = (layout_at t).keys ++ (layout_at t).columns
 
+-- how many columns a table has
 abbrev pub width_of : Table → ℕ
 width_of t = length (places_of t)
 
+-- the key cells of a row that a query shows
 abbrev pub key_shown : Table → Row → List Cell
 key_shown t = cells_at (places_from 0 (layout_at t).keys)
 
+-- the cells of a row that a query shows, beside its key
 abbrev pub columns_shown : Table → Row → List Cell
 columns_shown t = cells_at (places_from (length (layout_at t).keys) (layout_at t).columns)
 
+-- a row that a query shows: its key cells and its other cells
 abbrev pub row_shown : Table → Row → List Cell × List Cell
 row_shown t row = (key_shown t row, columns_shown t row)
 
@@ -139,6 +150,7 @@ pub record IsUnder (t : Table) (tables : Content) (key : List Cell) (found : Opt
 
 -- ---- the statements
 
+-- the query that lists a table's rows in the order of their keys, by a filter
 abbrev pub listed_by : Layout → List Term → Query
 listed_by t filter = record {
   from = inner t.tree end;
@@ -163,6 +175,7 @@ pub record IsListText (t : Table) (whose : Option ℕ) (sql : List ℕ) : Type 0
 abbrev pub counting : Grouping
 counting = record { keys = []; collations = []; aggregates = record { op = CountRows; distinct = false; collation = Binary; argument = lit Null } ∷ []; having = [] }
 
+-- the query that counts a table's rows, by a filter
 abbrev pub counted_by : Layout → List Term → Query
 counted_by t filter = record {
   from = inner t.tree end;
@@ -201,6 +214,7 @@ picked_where t filter shown = record {
 abbrev pub picked_by : Layout → List Term → Query
 picked_by t = picked_where t (of_key t.keys t.places)
 
+-- the query that finds the row of a table with a key
 abbrev pub found_by : Layout → List ℕ → Query
 found_by t shown = picked_by t (map (col 1) shown)
 
@@ -264,12 +278,14 @@ key_values id key = Int (pos id) ∷ Int (pos (kind_of key)) ∷ Int (pos (first
 
 -- ---- what is bound for cells
 
+-- a cell as a value of SQL
 abbrev pub value_of : Cell → Value
 value_of null = Null
 value_of (number n) = Int n
 value_of (text t) = Text t
 value_of odd = Null
 
+-- cells as values of SQL
 abbrev pub values_of : List Cell → Row
 values_of = map value_of
 
@@ -287,6 +303,7 @@ suits_kind kind.Real c = false
 suits_kind kind.Blob c = false
 suits_kind kind.Any c = false
 
+-- columns take cells as they are
 abbrev pub suit : List Column → List Cell → Bool
 suit [] cells = true
 suit (c ∷ cs) [] = true

@@ -4,6 +4,7 @@ use Rattle.signal_records.specs.declared.limits.Limits.{Limits}
 use Rattle.office_tables_statements.specs.declared.body_reading.Version.{Version}
 use Rattle.office_tables_statements.specs.declared.body_reading.Version.TheVariants.{First, Current}
 
+-- the limits of the rows of a version
 abbrev pub limits_of : Version → Limits
 limits_of First = version_1_limits
 limits_of Current = current_limits

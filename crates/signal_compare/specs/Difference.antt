@@ -12,7 +12,7 @@ use Rattle.signal_records.specs.TimingSet.{Rows}
 use Rattle.signal_compare.specs.declared.difference.Difference.{Difference}
 use Rattle.signal_compare.specs.declared.difference.Difference.TheVariants.{Added, Removed, Changed}
 
--- the key at which the sets differ
+-- the key at which two sets differ, of a difference
 abbrev pub place_of : Difference → Key
 place_of (Added row) = key_of row
 place_of (Removed row) = key_of row
@@ -24,6 +24,7 @@ change_of (Added row) = Put row
 change_of (Removed row) = Remove (key_of row)
 change_of (Changed before after) = Put after
 
+-- the changes that make the second set of the first, by their differences
 abbrev pub difference_changes : List Difference → List Change
 difference_changes differences = map change_of differences
 
@@ -31,8 +32,8 @@ difference_changes differences = map change_of differences
 abbrev pub difference_at : Key → List Difference → Option Difference
 difference_at key differences = find key_cmp key (map (λ d. (place_of d, d)) differences)
 
--- what two sets have under a key, and what is told of it: nothing where that is the same, and else
--- what stands there
+-- a difference fits what two sets have under a key: there is none where that is the same, and else it says what
+-- stands there
 abbrev pub Explains : Option Row → Option Row → Option Difference → Type 0
 Explains first second None = first ≡ second
 Explains first second (Some (Added row)) = (first ≡ None) × (second ≡ Some row)
@@ -40,13 +41,13 @@ Explains first second (Some (Removed row)) = (first ≡ Some row) × (second ≡
 Explains first second (Some (Changed before after)) =
     (first ≡ Some before) × (second ≡ Some after) × (before ≢ after)
 
--- at each key, what is told is what stands there
+-- at each key, the difference fits what stands there
 abbrev pub EachKeyExplained : Rows → Rows → List Difference → Type 0
 EachKeyExplained first second differences =
     (key : Key) → Explains (get first key) (get second key) (difference_at key differences)
 
--- The differences are those of the sets, in the order of their keys, each told as what stands
--- there. So no other list is told of the two sets.
+-- The differences are those of the sets, in the order of their keys, each with what stands there. So there is one
+-- such list of two sets.
 pub record AreTold (first second : Rows) (found : List Difference) : Type 0 where
   pub ascending : IsStrictlySortedBy key_cmp (map place_of found)
   pub explained : EachKeyExplained first second found

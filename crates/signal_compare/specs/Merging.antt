@@ -37,7 +37,7 @@ pub record AreDifferences (first second : List Row) (differences : List Differen
   pub above : (key : Key) → T (below_all key_cmp key (under_keys key_of first))
       → T (below_all key_cmp key (under_keys key_of second)) → T (below_all key_cmp key (under_keys place_of differences))
 
--- two rows of a key are told where they differ
+-- two rows of a key are listed where they differ
 abbrev pub TellsChange : Row → Row → List Difference → List Difference → Type 0
 TellsChange before after old new =
     ((before ≡ after) × (new ≡ old)) ⊎ ((before ≢ after) × (new ≡ old ++ Changed before after ∷ []))

@@ -26,13 +26,13 @@ or_dash (b ∷ bs) = b ∷ bs
 abbrev pub shown : List (List ℕ) → ℕ → List ℕ
 shown fields place = or_dash (slice_index_or fields place [])
 
--- `minGreen 8 > 10`, where the fields at a place differ
+-- the text of a field at which two rows differ: `minGreen 8 > 10`; none where they do not
 abbrev pub field_change : List (List ℕ) → List (List ℕ) → ℕ → List ℕ → List (List ℕ)
 field_change before after place name =
     if bytes_eq (shown before place) (shown after place) then []
     else (name ++ codes " " ++ shown before place ++ codes " > " ++ shown after place) ∷ []
 
--- the fields of a phase up to its mates
+-- the fields of a phase up to its mates that differ in two rows
 abbrev pub front_changes : List (List ℕ) → List (List ℕ) → List (List ℕ)
 front_changes before after =
     field_change before after 2 (codes "ring") ++ field_change before after 3 (codes "minGreen")
@@ -40,7 +40,7 @@ front_changes before after =
     ++ field_change before after 6 (codes "yellow") ++ field_change before after 7 (codes "red")
     ++ field_change before after 8 (codes "mates")
 
--- the fields of its pedestrian part
+-- the fields of a phase's pedestrian part that differ in two rows
 abbrev pub ped_changes : List (List ℕ) → List (List ℕ) → List (List ℕ)
 ped_changes before after =
     field_change before after 9 (codes "walk") ++ field_change before after 10 (codes "clear")
@@ -64,11 +64,11 @@ abbrev pub changed_fields : Row → Row → List (List ℕ)
 changed_fields before after =
     row_changes (key_of after) (spelling current_limits before) (spelling current_limits after)
 
--- `phase,2`
+-- the text of a key: `phase,2`
 abbrev pub key_text : Key → List ℕ
 key_text k = separated (codes ",") (key_spelling k)
 
--- what follows the sign: a row as in CSV, or a key and its fields that differ
+-- a difference without the end of its line: its sign, then a row as in CSV, or a key and its fields that differ
 abbrev pub difference_text : Difference → List ℕ
 difference_text (Added row) = codes "+ " ++ separated (codes ",") (spelling current_limits row)
 difference_text (Removed row) = codes "- " ++ separated (codes ",") (spelling current_limits row)
@@ -76,6 +76,7 @@ difference_text (Changed before after) =
     codes "~ " ++ key_text (key_of after) ++ codes ": "
     ++ separated (codes ", ") (changed_fields before after)
 
+-- the line of a difference
 abbrev pub difference_line : Difference → List ℕ
 difference_line d = difference_text d ++ codes "\n"
 

@@ -3,7 +3,7 @@ use Rattle.std.specs.Prelude.{ℕ, Bool, true, false, List, codes, Option, Some,
 use Rattle.signal_records.specs.declared.fault.RowFault.{RowFault}
 use Rattle.signal_records.specs.declared.fault.RowFault.TheVariants as fault
 
--- its number
+-- the number of a fault, as answers show it
 abbrev pub fault_number : RowFault → ℕ
 fault_number fault.Kind = 1
 fault_number fault.Count = 2
@@ -15,7 +15,7 @@ fault_number fault.NoMemory = 7
 fault_number (fault.Day field) = 8
 fault_number (fault.Text field) = 9
 
--- its name, as bytes
+-- the name of a fault, as bytes, as the program prints it
 abbrev pub fault_name : RowFault → List ℕ
 fault_name fault.Kind = codes "Kind"
 fault_name fault.Count = codes "Count"
@@ -27,7 +27,7 @@ fault_name fault.NoMemory = codes "NoMemory"
 fault_name (fault.Day field) = codes "Day"
 fault_name (fault.Text field) = codes "Text"
 
--- the field that it names, counted from 1
+-- the field that a fault names, counted from 1
 abbrev pub fault_field : RowFault → Option ℕ
 fault_field (fault.Number field) = Some field
 fault_field (fault.Range field) = Some field

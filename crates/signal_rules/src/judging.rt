@@ -160,13 +160,43 @@ fn judge_phase<F: Finding>(
     ensures { OnOk result (found.new.items ≡ found.old.items
         ++ map F.of (broken (Subject.Phase p) (phase_findings set.now p phase.now))) }
 {
-    report(phase::yellow_reason(phase), Subject::Phase(p), Rule::V1, found)?;
+    report(
+        phase::yellow_reason(phase),
+        Subject::Phase(p),
+        Rule::V1,
+        found,
+    )?;
     report(phase::red_reason(phase), Subject::Phase(p), Rule::V2, found)?;
-    report(phase::walk_reason(phase), Subject::Phase(p), Rule::V3, found)?;
-    report(phase::clearance_reason(phase), Subject::Phase(p), Rule::V4, found)?;
-    report(phase::setback_reason(phase), Subject::Phase(p), Rule::V5, found)?;
-    report(phase::mates_reason(set, p, phase), Subject::Phase(p), Rule::V6, found)?;
-    report(phase::lead_reason(phase), Subject::Phase(p), Rule::V14, found)
+    report(
+        phase::walk_reason(phase),
+        Subject::Phase(p),
+        Rule::V3,
+        found,
+    )?;
+    report(
+        phase::clearance_reason(phase),
+        Subject::Phase(p),
+        Rule::V4,
+        found,
+    )?;
+    report(
+        phase::setback_reason(phase),
+        Subject::Phase(p),
+        Rule::V5,
+        found,
+    )?;
+    report(
+        phase::mates_reason(set, p, phase),
+        Subject::Phase(p),
+        Rule::V6,
+        found,
+    )?;
+    report(
+        phase::lead_reason(phase),
+        Subject::Phase(p),
+        Rule::V14,
+        found,
+    )
 }
 
 fn judge_sequence<F: Finding>(

@@ -184,7 +184,11 @@ fn pair_reason(slots: &[Slot<'_>], second: u32) -> Option<Reason>
 fn slot_reason(slot: &Slot<'_>, later: &[Slot<'_>], second: u32) -> Option<Reason>
     ensures { result ≡ first_true (slot_cases second slot.now later.now) }
 {
-    if has_second(slot, second) { later_reason(slot, later, second) } else { None }
+    if has_second(slot, second) {
+        later_reason(slot, later, second)
+    } else {
+        None
+    }
 }
 
 /// The first of some later slots that has the second of a slot and conflicts with it, for as long

@@ -17,11 +17,7 @@ use signal_records::{NoMemory, Pattern, PhaseNo, RingNo, Split, SplitNo, TimingS
 use std::alloc::Global;
 
 /// V9, of `patternSequenceNumber` and `patternSplitNumber`. The phases are those of the set.
-pub(crate) fn rows_reason(
-    set: &TimingSet,
-    phases: &[PhaseNo],
-    pattern: &Pattern,
-) -> Option<Reason>
+pub(crate) fn rows_reason(set: &TimingSet, phases: &[PhaseNo], pattern: &Pattern) -> Option<Reason>
     requires { phases.now ≡ set_has.phases set.now }
     ensures { result ≡ first_true (rows_cases set.now pattern.now) }
 {
@@ -70,10 +66,7 @@ pub(crate) fn offset_reason(pattern: &Pattern) -> Option<Reason>
     if u32::from(offset) < cycle.get() {
         return None;
     }
-    Some(Reason::Pattern(PatternReason::LateOffset {
-        offset,
-        cycle,
-    }))
+    Some(Reason::Pattern(PatternReason::LateOffset { offset, cycle }))
 }
 
 /// V11, of `splitCoordPhase`. The phases are those of the set.

@@ -45,10 +45,7 @@ pub(crate) fn walk_reason(phase: &Phase) -> Option<Reason>
     if least <= seconds {
         return None;
     }
-    Some(Reason::Crossing(CrossingReason::ShortWalk {
-        seconds,
-        least,
-    }))
+    Some(Reason::Crossing(CrossingReason::ShortWalk { seconds, least }))
 }
 
 /// From the end of the walk to the end of red, in tenths of a second.
@@ -114,10 +111,7 @@ pub(crate) fn lead_reason(phase: &Phase) -> Option<Reason>
         return Some(Reason::Crossing(CrossingReason::ShortLead { lead }));
     }
     if u32::from(*walk) < lead {
-        return Some(Reason::Crossing(CrossingReason::LongLead {
-            lead,
-            walk: *walk,
-        }));
+        return Some(Reason::Crossing(CrossingReason::LongLead { lead, walk: *walk }));
     }
     None
 }

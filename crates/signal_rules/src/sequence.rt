@@ -74,11 +74,7 @@ fn place_reason(set: &TimingSet, ring: RingNo, phase: PhaseNo) -> Option<Reason>
     if own == ring {
         return None;
     }
-    Some(Reason::Sequence(SequenceReason::OtherRing {
-        phase,
-        ring,
-        own,
-    }))
+    Some(Reason::Sequence(SequenceReason::OtherRing { phase, ring, own }))
 }
 
 /// The first of the phases that does not stand exactly once in the row of its ring.
