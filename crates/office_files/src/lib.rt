@@ -31,5 +31,5 @@ pub use plan::read_plan_csv;
 pub use records::read_records;
 pub use sheet::timing_sheet;
 pub use timing::timing_csv;
-pub use violations::violation_text;
+pub use violations::{explained_text, violation_text};
 pub use writing::csv_file;

@@ -1,7 +1,9 @@
 //! What the picture asks of a pattern: the seconds that it shows, and whether it keeps V9 and V12.
 
-ghost use Rattle.std.specs.Prelude.{◌≡◌, ◌≤◌, ◌*◌};
-ghost use Rattle.signal_rules.specs.PatternRules.{has_rows, used_rings, lanes_fill_cycle};
+ghost use Rattle.std.specs.Prelude.{◌≡◌, ◌≤◌, ◌*◌, ◌&&◌};
+ghost use Rattle.signal_rules.specs.Lookup.{has_sequence};
+ghost use Rattle.signal_rules.specs.PatternRules.{has_rows, has_splits, used_rings};
+ghost use Rattle.signal_rules.specs.PatternRules.{lanes_fill_cycle};
 ghost use Rattle.signal_rules.specs.Starts.{rings_fill};
 ghost use Rattle.signal_diagram.specs.Geometry.{longest_of};
 ghost use Rattle.signal_diagram.specs.PhasePicture.{calls_walk};
@@ -37,6 +39,14 @@ pub(crate) fn longest_of(set: &TimingSet, pattern: &Pattern, rings: &[RingNo]) -
 /// V9: the sequence has a row, and each phase of the set has a split row.
 pub(crate) fn has_rows(set: &TimingSet, pattern: &Pattern) -> bool
     ensures { result ≡ has_rows set.now pattern.now }
+{
+    has_both(set, pattern)
+}
+
+/// The two parts of V9.
+fn has_both(set: &TimingSet, pattern: &Pattern) -> bool
+    ensures { result ≡
+        (has_sequence set.now pattern.now.seq && has_splits set.now pattern.now.split) }
 {
     has_sequence(set, pattern.seq) && without_split(set, pattern.split).is_none()
 }

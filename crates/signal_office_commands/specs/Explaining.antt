@@ -6,8 +6,8 @@ use Rattle.signal_office_faults.specs.declared.fault.Fault.{Fault}
 use Rattle.signal_office_reports.specs.Reports.{IsTextOf, draft_in, first_seen}
 use Rattle.signal_office_reports.specs.Seen.{IsMadeOfAnswers}
 use Rattle.signal_office_reports.specs.declared.seen.Query.TheVariants as query
-use Rattle.signal_reasons.specs.Reasons.{AreReasons}
-use Rattle.signal_reasons.specs.declared.reason.Explained.{Explained}
+use Rattle.signal_rules.specs.Violations.{AreReasons}
+use Rattle.signal_rules.specs.declared.reason.Explained.{Explained}
 use Rattle.signal_records.specs.TimingSet.{Rows}
 
 -- they are those of the plan of a file

@@ -7,15 +7,15 @@ ghost use Rattle.office_tables_shelf.specs.Keeps.{KeepsShelf};
 ghost use Rattle.signal_office_commands.specs.Explaining.{ExplainsDraft, ExplainsPlan};
 ghost use Rattle.signal_office_reports.specs.Reports.{IsTextOf, draft_in, first_seen};
 ghost use Rattle.signal_office_reports.specs.Seen.{Gives};
-ghost use Rattle.signal_reasons.specs.Reasons.{AreReasons};
+ghost use Rattle.signal_rules.specs.Violations.{AreReasons};
 
 use office_desk::office::Office;
 use office_files::{CsvFault, read_plan_csv};
 use office_tables_shelf::shelf::Shelf;
 use signal_office_faults::Fault;
 use signal_office_reports::{Query, Seen, draft_in, first_seen, look};
-use signal_reasons::{Explained, reasons};
 use signal_records::InterId;
+use signal_rules::{Explained, reasons};
 use std::alloc::Global;
 
 /// The violations of the plan that the records of a CSV file make of the empty set, each with its

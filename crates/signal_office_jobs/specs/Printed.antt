@@ -29,8 +29,8 @@ use Rattle.signal_office_line.specs.declared.job.Edit.{Edit}
 use Rattle.signal_office_line.specs.declared.job.Job.TheVariants as job
 use Rattle.signal_office_line.specs.declared.shows.PlanShown.{PlanShown}
 use Rattle.signal_office_line.specs.declared.shows.PlanShown.TheVariants as plan
-use Rattle.signal_reasons.specs.Texts.{explained_text_of}
-use Rattle.signal_reasons.specs.declared.reason.Explained.{Explained}
+use Rattle.office_files.specs.Violations.{explained_text_of}
+use Rattle.signal_rules.specs.declared.reason.Explained.{Explained}
 use Rattle.signal_rules.specs.declared.violation.Violation.{Violation}
 use Rattle.signal_office_jobs.specs.Backup.{BacksUpFile}
 use Rattle.signal_office_tasks.specs.Done.{checked_status, compared_status, compared_text, explained_status, status_of, text_of}

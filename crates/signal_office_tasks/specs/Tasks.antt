@@ -20,8 +20,8 @@ use Rattle.signal_office_commands.specs.Importing.{Imports}
 use Rattle.signal_office_commands.specs.Revising.{RevisesAs}
 use Rattle.signal_office_commands.specs.Explaining.{ExplainsDraft}
 use Rattle.signal_rules.specs.declared.violation.Violation.{Violation}
-use Rattle.signal_reasons.specs.Texts.{explained_text_of}
-use Rattle.signal_reasons.specs.declared.reason.Explained.{Explained}
+use Rattle.office_files.specs.Violations.{explained_text_of}
+use Rattle.signal_rules.specs.declared.reason.Explained.{Explained}
 use Rattle.office_files.specs.Violations.{violations_text}
 use Rattle.signal_office_commands.specs.declared.adding.Entered.{Entered}
 use Rattle.signal_office_commands.specs.declared.adding.Entered.TheVariants as entered

@@ -9,16 +9,15 @@ ghost use Rattle.signal_office_tasks.specs.Done.{outcome_line, refused_status, s
 ghost use Rattle.signal_office_tasks.specs.Output.{Prints, PrintsDone, joined};
 ghost use Rattle.signal_office_tasks.specs.Done.{migrated_line};
 ghost use Rattle.signal_office_tasks.specs.Tasks.{TellsOutcome, entered_line, imported_line};
-ghost use Rattle.signal_reasons.specs.Texts.{explained_text_of};
+ghost use Rattle.office_files.specs.Violations.{explained_text_of};
 
-use office_files::{changes_csv, violation_text};
+use office_files::{changes_csv, explained_text, violation_text};
 use office_http::{Sink, write_all};
 use signal_compare::{Difference, changes, comparison_text};
 use signal_office_checks::Report;
 use signal_office_commands::{Entered, Fault, Imported, Outcome, Revised};
-use signal_reasons::{Explained, explained_text};
 use signal_records::NoMemory;
-use signal_rules::Violation;
+use signal_rules::{Explained, Violation};
 use std::alloc::Global;
 
 /// The status where a record would be refused.

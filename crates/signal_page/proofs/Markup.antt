@@ -8,7 +8,7 @@ use Rattle.cabinet_core.specs.{declared.record.Closing.Closing, declared.record.
 use Rattle.cabinet_core.specs.declared.record.UsedLine.{UsedLine}
 use Rattle.office_machine.specs.declared.reply.IntersectionState.{IntersectionState}
 use Rattle.signal_compare.specs.declared.difference.Difference.{Difference}
-use Rattle.signal_reasons.specs.declared.reason.Explained.{Explained}
+use Rattle.signal_rules.specs.declared.reason.Explained.{Explained}
 use Rattle.signal_page.specs.declared.shown.IntersectionShown.{IntersectionShown}
 use Rattle.signal_page_tables.specs.{Reading.marks, Cells.row_heading}
 use Rattle.signal_page.specs.{Blank.blank_state, Blank.blank_inspection, Blank.blank_closing}

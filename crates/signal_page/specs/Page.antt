@@ -4,8 +4,8 @@ use Rattle.cabinet_core.specs.Overdue.{latest_day}
 use Rattle.signal_compare.specs.declared.difference.Difference.{Difference}
 use Rattle.signal_compare.specs.Difference.{AreTold}
 use Rattle.signal_records.specs.TimingSet.{Rows}
-use Rattle.signal_reasons.specs.declared.reason.Explained.{Explained}
-use Rattle.signal_reasons.specs.Reasons.{AreReasons}
+use Rattle.signal_rules.specs.declared.reason.Explained.{Explained}
+use Rattle.signal_rules.specs.Violations.{AreReasons}
 use Rattle.signal_page.specs.declared.shown.IntersectionShown.{IntersectionShown}
 use Rattle.signal_page.specs.declared.style.TheConstants.{STYLE}
 use Rattle.signal_page_tables.specs.Words.{escaped, isolated}

@@ -10,7 +10,7 @@ use Rattle.signal_records.specs.declared.record.Row.TheVariants as row
 use Rattle.signal_records.specs.declared.record.Split.{Split}
 use Rattle.signal_records.specs.TimingSet.{Rows}
 use Rattle.signal_rules.specs.Lookup.{split_at}
-use Rattle.signal_reasons.specs.declared.reason.Explained.{Explained}
+use Rattle.signal_rules.specs.declared.reason.Explained.{Explained}
 use Rattle.signal_page_tables.specs.Tables.{tables}
 
 -- ---- what a picture cannot show

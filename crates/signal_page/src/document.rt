@@ -18,8 +18,8 @@ use crate::shown::IntersectionShown;
 use crate::style::STYLE;
 use signal_compare::{Difference, compare};
 use signal_page_tables::{push_escaped, push_isolated, push_markup};
-use signal_reasons::{Explained, reasons};
 use signal_records::{InterId, NoMemory, TimingSet};
+use signal_rules::{Explained, reasons};
 use std::alloc::{AllocError, Global};
 use std::fmt::Write;
 

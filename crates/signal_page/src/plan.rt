@@ -9,9 +9,8 @@ ghost use Rattle.signal_page.specs.Plan.{broken_note, reasons_note};
 
 use signal_diagram::figure;
 use signal_page_tables::{push_markup, push_tables};
-use signal_reasons::Explained;
 use signal_records::{NoMemory, Pattern, PatternNo, Ped, PhaseNo, Row, Split, TimingSet};
-use signal_rules::split_at;
+use signal_rules::{Explained, split_at};
 use std::alloc::{AllocError, Global};
 use std::fmt::Write;
 

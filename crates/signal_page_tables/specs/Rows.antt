@@ -9,7 +9,7 @@ use Rattle.signal_records.specs.declared.record.Row.TheVariants as row
 use Rattle.signal_records.specs.declared.record.SeqRow.{SeqRow}
 use Rattle.signal_records.specs.declared.record.Split.{Split}
 use Rattle.signal_records.specs.TimingSet.{Rows}
-use Rattle.signal_reasons.specs.declared.reason.Explained.{Explained}
+use Rattle.signal_rules.specs.declared.reason.Explained.{Explained}
 use Rattle.signal_page_tables.specs.declared.rows.Kind.{Kind}
 use Rattle.signal_page_tables.specs.declared.rows.Kind.TheVariants.{Phases, Sequences, Splits, Patterns}
 use Rattle.signal_page_tables.specs.declared.values.CellValue.{CellValue}

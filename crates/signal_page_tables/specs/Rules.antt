@@ -4,8 +4,8 @@ use Rattle.std.specs.Prelude.{flat_map, codes, decimal}
 use Rattle.signal_rules.specs.declared.violation.Subject.{Subject}
 use Rattle.signal_rules.specs.declared.violation.Subject.TheVariants as subject
 use Rattle.signal_rules.specs.Texts.{rule_text}
-use Rattle.signal_reasons.specs.declared.reason.Explained.{Explained}
-use Rattle.signal_reasons.specs.Texts.{reason_text}
+use Rattle.signal_rules.specs.declared.reason.Explained.{Explained}
+use Rattle.signal_rules.specs.Texts.{reason_text}
 
 abbrev pub is_same_subject : Subject → Subject → Bool
 is_same_subject (subject.Phase p) (subject.Phase q) = p == q

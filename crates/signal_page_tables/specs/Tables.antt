@@ -3,7 +3,7 @@ use Rattle.std.specs.Prelude.{ℕ, ◌==◌, if◌then◌else◌, List, [], ◌+
 use Rattle.office_files.specs.Cells.{when_empty}
 use Rattle.signal_records.specs.declared.record.Row.{Row}
 use Rattle.signal_records.specs.TimingSet.{Rows}
-use Rattle.signal_reasons.specs.declared.reason.Explained.{Explained}
+use Rattle.signal_rules.specs.declared.reason.Explained.{Explained}
 use Rattle.signal_page_tables.specs.declared.rows.Kind.{Kind}
 use Rattle.signal_page_tables.specs.declared.rows.Kind.TheVariants.{Phases, Sequences, Splits, Patterns}
 use Rattle.signal_page_tables.specs.Cells.{heading, words_heading}

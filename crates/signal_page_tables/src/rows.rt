@@ -12,12 +12,11 @@ use crate::needs::{need_at, need_value, push_coordinated_beside, spare_value};
 use crate::rules::push_reasons_below;
 use crate::values::{CellValue, push_cells_beside, push_phases_beside};
 use crate::words::push_markup;
-use signal_reasons::Explained;
 use signal_records::{
     NoMemory, Pattern, PatternNo, Ped, Phase, PhaseNo, RingNo, Row, SeqNo, SeqRow, Split, SplitNo,
     TimingSet,
 };
-use signal_rules::subject_of;
+use signal_rules::{Explained, subject_of};
 use std::alloc::{AllocError, Global};
 
 /// The kinds of rows, each of which has a table.

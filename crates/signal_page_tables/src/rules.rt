@@ -4,8 +4,7 @@ ghost use Rattle.std.specs.Prelude.{◌≡◌, ◌++◌, OnOk, string_bytes};
 ghost use Rattle.signal_page_tables.specs.Rules.{is_same_subject, reason_note, reason_opening};
 ghost use Rattle.signal_page_tables.specs.Rules.{reason_row, reason_below, reasons_below};
 
-use signal_reasons::Explained;
-use signal_rules::Subject;
+use signal_rules::{Explained, Subject};
 use std::alloc::AllocError;
 use std::fmt::Write;
 

@@ -10,8 +10,8 @@ ghost use Rattle.signal_page_tables.specs.Tables.{table_end, table, tables};
 
 use crate::cells::{push_heading, push_words_heading};
 use crate::rows::{Kind, columns, push_row_in};
-use signal_reasons::Explained;
 use signal_records::{NoMemory, Row, TimingSet};
+use signal_rules::Explained;
 use std::alloc::{AllocError, Global};
 use std::fmt::Write;
 

@@ -1,24 +1,23 @@
 -- Where no phase has a lead, today's violations are those of version 1.
-use Rattle.std.proofs.Common.{◌≡◌, ℕ, Bool, true, false, not, [], ◌∷◌, ◌++◌, filter, map, Option, Some, None, option_map, refl, ap, sym, ◌∙◌}
+use Rattle.std.proofs.Common.{◌≡◌, ℕ, not, [], ◌∷◌, ◌++◌, filter, Option, Some, None, option_map, refl, ap, sym}
 use Rattle.std.specs.List.{flat_map}
 use Rattle.std.specs.Prelude.{IfSome}
 use Rattle.signal_records.specs.declared.record.{Ped.Ped, Phase.Phase, Split.Split}
 use Rattle.signal_records.specs.TimingSet.{Rows}
-use Rattle.signal_rules.specs.declared.violation.{Rule.Rule, Subject.Subject}
+use Rattle.signal_rules.specs.declared.{reason.Reason.Reason, violation.Rule.Rule, violation.Subject.Subject}
 use Rattle.signal_rules.specs.declared.violation.Rule.TheVariants as rule
 use Rattle.signal_rules.specs.declared.violation.Subject.TheVariants as subject
-use Rattle.signal_rules.specs.{Lookup.phase_at, Lookup.split_at, PhaseRules.where_walked, PhaseRules.lead_is_right, SplitRule.split_is_right}
-use Rattle.signal_rules.specs.Violations.{Findings, broken, violations_at, violations_of, phase_findings, for_phase, for_split, subjects}
+use Rattle.signal_rules.specs.{Cases.Cases, Cases.first_true, Lookup.phase_at, Lookup.split_at, PhaseRules.of_ped, PhaseRules.lead_cases, SplitRule.split_cases}
+use Rattle.signal_rules.specs.Violations.{Findings, explained, broken, violations_in, violations_at, violations_of, phase_findings, for_phase, for_split, subjects}
 use Rattle.signal_rules.specs.BeforeLead.{HasNoLead, is_of_lead, no_lead, without_lead, for_split_before, violations_before_at, violations_before_lead}
 
 -- a rule that holds is no violation
-dropped : (fs : Findings) → filter (λ (f : Rule × Bool). not f.1) (fs ++ (rule.V14, true) ∷ []) ≡ filter (λ (f : Rule × Bool). not f.1) fs
-dropped [] = refl
-dropped ((r, true) ∷ fs) = dropped fs
-dropped ((r, false) ∷ fs) = ap (λ xs. (r, false) ∷ xs) (dropped fs)
+dropped : (s : Subject) (fs : Findings) (r : Rule) (cs : Cases Reason) → first_true cs ≡ None → broken s (fs ++ (r, cs) ∷ []) ≡ broken s fs
+dropped s [] r cs none = ap (λ o. explained s r o []) none
+dropped s (f ∷ fs) r cs none = ap (explained s f.0 (first_true f.1)) (dropped s fs r cs none)
 
 -- V14 holds where there is no lead
-no_lead_right : (ped : Option Ped) → IfSome ped (λ p. p.lead ≡ 0) → where_walked ped lead_is_right ≡ true
+no_lead_right : (ped : Option Ped) → IfSome ped (λ p. p.lead ≡ 0) → first_true (of_ped ped lead_cases) ≡ None
 no_lead_right None none = refl
 no_lead_right (Some p) none = rw none refl
 
@@ -39,17 +38,15 @@ module _ (set : Rows) where
   of_phase : (p : ℕ) (phase : Option Phase) → HasNoLead phase → broken (subject.Phase p) (for_phase set p phase) ≡ broken (subject.Phase p) (filter (λ f. not (is_of_lead f.0)) (for_phase set p phase))
   unfolding before
   of_phase p None none = refl
-  of_phase p (Some phase) none =
-      ap (λ (b : Bool). broken (subject.Phase p) (before p phase ++ (rule.V14, b) ∷ [])) (no_lead_right phase.ped none)
-      ∙ ap (map (λ (f : Rule × Bool). record { subject = subject.Phase p; rule = f.0 })) (dropped (before p phase))
+  of_phase p (Some phase) none = dropped (subject.Phase p) (before p phase) rule.V14 (of_ped phase.ped lead_cases) (no_lead_right phase.ped none)
 
   of_split : (n p : ℕ) (split : Option Split) → HasNoLead (phase_at set p) → broken (subject.Split n p) (for_split set p split) ≡ broken (subject.Split n p) (for_split_before set p split)
   of_split n p None none = refl
-  of_split n p (Some split) none = ap (λ (phase : Option Phase). broken (subject.Split n p) ((rule.V8, split_is_right phase split) ∷ [])) (sym (phase_same (phase_at set p) none))
+  of_split n p (Some split) none = ap (λ (phase : Option Phase). broken (subject.Split n p) ((rule.V8, split_cases p phase split) ∷ [])) (sym (phase_same (phase_at set p) none))
 
   at_same : (s : Subject) → ((p : ℕ) → HasNoLead (phase_at set p)) → violations_at set s ≡ violations_before_at set s
-  at_same (subject.Phase p) none = of_phase p (phase_at set p) (none p)
-  at_same (subject.Split n p) none = of_split n p (split_at set n p) (none p)
+  at_same (subject.Phase p) none = ap violations_in (of_phase p (phase_at set p) (none p))
+  at_same (subject.Split n p) none = ap violations_in (of_split n p (split_at set n p) (none p))
   at_same _ none = refl
 
   pub same_violations : ((p : ℕ) → HasNoLead (phase_at set p)) → violations_of set ≡ violations_before_lead set

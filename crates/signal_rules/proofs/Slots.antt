@@ -1,16 +1,38 @@
 -- The slots of rings answer as the rows that they were looked up from.
-use Rattle.std.proofs.Common.{◌≡◌, ℕ, zero, suc, ◌+◌, ◌-◌, ◌<◌, ◌≤◌, Bool, true, false, ltb, ◌&&◌, List, [], ◌∷◌, ◌++◌, map, filter, length, refl, sym, ap, ◌∙◌, arith}
+use Rattle.std.proofs.Common.{◌≡◌, ℕ, zero, suc, ◌+◌, ◌-◌, ◌<◌, ◌≤◌, Bool, true, false, ltb, ◌&&◌, List, [], ◌∷◌, ◌++◌, map, filter, length, min, refl, sym, ap, ◌∙◌, arith}
 use Rattle.std.proofs.lemmas.Bool.{ltb-true, ltb-false, le-leb, lt-leb, lt-ltb, le-ltb}
 use Rattle.std.proofs.lemmas.List.{length-append, map-append, Elements.filter-append}
 use Rattle.std.proofs.lemmas.List.Folds.{list_all-append, list_all-map}
 use Rattle.std.specs.{Prelude.cond, List.list_all}
 use Rattle.signal_records.specs.{declared.record.Pattern.Pattern, TimingSet.Rows}
-use Rattle.signal_rules.specs.{SequenceRule.ring_row, Lanes.used_rings, Lanes.all_list_each_other, CutPoints.start_of}
+use Rattle.signal_values.specs.Numbers.{numbers}
+use Rattle.signal_rules.specs.{SequenceRule.ring_row, CutPoints.start_of}
+use Rattle.signal_rules.specs.Lanes.{lanes, used_rings, all_list_each_other, phases_at, lanes_fill_cycle, lanes_agree}
 use Rattle.signal_rules.specs.{CutPoints.starts, CutPoints.phase_in, CutPoints.listed, CutPoints.phases_in, Starts.times, Starts.agree_at}
-use Rattle.signal_rules.specs.{Starts.agree_at_starts, Counts.RisesAtMost, Counts.entries_of, Counts.sequence_entries, Slots.Span}
-use Rattle.signal_rules.specs.Slots.{listing_at, spans_at, spans_from, spans_of, has_second, are_mates, all_are_mates, listings_in}
+use Rattle.signal_rules.specs.{Counts.RisesAtMost, Counts.entries_of, Counts.sequence_entries, Slots.Span, Slots.Listing, Cases.holds}
+use Rattle.signal_rules.specs.Slots.{listing_at, spans_at, spans_from, spans_of, spans_in, has_second, are_mates, later_cases, pair_cases, conflicts_in}
 use Rattle.signal_rules.specs.Slots.{agree_where_begun}
-use Rattle.signal_rules.proofs.{Starts.used_rises, Steps.rises_within}
+use Rattle.signal_rules.specs.declared.reason.Reason.TheVariants as reason
+use Rattle.signal_rules.specs.declared.reason.PatternReason.TheVariants.{Conflict}
+use Rattle.signal_rules.proofs.{Cases.holds-append, Cases.holds-flat_map, Cases.holds-map, Starts.used_rises, Starts.agree_by_starts, Starts.agree_in_lanes, Steps.rises_within}
+
+-- the phases that have a second
+abbrev listings_in : ℕ → List Span → List Listing
+listings_in second spans = map (λ (s : Span). s.listing) (spans_in second spans)
+
+-- any two of some phases list each other
+abbrev all_are_mates : List Listing → Bool
+all_are_mates [] = true
+all_are_mates (p ∷ ps) = list_all (are_mates p) ps && all_are_mates ps
+
+laters_hold : (t : ℕ) (x : Span) (later : List Span) → holds (later_cases t x later) ≡ list_all (are_mates x.listing) (map (λ (s : Span). s.listing) later)
+laters_hold t x later =
+    holds-map (λ (other : Span). are_mates x.listing other.listing) (λ (other : Span). reason.Pattern (Conflict t (min x.until other.until) x.listing.phase other.listing.phase)) later
+    ∙ sym (list_all-map (are_mates x.listing) (λ (s : Span). s.listing) later)
+
+pairs_hold : (t : ℕ) (spans : List Span) → holds (pair_cases t spans) ≡ all_are_mates (map (λ (s : Span). s.listing) spans)
+pairs_hold t [] = refl
+pairs_hold t (x ∷ later) = holds-append (later_cases t x later) (pair_cases t later) ∙ (λ i. laters_hold t x later i && pairs_hold t later i)
 
 -- listings list each other as their phases do
 mates_of_phases : (set : Rows) (ps : List ℕ) → all_are_mates (map (listing_at set) ps) ≡ all_list_each_other set ps
@@ -88,6 +110,11 @@ module _ (set : Rows) (split : ℕ) where
         one zero = omega arith
         one (suc n) = omega arith
 
+-- two tests that agree on each number
+each_number : (T U : ℕ → Bool) (n first : ℕ) → ((t : ℕ) → t < first + n → T t ≡ U t) → list_all T (numbers n first) ≡ list_all U (numbers n first)
+each_number T U zero first h = refl
+each_number T U (suc n) first h = λ i. h first (omega arith) i && each_number T U n (first + 1) (λ t lt. h t (omega arith)) i
+
 module _ (set : Rows) (pattern : Pattern) where
   in_rows : (rings : List ℕ) (t : ℕ) → listings_in t (spans_of set pattern rings) ≡ map (listing_at set) (phases_in (times set pattern.split) (map (ring_row set pattern.seq) rings) t)
   in_rows [] t = refl
@@ -114,14 +141,25 @@ module _ (set : Rows) (pattern : Pattern) where
       let row = ring_row set pattern.seq ring in
       omega (arith, length-append (spans_from set pattern.split 0 row) (spans_of set pattern rings), few_in_row set pattern.split row 0, few_in_rows rings)
 
-  -- the same of the slots that were added
-  pub agree_of_slots : (rings : List ℕ) (slots : List Span) → slots ≡ spans_of set pattern rings → agree_where_begun slots slots ≡ agree_at_starts set pattern rings rings
-  agree_of_slots rings slots e =
+  agree_in_rows : (rings : List ℕ) (t : ℕ) → holds (pair_cases t (spans_in t (spans_of set pattern rings))) ≡ agree_at set pattern rings t
+  agree_in_rows rings t =
+      pairs_hold t (spans_in t (spans_of set pattern rings)) ∙ ap all_are_mates (in_rows rings t) ∙ mates_of_phases set (phases_in (times set pattern.split) (map (ring_row set pattern.seq) rings) t)
+
+  -- slots that were added agree as the lanes do
+  pub agree_of_slots : (rings : List ℕ) (slots : List Span) → rings ≡ used_rings set → slots ≡ spans_of set pattern rings → lanes_fill_cycle set pattern ≡ true → agree_where_begun slots slots ≡ lanes_agree set pattern
+  agree_of_slots rings slots used e fill =
       ap (λ spans. agree_where_begun spans spans) e
-      ∙ (λ i. list_all (λ (x : Span). agree_in_rows x.from i) (spans_of set pattern rings))
-      ∙ begun_in_rows (agree_at set pattern rings) rings where
-        agree_in_rows : (t : ℕ) → all_are_mates (listings_in t (spans_of set pattern rings)) ≡ agree_at set pattern rings t
-        agree_in_rows t = ap all_are_mates (in_rows rings t) ∙ mates_of_phases set (phases_in (times set pattern.split) (map (ring_row set pattern.seq) rings) t)
+      ∙ (λ i. list_all (λ (x : Span). agree_in_rows rings x.from i) (spans_of set pattern rings))
+      ∙ begun_in_rows (agree_at set pattern rings) rings
+      ∙ agree_by_starts set pattern rings used fill
+
+  -- and conflict where the lanes do not agree
+  pub conflicts_of_slots : (rings : List ℕ) (slots : List Span) → rings ≡ used_rings set → slots ≡ spans_of set pattern rings → lanes_fill_cycle set pattern ≡ true → holds (conflicts_in pattern.cycle slots) ≡ lanes_agree set pattern
+  conflicts_of_slots rings slots used e fill =
+      ap (λ spans. holds (conflicts_in pattern.cycle spans)) (e ∙ ap (spans_of set pattern) used)
+      ∙ holds-flat_map (λ t. pair_cases t (spans_in t (spans_of set pattern (used_rings set)))) (numbers pattern.cycle 0)
+      ∙ each_number (λ t. holds (pair_cases t (spans_in t (spans_of set pattern (used_rings set))))) (λ t. all_list_each_other set (phases_at (lanes set pattern) t)) pattern.cycle 0
+      (λ t lt. agree_in_rows (used_rings set) t ∙ agree_in_lanes set pattern t fill (omega arith))
 
   pub slots_rise : (rings : List ℕ) (slots : List Span) (before after : ℕ) → rings ≡ used_rings set → slots ≡ spans_of set pattern rings → RisesAtMost (length slots) before after → RisesAtMost (sequence_entries set pattern.seq) before after
   slots_rise rings slots before after used e h =

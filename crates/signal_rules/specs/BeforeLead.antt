@@ -11,8 +11,8 @@ use Rattle.signal_rules.specs.declared.violation.Subject.{Subject}
 use Rattle.signal_rules.specs.declared.violation.Subject.TheVariants as subject
 use Rattle.signal_rules.specs.declared.violation.Violation.{Violation}
 use Rattle.signal_rules.specs.Lookup.{phase_at, split_at}
-use Rattle.signal_rules.specs.SplitRule.{split_is_right}
-use Rattle.signal_rules.specs.Violations.{Findings, broken, findings, subjects}
+use Rattle.signal_rules.specs.SplitRule.{split_cases}
+use Rattle.signal_rules.specs.Violations.{Findings, broken, findings, subjects, violations_in}
 
 -- a phase, if there is one, has no lead
 abbrev pub HasNoLead : Option Phase → Type 0
@@ -34,7 +34,7 @@ without_lead p = record { ring = p.ring; min_green = p.min_green; passage = p.pa
 -- V8, by the need of a phase without a lead
 abbrev pub for_split_before : Rows → ℕ → Option Split → Findings
 for_split_before set p None = []
-for_split_before set p (Some split) = (rule.V8, split_is_right (option_map without_lead (phase_at set p)) split) ∷ []
+for_split_before set p (Some split) = (rule.V8, split_cases p (option_map without_lead (phase_at set p)) split) ∷ []
 
 -- the rules of sequences and patterns are those of today
 abbrev pub findings_before : Rows → Subject → Findings
@@ -43,7 +43,7 @@ findings_before set (subject.Split n p) = for_split_before set p (split_at set n
 findings_before set s = findings set s
 
 abbrev pub violations_before_at : Rows → Subject → List Violation
-violations_before_at set s = broken s (findings_before set s)
+violations_before_at set s = violations_in (broken s (findings_before set s))
 
 -- the violations of a set in version 1, in the order of today
 unfoldable pub violations_before_lead : Rows → List Violation

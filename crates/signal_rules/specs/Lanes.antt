@@ -1,12 +1,16 @@
 -- V12 and V13, the rules of a pattern on its lanes. A lane is a ring's row of phases with an entry for each second of the cycle.
-use Rattle.std.specs.Prelude.{◌==◌, ℕ, Bool, true, ◌&&◌, List, [], ◌∷◌, filter, map, length, slice_index, replicate, Option, Some, None}
+use Rattle.std.specs.Prelude.{◌==◌, ℕ, Bool, true, not, ◌&&◌, List, [], ◌∷◌, filter, map, length, slice_index, replicate, Option, Some, None}
 use Rattle.std.specs.List.{list_any, list_all, flat_map}
 use Rattle.signal_records.specs.declared.record.Split.{Split}
 use Rattle.signal_records.specs.declared.record.Pattern.{Pattern}
 use Rattle.signal_values.specs.Numbers.{numbers}
 use Rattle.signal_records.specs.TimingSet.{Rows}
 use Rattle.signal_rules.specs.Lookup.{phase_at, split_at, phase_numbers, ring_numbers, lists}
+use Rattle.signal_rules.specs.Cases.{Cases, holds}
 use Rattle.signal_rules.specs.SequenceRule.{in_ring, ring_row}
+use Rattle.signal_rules.specs.declared.reason.Reason.{Reason}
+use Rattle.signal_rules.specs.declared.reason.Reason.TheVariants as reason
+use Rattle.signal_rules.specs.declared.reason.PatternReason.TheVariants.{OtherSum}
 
 -- splitTime, in seconds; a phase without a split row has none
 abbrev pub time_of : Option Split → ℕ
@@ -28,9 +32,21 @@ used_rings set = filter (is_used set) ring_numbers
 abbrev pub lanes : Rows → Pattern → List (List ℕ)
 lanes set pattern = map (lane set pattern.seq pattern.split) (used_rings set)
 
--- V12: each lane is as long as patternCycleTime
+-- the seconds of a ring
+abbrev pub ring_sum : Rows → Pattern → ℕ → ℕ
+ring_sum set pattern ring = length (lane set pattern.seq pattern.split ring)
+
+-- the lane of each of some rings is as long as patternCycleTime
+abbrev pub rings_cases : Rows → Pattern → List ℕ → Cases Reason
+rings_cases set pattern rings =
+    map (λ ring. (not (ring_sum set pattern ring == pattern.cycle), reason.Pattern (OtherSum ring (ring_sum set pattern ring) pattern.cycle))) rings
+
+-- V12: so is the lane of each ring that has a phase
+abbrev pub sum_cases : Rows → Pattern → Cases Reason
+sum_cases set pattern = rings_cases set pattern (used_rings set)
+
 abbrev pub lanes_fill_cycle : Rows → Pattern → Bool
-lanes_fill_cycle set pattern = list_all (λ lane. length lane == pattern.cycle) (lanes set pattern)
+lanes_fill_cycle set pattern = holds (sum_cases set pattern)
 
 -- two phases may time together (phaseConcurrency of both)
 abbrev pub list_each_other : Rows → ℕ → ℕ → Bool

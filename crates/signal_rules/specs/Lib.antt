@@ -1,3 +1,4 @@
+pub mod Cases
 pub mod Lookup
 pub mod PhaseRules
 pub mod SequenceRule

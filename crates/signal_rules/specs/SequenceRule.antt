@@ -1,18 +1,18 @@
 -- V7, the rule of a sequence.
-use Rattle.std.specs.Prelude.{◌==◌, ℕ, Bool, false, ◌&&◌, List, [], count_by, filter, Option, Some, None}
-use Rattle.std.specs.List.{list_all}
+use Rattle.std.specs.Prelude.{◌==◌, ℕ, nat_lt, Bool, true, false, not, List, [], ◌∷◌, ◌++◌, count_by, Option, Some, None}
+use Rattle.std.specs.List.{flat_map}
 use Rattle.signal_records.specs.declared.record.Phase.{Phase}
 use Rattle.signal_records.specs.TimingSet.{Rows}
-use Rattle.signal_rules.specs.Lookup.{phase_at, sequence_at, phase_numbers, ring_numbers}
+use Rattle.signal_rules.specs.Cases.{Cases}
+use Rattle.signal_rules.specs.Lookup.{phase_at, phases, sequence_at, ring_numbers}
+use Rattle.signal_rules.specs.declared.reason.Reason.{Reason}
+use Rattle.signal_rules.specs.declared.reason.Reason.TheVariants as reason
+use Rattle.signal_rules.specs.declared.reason.SequenceReason.TheVariants as sequence
 
 -- phaseRing; a phase that is not in the set is in no ring
 abbrev pub in_ring : ℕ → Option Phase → Bool
 in_ring ring None = false
 in_ring ring (Some phase) = phase.ring == ring
-
--- the phases of a ring
-abbrev pub ring_phases : Rows → ℕ → List ℕ
-ring_phases set ring = filter (λ p. in_ring ring (phase_at set p)) phase_numbers
 
 abbrev pub or_empty : Option (List ℕ) → List ℕ
 or_empty None = []
@@ -22,18 +22,28 @@ or_empty (Some ns) = ns
 abbrev pub ring_row : Rows → ℕ → ℕ → List ℕ
 ring_row set n ring = or_empty (sequence_at set n ring)
 
--- each phase of the ring stands exactly once in a row
-abbrev pub has_each_once : Rows → ℕ → List ℕ → Bool
-has_each_once set ring row = list_all (λ p. count_by (λ m. m == p) row == 1) (ring_phases set ring)
+-- a phase in the row of a ring is of that ring
+abbrev pub place_cases : ℕ → ℕ → Option Phase → Cases Reason
+place_cases ring p None = (true, reason.Sequence (sequence.NotInPlan p)) ∷ []
+place_cases ring p (Some phase) = (not (phase.ring == ring), reason.Sequence (sequence.OtherRing p ring phase.ring)) ∷ []
 
--- only phases of the ring stand in a row
-abbrev pub has_no_other : Rows → ℕ → List ℕ → Bool
-has_no_other set ring row = list_all (λ p. in_ring ring (phase_at set p)) row
+-- so is each phase of the row, in its order
+abbrev pub row_cases : Rows → ℕ → ℕ → Cases Reason
+row_cases set n ring = flat_map (λ p. place_cases ring p (phase_at set p)) (ring_row set n ring)
 
--- in the row of a ring, each phase of the ring stands exactly once, and nothing else stands there
-abbrev pub row_is_right : Rows → ℕ → ℕ → Bool
-row_is_right set n ring = has_each_once set ring (ring_row set n ring) && has_no_other set ring (ring_row set n ring)
+-- how often a number stands in a row
+abbrev pub times_in : List ℕ → ℕ → ℕ
+times_in row p = count_by (λ m. m == p) row
 
--- V7: so it is in each ring
-abbrev pub rows_are_right : Rows → ℕ → Bool
-rows_are_right set n = list_all (row_is_right set n) ring_numbers
+-- a phase of the set stands exactly once in the row of its ring
+abbrev pub once_cases : Rows → ℕ → ℕ → Option Phase → Cases Reason
+once_cases set n p None = []
+once_cases set n p (Some phase) =
+    (times_in (ring_row set n phase.ring) p == 0, reason.Sequence (sequence.Missing p))
+    ∷ (nat_lt 1 (times_in (ring_row set n phase.ring) p), reason.Sequence (sequence.Repeated p))
+    ∷ []
+
+-- V7: only phases of its ring stand in each row, and each phase of the set stands exactly once in the row of its ring
+abbrev pub sequence_cases : Rows → ℕ → Cases Reason
+sequence_cases set n =
+    flat_map (row_cases set n) ring_numbers ++ flat_map (λ p. once_cases set n p (phase_at set p)) (phases set)

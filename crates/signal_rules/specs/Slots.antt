@@ -1,13 +1,19 @@
 -- The lanes of a pattern as slots: what is looked up once of each phase that has any time.
-use Rattle.std.specs.Prelude.{ℕ, ◌+◌, nat_le, nat_lt, Bool, true, ◌&&◌}
+use Rattle.std.specs.Prelude.{ℕ, ◌+◌, nat_le, nat_lt, min, Bool, true, not, ◌&&◌, if◌then◌else◌}
 use Rattle.std.specs.Prelude.{List, [], ◌∷◌, ◌++◌, map, filter}
 use Rattle.std.specs.List.{list_all, flat_map}
+use Rattle.signal_values.specs.Numbers.{numbers}
 use Rattle.signal_records.specs.declared.record.Pattern.{Pattern}
 use Rattle.signal_records.specs.TimingSet.{Rows}
 use Rattle.signal_rules.specs.Lookup.{phase_at, the_mates, is_in}
 use Rattle.signal_rules.specs.SequenceRule.{ring_row}
 use Rattle.signal_rules.specs.CutPoints.{start_of}
 use Rattle.signal_rules.specs.Starts.{times}
+use Rattle.signal_rules.specs.Cases.{Cases, holds}
+use Rattle.signal_rules.specs.Lanes.{used_rings, lanes_agree}
+use Rattle.signal_rules.specs.declared.reason.Reason.{Reason}
+use Rattle.signal_rules.specs.declared.reason.Reason.TheVariants as reason
+use Rattle.signal_rules.specs.declared.reason.PatternReason.TheVariants.{Conflict}
 
 -- a phase, with its phaseConcurrency
 pub record Listing : Type 0 where
@@ -47,15 +53,36 @@ has_second second span = nat_le span.from second && nat_lt second span.until
 abbrev pub are_mates : Listing → Listing → Bool
 are_mates p q = is_in q.phase p.mates && is_in p.phase q.mates
 
--- any two of some phases, each and each later one
-abbrev pub all_are_mates : List Listing → Bool
-all_are_mates [] = true
-all_are_mates (p ∷ ps) = list_all (are_mates p) ps && all_are_mates ps
+-- the spans that have a second
+abbrev pub spans_in : ℕ → List Span → List Span
+spans_in second spans = filter (has_second second) spans
 
--- the phases that have a second
-abbrev pub listings_in : ℕ → List Span → List Listing
-listings_in second spans = map (λ span. span.listing) (filter (has_second second) spans)
+-- a phase and each of some later ones, which time together from a second on until one of them is over
+abbrev pub later_cases : ℕ → Span → List Span → Cases Reason
+later_cases second span later =
+    map (λ other. (
+      not (are_mates span.listing other.listing),
+      reason.Pattern (Conflict second (min span.until other.until) span.listing.phase other.listing.phase),
+    )) later
+
+-- a span and those later ones that have a second, if it has the second itself
+abbrev pub slot_cases : ℕ → Span → List Span → Cases Reason
+slot_cases second span later = if has_second second span then later_cases second span (spans_in second later) else []
+
+-- any two of some spans, each and each later one
+abbrev pub pair_cases : ℕ → List Span → Cases Reason
+pair_cases second [] = []
+pair_cases second (span ∷ later) = later_cases second span later ++ pair_cases second later
 
 -- the phases list each other at each second at which one of some spans begins
 abbrev pub agree_where_begun : List Span → List Span → Bool
-agree_where_begun spans begun = list_all (λ span. all_are_mates (listings_in span.from spans)) begun
+agree_where_begun spans begun = list_all (λ span. holds (pair_cases span.from (spans_in span.from spans))) begun
+
+-- second by second, and at each the spans in their order
+abbrev pub conflicts_in : ℕ → List Span → Cases Reason
+conflicts_in cycle spans = flat_map (λ second. pair_cases second (spans_in second spans)) (numbers cycle 0)
+
+-- V13: the lanes agree; where they do not, the first second at which two phases time together that do not list each other
+abbrev pub conflict_cases : Rows → Pattern → Cases Reason
+conflict_cases set pattern =
+    if lanes_agree set pattern then [] else conflicts_in pattern.cycle (spans_of set pattern (used_rings set))

@@ -1,55 +1,52 @@
--- The violations of a timing set: which subjects there are, and which rules each of them breaks.
-use Rattle.std.specs.Prelude.{ℕ, Bool, true, false, if◌then◌else◌, not, List, [], ◌∷◌, ◌++◌, map, filter, Option, Some, None, is_some}
+-- The violations of a timing set and their reasons: which subjects there are, and which rules each of them breaks.
+use Rattle.std.specs.Prelude.{◌≡◌, ℕ, Bool, true, false, if◌then◌else◌, List, [], ◌∷◌, ◌++◌, map, filter, Contains, Option, Some, None, is_some}
 use Rattle.std.specs.List.{flat_map}
-use Rattle.signal_records.specs.declared.record.Ped.{Ped}
 use Rattle.signal_records.specs.declared.record.Phase.{Phase}
 use Rattle.signal_records.specs.declared.record.Pattern.{Pattern}
 use Rattle.signal_records.specs.declared.record.Split.{Split}
 use Rattle.signal_records.specs.TimingSet.{Rows}
+use Rattle.signal_rules.specs.declared.reason.{Reason.Reason, Explained.Explained}
 use Rattle.signal_rules.specs.declared.violation.Rule.{Rule}
 use Rattle.signal_rules.specs.declared.violation.Rule.TheVariants as rule
 use Rattle.signal_rules.specs.declared.violation.Subject.{Subject}
 use Rattle.signal_rules.specs.declared.violation.Subject.TheVariants as subject
 use Rattle.signal_rules.specs.declared.violation.Violation.{Violation}
 use Rattle.signal_rules.specs.Lookup.{phase_at, split_at, pattern_at, phases, phase_numbers, sequence_numbers, split_numbers, pattern_numbers, has_sequence}
-use Rattle.signal_rules.specs.PhaseRules.{yellow_is_right, red_is_right, walk_is_long, clears_crossing, clears_setback, lead_is_right, where_walked, mates_agree}
-use Rattle.signal_rules.specs.SequenceRule.{rows_are_right}
-use Rattle.signal_rules.specs.SplitRule.{split_is_right}
-use Rattle.signal_rules.specs.PatternRules.{has_rows, offset_is_right, has_coordinated}
-use Rattle.signal_rules.specs.Lanes.{lanes_fill_cycle, lanes_agree}
+use Rattle.signal_rules.specs.Cases.{Cases, first_true, IsTrueIn}
+use Rattle.signal_rules.specs.PhaseRules.{yellow_cases, red_cases, walk_cases, crossing_cases, setback_cases, lead_cases, of_ped, mates_cases}
+use Rattle.signal_rules.specs.SequenceRule.{sequence_cases}
+use Rattle.signal_rules.specs.SplitRule.{split_cases}
+use Rattle.signal_rules.specs.PatternRules.{rows_cases, has_rows, offset_cases, coordination_cases}
+use Rattle.signal_rules.specs.Lanes.{sum_cases, lanes_fill_cycle}
+use Rattle.signal_rules.specs.Slots.{conflict_cases}
 
--- the rules on a subject with whether they hold, ascending
+-- the rules on a subject with the reasons that break each, ascending
 abbrev pub Findings : Type 0
-Findings = List (Rule × Bool)
-
--- those on the crossing of a phase with a pedestrian part
-abbrev pub crossing_findings : Phase → Ped → Findings
-crossing_findings phase ped =
-    (rule.V3, walk_is_long ped) ∷ (rule.V4, clears_crossing phase ped) ∷ (rule.V5, clears_setback phase ped) ∷ []
+Findings = List (Rule × Cases Reason)
 
 abbrev pub phase_findings : Rows → ℕ → Phase → Findings
 phase_findings set p phase =
-    (rule.V1, yellow_is_right phase)
-    ∷ (rule.V2, red_is_right phase)
-    ∷ (rule.V3, where_walked phase.ped walk_is_long)
-    ∷ (rule.V4, where_walked phase.ped (clears_crossing phase))
-    ∷ (rule.V5, where_walked phase.ped (clears_setback phase))
-    ∷ (rule.V6, mates_agree set p phase)
-    ∷ (rule.V14, where_walked phase.ped lead_is_right)
+    (rule.V1, yellow_cases phase)
+    ∷ (rule.V2, red_cases phase)
+    ∷ (rule.V3, of_ped phase.ped walk_cases)
+    ∷ (rule.V4, of_ped phase.ped (crossing_cases phase))
+    ∷ (rule.V5, of_ped phase.ped (setback_cases phase))
+    ∷ (rule.V6, mates_cases set p phase)
+    ∷ (rule.V14, of_ped phase.ped lead_cases)
     ∷ []
 
 -- V13 is evaluated only where V12 holds
 abbrev pub lane_findings : Rows → Pattern → Findings
 lane_findings set pattern =
-    (rule.V12, lanes_fill_cycle set pattern)
-    ∷ (if lanes_fill_cycle set pattern then (rule.V13, lanes_agree set pattern) ∷ [] else [])
+    (rule.V12, sum_cases set pattern)
+    ∷ (if lanes_fill_cycle set pattern then (rule.V13, conflict_cases set pattern) ∷ [] else [])
 
 -- V12 and V13 are evaluated only where V9 holds
 abbrev pub pattern_findings : Rows → Pattern → Findings
 pattern_findings set pattern =
-    (rule.V9, has_rows set pattern)
-    ∷ (rule.V10, offset_is_right pattern)
-    ∷ (rule.V11, has_coordinated set pattern.split)
+    (rule.V9, rows_cases set pattern)
+    ∷ (rule.V10, offset_cases pattern)
+    ∷ (rule.V11, coordination_cases set pattern)
     ∷ (if has_rows set pattern then lane_findings set pattern else [])
 
 abbrev pub for_phase : Rows → ℕ → Option Phase → Findings
@@ -59,11 +56,11 @@ for_phase set p (Some phase) = phase_findings set p phase
 -- a sequence without a row is no subject
 abbrev pub for_sequence : Rows → ℕ → Bool → Findings
 for_sequence set n false = []
-for_sequence set n true = (rule.V7, rows_are_right set n) ∷ []
+for_sequence set n true = (rule.V7, sequence_cases set n) ∷ []
 
 abbrev pub for_split : Rows → ℕ → Option Split → Findings
 for_split set p None = []
-for_split set p (Some split) = (rule.V8, split_is_right (phase_at set p) split) ∷ []
+for_split set p (Some split) = (rule.V8, split_cases p (phase_at set p) split) ∷ []
 
 abbrev pub for_pattern : Rows → Option Pattern → Findings
 for_pattern set None = []
@@ -75,13 +72,25 @@ findings set (subject.Seq n) = for_sequence set n (has_sequence set n)
 findings set (subject.Split n p) = for_split set p (split_at set n p)
 findings set (subject.Pattern n) = for_pattern set (pattern_at set n)
 
--- the rules that do not hold, each once
-abbrev pub broken : Subject → Findings → List Violation
-broken s fs = map (λ f. record { subject = s; rule = f.0 }) (filter (λ f. not f.1) fs)
+-- a rule with its reason, if it has one, before others
+abbrev pub explained : Subject → Rule → Option Reason → List Explained → List Explained
+explained s r None others = others
+explained s r (Some why) others = record { violation = record { subject = s; rule = r }; reason = why } ∷ others
+
+-- the rules that do not hold, each once and with the first of its reasons
+abbrev pub broken : Subject → Findings → List Explained
+broken s [] = []
+broken s (f ∷ fs) = explained s f.0 (first_true f.1) (broken s fs)
+
+abbrev pub explained_at : Rows → Subject → List Explained
+explained_at set s = broken s (findings set s)
+
+abbrev pub violations_in : List Explained → List Violation
+violations_in found = map (λ e. e.violation) found
 
 -- the subject's part of the violations: none of a subject that the set does not have
 abbrev pub violations_at : Rows → Subject → List Violation
-violations_at set s = broken s (findings set s)
+violations_at set s = violations_in (explained_at set s)
 
 -- the split rows of a split number, by phase
 abbrev pub split_rows : Rows → ℕ → List Subject
@@ -102,3 +111,16 @@ subjects set =
 -- the violations of a set: those of its subjects, in order
 unfoldable pub violations_of : Rows → List Violation
 violations_of set = flat_map (violations_at set) (subjects set)
+
+-- the same with their reasons
+unfoldable pub reasons_of : Rows → List Explained
+reasons_of set = flat_map (explained_at set) (subjects set)
+
+abbrev pub AreReasons : Rows → List Explained → Type 0
+AreReasons set found = found ≡ reasons_of set
+
+-- a reason is true of a rule on a subject, whether it is the first or not
+pub record IsReason (set : Rows) (s : Subject) (r : Rule) (why : Reason) : Type 0 where
+  pub cases : Cases Reason
+  pub of_rule : Contains (findings set s) (r, cases)
+  pub is_true : IsTrueIn cases why

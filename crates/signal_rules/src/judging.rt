@@ -1,20 +1,73 @@
-//! The violations of a timing set, subject by subject.
+//! The violations of a timing set and their reasons, subject by subject.
 
-ghost use Rattle.std.specs.Prelude.{◌≡◌, [], ◌∷◌, ◌++◌, OnOk, IfOk};
-ghost use Rattle.signal_rules.specs.Violations.{violations_of, violations_at, broken};
-ghost use Rattle.signal_rules.specs.Violations.{crossing_findings, phase_findings, lane_findings};
-ghost use Rattle.signal_rules.specs.Violations.{pattern_findings};
+ghost use Rattle.std.specs.Prelude.{◌≡◌, Contains, [], ◌++◌, false, map, length};
+ghost use Rattle.std.specs.Prelude.{Some, OnOk, IfOk};
+ghost use Rattle.std.specs.List.{flat_map};
+ghost use Rattle.signal_rules.specs.declared.reason.Explained.{Explained as ExplainedOf};
+ghost use Rattle.signal_rules.specs.declared.reason.Reason.{Reason as ReasonOf};
+ghost use Rattle.signal_rules.specs.declared.violation.Rule.{Rule as RuleOf};
+ghost use Rattle.signal_rules.specs.declared.violation.Subject.{Subject as SubjectOf};
+ghost use Rattle.signal_rules.specs.Cases.{first_true, holds};
 ghost use Rattle.signal_rules.specs.Counts.{RisesAtMost, sequence_entries, most_seconds};
 ghost use Rattle.signal_rules.specs.Lookup as set_has;
+ghost use Rattle.signal_rules.specs.Slots.{agree_where_begun, conflicts_in};
+ghost use Rattle.signal_rules.specs.Violations.{violations_of, violations_at, explained};
+ghost use Rattle.signal_rules.specs.Violations.{explained_at, broken, phase_findings, subjects};
+ghost use Rattle.signal_rules.specs.Violations.{lane_findings, pattern_findings, AreReasons};
+ghost use Rattle.signal_rules.specs.Violations.{IsReason};
 
+use crate::lanes::Slot;
 use crate::lookup::{pattern_at, phase_at, phases_of, split_at};
-use crate::sequence::{has_sequence, rows_are_right};
-use crate::split::split_is_right;
+use crate::reason::{Explained, Reason};
+use crate::sequence::{has_sequence, sequence_reason};
+use crate::split::split_reason;
 use crate::subjects::subjects;
 use crate::violation::{Rule, Subject, Violation};
 use crate::{lanes, pattern, phase};
-use signal_records::{NoMemory, Pattern, PatternNo, Ped, Phase, PhaseNo, SeqNo, TimingSet};
+use signal_records::{Cycle, NoMemory, Pattern, PatternNo, Phase, PhaseNo, SeqNo, TimingSet};
 use std::alloc::Global;
+
+/// What is collected of each rule that does not hold: the violation, alone or with its reason.
+pub(crate) trait Finding: Copy {
+    ghost of: { ExplainedOf → Self };
+
+    fn of(violation: Violation, reason: Reason) -> Self
+        ensures { result ≡ of (record { violation = violation; reason = reason }) };
+
+    /// A violation of V13 by slots that conflict. Only a reason needs a search for the first
+    /// second.
+    fn of_conflict(violation: Violation, slots: &[Slot<'_>], cycle: Cycle) -> Self
+        requires { holds (conflicts_in cycle slots.now) ≡ false }
+        ensures { (why : ReasonOf) → first_true (conflicts_in cycle slots.now) ≡ Some why →
+            result ≡ of (record { violation = violation; reason = why }) };
+}
+
+impl Finding for Violation {
+    ghost of = { λ explained. explained.violation };
+
+    fn of(violation: Violation, _reason: Reason) -> Violation {
+        violation
+    }
+
+    fn of_conflict(violation: Violation, _slots: &[Slot<'_>], _cycle: Cycle) -> Violation {
+        violation
+    }
+}
+
+impl Finding for Explained {
+    ghost of = { λ explained. explained };
+
+    fn of(violation: Violation, reason: Reason) -> Explained {
+        Explained { violation, reason }
+    }
+
+    fn of_conflict(violation: Violation, slots: &[Slot<'_>], cycle: Cycle) -> Explained {
+        let Some(reason) = lanes::conflict_reason(slots, cycle) else {
+            unreachable!();
+        };
+        Explained { violation, reason }
+    }
+}
 
 /// The violations of a set: phases, sequences, split rows and patterns, each by ascending number,
 /// and for each the rules that it breaks in their order, each once.
@@ -24,6 +77,25 @@ use std::alloc::Global;
 pub fn violations(alloc: Global, set: &TimingSet) -> Result<Vec<Violation>, NoMemory>
     ensures { IfOk result (λ found. found.items ≡ violations_of set.now) }
 {
+    judge_all(alloc, set)
+}
+
+/// The violations of a set in their order, each with the first of its reasons. Whatever reason is
+/// true of a rule on a subject shows that the subject breaks the rule.
+///
+/// `NoMemory` means that a growth was really refused.
+pub fn reasons(alloc: Global, set: &TimingSet) -> Result<Vec<Explained>, NoMemory>
+    ensures told { IfOk result (λ found. AreReasons set.now found.items) }
+    ensures shows { (s : SubjectOf) (r : RuleOf) (why : ReasonOf) → IsReason set.now s r why →
+        Contains (violations_at set.now s) (record { subject = s; rule = r }) }
+{
+    judge_all(alloc, set)
+}
+
+fn judge_all<F: Finding>(alloc: Global, set: &TimingSet) -> Result<Vec<F>, NoMemory>
+    ensures { IfOk result (λ found. found.items ≡
+        flat_map (λ s. map F.of (explained_at set.now s)) (subjects set.now)) }
+{
     let mut found = Vec::new(alloc);
     let mut ticks = 0;
     for subject in &subjects(alloc, set)? {
@@ -32,17 +104,17 @@ pub fn violations(alloc: Global, set: &TimingSet) -> Result<Vec<Violation>, NoMe
     Ok(found)
 }
 
-/// Adds the subject's part of the violations, which is empty where the set does not have the
-/// subject. Each second that is compared is a tick.
-pub(crate) fn judge(
+/// Adds what the subject breaks, which is nothing where the set does not have the subject. Each
+/// second that is compared is a tick.
+pub(crate) fn judge<F: Finding>(
     alloc: Global,
     set: &TimingSet,
     subject: Subject,
     ticks: &mut u64,
-    found: &mut Vec<Violation>,
+    found: &mut Vec<F>,
 ) -> Result<(), NoMemory>
     ensures found { OnOk result (found.new.items ≡ found.old.items
-        ++ violations_at set.now subject) }
+        ++ map F.of (explained_at set.now subject)) }
     ensures ticks { RisesAtMost (most_seconds set.now subject) ticks.old ticks.new }
 {
     match subject {
@@ -52,7 +124,7 @@ pub(crate) fn judge(
         },
         Subject::Seq(n) => judge_sequence(alloc, set, n, found),
         Subject::Split(n, p) => match split_at(set, n, p) {
-            Some(split) => report(split_is_right(set, p, split), subject, Rule::V8, found),
+            Some(split) => report(split_reason(set, p, split), subject, Rule::V8, found),
             None => Ok(()),
         },
         Subject::Pattern(n) => match pattern_at(set, n) {
@@ -62,130 +134,108 @@ pub(crate) fn judge(
     }
 }
 
-/// Adds a violation, if the rule does not hold.
-fn report(
-    holds: bool,
+/// Adds a violation, if the rule has a reason not to hold.
+fn report<F: Finding>(
+    reason: Option<Reason>,
     subject: Subject,
     rule: Rule,
-    found: &mut Vec<Violation>,
+    found: &mut Vec<F>,
 ) -> Result<(), NoMemory>
     ensures { OnOk result (found.new.items ≡ found.old.items
-        ++ broken subject ((rule, holds) ∷ [])) }
+        ++ map F.of (explained subject rule reason [])) }
 {
-    if !holds {
-        found.push(Violation { subject, rule })?;
+    if let Some(reason) = reason {
+        found.push(F::of(Violation { subject, rule }, reason))?;
     }
     Ok(())
 }
 
 /// The rules of a phase: those of its own intervals, of its crossing, of its mates, of its lead.
-fn judge_phase(
+fn judge_phase<F: Finding>(
     set: &TimingSet,
     p: PhaseNo,
     phase: &Phase,
-    found: &mut Vec<Violation>,
+    found: &mut Vec<F>,
 ) -> Result<(), NoMemory>
     ensures { OnOk result (found.new.items ≡ found.old.items
-        ++ broken (Subject.Phase p) (phase_findings set.now p phase.now)) }
+        ++ map F.of (broken (Subject.Phase p) (phase_findings set.now p phase.now))) }
 {
     report(
-        phase::yellow_is_right(phase),
+        phase::yellow_reason(phase),
         Subject::Phase(p),
         Rule::V1,
         found,
     )?;
+    report(phase::red_reason(phase), Subject::Phase(p), Rule::V2, found)?;
     report(
-        phase::red_is_right(phase),
+        phase::walk_reason(phase),
         Subject::Phase(p),
-        Rule::V2,
+        Rule::V3,
         found,
     )?;
-    if let Some(ped) = &phase.ped {
-        judge_crossing(p, phase, ped, found)?;
-    }
     report(
-        phase::mates_agree(set, p, phase),
+        phase::clearance_reason(phase),
+        Subject::Phase(p),
+        Rule::V4,
+        found,
+    )?;
+    report(
+        phase::setback_reason(phase),
+        Subject::Phase(p),
+        Rule::V5,
+        found,
+    )?;
+    report(
+        phase::mates_reason(set, p, phase),
         Subject::Phase(p),
         Rule::V6,
         found,
     )?;
     report(
-        phase::lead_is_right(phase),
+        phase::lead_reason(phase),
         Subject::Phase(p),
         Rule::V14,
         found,
     )
 }
 
-/// The rules of a phase's crossing.
-fn judge_crossing(
-    p: PhaseNo,
-    phase: &Phase,
-    ped: &Ped,
-    found: &mut Vec<Violation>,
-) -> Result<(), NoMemory>
-    ensures { OnOk result (found.new.items ≡ found.old.items
-        ++ broken (Subject.Phase p) (crossing_findings phase.now ped.now)) }
-{
-    report(phase::walk_is_long(ped), Subject::Phase(p), Rule::V3, found)?;
-    report(
-        phase::clears_crossing(phase, ped),
-        Subject::Phase(p),
-        Rule::V4,
-        found,
-    )?;
-    report(
-        phase::clears_setback(phase, ped),
-        Subject::Phase(p),
-        Rule::V5,
-        found,
-    )
-}
-
-fn judge_sequence(
+fn judge_sequence<F: Finding>(
     alloc: Global,
     set: &TimingSet,
     n: SeqNo,
-    found: &mut Vec<Violation>,
+    found: &mut Vec<F>,
 ) -> Result<(), NoMemory>
     ensures { OnOk result (found.new.items ≡ found.old.items
-        ++ violations_at set.now (Subject.Seq n)) }
+        ++ map F.of (explained_at set.now (Subject.Seq n))) }
 {
     if has_sequence(set, n) {
         let phases = phases_of(alloc, set)?;
-        let right = rows_are_right(set, &phases, n);
-        report(right, Subject::Seq(n), Rule::V7, found)?;
+        let reason = sequence_reason(set, &phases, n);
+        report(reason, Subject::Seq(n), Rule::V7, found)?;
     }
     Ok(())
 }
 
-fn judge_pattern(
+fn judge_pattern<F: Finding>(
     alloc: Global,
     set: &TimingSet,
     n: PatternNo,
     pattern: &Pattern,
     ticks: &mut u64,
-    found: &mut Vec<Violation>,
+    found: &mut Vec<F>,
 ) -> Result<(), NoMemory>
     ensures ticks { RisesAtMost (sequence_entries set.now pattern.now.seq) ticks.old ticks.new }
     ensures found { OnOk result (found.new.items ≡ found.old.items
-        ++ broken (Subject.Pattern n) (pattern_findings set.now pattern.now)) }
+        ++ map F.of (broken (Subject.Pattern n) (pattern_findings set.now pattern.now))) }
 {
     let phases = phases_of(alloc, set)?;
-    let has_rows = pattern::has_rows(set, &phases, pattern);
-    report(has_rows, Subject::Pattern(n), Rule::V9, found)?;
-    report(
-        pattern::offset_is_right(pattern),
-        Subject::Pattern(n),
-        Rule::V10,
-        found,
-    )?;
-    report(
-        pattern::has_coordinated(set, &phases, pattern.split),
-        Subject::Pattern(n),
-        Rule::V11,
-        found,
-    )?;
+    let rows = pattern::rows_reason(set, &phases, pattern);
+    let has_rows = rows.is_none();
+    report(rows, Subject::Pattern(n), Rule::V9, found)?;
+    let offset = pattern::offset_reason(pattern);
+    report(offset, Subject::Pattern(n), Rule::V10, found)?;
+    let coordination = pattern::coordination_reason(set, &phases, pattern);
+    report(coordination, Subject::Pattern(n), Rule::V11, found)?;
     if has_rows {
         judge_lanes(alloc, set, &phases, n, pattern, ticks, found)?;
     }
@@ -194,27 +244,47 @@ fn judge_pattern(
 
 /// The rules on the lanes of a pattern, which are compared only where they fill the cycle. The
 /// phases are those of the set.
-fn judge_lanes(
+fn judge_lanes<F: Finding>(
     alloc: Global,
     set: &TimingSet,
     phases: &[PhaseNo],
     n: PatternNo,
     pattern: &Pattern,
     ticks: &mut u64,
-    found: &mut Vec<Violation>,
+    found: &mut Vec<F>,
 ) -> Result<(), NoMemory>
     requires { phases.now ≡ set_has.phases set.now }
     ensures ticks { RisesAtMost (sequence_entries set.now pattern.now.seq) ticks.old ticks.new }
     ensures found { OnOk result (found.new.items ≡ found.old.items
-        ++ broken (Subject.Pattern n) (lane_findings set.now pattern.now)) }
+        ++ map F.of (broken (Subject.Pattern n) (lane_findings set.now pattern.now))) }
 {
     let rings = pattern::rings_of(alloc, set, phases)?;
     let mut slots = Vec::new(alloc);
-    let fill = lanes::rings_fill(set, pattern, &rings, &mut slots)?;
-    report(fill, Subject::Pattern(n), Rule::V12, found)?;
+    let sum = lanes::sum_reason(set, pattern, &rings, &mut slots)?;
+    let fill = sum.is_none();
+    report(sum, Subject::Pattern(n), Rule::V12, found)?;
     if fill {
-        let agree = lanes::rings_agree(&slots, ticks);
-        report(agree, Subject::Pattern(n), Rule::V13, found)?;
+        judge_slots(&slots, pattern.cycle, Subject::Pattern(n), ticks, found)?;
+    }
+    Ok(())
+}
+
+/// V13, of slots that fill the cycle.
+fn judge_slots<F: Finding>(
+    slots: &[Slot<'_>],
+    cycle: Cycle,
+    subject: Subject,
+    ticks: &mut u64,
+    found: &mut Vec<F>,
+) -> Result<(), NoMemory>
+    requires { holds (conflicts_in cycle slots.now) ≡ agree_where_begun slots.now slots.now }
+    ensures ticks { RisesAtMost (length slots.now) ticks.old ticks.new }
+    ensures found { OnOk result (found.new.items ≡ found.old.items
+        ++ map F.of (explained subject Rule.V13 (first_true (conflicts_in cycle slots.now)) [])) }
+{
+    if !lanes::rings_agree(slots, ticks) {
+        let rule = Rule::V13;
+        found.push(F::of_conflict(Violation { subject, rule }, slots, cycle))?;
     }
     Ok(())
 }

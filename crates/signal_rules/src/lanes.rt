@@ -2,19 +2,21 @@
 //! is a sum of splits, and the rings are compared only at the seconds at which one of them starts a
 //! phase. What that takes of the set is looked up once for each ring and for each phase of its row.
 
-ghost use Rattle.std.specs.Prelude.{◌≡◌, ◌<◌, ◌≤◌, ◌+◌, ◌*◌, ◌^◌, ◌++◌, ◌==◌, true};
-ghost use Rattle.std.specs.Prelude.{IfOk, OnOk, length};
-ghost use Rattle.std.specs.List.{list_all};
+ghost use Rattle.std.specs.Prelude.{◌≡◌, ◌<◌, ◌≤◌, ◌+◌, ◌*◌, ◌^◌, ◌++◌, ◌==◌, true, false};
+ghost use Rattle.std.specs.Prelude.{IfOk, OnOk, is_some, length};
+ghost use Rattle.signal_rules.specs.Cases.{first_true};
 ghost use Rattle.signal_rules.specs.Lookup.{phase_at, the_mates, lists};
-ghost use Rattle.signal_rules.specs.Lanes.{time_of, lane};
+ghost use Rattle.signal_rules.specs.Lanes.{time_of, lane, rings_cases};
 ghost use Rattle.signal_rules.specs.CutPoints.{timed};
-ghost use Rattle.signal_rules.specs.Starts.{times, rings_fill};
+ghost use Rattle.signal_rules.specs.Starts.{times};
 ghost use Rattle.signal_rules.specs.Slots.{spans_at, spans_from, spans_of, has_second, are_mates};
-ghost use Rattle.signal_rules.specs.Slots.{all_are_mates, listings_in, agree_where_begun};
+ghost use Rattle.signal_rules.specs.Slots.{spans_in, later_cases, pair_cases, conflicts_in};
+ghost use Rattle.signal_rules.specs.Slots.{slot_cases, agree_where_begun};
 ghost use Rattle.signal_rules.specs.Counts.{RisesAtLeast, RisesAtMost};
 
 use crate::lookup::{phase_at, ring_row, split_at};
-use signal_records::{NoMemory, Pattern, PhaseNo, RingNo, Split, TimingSet};
+use crate::reason::{PatternReason, Reason};
+use signal_records::{Cycle, NoMemory, Pattern, PhaseNo, RingNo, Split, TimingSet};
 use std::marker::Model;
 
 /// A phase that has its ring's lane from a second up to another one, and the phases that it lists.
@@ -38,28 +40,34 @@ impl<'s> Model for Slot<'s> {
     } };
 }
 
-/// V12: the splits of each ring's row sum up to the cycle. Where they do, the slots of the rows are
-/// added.
-pub(crate) fn rings_fill<'s>(
+/// V12: the splits of each ring's row sum up to the cycle; else the first ring of which they do not.
+/// Where they do, the slots of the rows are added.
+pub(crate) fn sum_reason<'s>(
     set: &'s TimingSet,
     pattern: &Pattern,
     rings: &[RingNo],
     slots: &mut Vec<Slot<'s>>,
-) -> Result<bool, NoMemory>
-    ensures fill { IfOk result (λ fill. fill ≡ rings_fill set.now pattern.now rings.now) }
-    ensures slots { IfOk result (λ fill. fill ≡ true →
+) -> Result<Option<Reason>, NoMemory>
+    ensures reason { IfOk result (λ reason.
+        reason ≡ first_true (rings_cases set.now pattern.now rings.now)) }
+    ensures slots { IfOk result (λ reason. is_some reason ≡ false →
         slots.new.items ≡ slots.old.items ++ spans_of set.now pattern.now rings.now) }
 {
     for ring in rings {
         let row = ring_row(set, pattern.seq, *ring);
         if !row_fills(set, pattern, row, slots)? {
-            return Ok(false);
+            let sum = lane_seconds(set, pattern, *ring);
+            return Ok(Some(Reason::Pattern(PatternReason::OtherSum {
+                ring: *ring,
+                sum,
+                cycle: pattern.cycle,
+            })));
         }
     }
-    Ok(true)
+    Ok(None)
 }
 
-/// The same of a row. It is left where it passes the cycle, so that no sum grows past it.
+/// Whether the splits of a row sum up to the cycle. The row is left where it passes the cycle, so that no sum grows past it.
 fn row_fills<'s>(
     set: &'s TimingSet,
     pattern: &Pattern,
@@ -139,37 +147,66 @@ pub(crate) fn rings_agree(slots: &[Slot<'_>], ticks: &mut u64) -> bool
 {
     for slot in slots {
         *ticks = ticks.saturating_add(1);
-        if !agree_at(slots, slot.from) {
+        if pair_reason(slots, slot.from).is_some() {
             return false;
         }
     }
     true
 }
 
-/// The phases that have a second list each other.
-fn agree_at(slots: &[Slot<'_>], second: u32) -> bool
-    ensures { result ≡ all_are_mates (listings_in second slots.now) }
+/// The first second of a cycle at which two phases time together that do not list each other.
+pub(crate) fn conflict_reason(slots: &[Slot<'_>], cycle: Cycle) -> Option<Reason>
+    ensures { result ≡ first_true (conflicts_in cycle slots.now) }
 {
-    match slots {
-        [] => true,
-        [slot, later @ ..] => {
-            if has_second(slot, second) && !agrees_with(slot, later, second) {
-                return false;
-            }
-            agree_at(later, second)
+    for second in 0..cycle.get() {
+        if let Some(reason) = pair_reason(slots, second) {
+            return Some(reason);
         }
+    }
+    None
+}
+
+/// The first two slots, in their order, that have a second and whose phases do not list each other.
+#[tactic(auto, using(crate::proofs::Pairs::pair_here, crate::proofs::Pairs::pair_past))]
+fn pair_reason(slots: &[Slot<'_>], second: u32) -> Option<Reason>
+    ensures { result ≡ first_true (pair_cases second (spans_in second slots.now)) }
+{
+    let [slot, later @ ..] = slots else {
+        return None;
+    };
+    match slot_reason(slot, later, second) {
+        Some(reason) => Some(reason),
+        None => pair_reason(later, second),
     }
 }
 
-fn agrees_with(slot: &Slot<'_>, later: &[Slot<'_>], second: u32) -> bool
-    ensures { result ≡ list_all (are_mates slot.now.listing) (listings_in second later.now) }
+/// A slot with later ones, if it has a second.
+fn slot_reason(slot: &Slot<'_>, later: &[Slot<'_>], second: u32) -> Option<Reason>
+    ensures { result ≡ first_true (slot_cases second slot.now later.now) }
+{
+    if has_second(slot, second) {
+        later_reason(slot, later, second)
+    } else {
+        None
+    }
+}
+
+/// The first of some later slots that has the second of a slot and conflicts with it, for as long
+/// as both last.
+fn later_reason(slot: &Slot<'_>, later: &[Slot<'_>], second: u32) -> Option<Reason>
+    ensures { result ≡ first_true (later_cases second slot.now (spans_in second later.now)) }
 {
     for other in later {
         if has_second(other, second) && !list_each_other(slot, other) {
-            return false;
+            return Some(Reason::Pattern(PatternReason::Conflict {
+                from: second,
+                until: slot.until.min(other.until),
+                phase: slot.phase,
+                other: other.phase,
+            }));
         }
     }
-    true
+    None
 }
 
 fn has_second(slot: &Slot<'_>, second: u32) -> bool

@@ -13,18 +13,24 @@ mod lookup;
 mod pattern;
 mod phase;
 mod reach;
+mod reason;
 mod sequence;
 mod split;
 mod subjects;
+mod texts;
 mod violation;
 
 pub use counting::{Judge, Tally, violations_touched};
-pub use judging::violations;
+pub use judging::{reasons, violations};
 pub use lanes::{lane_seconds, lists, time_of};
 pub use lookup::{has_phase, pattern_at, phase_at, ring_row, split_at};
 pub use pattern::{is_coordinated, used_rings, without_split};
 pub use phase::clearance;
 pub use reach::touched;
+pub use reason::{
+    CrossingReason, Explained, IntervalReason, MateReason, PatternReason, Reason, SequenceReason,
+    SplitReason,
+};
 pub use sequence::has_sequence;
 pub use subjects::subject_of;
 pub use violation::{Rule, Subject, Violation};

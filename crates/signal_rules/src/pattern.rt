@@ -4,33 +4,41 @@ ghost use Rattle.std.specs.Prelude.{◌≡◌, ◌≤◌, true, false, length, I
 ghost use Rattle.signal_rules.specs.Lookup as set_has;
 ghost use Rattle.signal_rules.specs.Lookup.{split_at};
 ghost use Rattle.signal_rules.specs.OnePass.{rings_at};
-ghost use Rattle.signal_rules.specs.PatternRules.{has_splits, has_rows, offset_is_right};
+ghost use Rattle.signal_rules.specs.Cases.{first_true};
+ghost use Rattle.signal_rules.specs.PatternRules.{has_splits, splits_cases, rows_cases};
+ghost use Rattle.signal_rules.specs.PatternRules.{offset_cases, coordination_cases};
 ghost use Rattle.signal_rules.specs.PatternRules.{is_coordinated, has_coordinated};
 ghost use Rattle.signal_rules.specs.Lanes.{used_rings};
 
 use crate::lookup::{has_phase, has_split, phase_at, phases_of, split_at};
+use crate::reason::{PatternReason, Reason};
 use crate::sequence::has_sequence;
 use signal_records::{NoMemory, Pattern, PhaseNo, RingNo, Split, SplitNo, TimingSet};
 use std::alloc::Global;
 
 /// V9, of `patternSequenceNumber` and `patternSplitNumber`. The phases are those of the set.
-pub(crate) fn has_rows(set: &TimingSet, phases: &[PhaseNo], pattern: &Pattern) -> bool
+pub(crate) fn rows_reason(set: &TimingSet, phases: &[PhaseNo], pattern: &Pattern) -> Option<Reason>
     requires { phases.now ≡ set_has.phases set.now }
-    ensures { result ≡ has_rows set.now pattern.now }
+    ensures { result ≡ first_true (rows_cases set.now pattern.now) }
 {
-    has_sequence(set, pattern.seq) && has_splits(set, phases, pattern.split)
+    if !has_sequence(set, pattern.seq) {
+        let seq = pattern.seq;
+        return Some(Reason::Pattern(PatternReason::NoSequence { seq }));
+    }
+    splits_reason(set, phases, pattern.split)
 }
 
-fn has_splits(set: &TimingSet, phases: &[PhaseNo], n: SplitNo) -> bool
-    requires { phases.now ≡ set_has.phases set.now }
-    ensures { result ≡ has_splits set.now n }
+/// The first of the phases for which a split number has no row.
+fn splits_reason(set: &TimingSet, phases: &[PhaseNo], split: SplitNo) -> Option<Reason>
+    ensures { result ≡ first_true (splits_cases set.now split phases.now) }
 {
-    for p in phases {
-        if !has_split(set, n, *p) {
-            return false;
+    for phase in phases {
+        if !has_split(set, split, *phase) {
+            let phase = *phase;
+            return Some(Reason::Pattern(PatternReason::NoSplit { split, phase }));
         }
     }
-    true
+    None
 }
 
 /// The first phase of the set for which a split number has no row.
@@ -51,14 +59,34 @@ pub fn without_split(set: &TimingSet, n: SplitNo) -> Option<PhaseNo>
 }
 
 /// V10, of `patternOffsetTime` and `patternCycleTime`.
-pub(crate) fn offset_is_right(pattern: &Pattern) -> bool
-    ensures { result ≡ offset_is_right pattern.now }
+pub(crate) fn offset_reason(pattern: &Pattern) -> Option<Reason>
+    ensures { result ≡ first_true (offset_cases pattern.now) }
 {
-    u32::from(pattern.offset) < pattern.cycle.get()
+    let Pattern { offset, cycle, .. } = *pattern;
+    if u32::from(offset) < cycle.get() {
+        return None;
+    }
+    Some(Reason::Pattern(PatternReason::LateOffset { offset, cycle }))
 }
 
 /// V11, of `splitCoordPhase`. The phases are those of the set.
-pub(crate) fn has_coordinated(set: &TimingSet, phases: &[PhaseNo], n: SplitNo) -> bool
+pub(crate) fn coordination_reason(
+    set: &TimingSet,
+    phases: &[PhaseNo],
+    pattern: &Pattern,
+) -> Option<Reason>
+    requires { phases.now ≡ set_has.phases set.now }
+    ensures { result ≡ first_true (coordination_cases set.now pattern.now) }
+{
+    let split = pattern.split;
+    if has_coordinated(set, phases, split) {
+        return None;
+    }
+    Some(Reason::Pattern(PatternReason::NoneCoordinated { split }))
+}
+
+/// Whether one of the phases, which are those of the set, is coordinated.
+fn has_coordinated(set: &TimingSet, phases: &[PhaseNo], n: SplitNo) -> bool
     requires { phases.now ≡ set_has.phases set.now }
     ensures { result ≡ has_coordinated set.now n }
 {

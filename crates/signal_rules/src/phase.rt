@@ -1,33 +1,51 @@
 //! V1 to V6 and V14, the rules of a phase.
 
 ghost use Rattle.std.specs.Prelude.{◌≡◌, ◌≤◌};
-ghost use Rattle.signal_rules.specs.PhaseRules.{yellow_is_right, red_is_right, walk_is_long};
-ghost use Rattle.signal_rules.specs.PhaseRules.{clearance, clears_crossing, clears_setback};
-ghost use Rattle.signal_rules.specs.PhaseRules.{lead_is_right, where_walked, is_mate, mates_agree};
-ghost use Rattle.signal_rules.specs.Lookup.{phase_at};
+ghost use Rattle.signal_rules.specs.Cases.{first_true};
+ghost use Rattle.signal_rules.specs.Lookup.{phase_at, is_in};
+ghost use Rattle.signal_rules.specs.PhaseRules.{yellow_cases, red_cases, of_ped, walk_cases};
+ghost use Rattle.signal_rules.specs.PhaseRules.{clearance, crossing_cases, setback_cases};
+ghost use Rattle.signal_rules.specs.PhaseRules.{lead_cases, mate_cases, mates_cases};
 
 use crate::lookup::phase_at;
+use crate::reason::{CrossingReason, IntervalReason, MateReason, Reason};
 use signal_records::{Ped, Phase, PhaseNo, TimingSet};
 
 /// V1, of `phaseYellowChange`.
-pub(crate) fn yellow_is_right(phase: &Phase) -> bool
-    ensures { result ≡ yellow_is_right phase.now }
+pub(crate) fn yellow_reason(phase: &Phase) -> Option<Reason>
+    ensures { result ≡ first_true (yellow_cases phase.now) }
 {
-    30 <= phase.yellow && phase.yellow <= 60
+    let tenths = phase.yellow;
+    if 30 <= tenths && tenths <= 60 {
+        return None;
+    }
+    Some(Reason::Interval(IntervalReason::Yellow { tenths }))
 }
 
 /// V2, of `phaseRedClear`.
-pub(crate) fn red_is_right(phase: &Phase) -> bool
-    ensures { result ≡ red_is_right phase.now }
+pub(crate) fn red_reason(phase: &Phase) -> Option<Reason>
+    ensures { result ≡ first_true (red_cases phase.now) }
 {
-    phase.red <= 60
+    let tenths = phase.red;
+    if tenths <= 60 {
+        return None;
+    }
+    Some(Reason::Interval(IntervalReason::Red { tenths }))
 }
 
 /// V3, of `phaseWalk`.
-pub(crate) fn walk_is_long(ped: &Ped) -> bool
-    ensures { result ≡ walk_is_long ped.now }
+pub(crate) fn walk_reason(phase: &Phase) -> Option<Reason>
+    ensures { result ≡ first_true (of_ped phase.now.ped walk_cases) }
 {
-    (if ped.short { 4 } else { 7 }) <= ped.walk
+    let Some(ped) = &phase.ped else {
+        return None;
+    };
+    let seconds = ped.walk;
+    let least = if ped.short { 4 } else { 7 };
+    if least <= seconds {
+        return None;
+    }
+    Some(Reason::Crossing(CrossingReason::ShortWalk { seconds, least }))
 }
 
 /// From the end of the walk to the end of red, in tenths of a second.
@@ -41,50 +59,93 @@ pub fn clearance(phase: &Phase, ped: &Ped) -> u32
 }
 
 /// V4: tenths of a second, at 3.5 feet a second, against tenths of a foot.
-pub(crate) fn clears_crossing(phase: &Phase, ped: &Ped) -> bool
-    ensures { result ≡ clears_crossing phase.now ped.now }
+pub(crate) fn clearance_reason(phase: &Phase) -> Option<Reason>
+    ensures { result ≡ first_true (of_ped phase.now.ped (crossing_cases phase.now)) }
 {
-    2 * ped.width.get() <= 7 * clearance(phase, ped)
+    let Some(ped) = &phase.ped else {
+        return None;
+    };
+    let width = ped.width.get();
+    let there = clearance(phase, ped);
+    if 2 * width <= 7 * there {
+        return None;
+    }
+    let takes = (2 * width + 6) / 7;
+    Some(Reason::Crossing(CrossingReason::SlowClearance {
+        width,
+        takes,
+        there,
+    }))
 }
 
 /// V5: tenths of a second, at 3 feet a second, against tenths of a foot.
-pub(crate) fn clears_setback(phase: &Phase, ped: &Ped) -> bool
-    ensures { result ≡ clears_setback phase.now ped.now }
+pub(crate) fn setback_reason(phase: &Phase) -> Option<Reason>
+    ensures { result ≡ first_true (of_ped phase.now.ped (setback_cases phase.now)) }
 {
-    let time = 10 * u32::from(ped.walk) + clearance(phase, ped);
-    ped.width.get() + ped.setback.get() <= 3 * time
+    let Some(ped) = &phase.ped else {
+        return None;
+    };
+    let Ped { walk, .. } = ped;
+    let length = ped.width.get() + ped.setback.get();
+    let there = 10 * u32::from(*walk) + clearance(phase, ped);
+    if length <= 3 * there {
+        return None;
+    }
+    let takes = (length + 2) / 3;
+    Some(Reason::Crossing(CrossingReason::SlowSetback {
+        length,
+        takes,
+        there,
+    }))
 }
 
 /// V14, of the leading pedestrian interval, which is no longer than `phaseWalk`.
-pub(crate) fn lead_is_right(phase: &Phase) -> bool
-    ensures { result ≡ where_walked phase.now.ped lead_is_right }
+pub(crate) fn lead_reason(phase: &Phase) -> Option<Reason>
+    ensures { result ≡ first_true (of_ped phase.now.ped lead_cases) }
 {
-    match &phase.ped {
-        Some(Ped { lead, walk, .. }) => {
-            let lead = lead.get();
-            lead == 0 || (3 <= lead && lead <= u32::from(*walk))
-        }
-        None => true,
+    let Some(Ped { lead, walk, .. }) = &phase.ped else {
+        return None;
+    };
+    let lead = lead.get();
+    if lead != 0 && lead < 3 {
+        return Some(Reason::Crossing(CrossingReason::ShortLead { lead }));
     }
+    if u32::from(*walk) < lead {
+        return Some(Reason::Crossing(CrossingReason::LongLead { lead, walk: *walk }));
+    }
+    None
 }
 
-/// V6, of `phaseConcurrency`.
-pub(crate) fn mates_agree(set: &TimingSet, p: PhaseNo, phase: &Phase) -> bool
-    ensures { result ≡ mates_agree set.now p phase.now }
+/// V6, of `phaseConcurrency`: the first mate that is not one, in the order of the list.
+pub(crate) fn mates_reason(set: &TimingSet, p: PhaseNo, phase: &Phase) -> Option<Reason>
+    ensures { result ≡ first_true (mates_cases set.now p phase.now) }
 {
     for mate in phase.mates.as_slice() {
-        if !is_mate(set, p, phase, *mate) {
-            return false;
+        if let Some(reason) = mate_reason(set, p, phase, *mate) {
+            return Some(reason);
         }
     }
-    true
+    None
 }
 
-fn is_mate(set: &TimingSet, p: PhaseNo, phase: &Phase, mate: PhaseNo) -> bool
-    ensures { result ≡ is_mate p phase.now (phase_at set.now mate) }
+fn mate_reason(set: &TimingSet, p: PhaseNo, phase: &Phase, mate: PhaseNo) -> Option<Reason>
+    ensures { result ≡ first_true (mate_cases p phase.now mate (phase_at set.now mate)) }
 {
-    match phase_at(set, mate) {
-        Some(other) => other.ring != phase.ring && other.mates.as_slice().contains(&p),
-        None => false,
+    let Some(other) = phase_at(set, mate) else {
+        return Some(Reason::Mate(MateReason::NotInPlan { mate }));
+    };
+    if other.ring == phase.ring {
+        let ring = phase.ring;
+        return Some(Reason::Mate(MateReason::SameRing { mate, ring }));
     }
+    if !has_mate(other, p) {
+        return Some(Reason::Mate(MateReason::NotListed { mate }));
+    }
+    None
+}
+
+fn has_mate(phase: &Phase, p: PhaseNo) -> bool
+    ensures { result ≡ is_in p phase.now.mates }
+{
+    phase.mates.as_slice().contains(&p)
 }

@@ -1,14 +1,16 @@
 //! V7, the rule of a sequence.
 
-ghost use Rattle.std.specs.Prelude.{◌≡◌, count_by, ◌==◌, false};
-ghost use Rattle.std.specs.Option.{option_copied};
+ghost use Rattle.std.specs.Prelude.{◌≡◌};
+ghost use Rattle.std.specs.List.{flat_map};
+ghost use Rattle.signal_rules.specs.Cases.{first_true};
 ghost use Rattle.signal_rules.specs.Lookup as set_has;
-ghost use Rattle.signal_rules.specs.Lookup.{has_sequence, phase_at};
-ghost use Rattle.signal_rules.specs.OnePass.{stands_in_ring, each_stands_once, no_other_stands};
-ghost use Rattle.signal_rules.specs.SequenceRule.{in_ring, has_no_other, rows_are_right};
+ghost use Rattle.signal_rules.specs.Lookup.{has_sequence, phase_at, ring_numbers};
+ghost use Rattle.signal_rules.specs.SequenceRule.{place_cases, row_cases, times_in, once_cases};
+ghost use Rattle.signal_rules.specs.SequenceRule.{sequence_cases};
 
 use crate::lookup::{has_row, phase_at, ring_row};
-use signal_records::{Phase, PhaseNo, RingNo, SeqNo, TimingSet};
+use crate::reason::{Reason, SequenceReason};
+use signal_records::{PhaseNo, RingNo, SeqNo, TimingSet};
 
 /// Whether a sequence has a row.
 pub fn has_sequence(set: &TimingSet, n: SeqNo) -> bool
@@ -23,78 +25,89 @@ pub fn has_sequence(set: &TimingSet, n: SeqNo) -> bool
 }
 
 /// V7, of `sequenceData` of all rings. The phases are those of the set.
-pub(crate) fn rows_are_right(set: &TimingSet, phases: &[PhaseNo], n: SeqNo) -> bool
+///
+/// The first phase that stands where it should not, ring by ring in the order of their rows, and
+/// else the first one that does not stand once where it should.
+#[tactic(auto, using(crate::proofs::Cases::first_past, crate::proofs::Cases::first_here))]
+pub(crate) fn sequence_reason(set: &TimingSet, phases: &[PhaseNo], n: SeqNo) -> Option<Reason>
     requires { phases.now ≡ set_has.phases set.now }
-    ensures { result ≡ rows_are_right set.now n }
+    ensures { result ≡ first_true (sequence_cases set.now n) }
 {
-    each_stands_once(set, phases, n) && no_other_stands(set, n)
-}
-
-/// Each phase of the set stands exactly once in the row of its ring.
-fn each_stands_once(set: &TimingSet, phases: &[PhaseNo], n: SeqNo) -> bool
-    requires { phases.now ≡ set_has.phases set.now }
-    ensures { result ≡ each_stands_once set.now n }
-{
-    for p in phases {
-        if !stands_in_ring(set, n, *p) {
-            return false;
-        }
-    }
-    true
-}
-
-/// A phase stands exactly once in the row of its ring, if it is in the set.
-fn stands_in_ring(set: &TimingSet, n: SeqNo, p: PhaseNo) -> bool
-    ensures stands { result ≡ stands_in_ring set.now n p (phase_at set.now p) }
-    ensures alone { result ≡ false → each_stands_once set.now n ≡ false }
-{
-    match phase_at(set, p) {
-        Some(phase) => {
-            // They are read, so that their ranges are known.
-            let _phase = p.get();
-            let _ring = phase.ring.get();
-            stands_once(ring_row(set, n, phase.ring), p)
-        }
-        None => true,
+    match misplaced(set, n) {
+        Some(reason) => Some(reason),
+        None => not_once(set, phases, n),
     }
 }
 
-/// Only phases of its ring stand in each row.
-fn no_other_stands(set: &TimingSet, n: SeqNo) -> bool
-    ensures { result ≡ no_other_stands set.now n }
+/// The first phase that stands in the row of a ring and is not of that ring.
+fn misplaced(set: &TimingSet, n: SeqNo) -> Option<Reason>
+    ensures { result ≡ first_true (flat_map (row_cases set.now n) ring_numbers) }
 {
     for ring in RingNo::all() {
-        if !has_no_other(set, ring, ring_row(set, n, ring)) {
-            return false;
+        if let Some(reason) = misplaced_in(set, n, ring) {
+            return Some(reason);
         }
     }
-    true
+    None
 }
 
-/// Only phases of the ring stand in the row.
-fn has_no_other(set: &TimingSet, ring: RingNo, row: &[PhaseNo]) -> bool
-    ensures { result ≡ has_no_other set.now ring row.now }
+/// The first such phase in the row of one ring.
+fn misplaced_in(set: &TimingSet, n: SeqNo, ring: RingNo) -> Option<Reason>
+    ensures { result ≡ first_true (row_cases set.now n ring) }
 {
-    for p in row {
-        if !in_ring(ring, phase_at(set, *p)) {
-            return false;
+    for p in ring_row(set, n, ring) {
+        if let Some(reason) = place_reason(set, ring, *p) {
+            return Some(reason);
         }
     }
-    true
+    None
 }
 
-fn stands_once(row: &[PhaseNo], p: PhaseNo) -> bool
-    ensures { result ≡ (count_by (λ m. m == p) row.now == 1) }
+/// A phase in the row of a ring is of that ring.
+fn place_reason(set: &TimingSet, ring: RingNo, phase: PhaseNo) -> Option<Reason>
+    ensures { result ≡ first_true (place_cases ring phase (phase_at set.now phase)) }
 {
-    row.iter().filter(|m| **m == p).count() == 1
-}
-
-/// A phase that is not in the set is in no ring.
-pub(crate) fn in_ring(ring: RingNo, phase: Option<&Phase>) -> bool
-    ensures { result ≡ in_ring ring (option_copied phase.entry) }
-{
-    match phase {
-        Some(phase) => phase.ring == ring,
-        None => false,
+    let Some(found) = phase_at(set, phase) else {
+        return Some(Reason::Sequence(SequenceReason::NotInPlan { phase }));
+    };
+    let own = found.ring;
+    if own == ring {
+        return None;
     }
+    Some(Reason::Sequence(SequenceReason::OtherRing { phase, ring, own }))
+}
+
+/// The first of the phases that does not stand exactly once in the row of its ring.
+fn not_once(set: &TimingSet, phases: &[PhaseNo], n: SeqNo) -> Option<Reason>
+    ensures { result ≡ first_true
+        (flat_map (λ p. once_cases set.now n p (phase_at set.now p)) phases.now) }
+{
+    for p in phases {
+        if let Some(reason) = once_reason(set, n, *p) {
+            return Some(reason);
+        }
+    }
+    None
+}
+
+/// A phase of the set stands exactly once in the row of its ring.
+fn once_reason(set: &TimingSet, n: SeqNo, p: PhaseNo) -> Option<Reason>
+    ensures { result ≡ first_true (once_cases set.now n p (phase_at set.now p)) }
+{
+    let phase = phase_at(set, p)?;
+    let times = times_in(ring_row(set, n, phase.ring), p);
+    if times == 0 {
+        return Some(Reason::Sequence(SequenceReason::Missing { phase: p }));
+    }
+    if 1 < times {
+        return Some(Reason::Sequence(SequenceReason::Repeated { phase: p }));
+    }
+    None
+}
+
+/// How often a phase stands in a row.
+fn times_in(row: &[PhaseNo], p: PhaseNo) -> usize
+    ensures { result ≡ times_in row.now p }
+{
+    row.iter().filter(|m| **m == p).count()
 }

@@ -1,29 +1,38 @@
 //! V8, the rule of a split row.
 
 ghost use Rattle.std.specs.Prelude.{◌≡◌};
+ghost use Rattle.signal_rules.specs.Cases.{first_true};
 ghost use Rattle.signal_rules.specs.Lookup.{phase_at};
-ghost use Rattle.signal_rules.specs.SplitRule.{split_is_right, time_is_right};
+ghost use Rattle.signal_rules.specs.SplitRule.{split_cases};
 
 use crate::lookup::phase_at;
-use signal_records::{Phase, PhaseNo, Split, SplitMode, TimingSet, need};
+use crate::reason::{Reason, SplitReason};
+use signal_records::{PhaseNo, Split, SplitMode, TimingSet, need};
 
-/// V8, of the row of a phase.
-pub(crate) fn split_is_right(set: &TimingSet, p: PhaseNo, split: Split) -> bool
-    ensures { result ≡ split_is_right (phase_at set.now p) split }
+/// V8, of the row of a phase: its phase is in the set, an omitted phase has no time and is not
+/// coordinated, and any other has the time that it needs.
+pub(crate) fn split_reason(set: &TimingSet, p: PhaseNo, split: Split) -> Option<Reason>
+    ensures { result ≡ first_true (split_cases p (phase_at set.now p) split) }
 {
-    match phase_at(set, p) {
-        Some(phase) => time_is_right(split, phase),
-        None => false,
-    }
-}
-
-/// An omitted phase has no time and is not coordinated; any other has the time that it needs.
-fn time_is_right(split: Split, phase: &Phase) -> bool
-    ensures { result ≡ time_is_right split phase.now }
-{
+    let Some(phase) = phase_at(set, p) else {
+        return Some(Reason::Split(SplitReason::NotInPlan { phase: p }));
+    };
+    let time = split.time;
     if split.mode == SplitMode::PhaseOmitted {
-        split.time == 0 && !split.coord
-    } else {
-        split.time != 0 && need(phase, split.mode) <= 10 * u32::from(split.time)
+        return if time != 0 {
+            Some(Reason::Split(SplitReason::TimeOmitted { time }))
+        } else if split.coord {
+            Some(Reason::Split(SplitReason::CoordinatedOmitted))
+        } else {
+            None
+        };
     }
+    if time == 0 {
+        return Some(Reason::Split(SplitReason::NoTime));
+    }
+    let need = need(phase, split.mode);
+    if 10 * u32::from(time) < need {
+        return Some(Reason::Split(SplitReason::Short { time, need }));
+    }
+    None
 }

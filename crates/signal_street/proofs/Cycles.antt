@@ -6,8 +6,9 @@ use Rattle.std.specs.{Prelude.◌||◌, Int.IsInRange, List.list_any}
 use Rattle.signal_values.specs.declared.number.TheConstants.{PHASES, RINGS}
 use Rattle.signal_records.specs.{declared.record.Pattern.Pattern, declared.record.Phase.Phase, declared.record.Split.Split, TimingSet.Rows}
 use Rattle.signal_records.specs.declared.record.SplitMode.TheVariants.{PhaseOmitted}
-use Rattle.signal_rules.specs.{Lookup.phase_at, Lookup.split_at, Lookup.phases, Lookup.is_in, Lookup.phase_numbers, PatternRules.is_coordinated, SequenceRule.in_ring, SplitRule.time_is_right}
-use Rattle.signal_rules.proofs.Among.{is_number, is_filtered}
+use Rattle.signal_rules.specs.{Lookup.phase_at, Lookup.split_at, Lookup.phases, Lookup.is_in, Lookup.phase_numbers, PatternRules.is_coordinated, SequenceRule.in_ring}
+use Rattle.signal_rules.specs.PatternRules.{offset_is_right, has_coordinated}
+use Rattle.signal_rules.proofs.{Among.is_number, Among.is_filtered, Cases.test_holds}
 use Rattle.signal_street.specs.Timing.{HasPhase, HasPattern, order, split_time, BeginsIn, TimesIn, IsTiming, IsServed}
 use Rattle.signal_street.specs.StreetLaws.{TimesOnce, IsServedUnlessOmitted, OnlyPhasesOfTheSetTime, IsCoordinated, ConflictsAreCleared, BarriersAreCrossedTogether}
 use Rattle.signal_street.proofs.Clean.{IsClean, split_rule}
@@ -15,7 +16,7 @@ use Rattle.signal_street.proofs.Members.{some_value}
 use Rattle.signal_street.proofs.Patterns.{of_ring, timing_owned, full, rules, split_number, phase_number}
 use Rattle.signal_street.proofs.Places.{begin_at, times_within, filled_at, alone_at}
 use Rattle.signal_street.proofs.Stretches.{concurrent, stretch, begins_there, ends_in_cycle, cleared_in_cycle}
-use Rattle.signal_street.proofs.Within.{coordinated_times}
+use Rattle.signal_street.proofs.Within.{fits_phase, coordinated_times}
 
 -- a cycle that comes after another begins when all of that one is over
 later_cycle : (j k cycle : ℕ) → j < k → j * cycle + cycle ≤ k * cycle
@@ -99,13 +100,13 @@ module _ (set : Rows) (clean : IsClean set) (n : ℕ) (pattern : Pattern) (has :
 
   pub coordinated : IsCoordinated set pattern
   coordinated =
-      let marked = found (λ p. is_coordinated (split_at set pattern.split p)) (phases set) (rules set clean n pattern has).4 in
+      let marked = found (λ p. is_coordinated (split_at set pattern.split p)) (phases set) (test_holds (has_coordinated set pattern.split) _ (rules set clean n pattern has).4) in
       let here : IsInRange 1 PHASES marked.0 × (is_some (phase_at set marked.0) ≡ true) = among_phases set marked.0 marked.1 in
       let phase : (phase : Phase) × (phase_at set marked.0 ≡ Some phase) = some_value (phase_at set marked.0) here.1 in
       let split : (split : Split) × (split_at set pattern.split marked.0 ≡ Some split) × (split.coord ≡ true) = some_split (split_at set pattern.split marked.0) marked.2 in
-      let right : time_is_right split.0 phase.0 ≡ true = split_rule set clean pattern.split marked.0 split.0 phase.0 (split_number pattern.split has.0.split) (phase_number marked.0 here.0) split.1 phase.1 in
+      let right : fits_phase split.0 phase.0 ≡ true = split_rule set clean pattern.split marked.0 split.0 phase.0 (split_number pattern.split has.0.split) (phase_number marked.0 here.0) split.1 phase.1 in
       record {
-        offset = ltb-true pattern.offset pattern.cycle (rules set clean n pattern has).3;
+        offset = ltb-true pattern.offset pattern.cycle (test_holds (offset_is_right pattern) _ (rules set clean n pattern has).3);
         p = marked.0;
         phase = phase.0;
         split = split.0;

@@ -1,8 +1,7 @@
 -- The rings of a pattern of a set without violations, by the times of their phases.
-use Rattle.std.proofs.Common.{◌≡◌, ◌≢◌, ℕ, ◌+◌, ◌<◌, ◌≤◌, true, eqb, List, ◌∷◌, ◌++◌, map, length, get_or, is_some, Option, Some, None, sum_by, refl, sym, ap, ◌∙◌, arith}
+use Rattle.std.proofs.Common.{◌≡◌, ◌≢◌, ℕ, zero, suc, ◌+◌, ◌<◌, ◌≤◌, true, eqb, ltb, List, [], ◌∷◌, ◌++◌, map, length, get_or, is_some, Option, Some, None, sum_by, refl, sym, ap, ◌∙◌, arith}
 use Rattle.std.proofs.lemmas.Bool.{false≢true, and_parts, eq-eqb, eqb-true}
-use Rattle.std.proofs.lemmas.List.Folds.{list_all-map}
-use Rattle.std.specs.{Int.IsInRange, List.list_all}
+use Rattle.std.specs.{Int.IsInRange, List.list_all, List.flat_map}
 use Rattle.signal_records.specs.declared.record.Pattern.{Pattern}
 use Rattle.signal_values.specs.{declared.number.TheConstants.PHASES, declared.number.TheConstants.RINGS}
 use Rattle.signal_records.specs.{declared.record.Phase.Phase, declared.record.Split.Split, TimingSet.Rows}
@@ -10,17 +9,18 @@ use Rattle.signal_values.specs.Numbers.{numbers}
 use Rattle.signal_rules.specs.{Lookup.phase_at, Lookup.split_at, Lookup.phases, Lookup.has_sequence}
 use Rattle.signal_rules.specs.Lookup.{is_in, lists, the_mates, phase_numbers, ring_numbers, last_sequence, last_split, last_pattern}
 use Rattle.signal_rules.specs.{Lookup.sequence_numbers, Lookup.split_numbers, Lookup.pattern_numbers, PatternRules.has_splits}
-use Rattle.signal_rules.specs.PatternRules.{has_rows}
+use Rattle.signal_rules.specs.{Cases.holds, PatternRules.has_rows, PatternRules.offset_cases, PatternRules.coordination_cases}
 use Rattle.signal_rules.specs.Lanes.{lane, is_used, used_rings, lanes, lanes_fill_cycle, list_each_other}
-use Rattle.signal_rules.specs.{Lanes.all_list_each_other, Lanes.phases_at, Lanes.lanes_agree, PatternRules.offset_is_right, PatternRules.has_coordinated, SequenceRule.in_ring}
-use Rattle.signal_rules.specs.SequenceRule.{ring_phases, ring_row, has_each_once, has_no_other, row_is_right}
-use Rattle.signal_rules.specs.{SplitRule.time_is_right}
+use Rattle.signal_rules.specs.{Lanes.all_list_each_other, Lanes.phases_at, Lanes.lanes_agree, SequenceRule.in_ring}
+use Rattle.signal_rules.specs.SequenceRule.{ring_row, place_cases, row_cases, times_in, once_cases}
 use Rattle.signal_rules.proofs.{CutPoints.at_number, Among.in_numbers, Among.in_filter, Among.all_at, Among.any_at, Among.contains}
+use Rattle.signal_rules.proofs.{Cases.holds-append, Cases.holds-flat_map, Cases.test_holds, Parts.rows_by_parts, Starts.fill_by_rings}
 use Rattle.signal_street.specs.Timing.{HasPhase, HasPattern, order, split_time, TimesIn}
 use Rattle.signal_street.specs.StreetLaws.{Lists, AreConcurrent}
 use Rattle.signal_street.proofs.Members.{all_middle, some_value, pair_at}
 use Rattle.signal_street.proofs.Places.{places, length_is, times_within, lane_at}
 use Rattle.signal_street.proofs.Clean.{IsClean, sequence_rule, split_rule, pattern_rules}
+use Rattle.signal_street.proofs.Within.{fits_phase}
 
 -- numbers in their ranges are among those of the rules
 in_range : (last n : ℕ) → IsInRange 1 last n → is_in n (numbers last 1) ≡ true
@@ -56,33 +56,52 @@ listed set p q h = by_phase (phase_at set p) refl h where
   by_phase None e among = absurd (false≢true among)
   by_phase (Some phase) e among = (phase, e, contains phase.mates q among)
 
+-- a phase that is in its place
+in_place : (ring p : ℕ) (o : Option Phase) → holds (place_cases ring p o) ≡ true → in_ring ring o ≡ true
+in_place ring p None h = absurd (false≢true h)
+in_place ring p (Some phase) h = test_holds (eqb phase.ring ring) _ h
+
+found_in : (ring : ℕ) (o : Option Phase) → in_ring ring o ≡ true → (phase : Phase) × (o ≡ Some phase)
+found_in ring None h = absurd (false≢true h)
+found_in ring (Some phase) h = (phase, refl)
+
+-- what stands neither never nor twice
+stands_once : {A : Type 0} (times : ℕ) (w x : A) → holds ((eqb times 0, w) ∷ (ltb 1 times, x) ∷ []) ≡ true → times ≡ 1
+stands_once zero w x h = absurd (false≢true h)
+stands_once (suc zero) w x h = refl
+stands_once (suc (suc n)) w x h = absurd (false≢true h)
+
 -- a set and a pattern of it, whose rules are kept
 module _ (set : Rows) (clean : IsClean set) (n : ℕ) (pattern : Pattern) (has : HasPattern set n pattern) where
-  pub rules : (has_rows set pattern ≡ true) × (lanes_fill_cycle set pattern ≡ true) × (lanes_agree set pattern ≡ true) × (offset_is_right pattern ≡ true) × (has_coordinated set pattern.split ≡ true)
+  pub rules : (has_rows set pattern ≡ true) × (lanes_fill_cycle set pattern ≡ true) × (lanes_agree set pattern ≡ true) × (holds (offset_cases pattern) ≡ true) × (holds (coordination_cases set pattern) ≡ true)
   rules = pattern_rules set clean n pattern (pattern_number n has.0.number) has.1
 
   rows : (has_sequence set pattern.seq ≡ true) × (has_splits set pattern.split ≡ true)
-  rows = and_parts (has_sequence set pattern.seq) (has_splits set pattern.split) rules.0
+  rows = and_parts (has_sequence set pattern.seq) (has_splits set pattern.split) (sym (rows_by_parts set pattern) ∙ rules.0)
 
-  row_right : (ring : ℕ) → IsInRange 1 RINGS ring → row_is_right set pattern.seq ring ≡ true
-  row_right ring range =
-      all_at (row_is_right set pattern.seq) ring_numbers ring
-      (sequence_rule set clean pattern.seq (sequence_number pattern.seq has.0.seq) rows.0)
-      (ring_number ring range)
+  -- the two parts of V7
+  in_sequence : (holds (flat_map (row_cases set pattern.seq) ring_numbers) ≡ true) × (holds (flat_map (λ p. once_cases set pattern.seq p (phase_at set p)) (phases set)) ≡ true)
+  in_sequence =
+      let misplaced = flat_map (row_cases set pattern.seq) ring_numbers in
+      let not_once = flat_map (λ p. once_cases set pattern.seq p (phase_at set p)) (phases set) in
+      and_parts (holds misplaced) (holds not_once) (sym (holds-append misplaced not_once) ∙ sequence_rule set clean pattern.seq (sequence_number pattern.seq has.0.seq) rows.0)
 
   -- a phase of a ring's row is of the ring
   pub owned : (ring p : ℕ) (before after : List ℕ) → IsInRange 1 RINGS ring → order set pattern ring ≡ before ++ p ∷ after → in_ring ring (phase_at set p) ≡ true
   owned ring p before after range placed =
-      let parts : (has_each_once set ring (ring_row set pattern.seq ring) ≡ true) × (has_no_other set ring (ring_row set pattern.seq ring) ≡ true) = and_parts (has_each_once set ring (ring_row set pattern.seq ring)) (has_no_other set ring (ring_row set pattern.seq ring)) (row_right ring range) in
-      all_middle (λ q. in_ring ring (phase_at set q)) before after p (ap (has_no_other set ring) (sym placed) ∙ parts.1)
+      let row : holds (row_cases set pattern.seq ring) ≡ true = all_at (λ r. holds (row_cases set pattern.seq r)) ring_numbers ring (sym (holds-flat_map (row_cases set pattern.seq) ring_numbers) ∙ in_sequence.0) (ring_number ring range) in
+      let each : list_all (λ q. holds (place_cases ring q (phase_at set q))) (before ++ p ∷ after) ≡ true =
+      ap (list_all (λ q. holds (place_cases ring q (phase_at set q)))) (sym placed) ∙ sym (holds-flat_map (λ q. place_cases ring q (phase_at set q)) (ring_row set pattern.seq ring)) ∙ row in
+      in_place ring p (phase_at set p) (all_middle (λ q. holds (place_cases ring q (phase_at set q))) before after p each)
 
   -- and stands there once
   pub once : (ring p : ℕ) → IsInRange 1 RINGS ring → IsInRange 1 PHASES p → in_ring ring (phase_at set p) ≡ true → places (order set pattern ring) p ≡ 1
   once ring p range number is =
-      let parts : (has_each_once set ring (ring_row set pattern.seq ring) ≡ true) × (has_no_other set ring (ring_row set pattern.seq ring) ≡ true) = and_parts (has_each_once set ring (ring_row set pattern.seq ring)) (has_no_other set ring (ring_row set pattern.seq ring)) (row_right ring range) in
-      let among : is_in p (ring_phases set ring) ≡ true = in_filter (λ q. in_ring ring (phase_at set q)) phase_numbers p is (phase_number p number) in
-      let one : eqb (places (ring_row set pattern.seq ring) p) 1 ≡ true = all_at (λ q. eqb (places (ring_row set pattern.seq ring) q) 1) (ring_phases set ring) p parts.0 among in
-      eqb-true (places (ring_row set pattern.seq ring) p) 1 one
+      let phase = found_in ring (phase_at set p) is in
+      let among : is_in p (phases set) ≡ true = in_filter (λ q. is_some (phase_at set q)) phase_numbers p (ap is_some phase.1) (phase_number p number) in
+      let own : holds (once_cases set pattern.seq p (phase_at set p)) ≡ true = all_at (λ q. holds (once_cases set pattern.seq q (phase_at set q))) (phases set) p (sym (holds-flat_map (λ q. once_cases set pattern.seq q (phase_at set q)) (phases set)) ∙ in_sequence.1) among in
+      let one : times_in (ring_row set pattern.seq (phase.0).ring) p ≡ 1 = stands_once _ _ _ (ap (λ o. holds (once_cases set pattern.seq p o)) (sym phase.1) ∙ own) in
+      ap (λ r. times_in (ring_row set pattern.seq r) p) (of_ring ring (phase_at set p) phase.0 phase.1 is) ∙ one
 
   used : (ring p : ℕ) → IsInRange 1 RINGS ring → IsInRange 1 PHASES p → in_ring ring (phase_at set p) ≡ true → is_in ring (used_rings set) ≡ true
   used ring p range number is =
@@ -91,7 +110,7 @@ module _ (set : Rows) (clean : IsClean set) (n : ℕ) (pattern : Pattern) (has :
   -- the splits of a ring that has a phase are as long as the cycle
   pub full : (ring p : ℕ) → IsInRange 1 RINGS ring → IsInRange 1 PHASES p → in_ring ring (phase_at set p) ≡ true → sum_by (split_time set pattern) (order set pattern ring) ≡ pattern.cycle
   full ring p range number is =
-      let each : list_all (λ r. eqb (length (lane set pattern.seq pattern.split r)) pattern.cycle) (used_rings set) ≡ true = sym (list_all-map (λ (l : List ℕ). eqb (length l) pattern.cycle) (lane set pattern.seq pattern.split) (used_rings set)) ∙ rules.1 in
+      let each : list_all (λ r. eqb (length (lane set pattern.seq pattern.split r)) pattern.cycle) (used_rings set) ≡ true = fill_by_rings set pattern (used_rings set) refl ∙ rules.1 in
       let one : length (lane set pattern.seq pattern.split ring) ≡ pattern.cycle = eqb-true (length (lane set pattern.seq pattern.split ring)) pattern.cycle (all_at (λ r. eqb (length (lane set pattern.seq pattern.split r)) pattern.cycle) (used_rings set) ring each (used ring p range number is)) in
       sym (length_is (split_time set pattern) (order set pattern ring)) ∙ one
 
@@ -116,7 +135,7 @@ module _ (set : Rows) (clean : IsClean set) (n : ℕ) (pattern : Pattern) (has :
         before_end second sum cycle lt e = omega arith
 
   -- each phase has a split, which keeps its rule
-  pub has_split : (p : ℕ) (phase : Phase) → HasPhase set p phase → (split : Split) × (split_at set pattern.split p ≡ Some split) × (time_is_right split phase ≡ true)
+  pub has_split : (p : ℕ) (phase : Phase) → HasPhase set p phase → (split : Split) × (split_at set pattern.split p ≡ Some split) × (fits_phase split phase ≡ true)
   has_split p phase of_p =
       let among : is_in p phase_numbers ≡ true = phase_number p of_p.0.number in
       let row : is_some (split_at set pattern.split p) ≡ true = all_at (λ q. is_some (split_at set pattern.split q)) (phases set) p rows.1 (in_filter (λ q. is_some (phase_at set q)) phase_numbers p (ap is_some of_p.1) among) in

@@ -5,13 +5,13 @@ use Rattle.std.specs.Int.{IsInRange}
 use Rattle.signal_records.specs.{declared.record.Pattern.Pattern, declared.record.Ped.Ped}
 use Rattle.signal_values.specs.declared.number.TheConstants.{RINGS}
 use Rattle.signal_records.specs.{declared.record.Phase.Phase, declared.record.Split.Split, TimingSet.Rows}
-use Rattle.signal_rules.specs.{Lanes.time_of, Lookup.phase_at, Lookup.split_at, SplitRule.time_is_right}
+use Rattle.signal_rules.specs.{Lanes.time_of, Lookup.phase_at, Lookup.split_at}
 use Rattle.signal_street.specs.Timing.{HasPhase, HasPattern, order, split_time, BeginsIn, TimesIn, IsTiming}
 use Rattle.signal_street.specs.Intervals.{CallsPedestrian, FitsCrossing, FitsSplit, clear_end}
 use Rattle.signal_street.specs.StreetLaws.{AreConcurrent, OnlyConcurrentPhasesTime, TimesOnce, FillsCycle, CalledWalkLiesWithin, WalkersHaveTheStreet}
 use Rattle.signal_street.proofs.Clean.{IsClean, phase_rules}
 use Rattle.signal_street.proofs.Places.{places, begin_at, ends_within, times_within, alone_at, filled_at, begins_once, has_place, ordered_at}
-use Rattle.signal_street.proofs.Within.{none_where_omitted, not_omitted, room, crosses, within_split}
+use Rattle.signal_street.proofs.Within.{fits_phase, none_where_omitted, not_omitted, room, crosses, within_split}
 use Rattle.signal_street.proofs.Patterns.{phase_number, of_ring, in_own_ring, owned, once, full, timing_owned, concurrent_in, has_split}
 
 module _ (set : Rows) (clean : IsClean set) (n : ℕ) (pattern : Pattern) (has : HasPattern set n pattern) where
@@ -120,7 +120,7 @@ module _ (set : Rows) (clean : IsClean set) (n : ℕ) (pattern : Pattern) (has :
         let own = has_split set clean n pattern has p phase of_p in
         let same : Some own.0 ≡ Some split = sym own.1 ∙ row in
         let one : own.0 ≡ split = cc in
-        room split phase (subst (λ s. time_is_right s phase ≡ true) one own.2) (not_omitted split.mode calls)
+        room split phase (subst (λ s. fits_phase s phase ≡ true) one own.2) (not_omitted split.mode calls)
 
     pub walk_within : (ped : Ped) → phase.ped ≡ Some ped → CalledWalkLiesWithin set pattern p phase ped
     walk_within ped is split begin second row calls begins after before =

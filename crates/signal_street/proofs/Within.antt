@@ -1,26 +1,47 @@
 -- What a split has room for, and how long a walker crosses.
-use Rattle.std.proofs.Common.{◌≡◌, ◌≢◌, ◌↔◌, ℕ, ◌+◌, ◌-◌, ◌*◌, ◌<◌, ◌≤◌, max, Bool, true, false, not, ◌&&◌, eqb, leb, Option, Some, None, IfSome, ◌⊎◌, inl, inr, refl, sym, ap, ◌∙◌, arith}
-use Rattle.std.proofs.lemmas.Bool.{false≢true, or_cases, eq-eqb, eqb-true, leb-true}
-use Rattle.std.specs.Cmp.{booleans_Decides}
+use Rattle.std.proofs.Common.{◌≡◌, ◌≢◌, ◌↔◌, ℕ, ◌+◌, ◌-◌, ◌*◌, ◌<◌, ◌≤◌, max, Bool, true, false, not, ◌&&◌, eqb, ltb, [], ◌∷◌, Option, Some, None, IfSome, inl, inr, refl, sym, ap, ◌∙◌, arith}
+use Rattle.std.proofs.lemmas.Bool.{false≢true, eq-eqb, eqb-true, leb-true, ltb-false}
 use Rattle.signal_records.specs.{declared.record.Ped.Ped, declared.record.Phase.Phase, declared.record.Split.Split}
 use Rattle.signal_records.specs.{declared.record.SplitMode.SplitMode, declared.record.SplitMode.TheVariants.PhaseOmitted, Need.called}
 use Rattle.signal_records.specs.Need.{lead_time, walk_time, need_of}
-use Rattle.signal_rules.specs.PhaseRules.{clearance, clears_crossing, clears_setback, where_walked}
-use Rattle.signal_rules.specs.SplitRule.{is_omitted, time_fits_mode, time_is_enough, coordination_is_right, time_is_right}
+use Rattle.signal_rules.specs.Cases.{Cases, holds}
+use Rattle.signal_rules.specs.PhaseRules.{clearance, clears_crossing, crossing_cases, clears_setback, setback_cases, of_ped}
+use Rattle.signal_rules.specs.SplitRule.{is_omitted, split_cases}
+use Rattle.signal_rules.proofs.Cases.{test_holds}
 use Rattle.signal_street.specs.Intervals.{CallsPedestrian, FitsCrossing, FitsSplit, clear_end, CrossesInTime, CrossesFromSetback}
 
-three : (a b c : Bool) → (a && b && c) ≡ true → (a ≡ true) × (b ≡ true) × (c ≡ true)
-three true true c h = (refl, refl, h)
-three _ _ c h = absurd (false≢true h)
+-- V8 of the row of a phase
+abbrev pub fits_phase : Split → Phase → Bool
+fits_phase split phase = holds (split_cases 0 (Some phase) split)
+
+-- none of four reasons is true
+none_of_four : {A : Type 0} (a b c d : Bool) (w x y z : A) → holds ((a, w) ∷ (b, x) ∷ (c, y) ∷ (d, z) ∷ []) ≡ true → (a ≡ false) × (b ≡ false) × (c ≡ false) × (d ≡ false)
+none_of_four false false false false w x y z h = (refl, refl, refl, refl)
+none_of_four _ _ _ _ w x y z h = absurd (false≢true h)
+
+abbrev is_long : Split → Phase → Bool
+is_long split phase = ltb (10 * split.time) (need_of phase split.mode)
+
+split_parts : (split : Split) (phase : Phase) → fits_phase split phase ≡ true
+    → ((is_omitted split.mode && not (eqb split.time 0)) ≡ false) × ((is_omitted split.mode && split.coord) ≡ false) × ((not (is_omitted split.mode) && eqb split.time 0) ≡ false)
+    × ((not (eqb split.time 0) && is_long split phase) ≡ false)
+split_parts split phase right = none_of_four (is_omitted split.mode && not (eqb split.time 0)) (is_omitted split.mode && split.coord) (not (is_omitted split.mode) && eqb split.time 0) (not (eqb split.time 0) && is_long split phase) _ _ _ _ right
+
+same_tests : (o t : Bool) → (o && not t) ≡ false → (not o && t) ≡ false → t ≡ o
+same_tests true true g h = refl
+same_tests true false g h = absurd (false≢true (sym g))
+same_tests false true g h = absurd (false≢true (sym h))
+same_tests false false g h = refl
 
 omitted_is : (mode : SplitMode) → is_omitted mode ≡ true → mode ≡ PhaseOmitted
 omitted_is PhaseOmitted h = refl
 omitted_is _ h = absurd (false≢true h)
 
 -- a split has no time exactly where the phase is omitted
-pub none_where_omitted : (split : Split) (phase : Phase) → time_is_right split phase ≡ true → (split.time ≡ 0) ↔ (split.mode ≡ PhaseOmitted)
+pub none_where_omitted : (split : Split) (phase : Phase) → fits_phase split phase ≡ true → (split.time ≡ 0) ↔ (split.mode ≡ PhaseOmitted)
 none_where_omitted split phase right =
-    let fits : eqb split.time 0 ≡ is_omitted split.mode = (booleans_Decides (eqb split.time 0) (is_omitted split.mode)).0 (three (time_fits_mode split) (time_is_enough split phase) (coordination_is_right split) right).0 in
+    let parts = split_parts split phase right in
+    let fits : eqb split.time 0 ≡ is_omitted split.mode = same_tests (is_omitted split.mode) (eqb split.time 0) parts.0 parts.2 in
     ((λ none. omitted_is split.mode (sym fits ∙ eq-eqb split.time 0 none)), (λ omitted. eqb-true split.time 0 (fits ∙ ap is_omitted omitted)))
 
 -- a mode that calls the walk takes the pedestrian part into the need
@@ -33,33 +54,31 @@ not_omitted mode (inl e) omitted = absurd (cc)
 not_omitted mode (inr e) omitted = absurd (cc)
 
 -- a coordinated phase is not omitted
-pub coordinated_times : (split : Split) (phase : Phase) → time_is_right split phase ≡ true → split.coord ≡ true → split.mode ≢ PhaseOmitted
+pub coordinated_times : (split : Split) (phase : Phase) → fits_phase split phase ≡ true → split.coord ≡ true → split.mode ≢ PhaseOmitted
 coordinated_times split phase right coord omitted =
-    let rule : not (split.coord && is_omitted split.mode) ≡ true = (three (time_fits_mode split) (time_is_enough split phase) (coordination_is_right split) right).2 in
-    let broken : not (split.coord && is_omitted split.mode) ≡ false = ap (λ c. not (c && is_omitted split.mode)) coord ∙ ap (λ m. not (is_omitted m)) omitted in
-    absurd (false≢true (sym broken ∙ rule))
+    let broken : true ≡ false = sym (ap (λ m. is_omitted m && split.coord) omitted ∙ coord) ∙ (split_parts split phase right).1 in
+    absurd (false≢true (sym broken))
 
 both_needs : (a b c t : ℕ) → max a b + c ≤ t → (a + c ≤ t) × (b + c ≤ t)
 both_needs a b c t h = (omega arith, omega arith)
 
-enough : (split : Split) (phase : Phase) → time_is_right split phase ≡ true → split.mode ≢ PhaseOmitted → need_of phase split.mode ≤ 10 * split.time
-enough split phase right some =
-    by_case (or_cases (eqb split.time 0) (leb (need_of phase split.mode) (10 * split.time)) (three (time_fits_mode split) (time_is_enough split phase) (coordination_is_right split) right).1) where
-      by_case : (eqb split.time 0 ≡ true) ⊎ (leb (need_of phase split.mode) (10 * split.time) ≡ true) → need_of phase split.mode ≤ 10 * split.time
-      by_case (inl none) = absurd (some ((none_where_omitted split phase right).0 (eqb-true split.time 0 none)))
-      by_case (inr le) = leb-true (need_of phase split.mode) (10 * split.time) le
+enough : (split : Split) (phase : Phase) → fits_phase split phase ≡ true → split.mode ≢ PhaseOmitted → need_of phase split.mode ≤ 10 * split.time
+enough split phase right some = by_time (eqb split.time 0) refl (split_parts split phase right).3 where
+  by_time : (t : Bool) → eqb split.time 0 ≡ t → (not t && is_long split phase) ≡ false → need_of phase split.mode ≤ 10 * split.time
+  by_time true e h = absurd (some ((none_where_omitted split phase right).0 (eqb-true split.time 0 e)))
+  by_time false e h = ltb-false (10 * split.time) (need_of phase split.mode) h
 
 crossing_fits : (lead green walk clear clearance time l w : ℕ) → l ≡ lead → w ≡ walk + clear → 10 * (l + green) + clearance ≤ time → 10 * w + clearance ≤ time → (10 * (lead + green) ≤ time - clearance) × (10 * (walk + clear) ≤ time - clearance)
 crossing_fits lead green walk clear clearance time l w e f g h = (omega arith, omega arith)
 
 -- a split that is not omitted has room for all that the phase shows
-pub room : (split : Split) (phase : Phase) → time_is_right split phase ≡ true → split.mode ≢ PhaseOmitted → FitsSplit phase split
+pub room : (split : Split) (phase : Phase) → fits_phase split phase ≡ true → split.mode ≢ PhaseOmitted → FitsSplit phase split
 room split phase right some =
     record {
       green_end = 10 * split.time - (phase.yellow + phase.red);
       cleared = ends _ _ _ _ _ bounds.0;
       green = shown _ _ _ _ bounds.0;
-      crossing = λ calls. of_ped phase.ped refl calls;
+      crossing = λ calls. where_ped phase.ped refl calls;
     } where
       bounds : (10 * (lead_time (called phase.ped split.mode) + phase.min_green) + (phase.yellow + phase.red) ≤ 10 * split.time) × (10 * walk_time (called phase.ped split.mode) + (phase.yellow + phase.red) ≤ 10 * split.time)
       bounds = both_needs (10 * (lead_time (called phase.ped split.mode) + phase.min_green)) (10 * walk_time (called phase.ped split.mode)) (phase.yellow + phase.red) (10 * split.time) (enough split phase right some)
@@ -70,9 +89,9 @@ room split phase right some =
       shown : (l g c t : ℕ) → 10 * (l + g) + c ≤ t → 10 * g ≤ t - c
       shown l g c t h = omega arith
 
-      of_ped : (o : Option Ped) → phase.ped ≡ o → CallsPedestrian split.mode → IfSome o (λ ped. FitsCrossing phase ped (10 * split.time - (phase.yellow + phase.red)))
-      of_ped None e calls = tt
-      of_ped (Some ped) e calls =
+      where_ped : (o : Option Ped) → phase.ped ≡ o → CallsPedestrian split.mode → IfSome o (λ ped. FitsCrossing phase ped (10 * split.time - (phase.yellow + phase.red)))
+      where_ped None e calls = tt
+      where_ped (Some ped) e calls =
           let is : called phase.ped split.mode ≡ Some ped = called_is phase.ped split.mode calls ∙ e in
           let fit = crossing_fits ped.lead phase.min_green ped.walk ped.clear (phase.yellow + phase.red) (10 * split.time) (lead_time (called phase.ped split.mode)) (walk_time (called phase.ped split.mode)) (ap lead_time is) (ap walk_time is) bounds.0 bounds.1 in
           record { lead_and_green = fit.0; walk_and_clearance = fit.1 }
@@ -81,17 +100,17 @@ room split phase right some =
 across : (left now walk clear yellow red width : ℕ) → 2 * width ≤ 7 * (10 * clear + (yellow + red)) → left ≤ 10 * walk → left ≤ now → 7 * (now - left) < 2 * width → now < 10 * walk + 10 * clear + yellow + red
 across left now walk clear yellow red width enough by gone not_yet = omega arith
 
-pub crosses : (phase : Phase) (ped : Ped) → phase.ped ≡ Some ped → where_walked phase.ped (clears_crossing phase) ≡ true → CrossesInTime phase ped
+pub crosses : (phase : Phase) (ped : Ped) → phase.ped ≡ Some ped → holds (of_ped phase.ped (crossing_cases phase)) ≡ true → CrossesInTime phase ped
 crosses phase ped is clears left now by crossing =
-    let enough : 2 * ped.width ≤ 7 * clearance phase ped = leb-true (2 * ped.width) (7 * clearance phase ped) (ap (λ o. where_walked o (clears_crossing phase)) (sym is) ∙ clears) in
+    let enough : 2 * ped.width ≤ 7 * clearance phase ped = leb-true (2 * ped.width) (7 * clearance phase ped) (test_holds (clears_crossing phase ped) _ (ap (λ o. holds (of_ped o (crossing_cases phase))) (sym is) ∙ clears)) in
     across left now ped.walk ped.clear phase.yellow phase.red ped.width enough by crossing.0 crossing.1
 
 from_behind : (now walk clear yellow red width setback : ℕ) → width + setback ≤ 3 * (10 * walk + (10 * clear + (yellow + red))) → 3 * now < setback + width → now < 10 * walk + 10 * clear + yellow + red
 from_behind now walk clear yellow red width setback enough not_yet = omega arith
 
-pub crosses_from_setback : (phase : Phase) (ped : Ped) → phase.ped ≡ Some ped → where_walked phase.ped (clears_setback phase) ≡ true → CrossesFromSetback phase ped
+pub crosses_from_setback : (phase : Phase) (ped : Ped) → phase.ped ≡ Some ped → holds (of_ped phase.ped (setback_cases phase)) ≡ true → CrossesFromSetback phase ped
 crosses_from_setback phase ped is clears now on_the_way =
-    let enough : ped.width + ped.setback ≤ 3 * (10 * ped.walk + clearance phase ped) = leb-true (ped.width + ped.setback) (3 * (10 * ped.walk + clearance phase ped)) (ap (λ o. where_walked o (clears_setback phase)) (sym is) ∙ clears) in
+    let enough : ped.width + ped.setback ≤ 3 * (10 * ped.walk + clearance phase ped) = leb-true (ped.width + ped.setback) (3 * (10 * ped.walk + clearance phase ped)) (test_holds (clears_setback phase ped) _ (ap (λ o. holds (of_ped o (setback_cases phase))) (sym is) ∙ clears)) in
     from_behind now ped.walk ped.clear phase.yellow phase.red ped.width ped.setback enough on_the_way
 
 -- and so before the split is over, where it calls the walk

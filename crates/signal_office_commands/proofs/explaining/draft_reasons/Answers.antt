@@ -1,6 +1,6 @@
 use Rattle.std.proofs.Common.{[], ◌∷◌, Err, refl}
 use Rattle.signal_office_commands.specs.Explaining.{ExplainsDraft}
-use Rattle.signal_reasons.specs.Reasons.{AreReasons}
+use Rattle.signal_rules.specs.Violations.{AreReasons}
 use Rattle.signal_office_reports.proofs.LookLemmas.{made_of_seen}
 use Rattle.signal_office_reports.proofs.SeenLemmas.{handed}
 use Rattle.signal_office_reports.specs.Reports.{IsTextOf, draft_in, first_seen}

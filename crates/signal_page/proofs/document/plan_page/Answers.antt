@@ -1,6 +1,6 @@
 use Rattle.std.proofs.Common.{List, ap, ◌∙◌}
 use Rattle.std.proofs.lemmas.Result.{IfOk-weaker}
-use Rattle.signal_reasons.specs.declared.reason.Explained.{Explained}
+use Rattle.signal_rules.specs.declared.reason.Explained.{Explained}
 use Rattle.signal_page.specs.Page.{plan_page_text}
 use Rattle.signal_page.proofs.document.plan_page.Goals as goal
 

@@ -1,9 +1,0 @@
-pub mod Tests
-pub mod Ranges
-pub mod Rings
-pub mod PhaseLaws
-pub mod RowLaws
-pub mod PatternLaws
-pub mod Stretches
-pub mod Parts
-pub mod Laws

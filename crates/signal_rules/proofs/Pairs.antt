@@ -1,0 +1,18 @@
+-- The first of some spans, before the later ones.
+use Rattle.std.proofs.Common.{◌≡◌, ℕ, Bool, true, false, if◌then◌else◌, List, [], ◌∷◌, ◌++◌, Option, Some, None, refl, ap, ◌∙◌}
+use Rattle.signal_rules.specs.declared.reason.Reason.{Reason}
+use Rattle.signal_rules.specs.Cases.{first_true}
+use Rattle.signal_rules.specs.Slots.{Span, has_second, spans_in, later_cases, slot_cases, pair_cases}
+use Rattle.signal_rules.proofs.Cases.{first_here, first_past}
+
+parts : (second : ℕ) (span : Span) (later : List Span) → pair_cases second (spans_in second (span ∷ later)) ≡ slot_cases second span later ++ pair_cases second (spans_in second later)
+parts second span later = by_test (has_second second span) where
+  by_test : (b : Bool) → pair_cases second (if b then span ∷ spans_in second later else spans_in second later) ≡ (if b then later_cases second span (spans_in second later) else []) ++ pair_cases second (spans_in second later)
+  by_test true = refl
+  by_test false = refl
+
+pub pair_here : (second : ℕ) (span : Span) (later : List Span) (why : Reason) → first_true (slot_cases second span later) ≡ Some why → first_true (pair_cases second (spans_in second (span ∷ later))) ≡ Some why
+pair_here second span later why e = ap first_true (parts second span later) ∙ first_here (slot_cases second span later) (pair_cases second (spans_in second later)) why e
+
+pub pair_past : (second : ℕ) (span : Span) (later : List Span) → first_true (slot_cases second span later) ≡ None → first_true (pair_cases second (spans_in second (span ∷ later))) ≡ first_true (pair_cases second (spans_in second later))
+pair_past second span later e = ap first_true (parts second span later) ∙ first_past (slot_cases second span later) (pair_cases second (spans_in second later)) e

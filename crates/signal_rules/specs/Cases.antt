@@ -1,0 +1,18 @@
+-- A rule as a table of the reasons that break it, each with whether it is true, in the order in which they are reported.
+use Rattle.std.specs.Prelude.{Bool, true, if◌then◌else◌, List, [], ◌∷◌, Contains, Option, Some, None, is_none}
+
+abbrev pub Cases : Type 0 → Type 0
+Cases A = List (Bool × A)
+
+-- the reason that is reported: the first that is true
+abbrev pub first_true : {A : Type 0} → Cases A → Option A
+first_true [] = None
+first_true (c ∷ cs) = if c.0 then Some c.1 else first_true cs
+
+-- a rule holds where no reason is true
+abbrev pub holds : {A : Type 0} → Cases A → Bool
+holds cs = is_none (first_true cs)
+
+-- a reason is true
+abbrev pub IsTrueIn : {A : Type 0} → Cases A → A → Type 0
+IsTrueIn cs why = Contains cs (true, why)

@@ -1,0 +1,134 @@
+//! Why a subject breaks a rule, in numbers.
+
+use crate::violation::Violation;
+use signal_records::{Cycle, PhaseNo, RingNo, SeqNo, SplitNo};
+
+/// Why a phase breaks V1 or V2, in tenths of a second.
+#[derive(Clone, Copy)]
+pub enum IntervalReason {
+    /// V1: the yellow change interval is not within its limits.
+    Yellow { tenths: u8 },
+    /// V2: the red clearance interval is over its limit.
+    Red { tenths: u8 },
+}
+
+/// Why the crossing of a phase breaks V3, V4, V5 or V14.
+#[derive(Clone, Copy)]
+pub enum CrossingReason {
+    /// V3: the walk and the least one, in seconds.
+    ShortWalk { seconds: u8, least: u8 },
+    /// V4: the width in tenths of a foot, and in tenths of a second what it takes and what there
+    /// is.
+    SlowClearance { width: u32, takes: u32, there: u32 },
+    /// V5: setback and width in tenths of a foot, and in tenths of a second what they take and what
+    /// there is.
+    SlowSetback { length: u32, takes: u32, there: u32 },
+    /// V14: the lead in seconds, less than the least one.
+    ShortLead { lead: u32 },
+    /// V14: lead and walk in seconds, of which the lead is longer.
+    LongLead { lead: u32, walk: u8 },
+}
+
+/// Why a mate of a phase breaks V6.
+#[derive(Clone, Copy)]
+pub enum MateReason {
+    /// The set does not have the mate.
+    NotInPlan { mate: PhaseNo },
+    /// The mate is in the ring of the phase.
+    SameRing { mate: PhaseNo, ring: RingNo },
+    /// The mate does not list the phase.
+    NotListed { mate: PhaseNo },
+}
+
+/// Why a sequence breaks V7.
+#[derive(Clone, Copy)]
+pub enum SequenceReason {
+    /// A phase stands in a row, and the set does not have it.
+    NotInPlan {
+        phase: PhaseNo,
+    },
+    /// A phase stands in the row of another ring than its own.
+    OtherRing {
+        phase: PhaseNo,
+        ring: RingNo,
+        own: RingNo,
+    },
+    /// A phase of the set does not stand in the row of its ring.
+    Missing {
+        phase: PhaseNo,
+    },
+    /// A phase of the set stands in the row of its ring more than once.
+    Repeated {
+        phase: PhaseNo,
+    },
+}
+
+/// Why a split row breaks V8. Times are in seconds, the need is in tenths of a second.
+#[derive(Clone, Copy)]
+pub enum SplitReason {
+    /// The set does not have the phase of the row.
+    NotInPlan { phase: PhaseNo },
+    /// The phase has no time, and is not omitted.
+    NoTime,
+    /// The phase has time, and is omitted.
+    TimeOmitted { time: u8 },
+    /// The time is less than the need of the phase.
+    Short { time: u8, need: u32 },
+    /// The phase is coordinated, and omitted.
+    CoordinatedOmitted,
+}
+
+/// Why a pattern breaks V9 to V13. Times are in seconds.
+#[derive(Clone, Copy)]
+pub enum PatternReason {
+    /// V9: the sequence of the pattern has no row.
+    NoSequence {
+        seq: SeqNo,
+    },
+    /// V9: the split number of the pattern has no row for a phase of the set.
+    NoSplit {
+        split: SplitNo,
+        phase: PhaseNo,
+    },
+    /// V10: the offset is not less than the cycle.
+    LateOffset {
+        offset: u8,
+        cycle: Cycle,
+    },
+    /// V11: the split number of the pattern coordinates no phase of the set.
+    NoneCoordinated {
+        split: SplitNo,
+    },
+    /// V12: the splits of a ring's row add up to another time than the cycle.
+    OtherSum {
+        ring: RingNo,
+        sum: u32,
+        cycle: Cycle,
+    },
+    /// V13: two phases time together that do not list each other. The second `until` is the first
+    /// one at which they no longer do.
+    Conflict {
+        from: u32,
+        until: u32,
+        phase: PhaseNo,
+        other: PhaseNo,
+    },
+}
+
+/// Why a subject breaks a rule.
+#[derive(Clone, Copy)]
+pub enum Reason {
+    Interval(IntervalReason),
+    Crossing(CrossingReason),
+    Mate(MateReason),
+    Sequence(SequenceReason),
+    Split(SplitReason),
+    Pattern(PatternReason),
+}
+
+/// A violation and its reason.
+#[derive(Clone, Copy)]
+pub struct Explained {
+    pub violation: Violation,
+    pub reason: Reason,
+}
