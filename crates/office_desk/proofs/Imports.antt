@@ -1,21 +1,17 @@
 -- The records of an import, one after the other.
-use Rattle.std.proofs.Common.{◌≡◌, ◌+◌, ◌++◌, ◌≤◌, ◌<◌, ◌≢◌, ℕ, true, false, List, [], ◌∷◌, Option, Some, None, Result, Ok, length, drop, take, get_or, zero, suc, refl, ap, sym, subst, ◌∙◌, inl, inr, arith, subst₂}
+use Rattle.std.proofs.Common.{◌≡◌, ◌+◌, ◌++◌, ◌≤◌, ◌<◌, ◌≢◌, ℕ, Bool, true, false, List, [], ◌∷◌, Option, Some, None, Result, length, drop, take, get_or, zero, suc, refl, ap, sym, subst, ◌∙◌, inl, inr, arith}
 use Rattle.std.proofs.{Math.Seq.drop-cons, lemmas.List.drop_all, lemmas.List.take_all, lemmas.List.take_more}
 use Rattle.std.specs.Prelude.{◌⊎◌}
-use Rattle.cabinet_core.specs.{Cabinet.Line, Cabinet.added as added_line, Cabinet.same as same_line, Register.Register}
-use Rattle.cabinet_core.specs.{Step.after_line, Step.line_at, Step.with_record, declared.command.RecordCommand.RecordCommand}
+use Rattle.cabinet_core.specs.{Cabinet.Line, Cabinet.added as added_line, Cabinet.same as same_line, Cabinet.refused as refused_line, Register.Register}
+use Rattle.cabinet_core.specs.{Step.line_at, Step.with_record, declared.command.RecordCommand.RecordCommand}
 use Rattle.office_tables_shelf.specs.{Change.AddNew, Change.changed_by, Content.Content, Counts.writes_in, Shelf.IsTold}
 use Rattle.office_tables_shelf.specs.declared.{shelf.ShelfFault.ShelfFault, rows.RowChange.RowChange, rows.Table.Table}
-use Rattle.office_tables_shelf.specs.RegisterStands.{RegisterStandsSound}
 use Rattle.office_desk_decisions.specs.{Open.DatabaseStaysOpen, RegisterDamage.KeepsDamage, RegisterDamage.MeetsRecordDamage}
-use Rattle.office_desk_decisions.specs.{RegisterDamage.SparesDamage, RecordBounds.most_record_writes, declared.decided.Decided.Decided}
-use Rattle.office_desk_cabinet.specs.{Registers.RegistersFrom, Decides.DecidesRecord, declared.registered.Registered.Registered}
+use Rattle.office_desk_decisions.specs.{RecordBounds.most_record_writes, declared.decided.Decided.Decided}
 use Rattle.office_desk_cabinet.proofs.{KeptDamage.kept_after, KeptDamage.meets_still, KeptDamage.nothing_kept, News.news_after, News.tells_new}
-use Rattle.office_desk_cabinet.proofs.PendingLemmas.{changed_append}
-use Rattle.office_desk_cabinet.specs.declared.registered.Registered.TheVariants as registered
-use Rattle.office_desk.specs.Importing.{ImportsAny, LeavesAnyTiming, TakesFrom, TakesLine, TakesRecord, TakesWhole, goes_on, register_with}
+use Rattle.office_desk.specs.Importing.{ImportsAny, LeavesAnyTiming, TakesInTurn, TakesLine, TakesWhole, goes_on, register_with, taken_by}
 use Rattle.office_desk.specs.{Answers.AnswersAny, Changes.most_import_writes, Damage.MeetsCabinetDamage, Damage.MeetsImportDamage}
-use Rattle.office_desk.specs.{Deciding.IsDecision, Recording.HasDamagedAbout, Recording.TellsAbout, StandFor.StandForSound, Named.number_of}
+use Rattle.office_desk.specs.{Deciding.IsDecision, Recording.TellsAbout, StandFor.StandForSound, Named.number_of}
 use Rattle.office_desk.specs.{Blaming.AreTaken, Blaming.IsFirstRefused, Blaming.IsTakenAfter, declared.importing.Taken.Taken}
 use Rattle.office_machine.specs.Step.{answered, cabinet_of, import_by, import_from, imported, is_known}
 use Rattle.office_machine.specs.{Office.Office, Refusal.line_of}
@@ -26,39 +22,6 @@ use Rattle.office_desk.specs.declared.importing.Taken.TheVariants as taken
 use Rattle.office_desk.proofs.{Recorded.gone_whole, Recorded.record_whole, Recorded.register_of, Recorded.stands_after, Blames.WentOn}
 use Rattle.office_desk.proofs.{Blames.none_met, Blames.taken_next, Writes.import_writes}
 use Rattle.office_desk_decisions.proofs.Decisions.{accepted_decides, idle_decides, refuses_so}
-
--- ---- rows after rows
-
--- the tables after them
-rows_after : (stored : Content) (before rows after : List RowChange) → after ≡ before ++ rows
-    → changed_by stored after ≡ changed_by (changed_by stored before) rows
-rows_after stored before rows after list =
-    ap (changed_by stored) list ∙ changed_append stored before rows
-
-pub leaves_after : (first then : List RowChange) → LeavesAnyTiming first → LeavesAnyTiming then → LeavesAnyTiming (first ++ then)
-leaves_after first then one two tables =
-    let a = one tables in
-    let b = two (changed_by tables first) in
-    let after = changed_append tables first then in
-    record {
-      intersection = ap (λ (c : Content). c.intersection) after ∙ b.intersection ∙ a.intersection;
-      timing = ap (λ (c : Content). c.timing) after ∙ b.timing ∙ a.timing;
-      draft = ap (λ (c : Content). c.draft) after ∙ b.draft ∙ a.draft;
-    }
-
-pub writes_after : (table : Table) (first then : List RowChange) → writes_in table (first ++ then) ≡ writes_in table first + writes_in table then
-writes_after table [] then = omega arith
-writes_after table (change ∷ first) then = let rest = writes_after table first then in omega (arith, rest)
-
--- at most as many as a record may write
-pub few_more : (table : Table) (first then told all : List RowChange) (most : ℕ) → told ≡ then → all ≡ first ++ then → writes_in table told ≤ most → writes_in table all ≤ writes_in table first + most
-few_more table first then told all most those is few =
-    let sum = ap (writes_in table) is ∙ writes_after table first then in
-    let same = ap (writes_in table) those in
-    omega (arith, sum, same, few)
-
-pub leaves_more : (first then told all : List RowChange) → told ≡ then → all ≡ first ++ then → LeavesAnyTiming first → LeavesAnyTiming told → LeavesAnyTiming all
-leaves_more first then told all those is one two = subst LeavesAnyTiming (sym is) (leaves_after first then one (subst LeavesAnyTiming those two))
 
 -- ---- the records that are left
 
@@ -96,6 +59,13 @@ writes_whole table records n done all high few = omega (arith, few)
 
 -- ---- from record to record
 
+-- the import goes on as the record is taken
+goes_by : (at : ℕ) (known : Bool) (line : Line) (new old : Result (ℕ × ℕ × Office) Refusal) → import_by at known line new old ≡ goes_on at (taken_by known line) new old
+goes_by at false line new old = refl
+goes_by at true added_line new old = refl
+goes_by at true same_line new old = refl
+goes_by at true (refused_line why) new old = refl
+
 known_same : (office : Office) (r : Register) (about : Option ℕ) → is_known (record office { register = r }) about ≡ is_known office about
 known_same office r None = refl
 known_same office r (Some id) = refl
@@ -129,41 +99,12 @@ import_done stored all rest at added same pending none imports leaves office sta
       stand = stands_after stored pending office done.register stands (leaves stored) done.stand;
     }
 
--- what was decided, of the tables as they were stored, and of what it is
-pub decided_now : {honest : Type 0} {seen stored : Content} {before : List RowChange} {c : RecordCommand} {told now : Registered}
-    → DecidesRecord honest seen before c (Ok told) → seen ≡ stored → told ≡ now → DecidesRecord honest stored before c (Ok now)
-decided_now {honest = honest} {before = before} {c = c} decides same is =
-    subst₂ (λ (t : Content) (d : Registered). DecidesRecord honest t before c (Ok d)) same is decides
-
--- a record that is new: its rows come after those that are pending
-pub record_added : (stored : Content) (c : RecordCommand) (rows : _) (before after : List RowChange) (office : Office) (r : Register)
-    → true ≡ is_known office (cabinet_of c) → RegistersFrom (changed_by stored before) c (registered.Added rows) r
-    → after ≡ before ++ rows.items → TakesFrom stored c taken.Added after office r
-record_added stored c rows before after office r known from list = record {
-  goes = λ at new old. (λ k. import_by at (sym known k) (sym from.line k) new old);
-  stand = subst₂ (λ (t : Content) (l : Line). RegisterStandsSound t (after_line l (with_record r c) r))
-      (sym (rows_after stored before rows.items after list)) (sym from.line) from.stand;
-}
-
 pub counted_on : (added same index added_now same_now : ℕ) (t : Taken) → added + same ≡ index
     → WentOn t added same added_now same_now → added_now + same_now ≡ index + 1
 counted_on added same index added_now same_now t is (inl new) = let a = new.1 in let b = new.2 in omega (arith, is, a, b)
 counted_on added same index added_now same_now t is (inr old) = let a = old.1 in let b = old.2 in omega (arith, is, a, b)
 
 -- ---- damaged rows
-
--- a record that writes no row
-pub unwritten_whole : (stored : Content) (before : List RowChange) (c : RecordCommand) → ¬ HasDamagedAbout stored (cabinet_of c)
-    → TellsAbout stored (cabinet_of c) false ⊎ (¬ MeetsRecordDamage (changed_by stored before) c) → TakesWhole stored before c before
-unwritten_whole stored before c about whole = record { about = about; whole = whole; spares = nothing_kept (changed_by stored before) }
-
-pub added_whole : (stored : Content) (before rows after : List RowChange) (c : RecordCommand) → after ≡ before ++ rows
-    → ¬ HasDamagedAbout stored (cabinet_of c) → ¬ MeetsRecordDamage (changed_by stored before) c → SparesDamage stored before rows → TakesWhole stored before c after
-added_whole stored before rows after c list about whole spares = record {
-  about = about;
-  whole = inr whole;
-  spares = subst (KeepsDamage (changed_by stored before)) (sym (rows_after stored before rows after list)) spares;
-}
 
 -- of the rows that it reads as they are stored, too, none is damaged
 pub never_met : (stored : Content) (before : List RowChange) (c : RecordCommand) (after : List RowChange) → KeepsDamage stored (changed_by stored before) → TakesWhole stored before c after → ¬ MeetsCabinetDamage stored c (cabinet_of c)
@@ -221,20 +162,12 @@ nothing_yet stored all = record {
   taken = refl;
 }
 
--- how a record is taken
-pub record Takes (stored : Content) (before : List RowChange) (c : RecordCommand) (t : Taken) (after : List RowChange) : Type 0 where
-  pub step : TakesRecord stored before c t after
-  pub whole : TakesWhole stored before c after
-  pub line : TakesLine stored before c t after
-
--- on tables that are as they were stored
-pub takes_so : {stored seen : Content} {before after : List RowChange} {c : RecordCommand} {t : Taken} → seen ≡ stored
-    → TakesRecord seen before c t after → TakesWhole seen before c after → TakesLine seen before c t after → Takes stored before c t after
-takes_so {before = before} {after = after} {c = c} {t = t} same step whole line =
-    subst (λ (s : Content). Takes s before c t after) same (record { step = step; whole = whole; line = line })
+-- how a record is taken, on tables that are as they were stored
+pub takes_so : {stored seen : Content} {before after : List RowChange} {c : RecordCommand} {t : Taken} → seen ≡ stored → TakesInTurn seen before c t after → TakesInTurn stored before c t after
+takes_so {before = before} {after = after} {c = c} {t = t} same takes = subst (λ (s : Content). TakesInTurn s before c t after) same takes
 
 module _ (stored : Content) (all : List RecordCommand) (index added same : ℕ) (before after : List RowChange) (c : RecordCommand) (t : Taken)
-    (so_far : SoFar stored all index added same before) (next : IsNext all index c) (takes : Takes stored before c t after) where
+    (so_far : SoFar stored all index added same before) (next : IsNext all index c) (takes : TakesInTurn stored before c t after) where
   unmet : ¬ MeetsImportDamage stored (take index all ++ c ∷ [])
   unmet = none_met stored (take index all) c so_far.whole (never_met stored before c after so_far.spares takes.whole)
 
@@ -247,7 +180,8 @@ module _ (stored : Content) (all : List RecordCommand) (index added same : ℕ) 
       let old = if_old all index added same c office made.register in
       made.goes ∙ ap (import_from (index + 1) added same (record office { register = made.register })) next.left
       ∙ ap (λ known. import_by (index + 1) known (line_at made.register c) new old) (known_same office made.register (cabinet_of c))
-      ∙ (takes.step office stands made.register made.stand).goes (index + 1) new old
+      ∙ goes_by (index + 1) (is_known office (cabinet_of c)) (line_at made.register c) new old
+      ∙ ap (λ (t : Taken). goes_on (index + 1) t new old) (sym (takes.step office stands made.register made.stand).told)
 
   -- one further
   pub one_more : (added_now same_now : ℕ) → WentOn t added same added_now same_now → SoFar stored all (index + 1) added_now same_now after

@@ -1,5 +1,5 @@
 -- What the commands and queries of the register answer is a step of the office.
-use Rattle.std.proofs.Common.{◌≡◌, ◌≢◌, ◌≤◌, ℕ, Bool, true, false, List, [], ◌∷◌, map, Option, Some, None, is_some, Result, Ok, refl, ap, sym, subst, subst₂, ◌∙◌, inl, inr}
+use Rattle.std.proofs.Common.{◌≡◌, ◌≢◌, ◌≤◌, ℕ, Bool, true, false, List, [], ◌∷◌, map, Option, Some, None, is_some, Ok, refl, ap, sym, subst, subst₂, ◌∙◌, inl, inr}
 use Rattle.std.specs.{Prelude.IsSome, Option.option_map, FinMap.get}
 use Rattle.cabinet_core.specs.declared.{command.RecordCommand.RecordCommand, record.CabinetView.CabinetView, refusal.CabinetRefusal.CabinetRefusal}
 use Rattle.cabinet_core.specs.{Orders.open_at, Register.Register, Step.after_record, Stock.stock_of}
@@ -7,7 +7,7 @@ use Rattle.cabinet_core.specs.declared.refusal.CabinetRefusal.TheVariants as cab
 use Rattle.office_tables_shelf.specs.{Cells.Cell, Cells.TableRows, Change.AddNew, Change.changed_by, Content.Content, Counts.writes_in}
 use Rattle.office_tables_shelf.specs.{Shelf.ReadsIntersection, Rows.intersection_columns, Rows.intersection_key, Rows.timing_key}
 use Rattle.office_tables_shelf.specs.declared.{rows.IntersectionRow.IntersectionRow, rows.RowChange.RowChange, rows.Table.Table}
-use Rattle.office_tables_shelf.specs.{declared.shelf.ShelfFault.ShelfFault, RegisterStands.RegisterStandsSound}
+use Rattle.office_tables_shelf.specs.RegisterStands.{RegisterStandsSound}
 use Rattle.office_desk_decisions.specs.RecordBounds.{IsNamed, IsOneOf, most_record_writes, refusals_of}
 use Rattle.office_desk_decisions.specs.{RegisterDamage.MeetsRecordDamage, declared.decided.Decided.Decided}
 use Rattle.office_desk_cabinet.specs.Registers.{LeavesTiming, RegistersFrom, ShowsCabinet, line_told, rows_told}
@@ -15,7 +15,7 @@ use Rattle.office_desk_cabinet.specs.{Decides.DecidesRecord, declared.registered
 use Rattle.office_desk_cabinet.specs.declared.registered.Registered.TheVariants.{Added, Same, Refused}
 use Rattle.office_desk.specs.Named.{RefusesBy, number_of, numbers_about, numbers_of}
 use Rattle.office_desk.specs.{Answers.Answers, Changes.IsRefused, Damage.MeetsAfter, Damage.MeetsCabinetDamage, Deciding.IsDecision}
-use Rattle.office_desk.specs.{Recording.HasDamagedAbout, Recording.IsKnownIn, Recording.TellsAbout, StandFor.StandForSound, StandFor.row_of}
+use Rattle.office_desk.specs.{Recording.HasDamagedAbout, Recording.IsKnownIn, Recording.TellsAbout, Known.TellsIntersection, StandFor.StandForSound, StandFor.row_of}
 use Rattle.office_machine.specs.Step.{answered, cabinet_of, cabinet_shown, is_known, known, recorded, recorded_at, refusal_of_record, shown, told}
 use Rattle.office_machine.specs.Office.{Office, Intersection}
 use Rattle.office_machine.specs.declared.{reply.CabinetShown.CabinetShown, refusal.Refusal.Refusal, reply.Reply.Reply}
@@ -51,9 +51,9 @@ at_unknown office (Some id) answer gone = go (get office.intersections id) gone
     go None e = refl
     go (Some i) e = absurd (let f : false ≡ true = e in cc)
 
--- what is known of an intersection that is asked for
-pub about_known : (tables : Content) (asked about : Option ℕ) (was known : Bool) → asked ≡ about → was ≡ known → IsKnownIn tables asked was → IsKnownIn tables about known
-about_known tables asked about was known same is there office stands = sym is ∙ there office stands ∙ ap (is_known office) same
+-- what is told of an intersection that is asked for
+pub about_tells : (tables : Content) (asked about : Option ℕ) (was known : Bool) → asked ≡ about → was ≡ known → TellsIntersection tables asked was → TellsIntersection tables about known
+about_tells tables asked about was known same is tells = subst₂ (TellsIntersection tables) same is tells
 
 -- ---- a command
 
@@ -124,10 +124,6 @@ record_whole tables c None row register damage = register damage
 record_whole tables c (Some id) row register (inl damage) = row damage
 record_whole tables c (Some id) row register (inr later) = register later.1
 
--- what is told of an intersection that is asked for
-pub tells_about : (tables : Content) (asked about : Option ℕ) (was known : Bool) → asked ≡ about → was ≡ known → TellsAbout tables asked was → TellsAbout tables about known
-tells_about tables asked about was known same is tells = subst (λ b. TellsAbout tables about b) is (subst (λ a. TellsAbout tables a was) same tells)
-
 -- ---- the decision
 
 never_damaged : (why : CabinetRefusal) → reply.Refused (refusal_of_record why) ≢ reply.Refused refusal.Damaged
@@ -170,25 +166,35 @@ told_named c (Refused why) named = refuses_so (numbers_of (command.Record c)) (r
     (refused_named c why (refusal_of_record why) refl named)
 
 -- what was decided, of the tables as they were stored, and of the rows that are pending
-pub decided_on : {honest : Type 0} {seen stored : Content} {pending before : List RowChange} {c : RecordCommand} {result : Result Registered ShelfFault}
-    → DecidesRecord honest seen pending c result → seen ≡ stored → pending ≡ before → DecidesRecord honest stored before c result
-decided_on {honest = honest} {c = c} {result = result} decides same rows =
-    subst₂ (λ (t : Content) (list : List RowChange). DecidesRecord honest t list c result) same rows decides
+pub decides_stored : {honest : Type 0} {seen stored : Content} {pending before : List RowChange} {c : RecordCommand} {done : Registered}
+    → (honest → seen ≡ stored) → pending ≡ before → DecidesRecord honest seen pending c (Ok done) → DecidesRecord honest stored before c (Ok done)
+decides_stored {honest = honest} {stored = stored} {before = before} {c = c} {done = done} same rows decides = record {
+  step = λ h. (now h).step h;
+  whole = λ h. (now h).whole h;
+  spares = λ h. (now h).spares h;
+  news = λ h. (now h).news h;
+  leaves = decides.leaves;
+  writes = decides.writes;
+  named = decides.named;
+  line = λ h. (now h).line h;
+}
+  where
+    now : honest → DecidesRecord honest stored before c (Ok done)
+    now h = subst₂ (λ (t : Content) (list : List RowChange). DecidesRecord honest t list c (Ok done)) (same h) rows decides
 
 -- of a command on an intersection that is there
 pub record_decides : (is_honest : Type 0) (tables : Content) (c : RecordCommand) (done : Registered) (decided : Decided)
-    → ((table : Table) → writes_in table (rows_told done) ≤ most_record_writes c table) → IsNamed c (line_told done) → LeavesTiming tables (rows_told done)
-    → (is_honest → DecidesRecord is_honest tables [] c (Ok done)) → (is_honest → IsKnownIn tables (cabinet_of c) true) → (is_honest → ¬ HasDamagedAbout tables (cabinet_of c))
+    → DecidesRecord is_honest tables [] c (Ok done) → (is_honest → TellsIntersection tables (cabinet_of c) true)
     → decided.reply ≡ told (line_told done) → decided.changes.items ≡ rows_told done → IsDecision is_honest tables (command.Record c) decided
-record_decides is_honest tables c done decided few named leaves decides there about is rows = record {
-  step = λ honest office stands. record_answers tables office c done decided.reply decided.changes.items stands (there honest) ((decides honest).step honest) leaves is rows;
-  writes = λ honest. record_writes tables c decided.changes.items (λ table. subst (λ list. writes_in table list ≤ most_record_writes c table) (sym rows) (few table));
-  news = λ honest. subst (AddNew tables) (sym rows) ((decides honest).news honest);
+record_decides is_honest tables c done decided decides about is rows = record {
+  step = λ honest office stands. record_answers tables office c done decided.reply decided.changes.items stands (about honest).known (decides.step honest) (decides.leaves tables) is rows;
+  writes = λ honest. record_writes tables c decided.changes.items (λ table. subst (λ list. writes_in table list ≤ most_record_writes c table) (sym rows) (decides.writes table));
+  news = λ honest. subst (AddNew tables) (sym rows) (decides.news honest);
   refused = λ refused. rows ∙ refused_writes_none done (subst IsRefused is refused);
   query = λ query. absurd query;
-  named = λ why e. told_named c done named why (sym is ∙ e);
+  named = λ why e. told_named c done decides.named why (sym is ∙ e);
   undamaged = λ e. told_undamaged done (sym is ∙ e);
-  whole = λ honest damaged. absurd (record_whole tables c (cabinet_of c) (about honest) ((decides honest).whole honest) damaged);
+  whole = λ honest damaged. absurd (record_whole tables c (cabinet_of c) (about honest).whole (decides.whole honest) damaged);
 }
 
 -- ---- queries

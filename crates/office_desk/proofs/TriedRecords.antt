@@ -57,6 +57,9 @@ pub reads_place : {E : Type 0} (honest : Type 0) (stored : Content) (pending : L
 reads_place honest stored pending result asked at same reads =
     subst (λ (p : Place). IfOk result (λ it. honest → ReadsThere stored pending p it)) (sym same) reads
 
+pub found_place : (stored : Content) (pending : List RowChange) (asked at : Place) (it : There) → asked ≡ at → ReadsThere stored pending at it → ReadsThere stored pending asked it
+found_place stored pending asked at it same reads = subst (λ (p : Place). ReadsThere stored pending p it) (sym same) reads
+
 -- for other refusals it is the order, or what is on hand
 pub other_used : (id : ℕ) (line : UsedLine) (why : CabinetRefusal) → (why ≡ cabinet.LineDiffers → ⊥) → (why ≡ cabinet.NoStock → ⊥)
     → place_told (asks.UsePart id line) why ≡ place.Order id line.order

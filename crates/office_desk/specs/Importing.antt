@@ -1,5 +1,5 @@
 -- What comes of a record of an import, after those before it.
-use Rattle.std.specs.Prelude.{◌≡◌, ◌⊎◌, ℕ, Bool, true, false, List, ◌++◌, Result, Err}
+use Rattle.std.specs.Prelude.{◌≡◌, ◌⊎◌, ◌≤◌, ◌+◌, ℕ, Bool, true, false, List, [], ◌++◌, Option, None, Some, IsSome, Result, Ok, Err}
 use Rattle.cabinet_core.specs.declared.command.RecordCommand.{RecordCommand}
 use Rattle.office_tables_shelf.specs.Change.{changed_by}
 use Rattle.office_tables_shelf.specs.Content.{Content}
@@ -7,17 +7,23 @@ use Rattle.office_tables_shelf.specs.declared.rows.RowChange.{RowChange}
 use Rattle.cabinet_core.specs.Register.{Register}
 use Rattle.cabinet_core.specs.Step.{line_at, with_record}
 use Rattle.cabinet_core.specs.Cabinet.{Line, added as added_line, same as same_line, refused as refused_line}
-use Rattle.office_desk_decisions.specs.RecordBounds.{IsOneOf}
-use Rattle.office_desk_cabinet.specs.Registers.{LeavesTiming}
+use Rattle.office_tables_shelf.specs.Counts.{writes_in}
+use Rattle.office_tables_shelf.specs.declared.rows.Table.{Table}
+use Rattle.office_desk_decisions.specs.RecordBounds.{IsOneOf, most_record_writes}
+use Rattle.office_desk_cabinet.specs.Decides.{DecidesRecord}
+use Rattle.office_desk_cabinet.specs.Registers.{LeavesTiming, rows_told}
+use Rattle.office_desk_cabinet.specs.declared.registered.Registered.{Registered}
+use Rattle.office_desk_cabinet.specs.declared.registered.Registered.TheVariants as registered
 use Rattle.office_tables_shelf.specs.RegisterStands.{RegisterStandsSound}
 use Rattle.office_machine.specs.Office.{Office}
 use Rattle.office_desk_decisions.specs.RegisterDamage.{KeepsDamage, MeetsRecordDamage}
 use Rattle.office_desk.specs.Blaming.{FollowsRegisterLine, IsRefusedAfter}
 use Rattle.office_desk.specs.Named.{number_of, numbers_of}
+use Rattle.office_desk.specs.Known.{TellsIntersection}
 use Rattle.office_desk.specs.Recording.{HasDamagedAbout, TellsAbout}
 use Rattle.office_machine.specs.Refusal.{line_of}
 use Rattle.office_desk.specs.StandFor.{StandForSound}
-use Rattle.office_machine.specs.Step.{cabinet_of, import_by, import_from, is_known, refusal_of_record}
+use Rattle.office_machine.specs.Step.{cabinet_of, import_from, is_known, refusal_of_record}
 use Rattle.office_machine.specs.declared.command.Command.TheVariants as command
 use Rattle.office_desk.specs.declared.importing.Taken.{Taken}
 use Rattle.office_desk.specs.declared.importing.Taken.TheVariants.{Added, Same, Refused}
@@ -46,21 +52,15 @@ taken_by true added_line = Added
 taken_by true same_line = Same
 taken_by true (refused_line why) = Refused (refusal_of_record why)
 
--- whichever sound office the stored tables stand for, and whichever register the pending rows made of its own
-abbrev pub TellsTaken : Content → List RowChange → RecordCommand → Taken → Type 0
-TellsTaken stored before c taken =
-    (office : Office) → StandForSound stored office → (r : Register) → RegisterStandsSound (changed_by stored before) r
-    → taken ≡ taken_by (is_known office (cabinet_of c)) (line_at r c)
-
 -- the register after a record
 abbrev pub register_with : Taken → Register → RecordCommand → Register
 register_with Added r c = with_record r c
 register_with Same r c = r
 register_with (Refused why) r c = r
 
--- from an office with a register: the import goes on as the machine's, and the pending rows make the register with the record
+-- from an office with a register: the record is taken as the machine takes it, and the pending rows make the register with it
 pub record TakesFrom (stored : Content) (c : RecordCommand) (taken : Taken) (pending : List RowChange) (office : Office) (r : Register) : Type 0 where
-  pub goes : (at : ℕ) (added same : Result (ℕ × ℕ × Office) Refusal) → import_by at (is_known office (cabinet_of c)) (line_at r c) added same ≡ goes_on at taken added same
+  pub told : taken ≡ taken_by (is_known office (cabinet_of c)) (line_at r c)
   pub stand : RegisterStandsSound (changed_by stored pending) (register_with taken r c)
 
 -- whichever sound office the stored tables stand for, and whichever register the pending rows made of its own
@@ -79,6 +79,37 @@ abbrev pub TakesLine : (stored : Content) (before : List RowChange) → RecordCo
 TakesLine stored before c Added after = (rows : List RowChange) × FollowsRegisterLine stored before c added_line rows × (after ≡ before ++ rows)
 TakesLine stored before c Same after = (rows : List RowChange) × FollowsRegisterLine stored before c same_line rows × (after ≡ before ++ rows)
 TakesLine stored before c (Refused why) after = IsRefusedAfter stored before c (number_of why)
+
+-- how a record is taken after those whose rows are pending: as the machine takes it, on rows that are records, and on those alone that stand under its keys
+pub record TakesInTurn (stored : Content) (before : List RowChange) (c : RecordCommand) (taken : Taken) (after : List RowChange) : Type 0 where
+  pub step : TakesRecord stored before c taken after
+  pub whole : TakesWhole stored before c after
+  pub line : TakesLine stored before c taken after
+
+-- whatever is stored: a refusal is one that the table has for the record, and rows of the register alone are written, at most as many as it may
+pub record TakesWithin (before : List RowChange) (c : RecordCommand) (taken : Taken) (after : List RowChange) : Type 0 where
+  pub named : IsNamedTaken c taken
+  pub leaves : LeavesAnyTiming before → LeavesAnyTiming after
+  pub writes : (table : Table) → writes_in table after ≤ writes_in table before + most_record_writes c table
+
+-- ---- a record that was decided
+
+-- its intersection is not there, and one is asked for; or it is, and the register decided
+abbrev pub DecidesAfter : (is_honest : Type 0) (stored : Content) (before : List RowChange) → RecordCommand → Option Registered → Type 0
+DecidesAfter is_honest stored before c None = IsSome (cabinet_of c) × (is_honest → TellsIntersection stored (cabinet_of c) false)
+DecidesAfter is_honest stored before c (Some told) = (is_honest → TellsIntersection stored (cabinet_of c) true) × DecidesRecord is_honest stored before c (Ok told)
+
+-- what comes of it
+abbrev pub taken_as : Option Registered → Taken
+taken_as None = Refused UnknownIntersection
+taken_as (Some (registered.Added rows)) = Added
+taken_as (Some registered.Same) = Same
+taken_as (Some (registered.Refused why)) = Refused (refusal_of_record why)
+
+-- the rows that it writes
+abbrev pub rows_decided : Option Registered → List RowChange
+rows_decided None = []
+rows_decided (Some told) = rows_told told
 
 -- from an office: the pending rows made a register, and the import of all the records goes on from there with those that are left
 pub record ImportsFrom (stored : Content) (all rest : List RecordCommand) (at added same : ℕ) (pending : List RowChange) (office : Office) : Type 0 where

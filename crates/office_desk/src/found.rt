@@ -4,8 +4,9 @@ ghost use Rattle.std.specs.Prelude.{IfOk, IsSome, IsTrue, OnErr, OnOk};
 ghost use Rattle.office_tables_shelf.specs.Content.{Content};
 ghost use Rattle.office_tables_shelf.specs.Keeps.{KeepsShelf};
 ghost use Rattle.office_desk_decisions.specs.Open.{DatabaseStaysOpen};
+ghost use Rattle.office_desk.specs.Known.{TellsIntersection};
 ghost use Rattle.office_desk.specs.Recording.{AreFound, IsAmong, IsIntersectionFound};
-ghost use Rattle.office_desk.specs.Recording.{IsKnownIn, HasDamagedAbout, TellsAbout};
+ghost use Rattle.office_desk.specs.Recording.{HasDamagedAbout};
 
 use crate::recording::is_known;
 use office_tables_shelf::shelf::{Shelf, ShelfFault};
@@ -46,14 +47,10 @@ pub(crate) fn is_found<S: Shelf>(
     requires { S.is_honest shelf.old → AreFound (S.content shelf.old) found.old }
     ensures found { IfOk result (λ _. S.is_honest shelf.new →
         AreFound (S.content shelf.old) found.new) }
-    ensures known { IfOk result (λ known. S.is_honest shelf.new →
-        IsKnownIn (S.content shelf.old) about known) }
     ensures tells { IfOk result (λ known. S.is_honest shelf.new →
-        TellsAbout (S.content shelf.old) about known) }
+        TellsIntersection (S.content shelf.old) about known) }
     ensures asked { result ≡ Ok false → IsSome about }
     ensures fault { OnErr result (IsSome about) }
-    ensures whole { IfOk result (λ _. S.is_honest shelf.new →
-        ¬ HasDamagedAbout (S.content shelf.old) about) }
     ensures damaged { result ≡ Err ShelfFault.Damaged → S.is_honest shelf.new →
         HasDamagedAbout (S.content shelf.old) about }
     ensures kept { KeepsShelf S.Shelf shelf.old shelf.new }

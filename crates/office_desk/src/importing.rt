@@ -1,16 +1,12 @@
 //! Imports: records of the register decided in turn, each after those before it.
-ghost use Rattle.std.specs.Prelude.{◌≡◌, ◌≤◌, ◌+◌, IfOk, ◌≢◌, [], IsOkAnd};
-ghost use Rattle.office_tables_shelf.specs.Counts.{writes_in};
+ghost use Rattle.std.specs.Prelude.{◌≡◌, ◌++◌, IfOk, ◌≢◌, [], IsOkAnd};
 ghost use Rattle.office_tables_shelf.specs.Keeps.{KeepsShelf};
 ghost use Rattle.office_desk_decisions.specs.Open.{DatabaseStaysOpen};
-ghost use Rattle.office_tables_shelf.specs.declared.rows.Table.{Table};
-ghost use Rattle.office_desk_decisions.specs.RecordBounds.{most_record_writes};
 ghost use Rattle.office_desk.specs.Blaming.{BlamesRightly};
 ghost use Rattle.office_desk.specs.Deciding.{AddsNothing, Decides};
 ghost use Rattle.office_desk.specs.Damage.{MeetsCabinetDamage};
-ghost use Rattle.office_desk.specs.Importing.{IsNamedTaken, LeavesAnyTiming};
-ghost use Rattle.office_desk.specs.Importing.{TakesLine, TakesRecord, TakesWhole};
-ghost use Rattle.office_desk.specs.Importing.{TellsTaken};
+ghost use Rattle.office_desk.specs.Importing.{DecidesAfter, TakesInTurn, TakesWithin};
+ghost use Rattle.office_desk.specs.Importing.{rows_decided, taken_as};
 ghost use Rattle.office_desk.specs.Recording.{AreFound};
 ghost use Rattle.office_machine.specs.Step.{cabinet_of as about_of};
 
@@ -24,7 +20,7 @@ use office_machine::records::Records;
 use office_machine::refusal::Refusal;
 use office_machine::reply::Reply;
 use office_tables_shelf::shelf::{Shelf, ShelfFault};
-use signal_records::InterId;
+use signal_records::{InterId, NoMemory};
 use std::alloc::Global;
 use std::collections::BTreeSet;
 
@@ -39,7 +35,52 @@ pub(crate) enum Taken {
     Refused(Refusal),
 }
 
-/// Takes a record after those whose rows are pending, and gives them back with its own. Of the
+/// Decides a record after those whose rows are pending, where its intersection is there. Of the
+/// intersections that were found no row is read again.
+fn decide_after<S: Shelf>(
+    shelf: &mut S,
+    alloc: Global,
+    found: &mut BTreeSet<InterId>,
+    pending: &Pending,
+    command: &RecordCommand,
+) -> Result<Option<Registered>, ShelfFault>
+    requires { S.is_honest shelf.old → AreFound (S.content shelf.old) found.old }
+    ensures found { IfOk result (λ _. S.is_honest shelf.new →
+        AreFound (S.content shelf.old) found.new) }
+    ensures decides { IfOk result (λ decided. DecidesAfter (S.is_honest shelf.new)
+        (S.content shelf.old) pending.now command.now decided) }
+    ensures damaged { result ≡ Err ShelfFault.Damaged → S.is_honest shelf.new →
+        MeetsCabinetDamage (S.content shelf.old) command.now (about_of command.now) }
+    ensures kept { KeepsShelf S.Shelf shelf.old shelf.new }
+    ensures open { DatabaseStaysOpen S.is_clean S.is_honest (pending.now ≡ [])
+        result shelf.old shelf.new }
+{
+    if !is_found(shelf, alloc, found, cabinet_of(command))? {
+        return Ok(None);
+    }
+    let told = decide_record(shelf, alloc, pending, command)?;
+    Ok(Some(told))
+}
+
+/// What comes of a record that was decided so, and the pending rows with its own.
+fn take_decided(decided: Option<Registered>, pending: Pending) -> Result<(Taken, Pending), NoMemory>
+    ensures taken { IfOk result (λ taken. taken.0 ≡ taken_as decided) }
+    ensures rows { IfOk result (λ taken. taken.1 ≡ pending ++ rows_decided decided) }
+{
+    let Some(told) = decided else {
+        return Ok((Taken::Refused(Refusal::UnknownIntersection), pending));
+    };
+    match told {
+        Registered::Added(rows) => {
+            let next = pending.with(rows)?;
+            Ok((Taken::Added, next))
+        }
+        Registered::Same => Ok((Taken::Same, pending)),
+        Registered::Refused(refusal) => Ok((Taken::Refused(refused(refusal)), pending)),
+    }
+}
+
+/// TakesInTurn a record after those whose rows are pending, and gives them back with its own. Of the
 /// intersections that were found no row is read again.
 pub(crate) fn take_record<S: Shelf>(
     shelf: &mut S,
@@ -51,37 +92,18 @@ pub(crate) fn take_record<S: Shelf>(
     requires { S.is_honest shelf.old → AreFound (S.content shelf.old) found.old }
     ensures found { IfOk result (λ _. S.is_honest shelf.new →
         AreFound (S.content shelf.old) found.new) }
-    ensures step { S.is_honest shelf.new →
-        IfOk result (λ taken.
-        TakesRecord (S.content shelf.old) pending command.now taken.0 taken.1) }
-    ensures told { S.is_honest shelf.new → IfOk result (λ taken.
-        TellsTaken (S.content shelf.old) pending command.now taken.0) }
+    ensures takes { IfOk result (λ taken. S.is_honest shelf.new →
+        TakesInTurn (S.content shelf.old) pending command.now taken.0 taken.1) }
+    ensures within { IfOk result (λ taken. TakesWithin pending command.now taken.0 taken.1) }
     ensures damaged { result ≡ Err ShelfFault.Damaged → S.is_honest shelf.new →
         MeetsCabinetDamage (S.content shelf.old) command.now (about_of command.now) }
-    ensures whole { IfOk result (λ taken. S.is_honest shelf.new →
-        TakesWhole (S.content shelf.old) pending command.now taken.1) }
-    ensures line { IfOk result (λ taken. S.is_honest shelf.new →
-        TakesLine (S.content shelf.old) pending command.now taken.0 taken.1) }
-    ensures named { IfOk result (λ taken. IsNamedTaken command.now taken.0) }
-    ensures leaves { IfOk result (λ taken. LeavesAnyTiming pending → LeavesAnyTiming taken.1) }
-    ensures writes { IfOk result
-        (λ taken. (table : Table) →
-        writes_in table taken.1 ≤ writes_in table pending + most_record_writes command.now table) }
     ensures kept { KeepsShelf S.Shelf shelf.old shelf.new }
     ensures open { DatabaseStaysOpen S.is_clean S.is_honest (pending ≡ [])
         result shelf.old shelf.new }
 {
-    if !is_found(shelf, alloc, found, cabinet_of(command))? {
-        return Ok((Taken::Refused(Refusal::UnknownIntersection), pending));
-    }
-    match decide_record(shelf, alloc, &pending, command)? {
-        Registered::Added(rows) => {
-            let next = pending.with(rows)?;
-            Ok((Taken::Added, next))
-        }
-        Registered::Same => Ok((Taken::Same, pending)),
-        Registered::Refused(refusal) => Ok((Taken::Refused(refused(refusal)), pending)),
-    }
+    let decided = decide_after(shelf, alloc, found, &pending, command)?;
+    let taken = take_decided(decided, pending)?;
+    Ok(taken)
 }
 
 /// Decides an import: its records in turn, each after those before it; the first that is refused

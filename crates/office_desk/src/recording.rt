@@ -4,7 +4,8 @@ ghost use Rattle.office_tables_shelf.specs.Keeps.{AnswersShelf, KeepsShelf};
 ghost use Rattle.office_desk_decisions.specs.Open.{DatabaseStaysOpen};
 ghost use Rattle.office_desk_cabinet.specs.Registers.{line_told, rows_told};
 ghost use Rattle.office_desk.specs.Deciding.{Decides};
-ghost use Rattle.office_desk.specs.Recording.{IsKnownIn, HasDamagedAbout, TellsAbout};
+ghost use Rattle.office_desk.specs.Known.{TellsIntersection};
+ghost use Rattle.office_desk.specs.Recording.{HasDamagedAbout};
 ghost use Rattle.office_machine.specs.Step.{cabinet_of as about_of, refusal_of_record};
 ghost use Rattle.office_machine.specs.Step.{told as reply_of};
 
@@ -38,14 +39,10 @@ pub(crate) fn is_known<S: Shelf>(
     alloc: Global,
     about: Option<InterId>,
 ) -> Result<bool, ShelfFault>
-    ensures known { IfOk result
-        (λ known. S.is_honest shelf.new → IsKnownIn (S.content shelf.old) about known) }
     ensures tells { IfOk result (λ known. S.is_honest shelf.new →
-        TellsAbout (S.content shelf.old) about known) }
+        TellsIntersection (S.content shelf.old) about known) }
     ensures asked { result ≡ Ok false → IsSome about }
     ensures fault { OnErr result (IsSome about) }
-    ensures whole { IfOk result
-        (λ _. S.is_honest shelf.new → ¬ HasDamagedAbout (S.content shelf.old) about) }
     ensures damaged { result ≡ Err ShelfFault.Damaged → S.is_honest shelf.new →
         HasDamagedAbout (S.content shelf.old) about }
     ensures kept { KeepsShelf S.Shelf shelf.old shelf.new }

@@ -3,14 +3,14 @@ ghost use Rattle.std.specs.Prelude.{◌≡◌, IfOk, Err};
 ghost use Rattle.office_tables_shelf.specs.Keeps.{KeepsShelf};
 ghost use Rattle.office_tables_shelf.specs.Places as place;
 ghost use Rattle.office_tables_shelf.specs.Places.{DamagedAt};
-ghost use Rattle.office_desk.specs.Checking.{ReadsThere, place_told, told_there};
+ghost use Rattle.office_desk.specs.Checking.{ReadsThere, place_of_key, place_told, told_there};
 
 use cabinet_core::{
     CabinetRefusal, Delivery, Hand, Inspection, Order, PartCode, RecordCommand, UsedLine,
 };
 use office_desk_cabinet::{Pending, delivery_at, hand_at, inspection_at, line_at, order_at};
 use office_tables_shelf::shelf::{Shelf, ShelfFault};
-use signal_records::{InterId, NoMemory, RecordNo};
+use signal_records::{InterId, LineNo, NoMemory, RecordNo};
 use std::alloc::Global;
 
 /// What stands where a record is refused.
@@ -23,6 +23,16 @@ pub enum There {
     Delivery(Delivery),
     /// How many pieces of the part are on hand.
     OnHand(PartCode, u32),
+}
+
+/// Where a row of the register stands: its table, and its key there.
+#[derive(Drop)]
+enum RegisterKey<'a> {
+    Inspection(InterId, RecordNo),
+    Order(InterId, RecordNo),
+    Line(InterId, RecordNo, LineNo),
+    Part(&'a PartCode),
+    Delivery(&'a PartCode, RecordNo),
 }
 
 impl There {
@@ -44,8 +54,8 @@ impl There {
         }
     }
 
-    fn of_line(id: InterId, asked: &UsedLine, found: Option<UsedLine>) -> There
-        ensures { result ≡ told_there (place.Line id asked.now.order asked.now.line) found }
+    fn of_line(id: InterId, order: RecordNo, line: LineNo, found: Option<UsedLine>) -> There
+        ensures { result ≡ told_there (place.Line id order line) found }
     {
         match found {
             Some(line) => There::UsedLine(line),
@@ -53,8 +63,8 @@ impl There {
         }
     }
 
-    fn of_delivery(asked: &Delivery, found: Option<Delivery>) -> There
-        ensures { result ≡ told_there (place.Delivery asked.now.part asked.now.number) found }
+    fn of_delivery(part: &PartCode, number: RecordNo, found: Option<Delivery>) -> There
+        ensures { result ≡ told_there (place.Delivery part.now number) found }
     {
         match found {
             Some(delivery) => There::Delivery(delivery),
@@ -73,142 +83,65 @@ impl There {
     }
 }
 
-/// The inspection of a number.
-fn inspection_there<S: Shelf>(
-    shelf: &mut S,
-    alloc: Global,
-    pending: &Pending,
-    id: InterId,
-    number: RecordNo,
-) -> Result<There, ShelfFault>
-    ensures reads { IfOk result (λ there. S.is_honest shelf.new →
-        ReadsThere (S.content shelf.old) pending.now (place.Inspection id number) there) }
-    ensures damaged { result ≡ Err ShelfFault.Damaged → S.is_honest shelf.new →
-        DamagedAt (S.content shelf.old) (place.Inspection id number) }
-    ensures clean { S.is_clean shelf.new → S.is_clean shelf.old }
-    ensures kept { KeepsShelf S.Shelf shelf.old shelf.new }
+/// Where that stands for which a record is refused.
+fn key_told<'a>(command: &'a RecordCommand, why: CabinetRefusal) -> RegisterKey<'a>
+    ensures { place_of_key result ≡ place_told command.now why }
 {
-    let found = inspection_at(shelf, alloc, pending, id, number)?;
-    Ok(There::of_inspection(id, number, found))
-}
-
-/// The order of a number.
-fn order_there<S: Shelf>(
-    shelf: &mut S,
-    alloc: Global,
-    pending: &Pending,
-    id: InterId,
-    number: RecordNo,
-) -> Result<There, ShelfFault>
-    ensures reads { IfOk result (λ there. S.is_honest shelf.new →
-        ReadsThere (S.content shelf.old) pending.now (place.Order id number) there) }
-    ensures damaged { result ≡ Err ShelfFault.Damaged → S.is_honest shelf.new →
-        DamagedAt (S.content shelf.old) (place.Order id number) }
-    ensures clean { S.is_clean shelf.new → S.is_clean shelf.old }
-    ensures kept { KeepsShelf S.Shelf shelf.old shelf.new }
-{
-    let found = order_at(shelf, alloc, pending, id, number)?;
-    Ok(There::of_order(id, number, found))
-}
-
-/// The line of an order.
-fn line_there<S: Shelf>(
-    shelf: &mut S,
-    alloc: Global,
-    pending: &Pending,
-    id: InterId,
-    asked: &UsedLine,
-) -> Result<There, ShelfFault>
-    ensures reads { IfOk result (λ there. S.is_honest shelf.new → ReadsThere
-        (S.content shelf.old) pending.now (place.Line id asked.now.order asked.now.line) there) }
-    ensures damaged { result ≡ Err ShelfFault.Damaged → S.is_honest shelf.new →
-        DamagedAt (S.content shelf.old) (place.Line id asked.now.order asked.now.line) }
-    ensures clean { S.is_clean shelf.new → S.is_clean shelf.old }
-    ensures kept { KeepsShelf S.Shelf shelf.old shelf.new }
-{
-    let found = line_at(shelf, alloc, pending, id, asked.order, asked.line)?;
-    Ok(There::of_line(id, asked, found))
-}
-
-/// The delivery of a part.
-fn delivery_there<S: Shelf>(
-    shelf: &mut S,
-    alloc: Global,
-    pending: &Pending,
-    asked: &Delivery,
-) -> Result<There, ShelfFault>
-    ensures reads { IfOk result (λ there. S.is_honest shelf.new → ReadsThere
-        (S.content shelf.old) pending.now (place.Delivery asked.now.part asked.now.number) there) }
-    ensures damaged { result ≡ Err ShelfFault.Damaged → S.is_honest shelf.new →
-        DamagedAt (S.content shelf.old) (place.Delivery asked.now.part asked.now.number) }
-    ensures clean { S.is_clean shelf.new → S.is_clean shelf.old }
-    ensures kept { KeepsShelf S.Shelf shelf.old shelf.new }
-{
-    let found = delivery_at(shelf, alloc, pending, &asked.part, asked.number)?;
-    Ok(There::of_delivery(asked, found))
-}
-
-/// What is on hand of a part.
-fn hand_there<S: Shelf>(
-    shelf: &mut S,
-    alloc: Global,
-    pending: &Pending,
-    part: &PartCode,
-) -> Result<There, ShelfFault>
-    ensures reads { IfOk result (λ there. S.is_honest shelf.new →
-        ReadsThere (S.content shelf.old) pending.now (place.Part part.now) there) }
-    ensures damaged { result ≡ Err ShelfFault.Damaged → S.is_honest shelf.new →
-        DamagedAt (S.content shelf.old) (place.Part part.now) }
-    ensures clean { S.is_clean shelf.new → S.is_clean shelf.old }
-    ensures kept { KeepsShelf S.Shelf shelf.old shelf.new }
-{
-    let found = hand_at(shelf, alloc, pending, part)?;
-    Ok(There::of_hand(part, found)?)
-}
-
-/// What a used part is refused for.
-fn used_there<S: Shelf>(
-    shelf: &mut S,
-    alloc: Global,
-    pending: &Pending,
-    id: InterId,
-    line: &UsedLine,
-    why: CabinetRefusal,
-) -> Result<There, ShelfFault>
-    ensures reads { IfOk result (λ there. S.is_honest shelf.new → ReadsThere
-        (S.content shelf.old) pending.now
-        (place_told (RecordCommand.UsePart id line.now) why) there) }
-    ensures damaged { result ≡ Err ShelfFault.Damaged → S.is_honest shelf.new →
-        DamagedAt (S.content shelf.old) (place_told (RecordCommand.UsePart id line.now) why) }
-    ensures clean { S.is_clean shelf.new → S.is_clean shelf.old }
-    ensures kept { KeepsShelf S.Shelf shelf.old shelf.new }
-{
-    match why {
-        CabinetRefusal::LineDiffers => line_there(shelf, alloc, pending, id, line),
-        CabinetRefusal::NoStock => hand_there(shelf, alloc, pending, &line.part),
-        _ => order_there(shelf, alloc, pending, id, line.order),
+    match command {
+        RecordCommand::Inspect { id, inspection } => {
+            RegisterKey::Inspection(*id, inspection.number)
+        }
+        RecordCommand::OpenOrder { id, opening } => RegisterKey::Order(*id, opening.number),
+        RecordCommand::UsePart { id, line } => match why {
+            CabinetRefusal::LineDiffers => RegisterKey::Line(*id, line.order, line.line),
+            CabinetRefusal::NoStock => RegisterKey::Part(&line.part),
+            _ => RegisterKey::Order(*id, line.order),
+        },
+        RecordCommand::CloseOrder { id, order, .. } => RegisterKey::Order(*id, *order),
+        RecordCommand::Receive { delivery } => match why {
+            CabinetRefusal::DeliveryDiffers => {
+                RegisterKey::Delivery(&delivery.part, delivery.number)
+            }
+            _ => RegisterKey::Part(&delivery.part),
+        },
     }
 }
 
-/// What a delivery is refused for.
-fn received_there<S: Shelf>(
+/// What stands there, once the pending rows are written.
+fn there_at<S: Shelf>(
     shelf: &mut S,
     alloc: Global,
     pending: &Pending,
-    delivery: &Delivery,
-    why: CabinetRefusal,
+    key: RegisterKey<'_>,
 ) -> Result<There, ShelfFault>
-    ensures reads { IfOk result (λ there. S.is_honest shelf.new → ReadsThere
-        (S.content shelf.old) pending.now
-        (place_told (RecordCommand.Receive delivery.now) why) there) }
+    ensures reads { IfOk result (λ there. S.is_honest shelf.new →
+        ReadsThere (S.content shelf.old) pending.now (place_of_key key.entry) there) }
     ensures damaged { result ≡ Err ShelfFault.Damaged → S.is_honest shelf.new →
-        DamagedAt (S.content shelf.old) (place_told (RecordCommand.Receive delivery.now) why) }
+        DamagedAt (S.content shelf.old) (place_of_key key.entry) }
     ensures clean { S.is_clean shelf.new → S.is_clean shelf.old }
     ensures kept { KeepsShelf S.Shelf shelf.old shelf.new }
 {
-    match why {
-        CabinetRefusal::DeliveryDiffers => delivery_there(shelf, alloc, pending, delivery),
-        _ => hand_there(shelf, alloc, pending, &delivery.part),
+    match key {
+        RegisterKey::Inspection(id, number) => {
+            let inspection = inspection_at(shelf, alloc, pending, id, number)?;
+            Ok(There::of_inspection(id, number, inspection))
+        }
+        RegisterKey::Order(id, number) => {
+            let order = order_at(shelf, alloc, pending, id, number)?;
+            Ok(There::of_order(id, number, order))
+        }
+        RegisterKey::Line(id, order, number) => {
+            let line = line_at(shelf, alloc, pending, id, order, number)?;
+            Ok(There::of_line(id, order, number, line))
+        }
+        RegisterKey::Part(part) => {
+            let hand = hand_at(shelf, alloc, pending, part)?;
+            Ok(There::of_hand(part, hand)?)
+        }
+        RegisterKey::Delivery(part, number) => {
+            let delivery = delivery_at(shelf, alloc, pending, part, number)?;
+            Ok(There::of_delivery(part, number, delivery))
+        }
     }
 }
 
@@ -227,19 +160,5 @@ pub(crate) fn what_is_there<S: Shelf>(
     ensures clean { S.is_clean shelf.new → S.is_clean shelf.old }
     ensures kept { KeepsShelf S.Shelf shelf.old shelf.new }
 {
-    match command {
-        RecordCommand::Inspect { id, inspection } => {
-            inspection_there(shelf, alloc, pending, *id, inspection.number)
-        }
-        RecordCommand::OpenOrder { id, opening } => {
-            order_there(shelf, alloc, pending, *id, opening.number)
-        }
-        RecordCommand::UsePart { id, line } => used_there(shelf, alloc, pending, *id, line, why),
-        RecordCommand::CloseOrder { id, order, .. } => {
-            order_there(shelf, alloc, pending, *id, *order)
-        }
-        RecordCommand::Receive { delivery } => {
-            received_there(shelf, alloc, pending, delivery, why)
-        }
-    }
+    there_at(shelf, alloc, pending, key_told(command, why))
 }

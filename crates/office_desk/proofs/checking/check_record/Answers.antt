@@ -8,13 +8,13 @@ use Rattle.office_desk.proofs.checking.check_record.Goals as goal
 
 pub returns-in-Added-clause-checks : goal.returns-in-Added-clause-checks
 returns-in-Added-clause-checks g c = λ honest office stands r register.
-    let took = c.in_ok-taken.ensures in
-    checks_so (g.S.Shelf.content c.args.shelf.now) c.in_ok-taken.next c.args.command.now r _ _ _ _ c.in-Added.is (took.told honest office stands r register) refl (took.step honest office stands r register).stand
+    let took = λ (honest : g.S.Shelf.is_honest c.take_record.new.shelf). (c.in_ok-taken.ensures.takes honest).step in
+    checks_so (g.S.Shelf.content c.args.shelf.now) c.in_ok-taken.next c.args.command.now r _ _ _ _ c.in-Added.is (took honest office stands r register).told refl (took honest office stands r register).stand
 
 pub returns-in-Same-clause-checks : goal.returns-in-Same-clause-checks
 returns-in-Same-clause-checks g c = λ honest office stands r register.
-    let took = c.in_ok-taken.ensures in
-    checks_so (g.S.Shelf.content c.args.shelf.now) c.in_ok-taken.next c.args.command.now r _ _ _ _ c.in-Same.is (took.told honest office stands r register) refl (took.step honest office stands r register).stand
+    let took = λ (honest : g.S.Shelf.is_honest c.take_record.new.shelf). (c.in_ok-taken.ensures.takes honest).step in
+    checks_so (g.S.Shelf.content c.args.shelf.now) c.in_ok-taken.next c.args.command.now r _ _ _ _ c.in-Same.is (took honest office stands r register).told refl (took honest office stands r register).stand
 
 pub returns-in_ok-there-in-Refused-clause-checks : goal.returns-in_ok-there-in-Refused-clause-checks
 returns-in_ok-there-in-Refused-clause-checks g c = λ honest office stands r register.
@@ -22,10 +22,10 @@ returns-in_ok-there-in-Refused-clause-checks g c = λ honest office stands r reg
     let asked = c.args.command.now in
     let after = c.in_ok-taken.next in
     let why = c.in-Refused.refusal in
-    let took = c.in_ok-taken.ensures in
+    let took = λ (honest : g.S.Shelf.is_honest c.take_record.new.shelf). (c.in_ok-taken.ensures.takes honest).step in
     let first = c.there_of.ensures.kept.honest_before honest in
-    let told = took.told first office stands r register in
-    let stand = (took.step first office stands r register).stand in
+    let told = (took first office stands r register).told in
+    let stand = (took first office stands r register).stand in
     let same = c.take_record.ensures.kept.same_content first in
     let here = subst (λ (tables : Content). TellsThere tables after asked why c.in_ok-there-in-Refused.there) same (c.in_ok-there-in-Refused.ensures.told honest) in
     let left = subst (λ (t : Taken). RegisterStandsSound (changed_by stored after) (register_with t r asked)) c.in-Refused.is stand in

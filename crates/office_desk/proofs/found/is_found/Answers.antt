@@ -6,17 +6,10 @@ use Rattle.office_desk.proofs.found.is_found.Goals as goal
 
 -- ---- it was found before
 
-pub returns-then-is_among-clause-known : goal.returns-then-is_among-clause-known
-returns-then-is_among-clause-known g c = λ honest.
-    (among_found _ c.args.found.now c.args.about (c.requires honest) (c.is_among.ensures c.if-is_among.true)).known
-
 pub returns-then-is_among-clause-tells : goal.returns-then-is_among-clause-tells
 returns-then-is_among-clause-tells g c = λ honest.
-    (among_found _ c.args.found.now c.args.about (c.requires honest) (c.is_among.ensures c.if-is_among.true)).told
-
-pub returns-then-is_among-clause-whole : goal.returns-then-is_among-clause-whole
-returns-then-is_among-clause-whole g c = λ honest.
-    (among_found _ c.args.found.now c.args.about (c.requires honest) (c.is_among.ensures c.if-is_among.true)).whole
+    let found = among_found _ c.args.found.now c.args.about (c.requires honest) (c.is_among.ensures c.if-is_among.true) in
+    record { known = found.known; told = found.told; whole = found.whole }
 
 pub returns-then-is_among-clause-open : goal.returns-then-is_among-clause-open
 returns-then-is_among-clause-open g c =
@@ -43,11 +36,9 @@ returns-then-not-branch g c =
     let asked = c.is_known.ensures.asked (c.in_ok-is_known.was ∙ ap (λ (b : Bool). Ok b) c.if-not-branch.true) in
     record {
       found = λ honest. c.requires (c.is_known.ensures.kept.honest_before honest);
-      known = λ honest. rw c.if-not-branch.true at (it.known honest);
       tells = λ honest. rw c.if-not-branch.true at (it.tells honest);
       asked = λ is. asked;
       fault = search rules;
-      whole = search rules;
       damaged = search rules;
       kept = search rules;
       «open» = record {
@@ -59,20 +50,14 @@ returns-then-not-branch g c =
 
 -- ---- it is there
 
-pub returns-clause-known : goal.returns-clause-known
-returns-clause-known g c = λ honest. rw c.if-not-branch.false at (c.in_ok-is_known.ensures.known honest)
-
 pub returns-clause-tells : goal.returns-clause-tells
 returns-clause-tells g c = λ honest. rw c.if-not-branch.false at (c.in_ok-is_known.ensures.tells honest)
 
 pub returns-clause-found : goal.returns-clause-found
 returns-clause-found g c = λ honest.
+    let it = returns-clause-tells g c honest in
     c.in_ok-keep.ensures.kept _ (c.requires (c.is_known.ensures.kept.honest_before honest))
-    (record {
-      known = returns-clause-known g c honest;
-      told = returns-clause-tells g c honest;
-      whole = c.in_ok-is_known.ensures.whole honest;
-    })
+    (record { known = it.known; told = it.told; whole = it.whole })
 
 pub returns-clause-open : goal.returns-clause-open
 returns-clause-open g c = record {

@@ -58,7 +58,7 @@ loop-index-preserved g c =
       so_far = λ honest.
           let first = c.take_record.ensures.kept.honest_before honest in
           one_more _ all index c.loop-index.added c.loop-index.same before c.in_ok-taken.next item t (c.loop-index.invariant.so_far first) next
-          (takes_so (c.loop-index.invariant.kept.same_content first) (told.step honest) (told.whole honest) (told.line honest)) _ _ came;
+          (takes_so (c.loop-index.invariant.kept.same_content first) (told.takes honest)) _ _ came;
       found = λ honest.
           let first = c.take_record.ensures.kept.honest_before honest in
           subst (λ tables. AreFound tables c.take_record.new.found) (c.loop-index.invariant.kept.same_content first)
@@ -67,8 +67,8 @@ loop-index-preserved g c =
       clean = λ clean. c.loop-index.invariant.clean (told.open.clean_before clean);
       stays = λ clean honest. now_open clean;
       read = λ clean later. now_open clean;
-      leaves = told.leaves c.loop-index.invariant.leaves;
-      writes = λ table. writes_left table all index item _ _ _ next (c.loop-index.invariant.writes table) (told.writes table);
+      leaves = told.within.leaves c.loop-index.invariant.leaves;
+      writes = λ table. writes_left table all index item _ _ _ next (c.loop-index.invariant.writes table) (told.within.writes table);
       kept = kept_on shelf.is_honest shelf.content shelf.written shelf.may_leave c.args.shelf.now c.loop-index.shelf c.take_record.new.shelf c.loop-index.invariant.kept c.take_record.ensures.kept;
     }
 
@@ -106,7 +106,7 @@ returns-in-Refused g c =
     let told = c.in_ok-taken.ensures in
     let first = c.take_record.ensures.kept.honest_before in
     let takes = λ (honest : shelf.is_honest c.take_record.new.shelf).
-    takes_so (inv.kept.same_content (first honest)) (told.step honest) (told.whole honest) (told.line honest) in
+    takes_so (inv.kept.same_content (first honest)) (told.takes honest) in
     let now_open = λ (clean : shelf.is_clean c.take_record.new.shelf).
     taken_open shelf.is_clean shelf.is_honest c.loop-index.pending c.loop-index.index _ c.loop-index.shelf c.take_record.new.shelf inv.fresh inv.read told.open clean tt in
     record {
@@ -115,7 +115,7 @@ returns-in-Refused g c =
           (inv.so_far (first honest)) next (takes honest) c.in-Refused.refusal _ office c.in-Refused.is c.number-cause.ensures stands)
           c.all_or_none.ensures.reply (c.all_or_none.ensures.none tt);
       blames = blames_next _ _ all c.loop-index.index _ _ item c.in-Refused.refusal _ next.left refl c.number-cause.ensures c.all_or_none.ensures.reply
-          (subst (IsNamedTaken item) c.in-Refused.is told.named)
+          (subst (IsNamedTaken item) c.in-Refused.is told.within.named)
           (λ honest. first_refused _ all c.loop-index.index c.loop-index.added c.loop-index.same c.loop-index.pending c.in_ok-taken.next item c.in_ok-taken.taken
           (inv.so_far (first honest)) next (takes honest) c.in-Refused.refusal c.in-Refused.is);
       kept = kept_on _ _ _ _ _ _ _ inv.kept c.take_record.ensures.kept;

@@ -11,8 +11,8 @@ returns-then-not-known-clause-decides g c =
     let gone = c.if-not-known.true in
     let known = c.in_ok-known.ensures in
     unknown_decides _ _ _ _ c.refused.ensures.reply (inl refl) c.refused.ensures.no_changes
-    (λ honest. gone_after _ c.args.id _ (sym gone ∙ known.tells honest) (known.whole honest))
-    (λ honest office stands. rw (none_there (get office.intersections c.args.id) (sym gone ∙ known.known honest office stands)))
+    (λ honest. gone_after _ c.args.id _ (sym gone ∙ (known.tells honest).told) (known.tells honest).whole)
+    (λ honest office stands. rw (none_there (get office.intersections c.args.id) (sym gone ∙ (known.tells honest).known office stands)))
 
 pub returns-clause-decides : goal.returns-clause-decides
 returns-clause-decides g c =
@@ -23,10 +23,10 @@ returns-clause-decides g c =
     (λ e. cc) (λ why e. absurd cc) c.unchanged.ensures.no_changes
     (λ honest.
     let first = c.open_orders.ensures.kept.honest_before honest in
-    row_after _ c.args.id _ (known.whole first) (rw (c.is_known.ensures.kept.same_content first) at (list.whole honest)))
+    row_after _ c.args.id _ (known.tells first).whole (rw (c.is_known.ensures.kept.same_content first) at (list.whole honest)))
     (λ honest office stands.
     let first = c.open_orders.ensures.kept.honest_before honest in
-    orders_show _ office c.args.id _ stands (λ other at. sym c.if-not-known.false ∙ known.known first other at)
+    orders_show _ office c.args.id _ stands (λ other at. sym c.if-not-known.false ∙ (known.tells first).known other at)
     (rw (c.is_known.ensures.kept.same_content first) at (list.shows honest)))
 
 pub returns-in_err-list-clause-decides : goal.returns-in_err-list-clause-decides
@@ -34,5 +34,5 @@ returns-in_err-list-clause-decides g c =
     fault_decides _ _ _ _ _ _ c.in_err-list.was c.from_residual-in_err-list.ensures.1
     (λ damaged honest.
     let first = c.open_orders.ensures.kept.honest_before honest in
-    let known = sym c.if-not-known.false ∙ c.in_ok-known.ensures.tells first in
+    let known = sym c.if-not-known.false ∙ (c.in_ok-known.ensures.tells first).told in
     inr (sym known, rw (c.is_known.ensures.kept.same_content first) at (c.open_orders.ensures.damaged damaged honest)))
