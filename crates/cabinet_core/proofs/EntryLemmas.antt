@@ -1,8 +1,7 @@
 -- What holds of what stands at each key of a map holds of each of its entries.
 use Rattle.std.proofs.Common.{◌≡◌, ◌⊎◌, inl, inr, Bool, true, false, List, [], ◌∷◌, filter, cond, None, Ordering, T, refl, sym, ap, subst, ◌∙◌}
 use Rattle.std.proofs.lemmas.Bool.{cases_Bool}
-use Rattle.std.specs.{Cmp.IsTotalOrder, Cmp.tied_itself, List.AllByRecursion, List.list_any, FinMap.FinMap, FinMap.get, FinMap.entries}
-use Rattle.std.specs.{FinMap.entries_sorted, FinMap.get-entries, FinMap.Entries.is_sorted, FinMap.Entries.below_all, Option.IfSome}
+use Rattle.std.specs.{Cmp.IsTotalOrder, Cmp.tied_itself, List.AllByRecursion, List.list_any, FinMap.FinMap, FinMap.get, FinMap.entries, FinMap.entries_sorted, FinMap.get-entries, FinMap.Entries.is_sorted, FinMap.Entries.below_all, Option.IfSome}
 use Rattle.std.specs.Ordering.{is_eq, eq_by_cmp}
 use Rattle.std.specs.FinMap as finite
 use Rattle.signal_values.proofs.Ties.{is_less, parts}

@@ -1,8 +1,7 @@
 -- Sums and tests over the entries of a map, after an entry with a new key.
 use Rattle.std.proofs.Common.{◌≡◌, ℕ, ◌+◌, Bool, true, false, ◌||◌, List, [], ◌∷◌, cond, Some, None, Ordering, refl, sym, ap, ◌∙◌, arith}
 use Rattle.std.proofs.lemmas.List.Sums.{sum_by-cons}
-use Rattle.std.specs.{Prelude.sum_by, List.list_any, Cmp.IsTotalOrder, Ordering.is_eq, FinMap.FinMap, FinMap.get, FinMap.insert}
-use Rattle.std.specs.{FinMap.entries, FinMap.entries-insert, FinMap.get-entries, FinMap.Entries.put, FinMap.Entries.by_order}
+use Rattle.std.specs.{Prelude.sum_by, List.list_any, Cmp.IsTotalOrder, Ordering.is_eq, FinMap.FinMap, FinMap.get, FinMap.insert, FinMap.entries, FinMap.entries-insert, FinMap.get-entries, FinMap.Entries.put, FinMap.Entries.by_order}
 use Rattle.std.specs.declared.cmp.Ordering.TheVariants.{Less, Equal, Greater}
 use Rattle.std.specs.FinMap as finite
 

@@ -1,10 +1,7 @@
 -- The orders of the register's keys are total, only equal keys tie, and when they do.
 use Rattle.std.proofs.Common.{◌≡◌, ℕ, ◌&&◌, ◌==◌, List, Ordering, nat_cmp, sym, ◌∙◌}
-use Rattle.std.proofs.{lemmas.Bool.Decides.same_from_decides, lemmas.Bool.Decides.Decides-like, lemmas.Cmp.on_total, lemmas.Cmp.then_total}
-use Rattle.std.proofs.{lemmas.Cmp.nat_cmp_total, lemmas.Cmp.nat_list_cmp_total, lemmas.Map.Lookups.exact_pairs}
-use Rattle.std.proofs.{lemmas.Map.Text.is_eq-slice_cmp, lemmas.Slice.Eq.bytes_eq-Decides}
-use Rattle.std.specs.{Cmp.IsTotalOrder, Cmp.Lexicographic.slice_cmp, Ordering.eq_by_cmp, FinMap.IsAntisymmetric}
-use Rattle.std.specs.{FinMap.nat_cmp-IsAntisymmetric, FinMap.slice_cmp-IsAntisymmetric, Str.bytes_eq}
+use Rattle.std.proofs.{lemmas.Bool.Decides.same_from_decides, lemmas.Bool.Decides.Decides-like, lemmas.Cmp.on_total, lemmas.Cmp.then_total, lemmas.Cmp.nat_cmp_total, lemmas.Cmp.nat_list_cmp_total, lemmas.Map.Lookups.exact_pairs, lemmas.Map.Text.is_eq-slice_cmp, lemmas.Slice.Eq.bytes_eq-Decides}
+use Rattle.std.specs.{Cmp.IsTotalOrder, Cmp.Lexicographic.slice_cmp, Ordering.eq_by_cmp, FinMap.IsAntisymmetric, FinMap.nat_cmp-IsAntisymmetric, FinMap.slice_cmp-IsAntisymmetric, Str.bytes_eq}
 use Rattle.cabinet_core.specs.Register.{pair_cmp, record_cmp, line_cmp, delivery_cmp}
 pub use Rattle.signal_values.proofs.Ties.{numbers_tie, then_ties}
 

@@ -1,19 +1,14 @@
 -- The changes of a decision make the register with the record.
-use Rattle.std.proofs.Common.{◌≡◌, ◌⊎◌, inl, inr, ◌≤◌, ℕ, true, false, List, [], ◌∷◌, cond}
-use Rattle.std.proofs.Common.{Option, None, Some, Result, Ok, Err, refl, sym, ap, subst, ◌∙◌, arith}
+use Rattle.std.proofs.Common.{◌≡◌, ◌⊎◌, inl, inr, ◌≤◌, ℕ, true, false, List, [], ◌∷◌, cond, Option, None, Some, Result, Ok, Err, refl, sym, ap, subst, ◌∙◌, arith}
 use Rattle.std.proofs.lemmas.Bool.{cases_Bool}
 use Rattle.std.specs.{Prelude.IfSome, FinMap.get, FinMap.insert, Str.bytes_eq}
 use Rattle.cabinet_core.specs.Cabinet.{Records, added, close_line, record_of, with_closing, use_changes, close_changes, receive_changes}
-use Rattle.cabinet_core.specs.{Changes.ChangesMake, Changes.MakesIn, Changes.Makes, Stock.hand_of, Register.Register, Register.LineKey}
-use Rattle.cabinet_core.specs.{Register.DeliveryKey, Sound.IsOrderAt, Sound.IsSoundRegister, declared.record.Order.Order, Step.Standing}
+use Rattle.cabinet_core.specs.{Changes.ChangesMake, Changes.MakesIn, Changes.Makes, Stock.hand_of, Register.Register, Register.LineKey, Register.DeliveryKey, Sound.IsOrderAt, Sound.IsSoundRegister, declared.record.Order.Order, Step.Standing, declared.record.Closing.Closing, Within.IsInspectionWithin, Within.IsClosingWithin, Within.IsOpeningWithin, Within.IsUsedLineWithin, Within.IsDeliveryWithin, declared.command.RecordCommand.RecordCommand, declared.record.UsedLine.UsedLine, declared.refusal.CabinetRefusal.CabinetRefusal}
 use Rattle.cabinet_core.specs.Step.{standing_in, line_on, line_at, with_closed, with_record}
-use Rattle.cabinet_core.specs.{declared.record.Closing.Closing, Within.IsInspectionWithin, Within.IsClosingWithin, Within.IsOpeningWithin}
-use Rattle.cabinet_core.specs.{Within.IsUsedLineWithin, Within.IsDeliveryWithin, declared.command.RecordCommand.RecordCommand}
 use Rattle.cabinet_core.specs.declared.{record.Opening.Opening, decide.Recorded.TheVariants.Added, record.Delivery.Delivery}
 use Rattle.cabinet_core.specs.declared.command.RecordCommand.TheVariants.{Inspect, OpenOrder, UsePart, CloseOrder, Receive}
 use Rattle.cabinet_core.specs.declared.decide.{CabinetChange.CabinetChange, Recorded.Recorded}
 use Rattle.cabinet_core.specs.declared.decide.CabinetChange.TheVariants.{PutInspection, PutOrder}
-use Rattle.cabinet_core.specs.{declared.record.UsedLine.UsedLine, declared.refusal.CabinetRefusal.CabinetRefusal}
 use Rattle.cabinet_core.specs.declared.refusal.CabinetRefusal.{TheVariants.NoMemory}
 use Rattle.cabinet_core.proofs.Sound.{inspection_sound, order_sound, closed_order, line_sound, usable, delivery_sound, receivable}
 use Rattle.cabinet_core.proofs.StockLemmas.{same_bytes, line_here, line_elsewhere, delivery_here, delivery_elsewhere}

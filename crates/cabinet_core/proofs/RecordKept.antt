@@ -1,13 +1,11 @@
 -- A command that was accepted is the same when it comes again, and stays so whatever is accepted after it.
 use Rattle.std.proofs.Common.{◌≡◌, ℕ, Bool, true, false, ◌==◌, cond, Option, None, Some, Ordering, refl, sym, ap, ◌∙◌, arith}
 use Rattle.std.proofs.lemmas.Bool.Decides.{nat_tests}
-use Rattle.std.specs.{Prelude.nat_lt, Prelude.is_some, Cmp.IsTotalOrder, Cmp.tied_itself, FinMap.FinMap, FinMap.IsAntisymmetric, FinMap.get}
-use Rattle.std.specs.{FinMap.insert, Ordering.is_eq, Ordering.eq_by_cmp}
+use Rattle.std.specs.{Prelude.nat_lt, Prelude.is_some, Cmp.IsTotalOrder, Cmp.tied_itself, FinMap.FinMap, FinMap.IsAntisymmetric, FinMap.get, FinMap.insert, Ordering.is_eq, Ordering.eq_by_cmp}
 use Rattle.cabinet_core.specs.Cabinet.{Line, added, same, refused, on_hand, is_same_inspection, is_same_closing, is_same_line, is_same_delivery, is_opened_so, inspect_line, open_line, use_line, close_order_line, close_line, receive_line, record_of, with_closing}
 use Rattle.cabinet_core.specs.declared.{command.RecordCommand.RecordCommand, record.Closing.Closing}
 use Rattle.cabinet_core.specs.declared.command.RecordCommand.TheVariants.{Inspect, OpenOrder, UsePart, CloseOrder, Receive}
-use Rattle.cabinet_core.specs.declared.record.{Delivery.Delivery, Inspection.Inspection}
-use Rattle.cabinet_core.specs.declared.record.{Opening.Opening, Order.Order, UsedLine.UsedLine}
+use Rattle.cabinet_core.specs.declared.record.{Delivery.Delivery, Inspection.Inspection, Opening.Opening, Order.Order, UsedLine.UsedLine}
 use Rattle.cabinet_core.specs.{declared.refusal.CabinetRefusal.CabinetRefusal, Stock.hand_of}
 use Rattle.cabinet_core.specs.declared.refusal.CabinetRefusal.TheVariants.{InspectionDiffers, OrderDiffers, UnknownOrder, OrderClosed, DayBeforeOpening, NoStock, StockFull, DeliveryDiffers, LineDiffers, CloseDiffers}
 use Rattle.cabinet_core.specs.Register.{Register, RecordKey, LineKey, DeliveryKey, record_cmp, line_cmp, delivery_cmp}

@@ -4,10 +4,8 @@ use Rattle.std.specs.FinMap.{FinMap, get, insert, get-insert}
 use Rattle.cabinet_core.specs.Cabinet.{added, close_line, record_of, with_closing}
 use Rattle.cabinet_core.specs.declared.{command.RecordCommand.RecordCommand, record.Closing.Closing}
 use Rattle.cabinet_core.specs.declared.command.RecordCommand.TheVariants.{OpenOrder, UsePart, CloseOrder, Receive}
-use Rattle.cabinet_core.specs.{declared.record.Order.Order, Orders.is_open_order, Orders.is_open_at, Register.Register, Register.LineKey}
-use Rattle.cabinet_core.specs.{Register.DeliveryKey, Register.record_cmp, Register.line_cmp, Register.delivery_cmp, Runs.AreAccepted}
+use Rattle.cabinet_core.specs.{declared.record.Order.Order, Orders.is_open_order, Orders.is_open_at, Register.Register, Register.LineKey, Register.DeliveryKey, Register.record_cmp, Register.line_cmp, Register.delivery_cmp, Runs.AreAccepted, Sound.IsSoundRegister, Step.line_at, Step.with_closed, Step.with_record, Stock.brought, Stock.taken}
 use Rattle.cabinet_core.specs.Runs.{open_with, open_by, received, spent, received_by, spent_by}
-use Rattle.cabinet_core.specs.{Sound.IsSoundRegister, Step.line_at, Step.with_closed, Step.with_record, Stock.brought, Stock.taken}
 use Rattle.cabinet_core.specs.Stock.{delivered, used, pieces, hand_of}
 use Rattle.cabinet_core.proofs.{EntrySums.sum_insert, RecordKept.closed_leaves, Sound.usable, Sound.receivable}
 use Rattle.cabinet_core.proofs.KeyOrders.{record_total, line_total, delivery_total, record_ties}

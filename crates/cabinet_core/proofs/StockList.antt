@@ -3,8 +3,7 @@ use Rattle.std.proofs.Common.{◌≡◌, ◌⊎◌, inl, inr, ℕ, Bool, true, f
 use Rattle.std.proofs.lemmas.{Bool.cases_Bool, Cmp.nat_list_cmp_total, Slice.Eq.bytes_eq-Decides}
 use Rattle.std.specs.{Cmp.Lexicographic.slice_cmp, List.list_any, Str.bytes_eq, FinMap.get, FinMap.entries, FinMap.get-from_entries}
 use Rattle.std.specs.FinMap as finite
-use Rattle.cabinet_core.specs.{Part.IsPartCode, Register.Register, Register.DeliveryKey, Sound.IsDeliveryAt, Sound.IsSoundRegister}
-use Rattle.cabinet_core.specs.{Stock.was_delivered, Stock.pieces, Stock.hand_of, Stock.stock_by_code, declared.record.Delivery.Delivery}
+use Rattle.cabinet_core.specs.{Part.IsPartCode, Register.Register, Register.DeliveryKey, Sound.IsDeliveryAt, Sound.IsSoundRegister, Stock.was_delivered, Stock.pieces, Stock.hand_of, Stock.stock_by_code, declared.record.Delivery.Delivery}
 use Rattle.cabinet_core.proofs.{EntryLemmas.entries_stand, EntryLemmas.one_passes, KeyOrders.delivery_total, KeyOrders.codes_tie}
 use Rattle.cabinet_core.proofs.StockLemmas.{same_bytes}
 

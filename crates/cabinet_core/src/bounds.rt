@@ -2,9 +2,7 @@
 //! limits.
 
 ghost use Rattle.std.specs.Prelude.{IfSome};
-ghost use Rattle.cabinet_core.specs.Within.{IsInspectionWithin, IsOpeningWithin, IsClosingWithin};
-ghost use Rattle.cabinet_core.specs.Within.{IsOrderWithin, IsUsedLineWithin, IsDeliveryWithin};
-ghost use Rattle.cabinet_core.specs.Within.{IsRecordWithin};
+ghost use Rattle.cabinet_core.specs.Within.{IsInspectionWithin, IsOpeningWithin, IsClosingWithin, IsOrderWithin, IsUsedLineWithin, IsDeliveryWithin, IsRecordWithin};
 
 use crate::command::RecordCommand;
 use crate::record::{Closing, Delivery, Inspection, Opening, Order, UsedLine};

@@ -1,7 +1,6 @@
 //! Days, which are counted from 1 January 1970.
 
-ghost use Rattle.std.specs.Prelude.{◌≡◌, ℕ, ◌+◌, ◌*◌, ◌/◌, ◌%◌, ◌<◌, pos, ◌++◌, IfSome};
-ghost use Rattle.std.specs.Prelude.{IfNone, IfOk, OnOk, Some, string_bytes};
+ghost use Rattle.std.specs.Prelude.{◌≡◌, ℕ, ◌+◌, ◌*◌, ◌/◌, ◌%◌, ◌<◌, pos, ◌++◌, IfSome, IfNone, IfOk, OnOk, Some, string_bytes};
 ghost use Rattle.std.specs.Option.{SomeIff};
 ghost use Rattle.jiff.specs.Words.{epoch_day};
 ghost use Rattle.jiff_core.specs.Calendar.{IsCivilDate};

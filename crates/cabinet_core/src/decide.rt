@@ -1,17 +1,12 @@
 //! What becomes of a command on the register. Each decision is given the records that stand under
 //! the command's keys, and changes nothing itself.
 
-ghost use Rattle.std.specs.Prelude.{◌≡◌, ℕ, ◌+◌, ◌-◌, ◌≤◌, [], ◌∷◌};
-ghost use Rattle.std.specs.Prelude.{nat_lt, IfOk, if◌then◌else◌, Some, None};
+ghost use Rattle.std.specs.Prelude.{◌≡◌, ℕ, ◌+◌, ◌-◌, ◌≤◌, [], ◌∷◌, nat_lt, IfOk, if◌then◌else◌, Some, None};
 ghost use Rattle.cabinet_core.specs.declared.part.TheConstants.{MOST_ON_HAND};
 ghost use Rattle.cabinet_core.specs.Changes.{Makes};
 ghost use Rattle.cabinet_core.specs.declared.command.RecordCommand.{RecordCommand};
-ghost use Rattle.cabinet_core.specs.declared.decide.CabinetChange.TheVariants.{PutInspection};
-ghost use Rattle.cabinet_core.specs.declared.decide.CabinetChange.TheVariants.{PutOrder};
-ghost use Rattle.cabinet_core.specs.Cabinet.{Records, on_hand, record_of};
-ghost use Rattle.cabinet_core.specs.Cabinet.{is_opened_so, inspect_line, open_line};
-ghost use Rattle.cabinet_core.specs.Cabinet.{use_line, close_line, receive_line};
-ghost use Rattle.cabinet_core.specs.Cabinet.{use_changes, close_changes, receive_changes};
+ghost use Rattle.cabinet_core.specs.declared.decide.CabinetChange.TheVariants.{PutInspection, PutOrder};
+ghost use Rattle.cabinet_core.specs.Cabinet.{Records, on_hand, record_of, is_opened_so, inspect_line, open_line, use_line, close_line, receive_line, use_changes, close_changes, receive_changes};
 
 use crate::bounds::{
     closing_is_within, delivery_is_within, inspection_is_within, opening_is_within,

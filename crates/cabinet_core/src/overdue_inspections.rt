@@ -1,8 +1,7 @@
 //! When an inspection falls due, and inspections that are overdue.
 
 ghost use Rattle.std.specs.Prelude.{◌≡◌, ◌+◌, map, option_map, IfOk};
-ghost use Rattle.cabinet_core.specs.Overdue.{greater, latest_day, overdue_list, listed_of};
-ghost use Rattle.cabinet_core.specs.Overdue.{lateness};
+ghost use Rattle.cabinet_core.specs.Overdue.{greater, latest_day, overdue_list, listed_of, lateness};
 
 use crate::day::{Date, Day};
 use crate::record::Inspection;

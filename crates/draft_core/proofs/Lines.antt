@@ -2,12 +2,10 @@
 use Rattle.std.proofs.Common.{◌≡◌, ℕ, ◌+◌, ◌==◌, Bool, cond, not, true, false, List, [], ◌∷◌, length, Option, Some, None, Result, Ok, Err, is_some, refl, ap, sym, subst, ◌∙◌, inr}
 use Rattle.std.specs.{Option.option_map, Result.IsErrAnd, Result.result_err, Str.bytes_eq}
 use Rattle.signal_rules.specs.declared.violation.Violation.{Violation}
-use Rattle.draft_state.specs.{declared.revision.TheConstants.LAST_REVISION, declared.state.Stage.Stage, declared.state.Holder.Holder}
-use Rattle.draft_core.specs.{declared.timing.Timing.Timing, declared.timing.Reach.Reach, declared.timing.Move.Move}
-use Rattle.draft_core.specs.{declared.refusal.DraftRefusal.DraftRefusal, Transaction.next_revision}
+use Rattle.signal_records.specs.{declared.revision.TheConstants.LAST_REVISION, declared.state.Stage.Stage, declared.state.Holder.Holder}
+use Rattle.draft_core.specs.{declared.timing.Timing.Timing, declared.timing.Reach.Reach, declared.timing.Move.Move, declared.refusal.DraftRefusal.DraftRefusal, Transaction.next_revision, DraftRows.RowsByKey, DraftRows.Stands, Moves.Makes, Moves.Follows}
 use Rattle.draft_core.specs.declared.refusal.DraftRefusal.TheVariants.{NotOwner, RevisionFull, VerifyFailed}
 use Rattle.draft_core.specs.Transaction.{TimingSide, Draft, holder_of, is_stage, owned, refused_by, committed_with}
-use Rattle.draft_core.specs.{DraftRows.RowsByKey, DraftRows.Stands, Moves.Makes, Moves.Follows}
 
 -- the tests pass, and the step is taken
 owned_passed : (held : Option Draft) (stage : Stage) (wrong : DraftRefusal) (clerk : List ℕ)

@@ -1,15 +1,10 @@
 -- That a move makes the next timing side, for each kind of move.
 use Rattle.std.proofs.Common.{◌≡◌, ℕ, List, [], Some, None, refl, ap, sym, subst, ◌∙◌}
 use Rattle.std.specs.{Option.option_map, FinMap.get}
-use Rattle.signal_records.specs.{declared.key.Key.Key, declared.record.Change.Change, TimingSet.after_changes}
-use Rattle.draft_state.specs.{declared.state.Stage.Stage, declared.state.Stage.TheVariants.Transaction, declared.state.Verdict.Verdict}
-use Rattle.draft_state.specs.declared.state.Holding.TheVariants.{Begun, Kept, Dropped}
-use Rattle.draft_state.specs.declared.state.Verdict.TheVariants.{NotDone as NotJudged}
-use Rattle.draft_core.specs.{declared.timing.Timing.Timing, declared.timing.Reach.Reach, declared.timing.Move.Move}
-use Rattle.draft_core.specs.{declared.timing.TimingChange.TimingChange, Transaction.TimingSide, Transaction.Draft, Transaction.holder_of}
-use Rattle.draft_core.specs.{Transaction.verdict_of, Transaction.with_draft, DraftRows.RowsByKey, DraftRows.RowStands, DraftRows.Stands}
-use Rattle.draft_core.specs.{DraftRows.row_at, DraftRows.overlaid, Moves.Makes, Moves.move_to, Moves.next_holder, Moves.row_after}
-use Rattle.draft_core.specs.{Writes.settling, Writes.dropping, Drafting.DraftsChanges, Drafting.KeepsOnlyChange}
+use Rattle.signal_records.specs.{declared.key.Key.Key, declared.record.Change.Change, TimingSet.after_changes, declared.state.Stage.Stage, declared.state.Stage.TheVariants.Transaction, declared.state.Verdict.Verdict}
+use Rattle.signal_records.specs.declared.state.Holding.TheVariants.{Begun, Kept, Dropped}
+use Rattle.signal_records.specs.declared.state.Verdict.TheVariants.{NotDone as NotJudged}
+use Rattle.draft_core.specs.{declared.timing.Timing.Timing, declared.timing.Reach.Reach, declared.timing.Move.Move, declared.timing.TimingChange.TimingChange, Transaction.TimingSide, Transaction.Draft, Transaction.holder_of, Transaction.verdict_of, Transaction.with_draft, DraftRows.RowsByKey, DraftRows.RowStands, DraftRows.Stands, DraftRows.row_at, DraftRows.overlaid, Moves.Makes, Moves.move_to, Moves.next_holder, Moves.row_after, Writes.settling, Writes.dropping, Drafting.DraftsChanges, Drafting.KeepsOnlyChange}
 use Rattle.draft_core.specs.declared.timing.Reach.TheVariants as reach
 use Rattle.draft_core.proofs.OnlyChanges.{kept_differs, kept_makes, no_committed}
 use Rattle.draft_core.proofs.Overlaid.{get-after_changes, draft_row}

@@ -1,17 +1,10 @@
 -- That the rows which a commit adds are new.
-use Rattle.std.proofs.Common.{◌≡◌, ◌⊎◌, ℕ, true, false, cond, List, [], ◌∷◌, map, Option}
-use Rattle.std.proofs.Common.{arith, refl, ap, sym, subst, ◌∙◌, inl, inr}
+use Rattle.std.proofs.Common.{◌≡◌, ◌⊎◌, ℕ, true, false, cond, List, [], ◌∷◌, map, Option, arith, refl, ap, sym, subst, ◌∙◌, inl, inr}
 use Rattle.std.proofs.lemmas.Bool.{cases_Bool}
-use Rattle.std.specs.{Cmp.tied_itself, FinMap.get, List.AllByRecursion, List.Sorted.IsStrictlySortedBy, Ordering.eq_by_cmp}
-use Rattle.std.specs.{Ordering.is_eq, declared.cmp.Ordering.TheVariants.Less}
-use Rattle.signal_records.specs.{Key.key_cmp, KeyOrder.key_total, TimingSet.Rows, declared.key.Key.Key, declared.record.Row.Row}
-use Rattle.signal_records.specs.{declared.record.Change.Change, declared.record.Change.TheVariants.Put}
-use Rattle.draft_core.specs.{declared.step.Step.Step, declared.timing.Move.Move, declared.timing.Reach.Reach, Drafting.AreAmong, Moves.move_to}
-use Rattle.draft_core.specs.{declared.timing.Timing.Timing, DraftRows.Said, DraftRows.silent, DraftRows.said_by, DraftRows.later_of}
-use Rattle.draft_core.specs.{DraftRows.overlaid, DraftRows.row_at, Drafting.is_said, Moves.committed_by, Moves.said_after, News.AddsOnlyNew}
-use Rattle.draft_core.specs.{News.AreInOrder, News.AreNewAt, News.IsNewAt, Steps.StepWrites, Steps.asked_changes, Steps.reach_of, Writes.settled_by, Writes.settling}
+use Rattle.std.specs.{Cmp.tied_itself, FinMap.get, List.AllByRecursion, List.Sorted.IsStrictlySortedBy, Ordering.eq_by_cmp, Ordering.is_eq, declared.cmp.Ordering.TheVariants.Less}
+use Rattle.signal_records.specs.{Key.key_cmp, KeyOrder.key_total, TimingSet.Rows, declared.key.Key.Key, declared.record.Row.Row, declared.record.Change.Change, declared.record.Change.TheVariants.Put, ChangedRows.changed_key, declared.state.Holding.Holding, declared.state.Verdict.Verdict}
+use Rattle.draft_core.specs.{declared.step.Step.Step, declared.timing.Move.Move, declared.timing.Reach.Reach, Drafting.AreAmong, Moves.move_to, declared.timing.Timing.Timing, DraftRows.Said, DraftRows.silent, DraftRows.said_by, DraftRows.later_of, DraftRows.overlaid, DraftRows.row_at, Drafting.is_said, Moves.committed_by, Moves.said_after, News.AddsOnlyNew, News.AreInOrder, News.AreNewAt, News.IsNewAt, Steps.StepWrites, Steps.asked_changes, Steps.reach_of, Writes.settled_by, Writes.settling}
 use Rattle.draft_core.specs.declared.timing.Reach.TheVariants as reach
-use Rattle.draft_state.specs.{ChangedRows.changed_key, declared.state.Holding.Holding, declared.state.Verdict.Verdict}
 use Rattle.draft_core.proofs.{OnlyChanges.same_key, Pushed.later_of-silent}
 use Rattle.draft_core.proofs.Written.{committing, settled_commits, settled_either}
 

@@ -1,24 +1,18 @@
 -- What an edit writes, one change after the other, and what that makes of the draft rows.
-use Rattle.std.proofs.Common.{◌≡◌, ◌⊎◌, Bool, true, false, not, cond, List, [], ◌∷◌, ◌++◌}
-use Rattle.std.proofs.Common.{Option, refl, ap, sym, subst, ◌∙◌, inl, inr, arith}
-use Rattle.std.specs.{BTreeSet.BTreeSet, BTreeSet.contains, Cmp.eq_by_cmp_equiv}
-use Rattle.std.specs.{FinMap.get, List.Contains, Ordering.eq_by_cmp, Ordering.is_eq}
+use Rattle.std.proofs.Common.{◌≡◌, ◌⊎◌, Bool, true, false, not, cond, List, [], ◌∷◌, ◌++◌, Option, refl, ap, sym, subst, ◌∙◌, inl, inr, arith}
+use Rattle.std.specs.{BTreeSet.BTreeSet, BTreeSet.contains, Cmp.eq_by_cmp_equiv, FinMap.get, List.Contains, Ordering.eq_by_cmp, Ordering.is_eq}
 use Rattle.std.specs.declared.cmp.Ordering.TheVariants.{Less, Equal, Greater}
 use Rattle.std.proofs.{lemmas.List.append-nil, lemmas.List.length-append, lemmas.List.Elements.All-contains}
-use Rattle.std.proofs.lemmas.List.Elements.{All-contains_itself, All-from_recursion, All-weaker, Contains-append_left, Contains-push}
-use Rattle.std.proofs.lemmas.List.Elements.{Contains-push_cases, recursion_from_All}
-use Rattle.signal_records.specs.{Key.key_cmp, KeyOrder.key_exact, KeyOrder.key_total, TimingSet.Rows, Within.IsChangeWithin}
-use Rattle.signal_records.specs.{Within.current_limits, declared.key.Key.Key, declared.record.Row.Row, declared.record.Change.Change}
+use Rattle.std.proofs.lemmas.List.Elements.{All-contains_itself, All-from_recursion, All-weaker, Contains-append_left, Contains-push, Contains-push_cases, recursion_from_All}
+use Rattle.signal_records.specs.{Key.key_cmp, KeyOrder.key_exact, KeyOrder.key_total, TimingSet.Rows, Within.IsChangeWithin, Within.current_limits, declared.key.Key.Key, declared.record.Row.Row, declared.record.Change.Change}
 use Rattle.signal_records.specs.declared.record.Change.TheVariants.{Put, Remove}
 use Rattle.draft_core.specs.declared.timing.TimingChange.{TimingChange}
 use Rattle.draft_core.specs.declared.timing.TimingChange.TheVariants.{CommittedNew, Committed, DraftGone}
-use Rattle.draft_core.specs.{DraftRows.Said, DraftRows.silent, DraftRows.leaves}
+use Rattle.draft_core.specs.{DraftRows.Said, DraftRows.silent, DraftRows.leaves, Within.AreChangesWithin, Moves.committed_after, Moves.drafted_in, Moves.row_after, Moves.timing_writes}
 use Rattle.draft_core.specs.DraftRows.{removes, said_by, said_at, later_of, overlaid, row_at, SaysOtherwise}
 use Rattle.draft_core.specs.Drafting.{AreAmong, DraftsChanges, KeepsIfDiffers, KeepsOnlyChange, SaysCommitted, drafted_as, is_said}
-use Rattle.draft_core.specs.{Within.AreChangesWithin, Moves.committed_after, Moves.drafted_in, Moves.row_after, Moves.timing_writes}
-use Rattle.draft_state.specs.ChangedRows.{changed_key, left_by}
-use Rattle.draft_core.proofs.Pushed.{AreNewAt-push, drafted_in-push, drafted_is, drafted_new, drafted_says, drafted_writes}
-use Rattle.draft_core.proofs.Pushed.{draft_writes-push, row_after-push, row_at-push, timing_writes-push}
+use Rattle.signal_records.specs.ChangedRows.{changed_key, left_by}
+use Rattle.draft_core.proofs.Pushed.{AreNewAt-push, drafted_in-push, drafted_is, drafted_new, drafted_says, drafted_writes, draft_writes-push, row_after-push, row_at-push, timing_writes-push}
 
 -- ---- keys
 

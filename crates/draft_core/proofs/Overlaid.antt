@@ -8,10 +8,9 @@ use Rattle.signal_records.specs.{Key.key_cmp, KeyOrder.key_total, KeyOrder.key_e
 use Rattle.signal_records.specs.TimingSet.{Rows, after_change, after_changes}
 use Rattle.signal_rules.specs.{declared.violation.Violation.Violation, Difference.DiffersAtMost, Violations.violations_of}
 use Rattle.draft_core.specs.{declared.timing.Timing.Timing, declared.timing.Reach.Reach, Transaction.TimingSide, Transaction.Draft}
-use Rattle.draft_core.specs.DraftRows.{Said, silent, leaves, removes, RowsByKey, RowStands, Stands, said_by, said_at, later_of, row_at}
-use Rattle.draft_core.specs.DraftRows.{overlaid}
+use Rattle.draft_core.specs.DraftRows.{Said, silent, leaves, removes, RowsByKey, RowStands, Stands, said_by, said_at, later_of, row_at, overlaid}
 use Rattle.draft_core.specs.declared.timing.Reach.TheVariants as reach
-use Rattle.draft_state.specs.ChangedRows.{changed_key}
+use Rattle.signal_records.specs.ChangedRows.{changed_key}
 
 over : (b : Bool) (said : Said) (committed : Option Row) → cond b
     (overlaid committed said) committed ≡ overlaid committed (cond b said silent)

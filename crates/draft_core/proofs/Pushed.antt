@@ -1,13 +1,11 @@
 -- What a list says, writes and adds with one more at its end.
-use Rattle.std.proofs.Common.{◌≡◌, ◌+◌, Bool, true, false, List, [], ◌∷◌, ◌++◌, Option}
-use Rattle.std.proofs.Common.{refl, ap, sym, ◌∙◌, arith}
+use Rattle.std.proofs.Common.{◌≡◌, ◌+◌, Bool, true, false, List, [], ◌∷◌, ◌++◌, Option, refl, ap, sym, ◌∙◌, arith}
 use Rattle.signal_records.specs.declared.{key.Key.Key, record.Row.Row, record.Change.Change}
-use Rattle.draft_core.specs.{declared.timing.TimingChange.TimingChange, Moves.timing_writes, Moves.committed_after, Moves.committed_by}
+use Rattle.draft_core.specs.{declared.timing.TimingChange.TimingChange, Moves.timing_writes, Moves.committed_after, Moves.committed_by, DraftRows.Said, DraftRows.silent, DraftRows.later_of, DraftRows.row_at, DraftRows.said_at, Drafting.drafted_as}
 use Rattle.draft_core.specs.Moves.{drafted_in, draft_write, draft_writes, row_after, said_after, timing_write}
 use Rattle.draft_core.specs.declared.timing.TimingChange.TheVariants.{DraftedNew, Drafted}
-use Rattle.draft_core.specs.{DraftRows.Said, DraftRows.silent, DraftRows.later_of, DraftRows.row_at, DraftRows.said_at, Drafting.drafted_as}
 use Rattle.draft_core.specs.News.{AreNewAt, IsNewAt}
-use Rattle.draft_state.specs.ChangedRows.{changed_key}
+use Rattle.signal_records.specs.ChangedRows.{changed_key}
 
 -- ---- what is said of a key
 

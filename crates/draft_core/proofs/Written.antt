@@ -1,13 +1,11 @@
 -- What the changes that commit and abandon write make of the rows, and how many they are.
-use Rattle.std.proofs.Common.{◌≡◌, ◌≤◌, List, [], ◌∷◌, map, length, Option, None, Some, refl, ap}
-use Rattle.std.proofs.Common.{sym, ◌∙◌, arith}
+use Rattle.std.proofs.Common.{◌≡◌, ◌≤◌, List, [], ◌∷◌, map, length, Option, None, Some, refl, ap, sym, ◌∙◌, arith}
 use Rattle.std.specs.{FinMap.get, List.AllByRecursion}
 use Rattle.signal_records.specs.{Row.key_of, TimingSet.Rows, declared.key.Key.Key, declared.record.Row.Row, declared.record.Change.Change}
 use Rattle.signal_records.specs.declared.record.Change.TheVariants.{Put, Remove}
 use Rattle.draft_core.specs.DraftRows.{Said, silent, said_at, row_at, overlaid}
 use Rattle.draft_core.specs.Moves.{committed_after, committed_by, drafted_in, row_after, said_after, timing_write, timing_writes}
-use Rattle.draft_core.specs.{Moves.draft_write, Moves.draft_writes, News.AddsNone, Writes.settling, Writes.dropping, Writes.put_over}
-use Rattle.draft_core.specs.{Writes.settled_by, declared.timing.TimingChange.TimingChange}
+use Rattle.draft_core.specs.{Moves.draft_write, Moves.draft_writes, News.AddsNone, Writes.settling, Writes.dropping, Writes.put_over, Writes.settled_by, declared.timing.TimingChange.TimingChange}
 use Rattle.draft_core.specs.declared.timing.TimingChange.TheVariants.{CommittedNew, Committed}
 use Rattle.draft_core.proofs.Overlaid.{overlaid-overlaid}
 

@@ -11,9 +11,8 @@ use Rattle.signal_records.specs.declared.record.Row.{Row}
 use Rattle.signal_records.specs.declared.record.Change.{Change}
 use Rattle.draft_core.specs.declared.timing.TimingChange.{TimingChange}
 use Rattle.draft_core.specs.declared.timing.TimingChange.TheVariants.{DraftedNew, Drafted}
-use Rattle.draft_core.specs.DraftRows.{Said, silent, leaves, removes}
-use Rattle.draft_state.specs.ChangedRows.{changed_key, left_by}
-use Rattle.draft_core.specs.DraftRows.{overlaid, row_at}
+use Rattle.draft_core.specs.DraftRows.{Said, silent, leaves, removes, overlaid, row_at}
+use Rattle.signal_records.specs.ChangedRows.{changed_key, left_by}
 use Rattle.draft_core.specs.Moves.{drafted_in, draft_writes, row_after, timing_writes}
 use Rattle.draft_core.specs.News.{AreNew}
 

@@ -8,22 +8,19 @@ use Rattle.signal_records.specs.declared.key.Key.{Key}
 use Rattle.signal_records.specs.declared.record.Row.{Row}
 use Rattle.signal_records.specs.declared.record.Change.{Change}
 use Rattle.signal_records.specs.declared.record.Change.TheVariants.{Put}
-use Rattle.draft_state.specs.declared.state.DbState.{DbState}
-use Rattle.draft_state.specs.declared.state.DbState.TheVariants.{Normal, Transaction as InTransaction}
-use Rattle.draft_state.specs.declared.state.Stage.TheVariants.{Transaction}
-use Rattle.draft_state.specs.declared.state.Verdict.{Verdict}
-use Rattle.draft_state.specs.declared.state.Holder.{Holder}
-use Rattle.draft_state.specs.declared.state.Holding.{Holding}
-use Rattle.draft_state.specs.declared.state.Holding.TheVariants.{Begun, Kept, Dropped}
+use Rattle.signal_records.specs.declared.state.DbState.{DbState}
+use Rattle.signal_records.specs.declared.state.DbState.TheVariants.{Normal, Transaction as InTransaction}
+use Rattle.signal_records.specs.declared.state.Stage.TheVariants.{Transaction}
+use Rattle.signal_records.specs.declared.state.Verdict.{Verdict}
+use Rattle.signal_records.specs.declared.state.Holder.{Holder}
+use Rattle.signal_records.specs.declared.state.Holding.{Holding}
+use Rattle.signal_records.specs.declared.state.Holding.TheVariants.{Begun, Kept, Dropped}
 use Rattle.draft_core.specs.declared.timing.Move.{Move}
 use Rattle.draft_core.specs.declared.timing.TimingChange.{TimingChange}
-use Rattle.draft_core.specs.declared.timing.TimingChange.TheVariants.{CommittedNew, Committed}
-use Rattle.draft_core.specs.declared.timing.TimingChange.TheVariants.{DraftedNew, Drafted}
-use Rattle.draft_core.specs.declared.timing.TimingChange.TheVariants.{DraftGone, DraftDropped}
+use Rattle.draft_core.specs.declared.timing.TimingChange.TheVariants.{CommittedNew, Committed, DraftedNew, Drafted, DraftGone, DraftDropped}
 use Rattle.draft_core.specs.declared.refusal.DraftRefusal.{DraftRefusal}
 use Rattle.draft_core.specs.declared.refusal.DraftRefusal.TheVariants.{NoMemory}
-use Rattle.draft_core.specs.DraftRows.{HaveOnlyChanges, Said, silent, RowsByKey, RowStands}
-use Rattle.draft_core.specs.DraftRows.{later_of, overlaid, said_at}
+use Rattle.draft_core.specs.DraftRows.{HaveOnlyChanges, Said, silent, RowsByKey, RowStands, later_of, overlaid, said_at}
 use Rattle.draft_core.specs.Transaction.{TimingSide, holder_of, in_stage, state_of, verdict_of}
 
 -- ---- what a list of changes makes of the rows

@@ -13,11 +13,9 @@ use Rattle.draft_core.specs.declared.timing.Reach.{Reach}
 use Rattle.draft_core.specs.declared.timing.Reach.TheVariants as reach
 use Rattle.draft_core.specs.declared.timing.Timing.{Timing}
 use Rattle.draft_core.specs.declared.timing.TimingChange.{TimingChange}
-use Rattle.draft_core.specs.declared.timing.TimingChange.TheVariants.{CommittedNew, Committed}
-use Rattle.draft_core.specs.declared.timing.TimingChange.TheVariants.{DraftedNew, Drafted}
-use Rattle.draft_core.specs.declared.timing.TimingChange.TheVariants.{DraftGone, DraftDropped}
+use Rattle.draft_core.specs.declared.timing.TimingChange.TheVariants.{CommittedNew, Committed, DraftedNew, Drafted, DraftGone, DraftDropped}
 use Rattle.draft_core.specs.DraftRows.{Said, silent, row_at}
-use Rattle.draft_state.specs.ChangedRows.{changed_key}
+use Rattle.signal_records.specs.ChangedRows.{changed_key}
 use Rattle.draft_core.specs.Moves.{committed_by, said_after}
 
 -- draft rows in the order of their keys, of which each has one at most

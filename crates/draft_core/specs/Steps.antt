@@ -2,8 +2,8 @@
 use Rattle.std.specs.Prelude.{◌≡◌, ◌≤◌, ℕ, List, [], length, Option, Some, None, Result, Err, IfErr, IfOk}
 use Rattle.signal_records.specs.declared.record.Change.{Change}
 use Rattle.signal_rules.specs.Violations.{violations_of}
-use Rattle.draft_state.specs.declared.state.Holder.{Holder}
-use Rattle.draft_state.specs.declared.state.Stage.TheVariants.{Transaction, Verify, Done}
+use Rattle.signal_records.specs.declared.state.Holder.{Holder}
+use Rattle.signal_records.specs.declared.state.Stage.TheVariants.{Transaction, Verify, Done}
 use Rattle.draft_core.specs.declared.step.Step.{Step}
 use Rattle.draft_core.specs.declared.step.Step.TheVariants as step
 use Rattle.draft_core.specs.declared.timing.Timing.{Timing}

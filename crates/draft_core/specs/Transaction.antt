@@ -5,14 +5,14 @@ use Rattle.std.specs.Result.{result_err}
 use Rattle.signal_records.specs.TimingSet.{Rows, after_changes}
 use Rattle.signal_rules.specs.Violations.{violations_of}
 use Rattle.signal_rules.specs.declared.violation.Violation.{Violation}
-use Rattle.draft_state.specs.declared.revision.TheConstants.{LAST_REVISION}
-use Rattle.draft_state.specs.declared.state.Stage.{Stage}
-use Rattle.draft_state.specs.declared.state.Stage.TheVariants.{Transaction, Verify, Done}
-use Rattle.draft_state.specs.declared.state.DbState.{DbState}
-use Rattle.draft_state.specs.declared.state.DbState.TheVariants.{Normal, Transaction as InTransaction, Verify as InVerify, Done as InDone}
-use Rattle.draft_state.specs.declared.state.Verdict.{Verdict}
-use Rattle.draft_state.specs.declared.state.Verdict.TheVariants.{NotDone as NotJudged, DoneWithError, DoneWithNoError}
-use Rattle.draft_state.specs.declared.state.Holder.{Holder}
+use Rattle.signal_records.specs.declared.revision.TheConstants.{LAST_REVISION}
+use Rattle.signal_records.specs.declared.state.Stage.{Stage}
+use Rattle.signal_records.specs.declared.state.Stage.TheVariants.{Transaction, Verify, Done}
+use Rattle.signal_records.specs.declared.state.DbState.{DbState}
+use Rattle.signal_records.specs.declared.state.DbState.TheVariants.{Normal, Transaction as InTransaction, Verify as InVerify, Done as InDone}
+use Rattle.signal_records.specs.declared.state.Verdict.{Verdict}
+use Rattle.signal_records.specs.declared.state.Verdict.TheVariants.{NotDone as NotJudged, DoneWithError, DoneWithNoError}
+use Rattle.signal_records.specs.declared.state.Holder.{Holder}
 use Rattle.draft_core.specs.declared.step.Step.{Step}
 use Rattle.draft_core.specs.declared.step.Step.TheVariants as step
 use Rattle.draft_core.specs.declared.refusal.DraftRefusal.{DraftRefusal}

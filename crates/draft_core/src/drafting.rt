@@ -5,8 +5,7 @@ ghost use Rattle.draft_core.specs.Drafting.{AreNamed, DraftsChanges, SaysCommitt
 
 use crate::overlaying::copy_change;
 use crate::timing::{Timing, TimingChange, TimingChanges};
-use draft_state::changed_key;
-use signal_records::{Change, Key, NoMemory, TimingSet};
+use signal_records::{Change, Key, NoMemory, TimingSet, changed_key};
 use std::alloc::Global;
 use std::collections::BTreeSet;
 

@@ -5,7 +5,7 @@ ghost use Rattle.signal_rules.specs.Violations.{violations_of};
 ghost use Rattle.draft_core.specs.Transaction as table;
 ghost use Rattle.draft_core.specs.Transaction.{TimingSide};
 ghost use Rattle.draft_core.specs.DraftRows.{RowsByKey, Stands};
-ghost use Rattle.draft_state.specs.declared.state.Stage.TheVariants as stage;
+ghost use Rattle.signal_records.specs.declared.state.Stage.TheVariants as stage;
 
 use crate::overlaying::violations_after;
 use crate::state::{Holder, Stage, Verdict};

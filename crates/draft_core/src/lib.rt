@@ -14,12 +14,12 @@ mod writes;
 
 pub use changes::Changes;
 pub use decide::{abandon, begin, check, commit, edit, reopen, verify};
-pub use draft_state::{
-    DbState, Holder, Holding, LAST_REVISION, Revision, Stage, Verdict, revision, state,
-};
 pub use holding::next_holder;
 pub use judging::verdict;
 pub use overlaying::{copy_change, overlay};
 pub use refusal::DraftRefusal;
+pub use signal_records::{
+    DbState, Holder, Holding, LAST_REVISION, Revision, Stage, Verdict, revision, state,
+};
 pub use step::Step;
 pub use timing::{Move, Reach, Timing, TimingChange, TimingChanges};

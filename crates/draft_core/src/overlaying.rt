@@ -3,10 +3,9 @@
 ghost use Rattle.std.specs.Prelude.{◌≡◌, [], map, IfOk};
 ghost use Rattle.signal_records.specs.TimingSet.{after_changes};
 ghost use Rattle.signal_rules.specs.Violations.{violations_of};
-ghost use Rattle.draft_state.specs.ChangedRows as rows;
+ghost use Rattle.signal_records.specs.ChangedRows as rows;
 
-use draft_state::changed_key;
-use signal_records::{Change, Key, NoMemory, TimingSet};
+use signal_records::{Change, Key, NoMemory, TimingSet, changed_key};
 use signal_rules::{Tally, Violation, violations_touched};
 use std::alloc::Global;
 

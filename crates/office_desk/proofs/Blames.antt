@@ -6,9 +6,8 @@ use Rattle.office_tables_shelf.specs.Content.{Content}
 use Rattle.office_tables_shelf.specs.declared.{shelf.ShelfFault.ShelfFault, shelf.ShelfFault.TheVariants.Damaged, rows.RowChange.RowChange}
 use Rattle.office_desk_decisions.specs.RecordBounds.{IsOneOf}
 use Rattle.office_desk.specs.Blaming.{AreTaken, BlamesRightly, IsFirstRefused, IsTakenAfter}
-use Rattle.office_desk.specs.{Damage.MeetsCabinetDamage, Damage.MeetsImportDamage, Importing.IsNamedTaken, Importing.TakesLine}
+use Rattle.office_desk.specs.{Damage.MeetsCabinetDamage, Damage.MeetsImportDamage, Importing.IsNamedTaken, Importing.TakesLine, Named.number_of, Named.numbers_of, declared.importing.Taken.Taken}
 use Rattle.office_desk_timing.specs.Decisions.{refusal_of}
-use Rattle.office_desk.specs.{Named.number_of, Named.numbers_of, declared.importing.Taken.Taken}
 use Rattle.office_machine.specs.{Refusal.line_of, Step.cabinet_of}
 use Rattle.office_machine.specs.declared.{command.Command.Command, refusal.Refusal.Refusal, refusal.Refusal.TheVariants.ImportRow, reply.Reply.Reply}
 use Rattle.office_machine.specs.declared.reply.Reply.TheVariants.{Refused}

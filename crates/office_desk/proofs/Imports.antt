@@ -2,25 +2,20 @@
 use Rattle.std.proofs.Common.{◌≡◌, ◌+◌, ◌++◌, ◌≤◌, ◌<◌, ◌≢◌, ℕ, Bool, true, false, List, [], ◌∷◌, Option, Some, None, Result, length, drop, take, get_or, zero, suc, refl, ap, sym, subst, ◌∙◌, inl, inr, arith}
 use Rattle.std.proofs.{Math.Seq.drop-cons, lemmas.List.drop_all, lemmas.List.take_all, lemmas.List.take_more}
 use Rattle.std.specs.Prelude.{◌⊎◌}
-use Rattle.cabinet_core.specs.{Cabinet.Line, Cabinet.added as added_line, Cabinet.same as same_line, Cabinet.refused as refused_line, Register.Register}
-use Rattle.cabinet_core.specs.{Step.line_at, Step.with_record, declared.command.RecordCommand.RecordCommand}
+use Rattle.cabinet_core.specs.{Cabinet.Line, Cabinet.added as added_line, Cabinet.same as same_line, Cabinet.refused as refused_line, Register.Register, Step.line_at, Step.with_record, declared.command.RecordCommand.RecordCommand}
 use Rattle.office_tables_shelf.specs.{Change.AddNew, Change.changed_by, Content.Content, Counts.writes_in, Shelf.IsTold}
 use Rattle.office_tables_shelf.specs.declared.{shelf.ShelfFault.ShelfFault, rows.RowChange.RowChange, rows.Table.Table}
-use Rattle.office_desk_decisions.specs.{Open.DatabaseStaysOpen, RegisterDamage.KeepsDamage, RegisterDamage.MeetsRecordDamage}
-use Rattle.office_desk_decisions.specs.{RecordBounds.most_record_writes, declared.decided.Decided.Decided}
+use Rattle.office_desk_decisions.specs.{Open.DatabaseStaysOpen, RegisterDamage.KeepsDamage, RegisterDamage.MeetsRecordDamage, RecordBounds.most_record_writes, declared.decided.Decided.Decided}
 use Rattle.office_desk_cabinet.proofs.{KeptDamage.kept_after, KeptDamage.meets_still, KeptDamage.nothing_kept, News.news_after, News.tells_new}
 use Rattle.office_desk.specs.Importing.{ImportsAny, LeavesAnyTiming, TakesInTurn, TakesLine, TakesWhole, goes_on, register_with, taken_by}
-use Rattle.office_desk.specs.{Answers.AnswersAny, Changes.most_import_writes, Damage.MeetsCabinetDamage, Damage.MeetsImportDamage}
-use Rattle.office_desk.specs.{Deciding.IsDecision, Recording.TellsAbout, StandFor.StandForSound, Named.number_of}
-use Rattle.office_desk.specs.{Blaming.AreTaken, Blaming.IsFirstRefused, Blaming.IsTakenAfter, declared.importing.Taken.Taken}
+use Rattle.office_desk.specs.{Answers.AnswersAny, Changes.most_import_writes, Damage.MeetsCabinetDamage, Damage.MeetsImportDamage, Deciding.IsDecision, Recording.TellsAbout, StandFor.StandForSound, Named.number_of, Blaming.AreTaken, Blaming.IsFirstRefused, Blaming.IsTakenAfter, declared.importing.Taken.Taken}
 use Rattle.office_machine.specs.Step.{answered, cabinet_of, import_by, import_from, imported, is_known}
 use Rattle.office_machine.specs.{Office.Office, Refusal.line_of}
 use Rattle.office_machine.specs.declared.{refusal.Refusal.Refusal, refusal.Refusal.TheVariants.ImportRow}
 use Rattle.office_machine.specs.declared.reply.Reply.TheVariants.{Imported, Refused}
 use Rattle.office_machine.specs.declared.command.Command.TheVariants as command
 use Rattle.office_desk.specs.declared.importing.Taken.TheVariants as taken
-use Rattle.office_desk.proofs.{Recorded.gone_whole, Recorded.record_whole, Recorded.register_of, Recorded.stands_after, Blames.WentOn}
-use Rattle.office_desk.proofs.{Blames.none_met, Blames.taken_next, Writes.import_writes}
+use Rattle.office_desk.proofs.{Recorded.gone_whole, Recorded.record_whole, Recorded.register_of, Recorded.stands_after, Blames.WentOn, Blames.none_met, Blames.taken_next, Writes.import_writes}
 use Rattle.office_desk_decisions.proofs.Decisions.{accepted_decides, idle_decides, refuses_so}
 
 -- ---- the records that are left

@@ -4,8 +4,7 @@ use Rattle.std.specs.{Prelude.IsSome, Option.option_map, FinMap.get}
 use Rattle.cabinet_core.specs.declared.{command.RecordCommand.RecordCommand, record.CabinetView.CabinetView, refusal.CabinetRefusal.CabinetRefusal}
 use Rattle.cabinet_core.specs.{Orders.open_at, Register.Register, Step.after_record, Stock.stock_of}
 use Rattle.cabinet_core.specs.declared.refusal.CabinetRefusal.TheVariants as cabinet
-use Rattle.office_tables_shelf.specs.{Cells.Cell, Cells.TableRows, Change.AddNew, Change.changed_by, Content.Content, Counts.writes_in}
-use Rattle.office_tables_shelf.specs.{Shelf.ReadsIntersection, Rows.intersection_columns, Rows.intersection_key, Rows.timing_key}
+use Rattle.office_tables_shelf.specs.{Cells.Cell, Cells.TableRows, Change.AddNew, Change.changed_by, Content.Content, Counts.writes_in, Shelf.ReadsIntersection, Rows.intersection_columns, Rows.intersection_key, Rows.timing_key}
 use Rattle.office_tables_shelf.specs.declared.{rows.IntersectionRow.IntersectionRow, rows.RowChange.RowChange, rows.Table.Table}
 use Rattle.office_tables_shelf.specs.RegisterStands.{RegisterStandsSound}
 use Rattle.office_desk_decisions.specs.RecordBounds.{IsNamed, IsOneOf, most_record_writes, refusals_of}
@@ -14,8 +13,7 @@ use Rattle.office_desk_cabinet.specs.Registers.{LeavesTiming, RegistersFrom, Sho
 use Rattle.office_desk_cabinet.specs.{Decides.DecidesRecord, declared.registered.Registered.Registered}
 use Rattle.office_desk_cabinet.specs.declared.registered.Registered.TheVariants.{Added, Same, Refused}
 use Rattle.office_desk.specs.Named.{RefusesBy, number_of, numbers_about, numbers_of}
-use Rattle.office_desk.specs.{Answers.Answers, Changes.IsRefused, Damage.MeetsAfter, Damage.MeetsCabinetDamage, Deciding.IsDecision}
-use Rattle.office_desk.specs.{Recording.HasDamagedAbout, Recording.IsKnownIn, Recording.TellsAbout, Known.TellsIntersection, StandFor.StandForSound, StandFor.row_of}
+use Rattle.office_desk.specs.{Answers.Answers, Changes.IsRefused, Damage.MeetsAfter, Damage.MeetsCabinetDamage, Deciding.IsDecision, Recording.HasDamagedAbout, Recording.IsKnownIn, Recording.TellsAbout, Known.TellsIntersection, StandFor.StandForSound, StandFor.row_of}
 use Rattle.office_machine.specs.Step.{answered, cabinet_of, cabinet_shown, is_known, known, recorded, recorded_at, refusal_of_record, shown, told}
 use Rattle.office_machine.specs.Office.{Office, Intersection}
 use Rattle.office_machine.specs.declared.{reply.CabinetShown.CabinetShown, refusal.Refusal.Refusal, reply.Reply.Reply}

@@ -11,21 +11,18 @@ use Rattle.office_tables_shelf.specs.RegisterStands.{RegisterStandsSound}
 use Rattle.office_desk.specs.Answers.{AnswersAny, Answers, StandsAfterStep}
 use Rattle.office_desk.specs.Deciding.{AddsNothing, DecidesIdly, IsAnswered, IsDecision, IsIdle}
 use Rattle.office_desk.specs.Damage.{HasDamageIn, IsTurnedAway, MeetsAfter, MeetsCabinetDamage, MeetsImportDamage, MeetsDamage}
-use Rattle.office_desk.specs.{Blaming.BlamesRightly, Changes.IsRefused, Changes.most_writes, Running.AreRun, Running.HoldsTables, Running.IsRun, Running.MakesTables, Running.RunsAny, Running.RunsTo, Running.TellsTables}
-use Rattle.office_desk.specs.{Named.IsNamedFor, Named.RefusesBy, Named.numbers_of, StandFor.StandForSound}
+use Rattle.office_desk.specs.{Blaming.BlamesRightly, Changes.IsRefused, Changes.most_writes, Running.AreRun, Running.HoldsTables, Running.IsRun, Running.MakesTables, Running.RunsAny, Running.RunsTo, Running.TellsTables, Named.IsNamedFor, Named.RefusesBy, Named.numbers_of, StandFor.StandForSound}
 use Rattle.office_desk_timing.specs.Decisions.{refusal_of}
 use Rattle.office_desk_decisions.specs.declared.decided.Decided.{Decided}
 use Rattle.cabinet_core.specs.declared.command.RecordCommand.{RecordCommand}
 use Rattle.office_desk_cabinet.proofs.Undamaged.{no_damaged_inspection, no_damaged_order, no_damaged_used, no_damaged_part, undamaged_record}
 use Rattle.office_machine.specs.Step.{AreSound, Step, Run, answered, cabinet_of}
 use Rattle.office_machine.specs.Office.{Office, IsSound}
-use Rattle.office_machine.specs.declared.{command.Command.Command, command.Command.TheVariants.Import, refusal.Refusal.Refusal, reply.Reply.Reply}
-use Rattle.office_machine.specs.declared.{refusal.Refusal.TheVariants.Unavailable, reply.Reply.TheVariants.Imported, reply.Reply.TheVariants.Refused}
+use Rattle.office_machine.specs.declared.{command.Command.Command, command.Command.TheVariants.Import, refusal.Refusal.Refusal, reply.Reply.Reply, refusal.Refusal.TheVariants.Unavailable, reply.Reply.TheVariants.Imported, reply.Reply.TheVariants.Refused}
 use Rattle.office_machine.specs.declared.command.Command.TheVariants as command
 use Rattle.office_machine.specs.declared.refusal.Refusal.TheVariants as refusal
 use Rattle.office_desk_timing.proofs.{IntersectionTable.no_damaged_intersection, Stands.no_damage, Stands.no_damaged_timing}
-use Rattle.office_desk.proofs.{Recorded.register_of, Blames.blames_later, Blames.fault_blames, Blames.unavailable_blames}
-use Rattle.office_desk.proofs.{RegisterLaws.runs_register, Repeats.runs_repeat, Street.keeps_the_street, TimingLaw.runs_timing, Writes.no_rise, Writes.rise_at_most}
+use Rattle.office_desk.proofs.{Recorded.register_of, Blames.blames_later, Blames.fault_blames, Blames.unavailable_blames, RegisterLaws.runs_register, Repeats.runs_repeat, Street.keeps_the_street, TimingLaw.runs_timing, Writes.no_rise, Writes.rise_at_most}
 
 -- ---- a decision
 

@@ -5,11 +5,9 @@ use Rattle.signal_records.specs.TimingSet.{Rows}
 use Rattle.draft_core.specs.Transaction.{TimingSide, Draft, holder_of, owned, with_draft, begun_from, abandoned_from, table_line}
 use Rattle.draft_core.specs.declared.refusal.DraftRefusal.{DraftRefusal}
 use Rattle.draft_core.specs.declared.refusal.DraftRefusal.TheVariants.{NotNormal, NotTransaction}
-use Rattle.draft_state.specs.declared.state.Stage.{Stage}
+use Rattle.signal_records.specs.declared.state.Stage.{Stage}
 use Rattle.draft_core.proofs.Sound.{owned_inverts, committed_inverts}
-use Rattle.office_machine.specs.{Office.Office, Office.Intersection, Office.side_of, Office.side_at, Step.Step, Step.Run, Step.moved_to}
-use Rattle.office_machine.specs.{Step.with_intersection, Step.new_intersection, Timing.is_commit_of, Timing.is_moved, Timing.set_of_draft}
-use Rattle.office_machine.specs.{Timing.running, declared.command.Command.Command, declared.reply.Reply.Reply}
+use Rattle.office_machine.specs.{Office.Office, Office.Intersection, Office.side_of, Office.side_at, Step.Step, Step.Run, Step.moved_to, Step.with_intersection, Step.new_intersection, Timing.is_commit_of, Timing.is_moved, Timing.set_of_draft, Timing.running, declared.command.Command.Command, declared.reply.Reply.Reply}
 use Rattle.office_machine.specs.declared.command.Command.TheVariants as command
 use Rattle.office_desk_timing.proofs.Stands.{same_id, other_id, side_after}
 use Rattle.office_desk.proofs.Walks.{HoldsOfEach, records_so, step_so}

@@ -1,12 +1,10 @@
 //! Intersections that were found in the tables, so that the row of none is read twice.
-ghost use Rattle.std.specs.Prelude.{◌≡◌, ◌≢◌, true, false, Ok, Err};
-ghost use Rattle.std.specs.Prelude.{IfOk, IsSome, IsTrue, OnErr, OnOk};
+ghost use Rattle.std.specs.Prelude.{◌≡◌, ◌≢◌, true, false, Ok, Err, IfOk, IsSome, IsTrue, OnErr, OnOk};
 ghost use Rattle.office_tables_shelf.specs.Content.{Content};
 ghost use Rattle.office_tables_shelf.specs.Keeps.{KeepsShelf};
 ghost use Rattle.office_desk_decisions.specs.Open.{DatabaseStaysOpen};
 ghost use Rattle.office_desk.specs.Known.{TellsIntersection};
-ghost use Rattle.office_desk.specs.Recording.{AreFound, IsAmong, IsIntersectionFound};
-ghost use Rattle.office_desk.specs.Recording.{HasDamagedAbout};
+ghost use Rattle.office_desk.specs.Recording.{AreFound, IsAmong, IsIntersectionFound, HasDamagedAbout};
 
 use crate::recording::is_known;
 use office_tables_shelf::shelf::{Shelf, ShelfFault};

@@ -5,8 +5,7 @@ ghost use Rattle.office_desk_decisions.specs.Open.{DatabaseStaysOpen};
 ghost use Rattle.office_desk.specs.Blaming.{BlamesRightly};
 ghost use Rattle.office_desk.specs.Deciding.{AddsNothing, Decides};
 ghost use Rattle.office_desk.specs.Damage.{MeetsCabinetDamage};
-ghost use Rattle.office_desk.specs.Importing.{DecidesAfter, TakesInTurn, TakesWithin};
-ghost use Rattle.office_desk.specs.Importing.{rows_decided, taken_as};
+ghost use Rattle.office_desk.specs.Importing.{DecidesAfter, TakesInTurn, TakesWithin, rows_decided, taken_as};
 ghost use Rattle.office_desk.specs.Recording.{AreFound};
 ghost use Rattle.office_machine.specs.Step.{cabinet_of as about_of};
 

@@ -1,6 +1,5 @@
 //! The office over a shelf.
-ghost use Rattle.std.specs.Prelude.{◌≡◌, ◌≢◌, ℕ, ◌<◌, ◌≤◌, ◌+◌, ◌⊎◌, [], ◌∷◌, ◌++◌, filter, map};
-ghost use Rattle.std.specs.Prelude.{take, Err, IfOk, OnOk, OnErr, vec_len, vec_capacity};
+ghost use Rattle.std.specs.Prelude.{◌≡◌, ◌≢◌, ℕ, ◌<◌, ◌≤◌, ◌+◌, ◌⊎◌, [], ◌∷◌, ◌++◌, filter, map, take, Err, IfOk, OnOk, OnErr, vec_len, vec_capacity};
 ghost use Rattle.cabinet_core.specs.Orders.{is_open};
 ghost use Rattle.cabinet_core.specs.Overdue.{listed_of};
 ghost use Rattle.cabinet_core.specs.Register.{records_at};

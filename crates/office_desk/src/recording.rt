@@ -6,8 +6,7 @@ ghost use Rattle.office_desk_cabinet.specs.Registers.{line_told, rows_told};
 ghost use Rattle.office_desk.specs.Deciding.{Decides};
 ghost use Rattle.office_desk.specs.Known.{TellsIntersection};
 ghost use Rattle.office_desk.specs.Recording.{HasDamagedAbout};
-ghost use Rattle.office_machine.specs.Step.{cabinet_of as about_of, refusal_of_record};
-ghost use Rattle.office_machine.specs.Step.{told as reply_of};
+ghost use Rattle.office_machine.specs.Step.{cabinet_of as about_of, refusal_of_record, told as reply_of};
 
 use cabinet_core::{CabinetRefusal, RecordCommand};
 use office_desk_cabinet::{Pending, Registered, decide_record};

@@ -3,8 +3,7 @@ use Rattle.std.proofs.Common.{◌≡◌, ◌≤◌, ℕ, ◌+◌, Bool, true, fa
 use Rattle.std.specs.Prelude.{IfOk, OnErr, if◌then◌else◌, nat_lt}
 use Rattle.cabinet_core.specs.Cabinet.{Line, added, same, refused, Records, on_hand, is_opened_so, is_same_inspection, is_same_line, is_same_closing, is_same_delivery, close_order_line}
 use Rattle.cabinet_core.specs.{Changes.Makes, Step.Standing, Step.line_on}
-use Rattle.cabinet_core.specs.declared.{command.RecordCommand.RecordCommand, decide.Recorded.Recorded, part.TheConstants.MOST_ON_HAND, record.Order.Order}
-use Rattle.cabinet_core.specs.declared.{record.Closing.Closing, refusal.CabinetRefusal.CabinetRefusal}
+use Rattle.cabinet_core.specs.declared.{command.RecordCommand.RecordCommand, decide.Recorded.Recorded, part.TheConstants.MOST_ON_HAND, record.Order.Order, record.Closing.Closing, refusal.CabinetRefusal.CabinetRefusal}
 use Rattle.cabinet_core.specs.declared.command.RecordCommand.TheVariants as asks
 use Rattle.cabinet_core.specs.declared.refusal.CabinetRefusal.TheVariants as refusal
 use Rattle.cabinet_core.proofs.Made.{changes_on, place_or}
@@ -13,8 +12,7 @@ use Rattle.office_tables_shelf.specs.declared.{rows.RowChange.RowChange, rows.Ta
 use Rattle.office_tables_shelf.specs.declared.shelf.ShelfFault.TheVariants.{NoMemory}
 use Rattle.office_tables_shelf.specs.declared.rows.Table.TheVariants as table
 use Rattle.office_desk_cabinet.specs.Registers.{IsNamed, IsOneOf, most_record_writes, refusals_of, rows_told}
-use Rattle.office_desk_cabinet.specs.{Decides.DecidesRecord, Lines.ReadsKeys, Lines.rows_added, Lines.rows_for, RegisterDamage.KeepsDamage, RegisterDamage.MeetsRecordDamage}
-use Rattle.office_desk_cabinet.specs.{Telling.Tells, Telling.row_changes_of, declared.registered.Registered.Registered}
+use Rattle.office_desk_cabinet.specs.{Decides.DecidesRecord, Lines.ReadsKeys, Lines.rows_added, Lines.rows_for, RegisterDamage.KeepsDamage, RegisterDamage.MeetsRecordDamage, Telling.Tells, Telling.row_changes_of, declared.registered.Registered.Registered}
 use Rattle.office_desk_cabinet.proofs.Told.{registers_from, rows_few, tells_leaves, told_by}
 use Rattle.office_desk_cabinet.proofs.{Found.keys_stand, KeptDamage.command_kept, KeptDamage.rows_kept, News.tells_new}
 

@@ -1,15 +1,13 @@
 -- Rows that were listed are in order.
 use Rattle.std.proofs.Common.{◌≡◌, ℕ, zero, suc, ◌+◌, ◌*◌, ◌<◌, ◌≤◌, List, [], ◌∷◌, map, length, get_or, Ordering, Less, Equal, Greater, T, ap, sym, subst, ◌∙◌, arith, refl}
 use Rattle.std.proofs.lemmas.Cmp.{nat_cmp_total, ranked}
-use Rattle.std.specs.{Cmp.tied_itself, FinMap.entries, FinMap.entries_sorted, List.AllByRecursion, List.Sorted.IsNonDecreasingBy}
-use Rattle.std.specs.{FinMap.Entries.is_sorted, FinMap.Entries.below_all, FinMap.Entries.is_sorted-where_key, Ordering.nat_cmp, Ordering.ordering_then}
+use Rattle.std.specs.{Cmp.tied_itself, FinMap.entries, FinMap.entries_sorted, List.AllByRecursion, List.Sorted.IsNonDecreasingBy, FinMap.Entries.is_sorted, FinMap.Entries.below_all, FinMap.Entries.is_sorted-where_key, Ordering.nat_cmp, Ordering.ordering_then}
 use Rattle.cabinet_core.specs.Places.{inspection_place, order_place, line_place}
 use Rattle.cabinet_core.specs.Within.{IsInspectionWithin, IsOrderWithin, IsUsedLineWithin}
 use Rattle.cabinet_core.specs.declared.{record.Inspection.Inspection, record.Order.Order, record.UsedLine.UsedLine}
 use Rattle.office_tables_shelf.proofs.{KeyCells.record_order, KeyCells.line_order, ListLemmas.less, ListLemmas.parts, ListedRows.entry}
 use Rattle.office_tables_shelf.specs.CabinetRows.{inspection_columns, inspection_key, order_columns, order_key, used_columns, used_key}
-use Rattle.office_tables_shelf.specs.{CabinetReads.ListsInspections, CabinetReads.ListsOrders, CabinetReads.ListsUsed, Content.Content}
-use Rattle.office_tables_shelf.specs.{Cells.Cell, Cells.TableRows, Cells.cells_cmp, Shelf.is_of, Shelf.rows_of}
+use Rattle.office_tables_shelf.specs.{CabinetReads.ListsInspections, CabinetReads.ListsOrders, CabinetReads.ListsUsed, Content.Content, Cells.Cell, Cells.TableRows, Cells.cells_cmp, Shelf.is_of, Shelf.rows_of}
 
 module _ {X : Type 0} (key columns : X → List Cell) (Within : X → Type 0) (place : X → ℕ)
     (rises : (x y : X) → Within x → Within y → cells_cmp (key x) (key y) ≡ Less

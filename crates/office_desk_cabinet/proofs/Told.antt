@@ -1,18 +1,14 @@
 -- What is told of a decision, from the line that it takes: the step of the register, the rows that stay, how many are written, and which refusal.
 use Rattle.std.proofs.Common.{◌≡◌, ◌≤◌, ℕ, List, [], ◌∷◌, Option, Some, None, Result, Ok, Err, refl, sym, ap, subst, subst₂, ◌∙◌, arith}
-use Rattle.cabinet_core.specs.{Cabinet.Line, Cabinet.added, Cabinet.same, Cabinet.Records, Changes.MakesIn, Register.Register}
-use Rattle.cabinet_core.specs.{declared.record.Closing.Closing, Step.line_at, Step.with_record, Step.after_line}
+use Rattle.cabinet_core.specs.{Cabinet.Line, Cabinet.added, Cabinet.same, Cabinet.Records, Changes.MakesIn, Register.Register, declared.record.Closing.Closing, Step.line_at, Step.with_record, Step.after_line}
 use Rattle.cabinet_core.specs.declared.{command.RecordCommand.RecordCommand, record.Order.Order}
 use Rattle.cabinet_core.specs.declared.decide.{CabinetChange.CabinetChange, Recorded.Recorded}
 use Rattle.cabinet_core.specs.declared.refusal.CabinetRefusal.{CabinetRefusal}
 use Rattle.cabinet_core.specs.declared.decide.CabinetChange.TheVariants as change
 use Rattle.cabinet_core.specs.declared.decide.Recorded.TheVariants as recorded
 use Rattle.cabinet_core.specs.declared.refusal.CabinetRefusal.TheVariants as refusal
-use Rattle.office_tables_shelf.specs.{Change.changed, Change.changed_by, Content.Content, Counts.writes_in}
-use Rattle.office_tables_shelf.specs.{declared.rows.RowChange.RowChange, declared.rows.Table.Table}
-use Rattle.office_desk_cabinet.specs.{RegisterStands.RegisterStandsSound, Registers.line_told, Registers.rows_told, Registers.RegistersFrom}
-use Rattle.office_desk_cabinet.specs.{Registers.LeavesTiming, Telling.order_row_of, Telling.row_change_of, Telling.row_changes_of}
-use Rattle.office_desk_cabinet.specs.{Telling.Tells, declared.registered.Registered.Registered}
+use Rattle.office_tables_shelf.specs.{Change.changed, Change.changed_by, Content.Content, Counts.writes_in, declared.rows.RowChange.RowChange, declared.rows.Table.Table}
+use Rattle.office_desk_cabinet.specs.{RegisterStands.RegisterStandsSound, Registers.line_told, Registers.rows_told, Registers.RegistersFrom, Registers.LeavesTiming, Telling.order_row_of, Telling.row_change_of, Telling.row_changes_of, Telling.Tells, declared.registered.Registered.Registered}
 pub use Rattle.office_desk_cabinet.specs.Lines.{rows_for}
 use Rattle.office_desk_cabinet.proofs.Changed.{stand_changed}
 

@@ -10,8 +10,7 @@ use Rattle.office_tables_shelf.specs.declared.rows.Table.{Table}
 use Rattle.office_tables_shelf.specs.declared.shelf.ShelfFault.{ShelfFault}
 use Rattle.office_desk_cabinet.specs.Lines.{TellsLine}
 use Rattle.office_desk_cabinet.specs.RegisterDamage.{IsWhole, SparesDamage}
-use Rattle.office_desk_cabinet.specs.Registers.{IsNamed, LeavesTiming, Registers, line_told}
-use Rattle.office_desk_cabinet.specs.Registers.{most_record_writes, rows_told}
+use Rattle.office_desk_cabinet.specs.Registers.{IsNamed, LeavesTiming, Registers, line_told, most_record_writes, rows_told}
 use Rattle.office_desk_cabinet.specs.declared.registered.Registered.{Registered}
 
 pub record DecidesRecord (honest : Type 0) (stored : Content) (pending : List RowChange)

@@ -1,9 +1,6 @@
 //! The records of a cabinet and the parts as they are listed, each of them a record.
 ghost use Rattle.std.specs.Prelude.{◌≡◌, IfOk};
-ghost use Rattle.office_tables_shelf.specs.CabinetReads.{ListsInspections, HasDamagedInspection};
-ghost use Rattle.office_tables_shelf.specs.CabinetReads.{ListsOrders, HasDamagedOrder};
-ghost use Rattle.office_tables_shelf.specs.CabinetReads.{ListsUsed, HasDamagedUsed};
-ghost use Rattle.office_tables_shelf.specs.CabinetReads.{ListsParts, HasDamagedPart};
+ghost use Rattle.office_tables_shelf.specs.CabinetReads.{ListsInspections, HasDamagedInspection, ListsOrders, HasDamagedOrder, ListsUsed, HasDamagedUsed, ListsParts, HasDamagedPart};
 ghost use Rattle.office_tables_shelf.specs.Keeps.{AnswersShelf, KeepsShelf};
 
 use cabinet_core::{Hand, Inspection, Order, Ordered, PartCode, UsedLine};

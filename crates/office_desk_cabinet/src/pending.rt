@@ -1,7 +1,6 @@
 //! Rows of the register that are to be written, and what they put under its keys.
 ghost use Rattle.std.specs.Prelude.{◌≡◌, ◌++◌, [], IfOk, IfSome};
-ghost use Rattle.cabinet_core.specs.Within.{IsInspectionWithin, IsOrderWithin};
-ghost use Rattle.cabinet_core.specs.Within.{IsUsedLineWithin, IsDeliveryWithin};
+ghost use Rattle.cabinet_core.specs.Within.{IsInspectionWithin, IsOrderWithin, IsUsedLineWithin, IsDeliveryWithin};
 ghost use Rattle.office_tables_shelf.specs.CabinetReads.{IsHand};
 ghost use Rattle.office_tables_shelf.specs.Places as place;
 ghost use Rattle.office_desk_cabinet.specs.Puts.{Puts};

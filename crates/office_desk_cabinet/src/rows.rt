@@ -1,7 +1,6 @@
 //! A decision of the register, with its changes as rows.
 ghost use Rattle.std.specs.Prelude.{◌≡◌, IfOk, OnErr};
-ghost use Rattle.office_desk_cabinet.specs.Telling.{Tells, WantsMemory};
-ghost use Rattle.office_desk_cabinet.specs.Telling.{order_row_of, row_change_of, row_changes_of};
+ghost use Rattle.office_desk_cabinet.specs.Telling.{Tells, WantsMemory, order_row_of, row_change_of, row_changes_of};
 
 use crate::registered::Registered;
 use cabinet_core::{CabinetChange, CabinetRefusal, Order, Recorded};

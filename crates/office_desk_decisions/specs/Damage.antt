@@ -1,18 +1,17 @@
 -- When a stored row keeps a command from being answered.
 use Rattle.std.specs.Prelude.{◌≡◌, ◌⊎◌, ℕ, List, [], ◌∷◌, Option, Some, None}
 use Rattle.std.specs.Option.{option_map}
-use Rattle.draft_state.specs.declared.state.Holder.{Holder}
+use Rattle.signal_records.specs.declared.state.Holder.{Holder}
 use Rattle.draft_core.specs.Steps.{reach_of}
 use Rattle.draft_core.specs.declared.step.Step.TheVariants as step
 use Rattle.draft_core.specs.declared.timing.Reach.{Reach}
 use Rattle.draft_core.specs.declared.timing.Reach.TheVariants as reach
-use Rattle.draft_state.specs.declared.state.Stage.TheVariants.{Done}
+use Rattle.signal_records.specs.declared.state.Stage.TheVariants.{Done}
 use Rattle.office_tables_shelf.specs.Content.{Content}
 use Rattle.office_tables_shelf.specs.Overdue.{HasOverdueDamage}
 use Rattle.office_tables_shelf.specs.Shelf.{IsThere, ReadsIntersection}
 use Rattle.office_tables_shelf.specs.declared.rows.IntersectionRow.{IntersectionRow}
-use Rattle.office_tables_shelf.specs.Damage.{HasDamagedIntersection, HasDamagedTiming}
-use Rattle.office_tables_shelf.specs.Damage.{HasDamagedDraft}
+use Rattle.office_tables_shelf.specs.Damage.{HasDamagedIntersection, HasDamagedTiming, HasDamagedDraft}
 use Rattle.office_tables_shelf.specs.CabinetReads.{HasDamagedOrder, HasDamagedPart}
 use Rattle.cabinet_core.specs.declared.command.RecordCommand.{RecordCommand}
 use Rattle.office_desk_decisions.specs.RegisterDamage.{HasDamagedCabinet, MeetsRecordDamage}

@@ -5,8 +5,7 @@ use Rattle.cabinet_core.specs.declared.command.RecordCommand.TheVariants.{Inspec
 use Rattle.office_tables_shelf.specs.Change.{changed_by}
 use Rattle.office_tables_shelf.specs.Content.{Content}
 use Rattle.office_tables_shelf.specs.declared.rows.RowChange.{RowChange}
-use Rattle.office_tables_shelf.specs.CabinetReads.{HasDamagedInspection, HasDamagedOrder}
-use Rattle.office_tables_shelf.specs.CabinetReads.{HasDamagedUsed}
+use Rattle.office_tables_shelf.specs.CabinetReads.{HasDamagedInspection, HasDamagedOrder, HasDamagedUsed}
 use Rattle.office_tables_shelf.specs.Places as place
 use Rattle.office_tables_shelf.specs.Places.{Place, DamagedAt}
 

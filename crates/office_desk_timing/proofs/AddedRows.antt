@@ -3,10 +3,9 @@ use Rattle.std.proofs.Common.{ℕ, List, [], ◌∷◌, Option, refl, ap, sym, �
 use Rattle.std.specs.{List.AllByRecursion, Option.option_map, FinMap.get}
 use Rattle.signal_records.specs.{Row.key_of, declared.key.Key.Key, declared.record.Row.Row, declared.record.Change.TheVariants.Put}
 use Rattle.signal_records.specs.TimingSet as set
-use Rattle.draft_core.specs.{News.AddsNone, News.AddsOnlyNew, News.AreNew, News.AreNewAt, DraftRows.Said, DraftRows.row_at}
-use Rattle.draft_core.specs.{Moves.committed_by, Moves.said_after, declared.timing.Reach.Reach, declared.timing.TimingChange.TimingChange}
+use Rattle.draft_core.specs.{News.AddsNone, News.AddsOnlyNew, News.AreNew, News.AreNewAt, DraftRows.Said, DraftRows.row_at, Moves.committed_by, Moves.said_after, declared.timing.Reach.Reach, declared.timing.TimingChange.TimingChange}
 use Rattle.draft_core.specs.declared.timing.TimingChange.TheVariants.{CommittedNew, Committed, DraftedNew}
-use Rattle.draft_state.specs.ChangedRows.{changed_key}
+use Rattle.signal_records.specs.ChangedRows.{changed_key}
 use Rattle.draft_core.specs.declared.timing.Reach.TheVariants as reach
 use Rattle.office_tables_shelf.specs.{Change.AddNew, Change.AddsNew, Change.changed, Content.Content, Rows.timing_columns}
 use Rattle.office_tables_shelf.specs.declared.{rows.IntersectionRow.IntersectionRow, rows.RowChange.TheVariants.PutIntersection}

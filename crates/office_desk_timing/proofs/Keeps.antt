@@ -3,18 +3,16 @@ use Rattle.std.proofs.Common.{◌≡◌, ◌+◌, ◌≤◌, ◌==◌, ℕ, true
 use Rattle.std.proofs.lemmas.Bool.Decides.{nat_tests}
 use Rattle.std.specs.{Prelude.IfSome, Ordering.eq_by_cmp, FinMap.get, FinMap.get-remove}
 use Rattle.cabinet_core.proofs.Puts.{all_put}
-use Rattle.signal_records.specs.{Key.key_cmp, KeyOrder.key_total, KeyOrder.key_exact, Row.key_of, Within.IsRowWithin, Within.current_limits}
-use Rattle.signal_records.specs.{TimingSet.Rows, TimingSet.after_change, TimingSet.after_changes}
+use Rattle.signal_records.specs.{Key.key_cmp, KeyOrder.key_total, KeyOrder.key_exact, Row.key_of, Within.IsRowWithin, Within.current_limits, TimingSet.Rows, TimingSet.after_change, TimingSet.after_changes}
 use Rattle.signal_values.specs.Words.{AreWords}
-use Rattle.signal_records.specs.declared.{key.Key.Key, record.Row.Row, record.Change.Change}
+use Rattle.signal_records.specs.declared.{key.Key.Key, record.Row.Row, record.Change.Change, revision.TheConstants.LAST_REVISION, state.Stage.Stage}
 use Rattle.signal_records.specs.declared.record.Change.TheVariants.{Put, Remove}
 use Rattle.signal_rules.specs.Violations.{violations_of}
 use Rattle.draft_core.specs.Transaction.{TimingSide, Draft, holder_of, owned, with_draft, begun_from, abandoned_from, table_line}
 use Rattle.draft_core.specs.Within.{AreChangesWithin}
 use Rattle.draft_core.specs.declared.refusal.DraftRefusal.TheVariants.{NotNormal, NotTransaction}
 use Rattle.draft_core.specs.declared.refusal.DraftRefusal.{DraftRefusal}
-use Rattle.draft_state.specs.declared.{revision.TheConstants.LAST_REVISION, state.Stage.Stage}
-use Rattle.draft_state.specs.declared.state.Stage.TheVariants.{Transaction}
+use Rattle.signal_records.specs.declared.state.Stage.TheVariants.{Transaction}
 use Rattle.draft_core.proofs.Sound.{owned_inverts, committed_inverts}
 use Rattle.office_machine.specs.Office.{Intersection, IsSoundIntersection, IsSoundDraft, AreRecords}
 use Rattle.draft_core.specs.{Steps.asked_changes, declared.step.Step.Step}

@@ -7,7 +7,7 @@ use Rattle.signal_records.specs.{Key.key_cmp, Key.kind_of, Key.first_of, Key.sec
 use Rattle.signal_records.specs.declared.{key.Key.Key, record.Row.Row, record.Change.Change}
 use Rattle.signal_records.specs.declared.record.Change.TheVariants.{Put, Remove}
 use Rattle.draft_core.specs.DraftRows.{RowsByKey, Said, silent, leaves, removes, later_of, overlaid, said_at, said_by}
-use Rattle.draft_state.specs.ChangedRows.{changed_key, left_by}
+use Rattle.signal_records.specs.ChangedRows.{changed_key, left_by}
 use Rattle.draft_core.specs.Moves.{Makes, committed_after, committed_by, drafted_in, next_holder, row_after, said_after}
 use Rattle.draft_core.specs.{Transaction.TimingSide, Within.AreChangesWithin}
 use Rattle.draft_core.specs.declared.timing.TimingChange.TheVariants.{CommittedNew, Committed, DraftedNew, Drafted, DraftGone, DraftDropped}

@@ -2,8 +2,7 @@
 use Rattle.std.proofs.Common.{◌≡◌, ◌≢◌, ℕ, ◌≤◌, Bool, true, false, List, [], ◌∷◌, Option, Some, None, refl, ap, sym, subst, ◌∙◌, inl, inr, lit≤, arith, if◌then◌else◌, ◌==◌, ◌&&◌, bytes_eq, option_map}
 use Rattle.std.specs.FinMap.{get}
 use Rattle.draft_core.specs.{DraftRows.RowStands, Transaction.TimingSide}
-use Rattle.office_tables_shelf.specs.{Change.changed, Content.Content, Counts.writes_in, Damage.HasDamagedIntersection, Rows.timing_columns}
-use Rattle.office_tables_shelf.specs.{Shelf.ReadsIntersection, declared.rows.Table.Table}
+use Rattle.office_tables_shelf.specs.{Change.changed, Content.Content, Counts.writes_in, Damage.HasDamagedIntersection, Rows.timing_columns, Shelf.ReadsIntersection, declared.rows.Table.Table}
 use Rattle.office_tables_shelf.specs.declared.{rows.IntersectionRow.IntersectionRow, rows.RowChange.TheVariants.AddIntersection as AddRow}
 use Rattle.office_tables_shelf.specs.declared.rows.Table.TheVariants as table
 use Rattle.office_desk_timing.specs.Adding.{AddsRow, AreLimited}

@@ -2,15 +2,13 @@
 use Rattle.std.proofs.Common.{◌≡◌, ℕ, Bool, true, false, List, [], ◌∷◌, cond, Option, Some, None, refl, ap, sym, subst, ◌∙◌, IfSome, option_map}
 use Rattle.std.specs.{Ordering.eq_by_cmp, FinMap.get, FinMap.same_map}
 use Rattle.cabinet_core.proofs.Puts.{if_more}
-use Rattle.signal_records.specs.{Key.key_cmp, KeyOrder.key_total, KeyOrder.key_exact, Row.key_of, Within.IsRowWithin, Within.IsChangeWithin}
-use Rattle.signal_records.specs.{Within.current_limits, declared.key.Key.Key, declared.record.Row.Row, declared.record.Change.Change}
+use Rattle.signal_records.specs.{Key.key_cmp, KeyOrder.key_total, KeyOrder.key_exact, Row.key_of, Within.IsRowWithin, Within.IsChangeWithin, Within.current_limits, declared.key.Key.Key, declared.record.Row.Row, declared.record.Change.Change}
 use Rattle.signal_records.specs.declared.record.Change.TheVariants.{Put, Remove}
 use Rattle.draft_core.specs.DraftRows.{Said, silent, leaves, removes, IsRead, RowStands, later_of, row_at, said_at, said_by}
 use Rattle.draft_core.specs.{Transaction.TimingSide, Within.AreChangesWithin, declared.timing.Timing.Timing, declared.timing.Reach.Reach}
-use Rattle.draft_state.specs.ChangedRows.{changed_key}
+use Rattle.signal_records.specs.ChangedRows.{changed_key}
 use Rattle.draft_core.specs.declared.timing.Reach.TheVariants as reach
-use Rattle.office_tables_shelf.specs.{Content.Content, Rows.timing_columns, Rows.left_columns, Shelf.ReadsIntersection, Shelf.ListsTiming}
-use Rattle.office_tables_shelf.specs.{Shelf.ListsDraft, declared.rows.IntersectionRow.IntersectionRow}
+use Rattle.office_tables_shelf.specs.{Content.Content, Rows.timing_columns, Rows.left_columns, Shelf.ReadsIntersection, Shelf.ListsTiming, Shelf.ListsDraft, declared.rows.IntersectionRow.IntersectionRow}
 use Rattle.office_tables_shelf.proofs.KeyLemmas.{row_in, timing_keys_rise, get_set_of_rows, get_listed_timing}
 use Rattle.office_tables_shelf.proofs.{CellLemmas.tied, RowLemmas.timing_columns_tell, RowLemmas.left_columns_tell}
 use Rattle.office_tables_standing.proofs.DraftLemmas.{get_listed_draft}

@@ -1,7 +1,7 @@
 -- The row of an intersection is told by its cells.
 use Rattle.std.proofs.Common.{◌≡◌, Option, Some, None, refl, ap, arith, option_map}
-use Rattle.draft_state.specs.declared.{state.Stage.Stage, state.Stage.TheVariants.Transaction, state.Stage.TheVariants.Verify, state.Stage.TheVariants.Done}
-use Rattle.draft_state.specs.declared.state.Holder.{Holder}
+use Rattle.signal_records.specs.declared.{state.Stage.Stage, state.Stage.TheVariants.Transaction, state.Stage.TheVariants.Verify, state.Stage.TheVariants.Done}
+use Rattle.signal_records.specs.declared.state.Holder.{Holder}
 use Rattle.office_tables_shelf.specs.Rows.{stage_number, state_number, owner_cell, intersection_columns}
 use Rattle.office_tables_shelf.specs.declared.rows.IntersectionRow.{IntersectionRow}
 

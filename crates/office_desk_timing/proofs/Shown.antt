@@ -6,15 +6,14 @@ use Rattle.signal_rules.specs.{Violations.violations_of, declared.violation.Viol
 use Rattle.draft_core.specs.Transaction.{Draft, state_of, state_of_holder, TimingSide, holder_of, verdict_of}
 use Rattle.draft_core.specs.{DraftRows.RowsByKey, DraftRows.Stands, declared.timing.Timing.Timing, declared.timing.Reach.Reach}
 use Rattle.draft_core.proofs.Overlaid.{draft_is}
-use Rattle.draft_state.specs.declared.{state.Holder.Holder, state.Verdict.Verdict}
+use Rattle.signal_records.specs.declared.{state.Holder.Holder, state.Verdict.Verdict}
 use Rattle.draft_core.specs.declared.timing.Reach.TheVariants as reach
 use Rattle.office_tables_shelf.specs.{Content.Content, Shelf.ReadsIntersection, Shelf.ListsTiming, Shelf.CountsTiming}
 use Rattle.office_tables_shelf.specs.declared.rows.IntersectionRow.{IntersectionRow}
 use Rattle.office_desk_timing.specs.Reading.{AreRowsWithin, FoundStands, Finds, FindsAny, drafts_at, set_of_rows}
 use Rattle.office_desk_timing.specs.{Decisions.row_shown, Decisions.IsVerdictOf, Decisions.ShowsDraft, declared.reading.Found.Found}
 use Rattle.office_tables_standing.specs.StandFor.{StandForSound, row_of}
-use Rattle.office_machine.specs.{Office.Office, Office.Intersection, Office.IsSoundIntersection, Office.side_of, Step.answered, Step.shown}
-use Rattle.office_machine.specs.{Step.state_shown, Step.draft_shown, Step.timing_shown, declared.reply.Reply.Reply}
+use Rattle.office_machine.specs.{Office.Office, Office.Intersection, Office.IsSoundIntersection, Office.side_of, Step.answered, Step.shown, Step.state_shown, Step.draft_shown, Step.timing_shown, declared.reply.Reply.Reply}
 use Rattle.office_machine.specs.declared.command.Command.TheVariants as command
 use Rattle.draft_core.specs.declared.refusal.DraftRefusal.TheVariants as draft
 use Rattle.office_machine.specs.declared.refusal.Refusal.TheVariants as refusal

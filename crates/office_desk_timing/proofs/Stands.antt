@@ -7,8 +7,7 @@ use Rattle.cabinet_core.proofs.Puts.{all_put}
 use Rattle.signal_records.specs.{Row.key_of, Within.IsRowWithin, Within.current_limits}
 use Rattle.signal_values.specs.Words.{AreWords}
 use Rattle.signal_records.specs.declared.{key.Key.Key, record.Row.Row, record.Change.TheVariants.Put, record.Change.TheVariants.Remove}
-use Rattle.draft_core.specs.{DraftRows.Said, DraftRows.silent, DraftRows.leaves, DraftRows.removes, DraftRows.RowStands, Transaction.Draft}
-use Rattle.draft_core.specs.{Transaction.TimingSide, Transaction.holder_of, declared.timing.Reach.Reach}
+use Rattle.draft_core.specs.{DraftRows.Said, DraftRows.silent, DraftRows.leaves, DraftRows.removes, DraftRows.RowStands, Transaction.Draft, Transaction.TimingSide, Transaction.holder_of, declared.timing.Reach.Reach}
 use Rattle.office_tables_shelf.proofs.{CellLemmas.cell_exact, CellLemmas.tied, KeyCells.intersection_order}
 use Rattle.office_tables_shelf.proofs.StoredMaps.{get_stored, insert_stored}
 use Rattle.office_tables_shelf.specs.Rows.{intersection_key, intersection_columns, timing_key, timing_columns, left_columns, IsIntersectionRow}

@@ -8,18 +8,13 @@ use Rattle.signal_values.specs.Words.{AreWords}
 use Rattle.signal_rules.specs.Violations.{violations_of}
 use Rattle.draft_core.specs.Moves.{Follows, Makes, drafted_in, timing_writes, draft_writes}
 use Rattle.draft_core.specs.Steps.{first_refusal, reach_of, IsLater, IsUnsettled, StepWrites, RefusesFirst, ReliesOn, Takes, asked_changes, most_committed, most_drafted}
-use Rattle.draft_core.specs.{Transaction.TimingSide, Transaction.is_stage, Transaction.refused_by, Transaction.table_line}
-use Rattle.draft_core.specs.{Within.AreChangesWithin, declared.refusal.DraftRefusal.DraftRefusal, declared.timing.Move.Move}
-use Rattle.draft_core.specs.{declared.timing.TimingChange.TimingChange, declared.timing.TimingChange.TheVariants.Committed}
-use Rattle.draft_state.specs.declared.{state.Holder.Holder, state.Stage.Stage}
+use Rattle.draft_core.specs.{Transaction.TimingSide, Transaction.is_stage, Transaction.refused_by, Transaction.table_line, Within.AreChangesWithin, declared.refusal.DraftRefusal.DraftRefusal, declared.timing.Move.Move, declared.timing.TimingChange.TimingChange, declared.timing.TimingChange.TheVariants.Committed}
+use Rattle.signal_records.specs.declared.{state.Holder.Holder, state.Stage.Stage}
 use Rattle.draft_core.specs.declared.refusal.DraftRefusal.TheVariants as draft
 use Rattle.office_tables_shelf.specs.{Change.changed_by, Content.Content, Shelf.ListsDraft, Shelf.rows_of, Counts.is_same_table, Counts.writes_in}
-use Rattle.office_tables_shelf.specs.declared.{rows.RowChange.RowChange, rows.RowChange.TheVariants.PutIntersection, rows.Table.Table}
-use Rattle.office_tables_shelf.specs.declared.{shelf.ShelfFault.ShelfFault, shelf.ShelfFault.TheVariants.NoMemory}
+use Rattle.office_tables_shelf.specs.declared.{rows.RowChange.RowChange, rows.RowChange.TheVariants.PutIntersection, rows.Table.Table, shelf.ShelfFault.ShelfFault, shelf.ShelfFault.TheVariants.NoMemory}
 use Rattle.office_tables_shelf.specs.declared.rows.Table.TheVariants as table
-use Rattle.office_desk_decisions.specs.{RecordBounds.IsOneOf, Asking.asking_command, Answers.Answers, Changes.IsQueryCommand}
-use Rattle.office_desk_decisions.specs.{Changes.most_intersection_writes, Changes.most_writes, Named.number_of, Named.numbers_of}
-use Rattle.office_desk_decisions.specs.{Damage.HasDamageIn, Damage.MeetsDamage, Deciding.Decides, Deciding.IsDecision}
+use Rattle.office_desk_decisions.specs.{RecordBounds.IsOneOf, Asking.asking_command, Answers.Answers, Changes.IsQueryCommand, Changes.most_intersection_writes, Changes.most_writes, Named.number_of, Named.numbers_of, Damage.HasDamageIn, Damage.MeetsDamage, Deciding.Decides, Deciding.IsDecision}
 use Rattle.draft_core.specs.declared.step.Step.TheVariants.{Begin, Edit, Check, Commit, Abandon}
 use Rattle.draft_core.specs.declared.step.Step.{Step}
 use Rattle.office_desk_decisions.specs.declared.decided.Decided.{Decided}
@@ -32,8 +27,7 @@ use Rattle.office_machine.specs.declared.reply.Reply.TheVariants.{Moved, Refused
 use Rattle.office_machine.specs.declared.refusal.Refusal.TheVariants as refusal
 use Rattle.draft_core.proofs.OnlyChanges.{among_within}
 use Rattle.office_desk_decisions.proofs.Decisions.{accepted_decides, refuses_so, told_decides, unknown_decides}
-use Rattle.office_desk_timing.proofs.{AddedRows.move_news, Keeps.line_keeps, Keeps.side_sound, Keeps.sound_intersection, Stands.sound_with}
-use Rattle.office_desk_timing.proofs.{Moved.move_stands, Moved.with_timing_side, Shown.found_none, Shown.found_there, Shown.sound_there}
+use Rattle.office_desk_timing.proofs.{AddedRows.move_news, Keeps.line_keeps, Keeps.side_sound, Keeps.sound_intersection, Stands.sound_with, Moved.move_stands, Moved.with_timing_side, Shown.found_none, Shown.found_there, Shown.sound_there}
 
 -- ---- the step
 

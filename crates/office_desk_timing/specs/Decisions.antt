@@ -1,8 +1,8 @@
 -- What a decision on the row that was read gives.
 use Rattle.std.specs.Prelude.{◌≡◌, ℕ, Some}
 use Rattle.std.specs.Option.{option_map}
-use Rattle.draft_state.specs.declared.state.Holder.{Holder}
-use Rattle.draft_state.specs.declared.state.Verdict.{Verdict}
+use Rattle.signal_records.specs.declared.state.Holder.{Holder}
+use Rattle.signal_records.specs.declared.state.Verdict.{Verdict}
 use Rattle.draft_core.specs.declared.timing.Reach.TheVariants.{Plan}
 use Rattle.draft_core.specs.Transaction.{TimingSide, state_of_holder, verdict_of}
 use Rattle.draft_core.specs.DraftRows.{RowsByKey, Stands}

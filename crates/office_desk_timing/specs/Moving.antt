@@ -4,18 +4,12 @@ use Rattle.signal_records.specs.declared.record.Change.TheVariants.{Put, Remove}
 use Rattle.draft_core.specs.Moves.{next_holder}
 use Rattle.draft_core.specs.declared.timing.Move.{Move}
 use Rattle.draft_core.specs.declared.timing.TimingChange.{TimingChange}
-use Rattle.draft_core.specs.declared.timing.TimingChange.TheVariants.{CommittedNew, Committed}
-use Rattle.draft_core.specs.declared.timing.TimingChange.TheVariants.{DraftedNew, Drafted}
-use Rattle.draft_core.specs.declared.timing.TimingChange.TheVariants.{DraftGone, DraftDropped}
+use Rattle.draft_core.specs.declared.timing.TimingChange.TheVariants.{CommittedNew, Committed, DraftedNew, Drafted, DraftGone, DraftDropped}
 use Rattle.draft_core.specs.declared.refusal.DraftRefusal.{DraftRefusal}
 use Rattle.draft_core.specs.declared.refusal.DraftRefusal.TheVariants.{NoMemory}
 use Rattle.office_tables_shelf.specs.declared.rows.IntersectionRow.{IntersectionRow}
 use Rattle.office_tables_shelf.specs.declared.rows.RowChange.{RowChange}
-use Rattle.office_tables_shelf.specs.declared.rows.RowChange.TheVariants.{PutIntersection}
-use Rattle.office_tables_shelf.specs.declared.rows.RowChange.TheVariants.{AddTiming, PutTiming}
-use Rattle.office_tables_shelf.specs.declared.rows.RowChange.TheVariants.{RemoveTiming, AddDraft}
-use Rattle.office_tables_shelf.specs.declared.rows.RowChange.TheVariants.{PutDraft, RemoveDraft}
-use Rattle.office_tables_shelf.specs.declared.rows.RowChange.TheVariants.{DropDraft}
+use Rattle.office_tables_shelf.specs.declared.rows.RowChange.TheVariants.{PutIntersection, AddTiming, PutTiming, RemoveTiming, AddDraft, PutDraft, RemoveDraft, DropDraft}
 use Rattle.office_desk_timing.specs.declared.reading.Found.{Found}
 use Rattle.office_machine.specs.declared.reply.Reply.{Reply}
 use Rattle.office_machine.specs.declared.reply.Reply.TheVariants.{Moved, Refused}

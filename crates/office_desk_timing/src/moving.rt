@@ -1,7 +1,6 @@
 //! What a step of the transaction is answered, and the rows that it writes.
 ghost use Rattle.std.specs.Prelude.{◌≡◌, ◌∷◌, IfOk, OnErr};
-ghost use Rattle.office_desk_timing.specs.Moving.{WantsMemory, WritesDecision, WritesMove};
-ghost use Rattle.office_desk_timing.specs.Moving.{row_change_of, row_changes_of};
+ghost use Rattle.office_desk_timing.specs.Moving.{WantsMemory, WritesDecision, WritesMove, row_change_of, row_changes_of};
 ghost use Rattle.office_machine.specs.Step.{refusal_of_draft};
 
 use crate::reading::Found;

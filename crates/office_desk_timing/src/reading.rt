@@ -5,8 +5,7 @@ ghost use Rattle.office_tables_shelf.specs.Keeps.{AnswersShelf, KeepsShelf};
 ghost use Rattle.office_tables_shelf.specs.Shelf.{ReadsIntersection};
 ghost use Rattle.office_desk_decisions.specs.Open.{DatabaseStaysOpen};
 ghost use Rattle.office_desk_decisions.specs.Damage.{HasDamageIn, HasDamagedPlan};
-ghost use Rattle.office_desk_timing.specs.Reading.{AreRowsWithin, FindsAny, IsMadeOf, ListsFound};
-ghost use Rattle.office_desk_timing.specs.Reading.{ListsPlan};
+ghost use Rattle.office_desk_timing.specs.Reading.{AreRowsWithin, FindsAny, IsMadeOf, ListsFound, ListsPlan};
 
 use draft_core::changes::Changes;
 use draft_core::timing::{Reach, Timing};

@@ -1,13 +1,10 @@
 -- The file of changes is text, and is read as these changes.
 use Rattle.std.proofs.Common.{◌≡◌, ℕ, List, Result, Ok, Err, refl, ap, ◌∙◌, arith}
 use Rattle.std.specs.Prelude.{IfOk, OnOk, codes}
-use Rattle.signal_records.specs.{declared.key.Key.Key, declared.record.Change.Change, declared.record.Change.TheVariants.Put}
-use Rattle.signal_records.specs.{declared.record.Change.TheVariants.Remove, Reading.change_at, Spelling.change_spelling}
-use Rattle.signal_records.specs.{Spelling.key_spelling, Within.current_limits, Within.IsChangeWithin}
+use Rattle.signal_records.specs.{declared.key.Key.Key, declared.record.Change.Change, declared.record.Change.TheVariants.Put, declared.record.Change.TheVariants.Remove, Reading.change_at, Spelling.change_spelling, Spelling.key_spelling, Within.current_limits, Within.IsChangeWithin}
 use Rattle.signal_records.specs.declared.key.Key.TheVariants as key
 use Rattle.office_files.specs.{Changes.changes_of, Changes.AreWithin, Changes.spellings, Csv.csv_text}
-use Rattle.office_files.proofs.{ChangesLemmas.change_laws, FileLaws.file_only, SpelledTexts.row_texts, TimingLemmas.begins_with_kind}
-use Rattle.office_files.proofs.{Utf8Lemmas.AreTexts, Utf8Lemmas.IsUtf8-low, Utf8Lemmas.IsUtf8-decimal, WritingLemmas.BeginsWithLetter}
+use Rattle.office_files.proofs.{ChangesLemmas.change_laws, FileLaws.file_only, SpelledTexts.row_texts, TimingLemmas.begins_with_kind, Utf8Lemmas.AreTexts, Utf8Lemmas.IsUtf8-low, Utf8Lemmas.IsUtf8-decimal, WritingLemmas.BeginsWithLetter}
 use Rattle.office_files.proofs.WritingLemmas.{csv_records-spellings}
 
 key_texts : (k : Key) → AreTexts (key_spelling k)

@@ -1,7 +1,6 @@
 -- What the records of a file spell grows by a record, and ends at the first that spells nothing.
-use Rattle.std.proofs.Common.{◌≡◌, ◌≢◌, ℕ, ◌+◌, ◌<◌, List, [], ◌∷◌, ◌++◌, length, map, take, drop, get_or, Result, Ok, Err, refl, sym, ap, ◌∙◌, arith}
+use Rattle.std.proofs.Common.{◌≡◌, ◌≢◌, ℕ, ◌+◌, ◌<◌, List, [], ◌∷◌, ◌++◌, length, map, take, drop, get_or, Result, Ok, Err, refl, sym, ap, ◌∙◌, arith, append_assoc}
 use Rattle.std.proofs.lemmas.List.{take_more, map-append, take-append-drop, length-map, length-take-le}
-use Rattle.std.proofs.Common.{append_assoc}
 use Rattle.signal_records.specs.{Reading.Gives, declared.fault.RowFault.RowFault}
 use Rattle.office_files.specs.{declared.fault.CsvFault.CsvFault, CsvFault.bad_row, CsvFault.told_at, CsvRow.rows_from}
 use Rattle.office_files.specs.CsvRow.{csv_rows, add_row}

@@ -5,9 +5,7 @@ use Rattle.signal_records.specs.declared.fault.RowFault.TheVariants as fault
 use Rattle.signal_records.specs.Reading.{text_at, number_of, number_at}
 use Rattle.signal_records.proofs.FieldLaws.{same_ok, number_only}
 use Rattle.signal_records.proofs.RowLaws.{number_step, bind_only, cons_is, places_all, by_kind}
-use Rattle.cabinet_core.specs.{Day.day_text, declared.record.Inspection.Inspection, declared.record.Opening.Opening}
-use Rattle.cabinet_core.specs.{declared.record.UsedLine.UsedLine, declared.record.Closing.Closing, declared.record.Delivery.Delivery}
-use Rattle.cabinet_core.specs.{declared.command.RecordCommand.RecordCommand, Within.IsDeliveryWithin, Within.IsRecordWithin}
+use Rattle.cabinet_core.specs.{Day.day_text, declared.record.Inspection.Inspection, declared.record.Opening.Opening, declared.record.UsedLine.UsedLine, declared.record.Closing.Closing, declared.record.Delivery.Delivery, declared.command.RecordCommand.RecordCommand, Within.IsDeliveryWithin, Within.IsRecordWithin}
 use Rattle.cabinet_core.specs.declared.command.RecordCommand.TheVariants as command
 use Rattle.office_files.specs.RecordReading.{day_of, day_at, words_of, words_at, part_of, part_at, inspection_at, opening_at, use_at, close_at, delivery_at, record_at}
 use Rattle.office_files.specs.{RecordSpelling.record_spelling, Csv.csv_records, Csv.csv_text}

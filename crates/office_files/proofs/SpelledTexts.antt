@@ -2,8 +2,7 @@
 use Rattle.std.proofs.Common.{true, ℕ, ◌+◌, ◌<◌, ◌/◌, ◌%◌, List, [], ◌∷◌, Option, Some, None, refl, arith}
 use Rattle.std.specs.Prelude.{IsUtf8, codes, if◌then◌else◌}
 use Rattle.std.proofs.lemmas.Str.{IsUtf8-nil}
-use Rattle.signal_records.specs.{declared.record.Ped.Ped, declared.record.Phase.Phase, declared.record.Row.Row, Spelling.spelling}
-use Rattle.signal_records.specs.{Spelling.phase_front, Spelling.ped_fields, SplitMode.mode_code, Within.current_limits, Within.IsRowWithin}
+use Rattle.signal_records.specs.{declared.record.Ped.Ped, declared.record.Phase.Phase, declared.record.Row.Row, Spelling.spelling, Spelling.phase_front, Spelling.ped_fields, SplitMode.mode_code, Within.current_limits, Within.IsRowWithin}
 use Rattle.signal_records.specs.declared.record.Row.TheVariants as row
 use Rattle.cabinet_core.specs.Day.{CivilDay, civil_day, civil_text, day_text, IsDay}
 use Rattle.cabinet_core.specs.{declared.command.RecordCommand.RecordCommand, Within.IsRecordWithin}

@@ -2,8 +2,7 @@
 use Rattle.std.proofs.Common.{◌≡◌, ℕ, List, [], ◌∷◌, map, All, Result, Ok, Err, refl, ap, ◌∙◌, arith}
 use Rattle.std.specs.Prelude.{IfOk, OnOk}
 use Rattle.std.proofs.lemmas.List.Elements.{All-nil, All-cons, All-head, All-tail}
-use Rattle.signal_records.specs.{declared.record.Row.Row, declared.record.Change.TheVariants.Put, Reading.change_at, Spelling.spelling}
-use Rattle.signal_records.specs.{Spelling.change_spelling, Within.current_limits, Within.IsRowWithin, Within.IsChangeWithin}
+use Rattle.signal_records.specs.{declared.record.Row.Row, declared.record.Change.TheVariants.Put, Reading.change_at, Spelling.spelling, Spelling.change_spelling, Within.current_limits, Within.IsRowWithin, Within.IsChangeWithin}
 use Rattle.signal_records.specs.declared.record.Row.TheVariants as row
 use Rattle.office_files.specs.{Changes.changes_of, Changes.AreWithin, Changes.spellings, Csv.csv_text}
 use Rattle.office_files.proofs.{ChangesLemmas.change_laws, FileLaws.file_only}

@@ -1,7 +1,6 @@
 -- A file of texts is a text.
 use Rattle.std.proofs.Common.{◌≡◌, ◌≢◌, ℕ, zero, suc, ◌+◌, ◌<◌, ◌/◌, ◌%◌, ◌==◌, nat_lt, Bool, true, false, cond, inl, inr, List, [], ◌∷◌, ◌++◌, map, All, Result, Ok, Err, get_or, sym, subst, ◌∙◌, arith}
-use Rattle.std.specs.{Prelude.IfOk, Prelude.OnOk, Prelude.IsUtf8, Char.encode_utf8, Char.IsScalar, Fmt.decimal, Fmt.digits, Fmt.digits_onto}
-use Rattle.std.specs.{Fmt.digit_glyph, List.list_any, List.list_all, List.join_with_byte, Str.IsAscii, Str.encode_utf8_all, Str.all_scalars}
+use Rattle.std.specs.{Prelude.IfOk, Prelude.OnOk, Prelude.IsUtf8, Char.encode_utf8, Char.IsScalar, Fmt.decimal, Fmt.digits, Fmt.digits_onto, Fmt.digit_glyph, List.list_any, List.list_all, List.join_with_byte, Str.IsAscii, Str.encode_utf8_all, Str.all_scalars}
 use Rattle.std.proofs.lemmas.Bool.{and_parts, cases_eq, ltb-true, ne_eqb}
 use Rattle.std.proofs.lemmas.List.{append-nil, Folds.list_any_none}
 use Rattle.std.proofs.lemmas.List.Elements.{All-from_get_or, All-head, All-tail}

@@ -1,16 +1,12 @@
 //! Records of the cabinet register as CSV files.
 
-ghost use Rattle.std.specs.Prelude.{◌≡◌, ◌≢◌, ◌++◌, map, flat_map, List, IfOk, IfErr, OnOk};
-ghost use Rattle.std.specs.Prelude.{Ok, Err, IsUtf8, MatchResult};
+ghost use Rattle.std.specs.Prelude.{◌≡◌, ◌≢◌, ◌++◌, map, flat_map, List, IfOk, IfErr, OnOk, Ok, Err, IsUtf8, MatchResult};
 ghost use Rattle.std.specs.List.{filter};
 ghost use Rattle.cabinet_core.specs.declared.command.RecordCommand.{RecordCommand as Command};
 ghost use Rattle.office_files.specs.Csv.{csv_records};
 ghost use Rattle.office_files.specs.CsvFault.{NamesFault};
 ghost use Rattle.office_files.specs.RecordSpelling.{record_spelling};
-ghost use Rattle.office_files.specs.Records.{commands_of, AreRecordsWithin};
-ghost use Rattle.office_files.specs.Records.{is_line_of, opening_of, close_commands};
-ghost use Rattle.office_files.specs.Records.{order_commands, view_commands};
-ghost use Rattle.office_files.specs.Records.{IsInFileOrder, records_csv_text};
+ghost use Rattle.office_files.specs.Records.{commands_of, AreRecordsWithin, is_line_of, opening_of, close_commands, order_commands, view_commands, IsInFileOrder, records_csv_text};
 
 use crate::fault::CsvFault;
 use crate::record_reading::read_record;

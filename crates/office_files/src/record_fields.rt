@@ -2,8 +2,7 @@
 
 ghost use Rattle.std.specs.Prelude.{◌≡◌, ◌≤◌, ◌-◌, length, IfOk};
 ghost use Rattle.signal_records.specs.Reading.{Gives, texts};
-ghost use Rattle.office_files.specs.RecordReading.{day_of, day_at, words_of, words_at, part_of};
-ghost use Rattle.office_files.specs.RecordReading.{part_at};
+ghost use Rattle.office_files.specs.RecordReading.{day_of, day_at, words_of, words_at, part_of, part_at};
 
 use cabinet_core::{Day, PartCode, read_day};
 use signal_records::{NoMemory, RowFault, Words};

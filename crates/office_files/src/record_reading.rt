@@ -2,8 +2,7 @@
 
 ghost use Rattle.std.specs.Prelude.{◌≡◌, length};
 ghost use Rattle.signal_records.specs.Reading.{Gives, texts};
-ghost use Rattle.office_files.specs.RecordReading.{inspection_at, opening_at, use_at, close_at};
-ghost use Rattle.office_files.specs.RecordReading.{delivery_at, record_at};
+ghost use Rattle.office_files.specs.RecordReading.{inspection_at, opening_at, use_at, close_at, delivery_at, record_at};
 
 use crate::record_fields::{day, part, words};
 use cabinet_core::{Closing, Delivery, Inspection, Opening, RecordCommand, UsedLine};

@@ -2,8 +2,7 @@
 
 ghost use Rattle.std.specs.Prelude.{◌≡◌, IfOk, decimal, string_bytes};
 ghost use Rattle.csv.specs.Records.{fields_of};
-ghost use Rattle.office_files.specs.RecordSpelling.{inspection_fields, opening_fields, use_fields};
-ghost use Rattle.office_files.specs.RecordSpelling.{close_fields, delivery_fields};
+ghost use Rattle.office_files.specs.RecordSpelling.{inspection_fields, opening_fields, use_fields, close_fields, delivery_fields};
 
 use crate::writing::CsvRecord;
 use cabinet_core::{

@@ -1,7 +1,6 @@
 //! The records of a CSV file.
 
-ghost use Rattle.std.specs.Prelude.{◌≡◌, ◌≤◌, ◌⊎◌, ◌++◌, [], ◌∷◌, true, map, is_err, IfOk, IfErr};
-ghost use Rattle.std.specs.Prelude.{OnErr, Ok, vec_capacity, vec_len};
+ghost use Rattle.std.specs.Prelude.{◌≡◌, ◌≤◌, ◌⊎◌, ◌++◌, [], ◌∷◌, true, map, is_err, IfOk, IfErr, OnErr, Ok, vec_capacity, vec_len};
 ghost use Rattle.csv.specs.Reading.{error_kind, stops_reader};
 ghost use Rattle.csv.specs.Records.{fields_of};
 ghost use Rattle.csv.specs.declared.record.ByteRecord.{ByteRecord as Record};

@@ -2,13 +2,10 @@
 
 ghost use Rattle.std.specs.Prelude.{◌≡◌, ◌++◌, OnOk, IfOk, string_bytes};
 ghost use Rattle.std.specs.FinMap as finmap;
-ghost use Rattle.office_files.specs.Sheet.{interval_columns, ped_columns, phases_section};
-ghost use Rattle.office_files.specs.Sheet.{sequences_section, splits_section, patterns_section};
-ghost use Rattle.office_files.specs.Sheet.{sections, title, phase_line, sequence_line, split_line};
-ghost use Rattle.office_files.specs.Sheet.{pattern_line, sheet_text};
+ghost use Rattle.office_files.specs.Sheet.{interval_columns, ped_columns, phases_section, sequences_section, splits_section, patterns_section, sections, title, phase_line, sequence_line, split_line, pattern_line, sheet_text};
 
 use crate::cells::{push_flag, push_number, push_numbers, push_tenths};
-use draft_state::revision::Revision;
+use signal_records::revision::Revision;
 use signal_records::{InterId, NoMemory, Ped, Phase, PhaseNo, Row, TimingSet, Words, mode_code};
 use std::alloc::Global;
 use std::fmt::Write;

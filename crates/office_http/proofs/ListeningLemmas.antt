@@ -10,9 +10,7 @@ use Rattle.office_http.specs.Protocol.{office_protocol}
 use Rattle.office_http.specs.declared.listening.ListenCounts.{ListenCounts}
 use Rattle.office_http.specs.declared.listening.ServeStop.{ServeStop}
 use Rattle.office_http.specs.declared.listening.ServeStop.TheVariants as stop
-use Rattle.office_http_framing.specs.{Asks.Asks, Asks.IsAwaited, Asks.OnlyAsks, Ends.Told, Ends.no_calls, Limits.longest_request, Serve.Did, Serve.Ends}
-use Rattle.office_http_framing.specs.{Serve.TellsFault, Serve.Untouched, Serve.ends_of, Stops.KeepsState, Stops.Storage, Stops.moment_of}
-use Rattle.office_http_framing.specs.{declared.engine.Served.Served, declared.engine.ServeFault.ServeFault}
+use Rattle.office_http_framing.specs.{Asks.Asks, Asks.IsAwaited, Asks.OnlyAsks, Ends.Told, Ends.no_calls, Limits.longest_request, Serve.Did, Serve.Ends, Serve.TellsFault, Serve.Untouched, Serve.ends_of, Stops.KeepsState, Stops.Storage, Stops.moment_of, declared.engine.Served.Served, declared.engine.ServeFault.ServeFault}
 use Rattle.office_http_framing.specs.declared.engine.ServeFault.TheVariants.{NoMemory}
 
 -- what holds where the result is no error

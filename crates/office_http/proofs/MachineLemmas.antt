@@ -3,8 +3,7 @@ use Rattle.std.proofs.Common.{◌≡◌, ◌≢◌, ◌⊎◌, inl, inr, ℕ, Li
 use Rattle.std.specs.Prelude.{Result, Ok, Err, IfOk}
 use Rattle.office_tables_shelf.specs.{Content.Content, declared.counts.WriteCounts.WriteCounts}
 use Rattle.office_desk.specs.{Answers.AnswersAny, Changes.IsQueryCommand, Changes.IsRefused, Changes.RiseAtMost, StandFor.StandForSound}
-use Rattle.office_machine.specs.{Office.Office, Step.Step, Step.answered, declared.command.Command.Command}
-use Rattle.office_machine.specs.{declared.refusal.Refusal.TheVariants.Unavailable, declared.reply.Reply.Reply}
+use Rattle.office_machine.specs.{Office.Office, Step.Step, Step.answered, declared.command.Command.Command, declared.refusal.Refusal.TheVariants.Unavailable, declared.reply.Reply.Reply}
 use Rattle.office_machine.specs.declared.reply.Reply.TheVariants.{Refused}
 use Rattle.office_desk.proofs.Writes.{no_rise}
 use Rattle.office_http_responses.specs.{Answers.answer_bytes, Faults.ask_fault_text}

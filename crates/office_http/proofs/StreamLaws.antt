@@ -1,8 +1,7 @@
 -- How a run over requests is a run of the office machine over their commands, and so keeps its laws.
 use Rattle.std.proofs.Common.{◌≡◌, ◌⊎◌, ◌++◌, ℕ, List, [], ◌∷◌, inl, inr, refl, sym, ap, subst}
 use Rattle.std.specs.Prelude.{Result, Ok, Err}
-use Rattle.office_machine.specs.{Office.IsSound, Office.Office, Step.AreSound, Step.Run, declared.command.Command.Command}
-use Rattle.office_machine.specs.{declared.refusal.Refusal.TheVariants.Unavailable, declared.reply.Reply.Reply}
+use Rattle.office_machine.specs.{Office.IsSound, Office.Office, Step.AreSound, Step.Run, declared.command.Command.Command, declared.refusal.Refusal.TheVariants.Unavailable, declared.reply.Reply.Reply}
 use Rattle.office_machine.specs.declared.reply.Reply.TheVariants.{Refused}
 use Rattle.office_desk.proofs.{RegisterLaws.runs_register, Repeats.runs_repeat, Street.keeps_the_street, TimingLaw.runs_timing}
 use Rattle.office_tables_shelf.specs.{Content.Content, declared.counts.WriteCounts.WriteCounts}

@@ -3,8 +3,7 @@ use Rattle.std.proofs.Common.{◌≡◌, ℕ, zero, suc, ◌<◌, List, [], ◌�
 use Rattle.std.proofs.lemmas.Bool.Decides.{nat_tests}
 use Rattle.std.specs.Prelude.{nat_lt, if◌then◌else◌}
 use Rattle.std.specs.Io.KnownBytes.{Consumes}
-use Rattle.office_http_framing.specs.{Asks.Asks, Asks.IsAwaited, Asks.OnlyAsks, Asks.GivesWayBetween, Ends.NoneStops, Ends.Told, Ends.raised, Front.PlainRequest, Front.BeginsWithRequest}
-use Rattle.office_http_framing.specs.{Front.IsIncomplete, Stream.left_after, Stream.BeginsWith}
+use Rattle.office_http_framing.specs.{Asks.Asks, Asks.IsAwaited, Asks.OnlyAsks, Asks.GivesWayBetween, Ends.NoneStops, Ends.Told, Ends.raised, Front.PlainRequest, Front.BeginsWithRequest, Front.IsIncomplete, Stream.left_after, Stream.BeginsWith}
 use Rattle.office_http_framing.specs.declared.ends.Counts.{Counts}
 use Rattle.office_http_framing.proofs.StreamLemmas.{BeginsWith-append, BeginsWith-next}
 

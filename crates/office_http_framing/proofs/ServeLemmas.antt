@@ -4,8 +4,7 @@ use Rattle.std.specs.Prelude.{Option, Some, None, Result, Ok, Err, MatchResult, 
 use Rattle.std.specs.{Result.is_err, List.concat, Io.KnownBytes.Appends, Io.KnownBytes.Consumes, Io.KnownBytes.Keeps}
 use Rattle.std.proofs.KnownBytes.{Consumes-nil, Consumes-trans, Appends-nil, Appends-trans}
 use Rattle.std.proofs.lemmas.List.{append-nil, length-append, take-append-le, take_all}
-use Rattle.office_http_framing.specs.{declared.engine.Served.Served, declared.engine.ServeFault.ServeFault, Ends.AppendsPart, Ends.NoneStops, Ends.Told, Ends.raised}
-use Rattle.office_http_framing.specs.{Front.PlainRequest, Front.BeginsWithRequest, Front.IsIncomplete, Protocol.Protocol, Stream.left_after, Stream.unfinished, Stream.AreRequests, Stream.BeginsWith}
+use Rattle.office_http_framing.specs.{declared.engine.Served.Served, declared.engine.ServeFault.ServeFault, Ends.AppendsPart, Ends.NoneStops, Ends.Told, Ends.raised, Front.PlainRequest, Front.BeginsWithRequest, Front.IsIncomplete, Protocol.Protocol, Stream.left_after, Stream.unfinished, Stream.AreRequests, Stream.BeginsWith}
 use Rattle.office_http_framing.specs.Asks.{Asks, OwesNoAnswer}
 use Rattle.office_http_framing.specs.Serve.{BreaksOff, Did, Ends, EndsBy, Runs, SinkTook, ends_of, told_requests}
 use Rattle.office_http_framing.specs.declared.engine.ServeFault.TheVariants as stop

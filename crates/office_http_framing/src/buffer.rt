@@ -1,7 +1,6 @@
 //! The bytes that were read and are not yet dealt with.
 
-ghost use Rattle.std.specs.Prelude.{◌≡◌, ◌<◌, ◌≤◌, ◌-◌, ◌++◌, ℕ, List, [], length, drop, take};
-ghost use Rattle.std.specs.Prelude.{slice_range, vec_len, nat_lt, IfOk, MatchResult};
+ghost use Rattle.std.specs.Prelude.{◌≡◌, ◌<◌, ◌≤◌, ◌-◌, ◌++◌, ℕ, List, [], length, drop, take, slice_range, vec_len, nat_lt, IfOk, MatchResult};
 ghost use Rattle.std.specs.Io.{ReadsAtMost};
 ghost use Rattle.std.specs.Io.KnownBytes.{Consumes, Keeps, ReadConsumes};
 ghost use Rattle.office_http_framing.specs.Ends.{tallied_at};

@@ -3,8 +3,7 @@
 ghost use Rattle.std.specs.Prelude.{◌≡◌, ◌<◌, length, OnErr};
 ghost use Rattle.std.specs.Io.{ReadsAtMost, WritesAtMost};
 ghost use Rattle.std.specs.Io.KnownBytes.{ReadConsumes, WriteAppends};
-ghost use Rattle.office_http_framing.specs.Ends.{Grows, FailsOrGivesNone, WritesOrBreaksOff};
-ghost use Rattle.office_http_framing.specs.Ends.{StopsAtOnce, no_calls};
+ghost use Rattle.office_http_framing.specs.Ends.{Grows, FailsOrGivesNone, WritesOrBreaksOff, StopsAtOnce, no_calls};
 
 use std::io;
 use std::io::{Read, Write};

@@ -1,7 +1,6 @@
 //! The engine: it serves the requests of a stream, one after another.
 
-ghost use Rattle.std.specs.Prelude.{◌≡◌, ◌+◌, ◌-◌, ◌*◌, ◌≤◌, ℕ, List, IfErr};
-ghost use Rattle.std.specs.Prelude.{if◌then◌else◌};
+ghost use Rattle.std.specs.Prelude.{◌≡◌, ◌+◌, ◌-◌, ◌*◌, ◌≤◌, ℕ, List, IfErr, if◌then◌else◌};
 ghost use Rattle.office_http_framing.specs.Asks.{OnlyAsks};
 ghost use Rattle.office_http_framing.specs.Ends.{StopsAtOnce, WritesOrBreaksOff};
 ghost use Rattle.office_http_framing.specs.Front.{plain};

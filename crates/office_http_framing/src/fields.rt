@@ -4,9 +4,7 @@ ghost use Rattle.std.specs.Prelude.{◌≡◌, All, codes, length, map, reverse}
 ghost use Rattle.std.specs.List.{list_any};
 ghost use Rattle.httparse.specs.Spans.{IsHeaderWithin, header_bytes};
 ghost use Rattle.httparse.specs.Grammar.{skip_ows, trim_ows};
-ghost use Rattle.office_http_framing.specs.Fields.{eq_ignore_case, is_named, values_named};
-ghost use Rattle.office_http_framing.specs.Fields.{length_of, length_among, body_length};
-ghost use Rattle.office_http_framing.specs.Fields.{lists_close, closes};
+ghost use Rattle.office_http_framing.specs.Fields.{eq_ignore_case, is_named, values_named, length_of, length_among, body_length, lists_close, closes};
 
 use crate::front::Fault;
 use httparse::is_space_or_tab;

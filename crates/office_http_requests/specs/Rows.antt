@@ -1,6 +1,5 @@
 -- The rows of a body, and the changes that they spell.
-use Rattle.std.specs.Prelude.{◌≡◌, ℕ, List, [], ◌∷◌, map, Vec, Option, Some, None, option_map}
-use Rattle.std.specs.Prelude.{option_and_then, Result, IsOkAnd}
+use Rattle.std.specs.Prelude.{◌≡◌, ℕ, List, [], ◌∷◌, map, Vec, Option, Some, None, option_map, option_and_then, Result, IsOkAnd}
 use Rattle.std.specs.Borrow.{Bor}
 use Rattle.std.specs.declared.alloc.Global.{Global}
 use Rattle.serde_json.specs.Data.{Data, Items, no_items, item}

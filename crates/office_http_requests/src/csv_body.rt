@@ -2,8 +2,7 @@
 ghost use Rattle.std.specs.Prelude.{◌≡◌};
 ghost use Rattle.serde_json.specs.View.{view};
 ghost use Rattle.office_http_requests.specs.Asks.{MayWant, WantsMemoryOnlyIf, lent};
-ghost use Rattle.office_http_requests.specs.CsvBodies.{csv_in, csv_changes_in, csv_records_in};
-ghost use Rattle.office_http_requests.specs.CsvBodies.{GivesList};
+ghost use Rattle.office_http_requests.specs.CsvBodies.{csv_in, csv_changes_in, csv_records_in, GivesList};
 
 use crate::body;
 use cabinet_core::RecordCommand;

@@ -1,8 +1,7 @@
 //! The segments of a path, and the fields that they spell.
 ghost use Rattle.std.specs.Prelude.{◌≡◌, ◌≤◌, length, position, IfErr};
 ghost use Rattle.std.specs.List.{position_or_len, after_first};
-ghost use Rattle.office_http_requests.specs.Paths.{is_slash, segment as segment_of, id_at};
-ghost use Rattle.office_http_requests.specs.Paths.{order_at, day_at};
+ghost use Rattle.office_http_requests.specs.Paths.{is_slash, segment as segment_of, id_at, order_at, day_at};
 
 use crate::value::day_spelled;
 use cabinet_core::Day;

@@ -3,8 +3,7 @@
 ghost use Rattle.std.specs.Prelude.{IsOk};
 ghost use Rattle.serde_json.specs.View.{view};
 ghost use Rattle.office_http_requests.specs.Asks.{Gives, WantsMemoryOnlyIf};
-ghost use Rattle.office_http_requests.specs.Recording.{inspection_in, opening_in, used_in};
-ghost use Rattle.office_http_requests.specs.Recording.{closing_in, delivery_in};
+ghost use Rattle.office_http_requests.specs.Recording.{inspection_in, opening_in, used_in, closing_in, delivery_in};
 
 use crate::body as keys;
 use cabinet_core::{Closing, Delivery, Inspection, Opening, UsedLine};

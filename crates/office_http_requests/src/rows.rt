@@ -1,14 +1,11 @@
 //! The rows of a body: an array of arrays of texts, each of which spells a change.
-ghost use Rattle.std.specs.Prelude.{◌≡◌, ◌≤◌, [], Any, IfOk, is_some, length, option_map};
-ghost use Rattle.std.specs.Prelude.{option_and_then, vec_capacity, vec_len};
+ghost use Rattle.std.specs.Prelude.{◌≡◌, ◌≤◌, [], Any, IfOk, is_some, length, option_map, option_and_then, vec_capacity, vec_len};
 ghost use Rattle.std.specs.List.{list_all};
 ghost use Rattle.serde_json.specs.Find.{get, as_array, as_str};
 ghost use Rattle.serde_json.specs.View.{view, items_view};
 ghost use Rattle.office_http_requests.specs.Asks.{Gives, MayWant, WantsMemoryOnlyIf};
 ghost use Rattle.office_http_faults.specs.Fields.{field_name};
-ghost use Rattle.office_http_requests.specs.Rows.{texts_in, rows_in, changes_spelled, changes_in};
-ghost use Rattle.office_http_requests.specs.Rows.{rows_seen};
-ghost use Rattle.office_http_requests.specs.Rows.{PutsListAt, ShowsTexts, ShowsRows};
+ghost use Rattle.office_http_requests.specs.Rows.{texts_in, rows_in, changes_spelled, changes_in, rows_seen, PutsListAt, ShowsTexts, ShowsRows};
 
 use draft_core::changes::Changes;
 use office_files::told_of_record;

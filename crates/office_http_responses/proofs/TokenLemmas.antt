@@ -1,7 +1,6 @@
 -- The tokens of lists and objects.
 use Rattle.std.proofs.Common.{◌≡◌, ℕ, List, [], ◌∷◌, ◌++◌, map, flat_map, Ok, refl, sym, ap, ◌∙◌, append_assoc}
-use Rattle.json.specs.{Token.Token, Token.begin_array, Token.end_array, Token.begin_object, Token.end_object, Token.key, Tree.items_tokens}
-use Rattle.json.specs.{Tree.members_tokens, Written.Written, Written.Writes, Print.print}
+use Rattle.json.specs.{Token.Token, Token.begin_array, Token.end_array, Token.begin_object, Token.end_object, Token.key, Tree.items_tokens, Tree.members_tokens, Written.Written, Written.Writes, Print.print}
 use Rattle.serde_json.specs.{Data.Data, View.items_of, Written.items_outline, Written.members_outline, Written.compact_text}
 use Rattle.serde_json.proofs.Texts.{print-outline}
 use Rattle.office_http_responses.specs.{Json.keys, Json.array_of, Json.members, Writing.Added, Writing.member_tokens, Writing.tokens_of}

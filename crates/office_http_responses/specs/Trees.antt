@@ -3,8 +3,8 @@ use Rattle.std.specs.Prelude.{ℕ, List, [], ◌∷◌, codes}
 use Rattle.std.specs.FinMap.{values}
 use Rattle.serde_json.specs.Data.{Data}
 use Rattle.draft_core.specs.declared.refusal.DraftRefusal.TheVariants.{VerifyFailed}
-use Rattle.draft_state.specs.declared.state.Verdict.{Verdict}
-use Rattle.draft_state.specs.declared.state.Verdict.TheVariants.{NotDone, DoneWithError, DoneWithNoError}
+use Rattle.signal_records.specs.declared.state.Verdict.{Verdict}
+use Rattle.signal_records.specs.declared.state.Verdict.TheVariants.{NotDone, DoneWithError, DoneWithNoError}
 use Rattle.office_machine.specs.Refusal.{RefusalLine, line_of}
 use Rattle.office_machine.specs.States.{state_name}
 use Rattle.office_machine.specs.declared.refusal.Refusal.{Refusal}

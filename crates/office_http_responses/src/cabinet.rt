@@ -3,9 +3,7 @@ ghost use Rattle.std.specs.Prelude.{map, flat_map};
 ghost use Rattle.std.specs.List.{filter};
 ghost use Rattle.office_files.specs.Records.{is_line_of};
 ghost use Rattle.office_http_responses.specs.Json.{array_of};
-ghost use Rattle.office_http_responses.specs.RegisterTrees.{inspection_tree, order_members};
-ghost use Rattle.office_http_responses.specs.RegisterTrees.{order_tree, used_tree, uses_tree};
-ghost use Rattle.office_http_responses.specs.RegisterTrees.{cabinet_tree};
+ghost use Rattle.office_http_responses.specs.RegisterTrees.{inspection_tree, order_members, order_tree, used_tree, uses_tree, cabinet_tree};
 ghost use Rattle.office_http_responses.specs.Writing.{Adds, AddsTree, member_tokens, tokens_of};
 
 use crate::writing::Scalar::{Day, Number, Text};

@@ -2,9 +2,7 @@
 ghost use Rattle.std.specs.Prelude.{◌≡◌, ◌≢◌, IfOk};
 ghost use Rattle.serde_json.specs.Written.{compact_text};
 ghost use Rattle.office_http_faults.specs.declared.fault.AskFault.TheVariants.{NoMemory};
-ghost use Rattle.office_http_responses.specs.Faults.{line_of, first_numbered, kind_numbered};
-ghost use Rattle.office_http_responses.specs.Faults.{framing_kind, fault_tree, fault_bytes};
-ghost use Rattle.office_http_responses.specs.Faults.{ask_fault_text, framing_fault_text, IsFault};
+ghost use Rattle.office_http_responses.specs.Faults.{line_of, first_numbered, kind_numbered, framing_kind, fault_tree, fault_bytes, ask_fault_text, framing_fault_text, IsFault};
 ghost use Rattle.office_http_responses.specs.Writing.{AddsTree};
 
 use crate::answer::CONTENT_ROOM;

@@ -1,8 +1,6 @@
 //! Replies, in JSON.
 ghost use Rattle.std.specs.Prelude.{◌≡◌};
-ghost use Rattle.office_http_responses.specs.Trees.{tree_of, csv_tree_of, tree_in, refusal_tree};
-ghost use Rattle.office_http_responses.specs.Trees.{state_tree, timing_tree, draft_tree};
-ghost use Rattle.office_http_responses.specs.Trees.{verdict_name};
+ghost use Rattle.office_http_responses.specs.Trees.{tree_of, csv_tree_of, tree_in, refusal_tree, state_tree, timing_tree, draft_tree, verdict_name};
 ghost use Rattle.office_http_responses.specs.Json.{or_null, text};
 ghost use Rattle.office_http_responses.specs.RegisterTrees.{overdue_tree};
 ghost use Rattle.office_http_responses.specs.Writing.{AddsTree, scalar_tree};

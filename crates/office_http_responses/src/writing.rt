@@ -2,8 +2,7 @@
 ghost use Rattle.std.specs.Prelude.{◌≡◌, [], ◌∷◌, map, flat_map, option_map};
 ghost use Rattle.office_http_responses.specs.Json.{keys, array_of, or_null, text as text_tree};
 ghost use Rattle.office_http_responses.specs.RegisterTrees.{day_tree};
-ghost use Rattle.office_http_responses.specs.Writing.{Adds, AddsTree, entry_of, member_tokens};
-ghost use Rattle.office_http_responses.specs.Writing.{scalar_tree, tokens_of};
+ghost use Rattle.office_http_responses.specs.Writing.{Adds, AddsTree, entry_of, member_tokens, scalar_tree, tokens_of};
 
 use crate::day::date_in_json;
 use cabinet_core::{Date, Day};

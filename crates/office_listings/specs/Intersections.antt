@@ -1,8 +1,8 @@
 -- The list of the intersections, as a text and as CSV.
 use Rattle.std.specs.Prelude.{ℕ, List, [], ◌∷◌, ◌++◌, length, map, flat_map, codes, decimal, Option, Some, None}
-use Rattle.draft_state.specs.declared.state.Holder.{Holder}
-use Rattle.draft_state.specs.declared.state.Stage.{Stage}
-use Rattle.draft_state.specs.declared.state.Stage.TheVariants.{Transaction, Verify, Done}
+use Rattle.signal_records.specs.declared.state.Holder.{Holder}
+use Rattle.signal_records.specs.declared.state.Stage.{Stage}
+use Rattle.signal_records.specs.declared.state.Stage.TheVariants.{Transaction, Verify, Done}
 use Rattle.office_files.specs.Csv.{csv_text}
 use Rattle.office_machine.specs.declared.intersections.ListedIntersection.{ListedIntersection}
 use Rattle.office_listings.specs.Columns.{left_aligned, number_in, count_line}

@@ -8,7 +8,7 @@ use Rattle.draft_core.specs.Transaction.{TimingSide}
 pub use Rattle.draft_core.specs.Sound.{no_timing, Version, today, version_1, AreRecordsIn, AreRecords, IsSoundDraftIn, IsSoundDraft}
 use Rattle.cabinet_core.specs.Register.{Register}
 use Rattle.cabinet_core.specs.Sound.{IsSoundRegister}
-use Rattle.draft_state.specs.declared.revision.TheConstants.{LAST_REVISION}
+use Rattle.signal_records.specs.declared.revision.TheConstants.{LAST_REVISION}
 
 -- an intersection of the office
 pub record Intersection : Type 0 where

@@ -1,7 +1,7 @@
 -- The names of the states of the transaction.
 use Rattle.std.specs.Prelude.{ℕ, List, codes}
-use Rattle.draft_state.specs.declared.state.DbState.{DbState}
-use Rattle.draft_state.specs.declared.state.DbState.TheVariants.{Normal, Transaction, Verify, Done}
+use Rattle.signal_records.specs.declared.state.DbState.{DbState}
+use Rattle.signal_records.specs.declared.state.DbState.TheVariants.{Normal, Transaction, Verify, Done}
 
 -- the name of a state, as `dbCreateTransaction` has it
 abbrev pub state_name : DbState → List ℕ

@@ -5,7 +5,7 @@ use Rattle.std.specs.Ordering.{eq_by_cmp}
 use Rattle.office_files.specs.Changes.{changes_of}
 use Rattle.office_files.specs.declared.fault.CsvFault.{CsvFault}
 use Rattle.signal_records.specs.Key.{key_cmp}
-use Rattle.draft_state.specs.ChangedRows.{changed_key}
+use Rattle.signal_records.specs.ChangedRows.{changed_key}
 use Rattle.signal_records.specs.declared.key.Key.{Key}
 use Rattle.signal_records.specs.declared.key.Key.TheVariants as key
 use Rattle.signal_records.specs.declared.record.Change.{Change}

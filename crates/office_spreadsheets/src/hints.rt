@@ -2,11 +2,7 @@
 //! be.
 
 ghost use Rattle.std.specs.Prelude.{◌≡◌, ◌≤◌, length};
-ghost use Rattle.office_spreadsheets.specs.Hints.{field_at, field_words, field_values, hint_at};
-ghost use Rattle.office_spreadsheets.specs.Hints.{hint_by};
-ghost use Rattle.office_spreadsheets.specs.Hints.{hint_ending, hint_found, hint_name, hint_values};
-ghost use Rattle.office_spreadsheets.specs.Hints.{key_field, pattern_field};
-ghost use Rattle.office_spreadsheets.specs.Hints.{phase_field, seq_field, split_field, widths};
+ghost use Rattle.office_spreadsheets.specs.Hints.{field_at, field_words, field_values, hint_at, hint_by, hint_ending, hint_found, hint_name, hint_values, key_field, pattern_field, phase_field, seq_field, split_field, widths};
 
 use crate::kinds::RowKind;
 use signal_records::RowFault;

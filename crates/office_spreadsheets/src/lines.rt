@@ -1,10 +1,7 @@
 //! On which line of a CSV file each of its records begins.
 
 ghost use Rattle.std.specs.Prelude.{◌≡◌, ◌<◌, ◌-◌, ◌^◌, IfOk};
-ghost use Rattle.office_spreadsheets.specs.RecordLines.{after_byte, after_plain, begins_line};
-ghost use Rattle.office_spreadsheets.specs.RecordLines.{begins_record, is_mark, line_with};
-ghost use Rattle.office_spreadsheets.specs.RecordLines.{record_lines};
-ghost use Rattle.office_spreadsheets.specs.RecordLines.{unmarked};
+ghost use Rattle.office_spreadsheets.specs.RecordLines.{after_byte, after_plain, begins_line, begins_record, is_mark, line_with, record_lines, unmarked};
 
 use signal_records::NoMemory;
 use std::alloc::Global;

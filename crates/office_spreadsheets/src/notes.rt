@@ -1,12 +1,10 @@
 //! Notes on records that put or remove a key again.
 
 ghost use Rattle.std.specs.Prelude.{◌≡◌, ◌++◌, length, IfOk, OnOk, string_bytes};
-ghost use Rattle.office_spreadsheets.specs.Notes.{deed, key_words, note_on, notes_in};
-ghost use Rattle.office_spreadsheets.specs.Notes.{notes_within, record_word};
+ghost use Rattle.office_spreadsheets.specs.Notes.{deed, key_words, note_on, notes_in, notes_within, record_word};
 
-use draft_state::changed_key;
 use office_files::{CsvFault, read_timing_csv};
-use signal_records::{Change, Key, NoMemory};
+use signal_records::{Change, Key, NoMemory, changed_key};
 use std::alloc::{AllocError, Global};
 use std::collections::BTreeMap;
 use std::fmt::Write;

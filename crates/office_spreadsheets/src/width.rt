@@ -2,8 +2,7 @@
 
 ghost use Rattle.std.specs.Prelude.{◌≡◌, drop, take};
 ghost use Rattle.signal_records.specs.Reading.{texts};
-ghost use Rattle.office_spreadsheets.specs.Padded.{are_blank, key_width, phase_width};
-ghost use Rattle.office_spreadsheets.specs.Padded.{record_width, removal_width, unpadded, width_of};
+ghost use Rattle.office_spreadsheets.specs.Padded.{are_blank, key_width, phase_width, record_width, removal_width, unpadded, width_of};
 
 /// The fields up to a width; all, where there are no more.
 fn front<'f, 'a>(fields: &'f [&'a [u8]], width: usize) -> &'f [&'a [u8]]

@@ -5,7 +5,7 @@ use Rattle.sqlite_rules.specs.Lists.{Has}
 use Rattle.sqlite.specs.{Tree.Trees, Effect.Database, Effect.IsDatabase, State.State, State.Survives}
 use Rattle.signal_records.specs.{Within.version_1_limits, declared.record.Change.Change, declared.record.Change.TheVariants.Put}
 use Rattle.signal_records.specs.declared.record.Change.TheVariants.{Remove}
-use Rattle.draft_state.specs.ChangedRows.{left_by}
+use Rattle.signal_records.specs.ChangedRows.{left_by}
 use Rattle.office_tables_shelf.specs.{Cells.TableRows, Cells.null, Rows.left_columns_in, Change.changed_by, Change.changed, Content.Content}
 use Rattle.office_tables_shelf.specs.declared.rows.RowChange.{RowChange}
 use Rattle.office_tables_statements.specs.{Calls.IsHonest, Calls.IsReady, Calls.Keeps, Stored.content_of, Stored.content_now}

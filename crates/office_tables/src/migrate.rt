@@ -5,15 +5,9 @@ ghost use Rattle.sqlite.specs.State.{HasCleanDisk, Survives};
 ghost use Rattle.sqlite.specs.Held.{state};
 ghost use Rattle.office_tables_statements.specs.Stored.{content_now};
 ghost use Rattle.office_tables_statements.specs.Calls.{IsHonest, IsOffice, StandsOn, StaysOpen};
-ghost use Rattle.office_tables.specs.Migrate.{KeepNoVersion, IsChangedToday, IsSpelledToday};
-ghost use Rattle.office_tables.specs.Migrate.{MayBecome, WritesToday, WritesAllToday, Migrates};
-ghost use Rattle.office_tables.specs.Migrate.{AreNeither, Brings, ShowsNeither, StaysIdle};
-ghost use Rattle.office_tables.specs.Migrate.{TellsVersion, TellsFormerDamage, TellsDamage};
-ghost use Rattle.office_tables_open.specs.Promises.{WasHonest, StaysReady, LeavesNoMore};
-ghost use Rattle.office_tables_open.specs.Promises.{KeepsTrees};
-ghost use Rattle.office_tables_open.specs.Promises.{KeepsCommitted, Commits};
+ghost use Rattle.office_tables.specs.Migrate.{KeepNoVersion, IsChangedToday, IsSpelledToday, MayBecome, WritesToday, WritesAllToday, Migrates, AreNeither, Brings, ShowsNeither, StaysIdle, TellsVersion, TellsFormerDamage, TellsDamage};
+ghost use Rattle.office_tables_open.specs.Promises.{WasHonest, StaysReady, LeavesNoMore, KeepsTrees, KeepsCommitted, Commits, IsArrangedIfClean};
 ghost use Rattle.office_tables_open.specs.Version.{AreToday};
-ghost use Rattle.office_tables_open.specs.Promises.{IsArrangedIfClean};
 
 use office_tables_changes::change::change_rows;
 use office_tables_migration::listing::{draft_rows, timing_rows};

@@ -4,12 +4,10 @@ ghost use Rattle.std.specs.Prelude.{◌≡◌, true, false, Ok, Err, IfOk, IfErr
 ghost use Rattle.sqlite.specs.State.{Survives};
 ghost use Rattle.sqlite.specs.Held.{state};
 ghost use Rattle.office_tables_statements.specs.Calls.{IsHonest, StaysOpen};
-ghost use Rattle.office_tables.specs.Migrate.{Brings, StandsAnew, MayBecome};
-ghost use Rattle.office_tables.specs.Migrate.{StaysIdle, TellsVersion, TellsDamage};
+ghost use Rattle.office_tables.specs.Migrate.{Brings, StandsAnew, MayBecome, StaysIdle, TellsVersion, TellsDamage};
 ghost use Rattle.office_tables_open.specs.Promises.{KeepsCommitted, Settles, IsArrangedIfClean};
 ghost use Rattle.office_tables_open.specs.SqlShelf.{IsCurrent};
-ghost use Rattle.office_tables_open.specs.Opening.{HasOtherVersion, HasRowsAlone, StaysClean};
-ghost use Rattle.office_tables_open.specs.Opening.{IsOpened, IsRefused};
+ghost use Rattle.office_tables_open.specs.Opening.{HasOtherVersion, HasRowsAlone, StaysClean, IsOpened, IsRefused};
 ghost use Rattle.office_tables_schema.specs.Schema.{office_schema};
 
 use crate::migrate::migrate;

@@ -6,8 +6,7 @@ ghost use Rattle.sqlite.specs.Held.{state};
 ghost use Rattle.office_tables_shelf.specs.Change.{changed, changed_by};
 ghost use Rattle.office_tables_statements.specs.Stored.{content_now};
 ghost use Rattle.office_tables_statements.specs.Calls.{IsHonest, IsOffice, StandsOn, TurnsTo};
-ghost use Rattle.office_tables_open.specs.Promises.{WasHonest, KeepsVersion, LeavesNoMore};
-ghost use Rattle.office_tables_open.specs.Promises.{HoldUnder};
+ghost use Rattle.office_tables_open.specs.Promises.{WasHonest, KeepsVersion, LeavesNoMore, HoldUnder};
 
 use office_tables_shelf::rows::RowChange;
 use office_tables_sql::{draft, intersection, part, stored_row};

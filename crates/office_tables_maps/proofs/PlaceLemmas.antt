@@ -1,13 +1,10 @@
 -- Trees of timing and draft rows: each row stays under its own key.
 use Rattle.std.proofs.Common.{◌≡◌, ℕ, ◌==◌, Bool, true, false, List, [], ◌∷◌, filter, not, cond, Option, Some, None, refl, sym, ap, ◌∙◌}
-use Rattle.std.specs.{List.AllByRecursion, Map.remove_entry}
-use Rattle.std.specs.{Ordering.is_eq, Prelude.IfSome}
-use Rattle.signal_records.specs.{Row.key_of, declared.key.Key.Key}
-use Rattle.signal_records.specs.{declared.record.Row.Row, declared.record.Change.Change, declared.record.Change.TheVariants.Put}
+use Rattle.std.specs.{List.AllByRecursion, Map.remove_entry, Ordering.is_eq, Prelude.IfSome}
+use Rattle.signal_records.specs.{Row.key_of, declared.key.Key.Key, declared.record.Row.Row, declared.record.Change.Change, declared.record.Change.TheVariants.Put}
 use Rattle.signal_records.specs.declared.record.Change.TheVariants.{Remove}
-use Rattle.draft_state.specs.ChangedRows.{changed_key, left_by}
-use Rattle.office_tables_shelf.specs.{Cells.Cell, Cells.cells_cmp, Cells.tree_rows, Content.rows_but, Rows.timing_key, Rows.timing_columns}
-use Rattle.office_tables_shelf.specs.{Rows.left_columns, Rows.draft_key, Rows.draft_columns, Shelf.is_of}
+use Rattle.signal_records.specs.ChangedRows.{changed_key, left_by}
+use Rattle.office_tables_shelf.specs.{Cells.Cell, Cells.cells_cmp, Cells.tree_rows, Content.rows_but, Rows.timing_key, Rows.timing_columns, Rows.left_columns, Rows.draft_key, Rows.draft_columns, Shelf.is_of}
 use Rattle.office_tables_maps.specs.{MapShelf.place_key, MapShelf.change_at, Places.under_by, declared.place.Place.Place}
 use Rattle.office_tables_maps.specs.declared.place.{LinePlace.LinePlace, RecordPlace.RecordPlace}
 use Rattle.office_tables_shelf.proofs.{CabinetLemmas.of_number}

@@ -1,39 +1,20 @@
 -- What is found between the places of an intersection is what it has.
-use Rattle.std.proofs.Common.{◌≡◌, ◌≤◌, inl, inr, ℕ, ◌==◌, Bool, true, false, eqb-true, true≢false}
-use Rattle.std.proofs.Common.{not, ◌&&◌, List, [], ◌∷◌, ◌++◌, map, cond, if◌then◌else◌, Ordering}
-use Rattle.std.proofs.Common.{nat_cmp, refl, sym, ap, subst, ◌∙◌, arith}
+use Rattle.std.proofs.Common.{◌≡◌, ◌≤◌, inl, inr, ℕ, ◌==◌, Bool, true, false, eqb-true, true≢false, not, ◌&&◌, List, [], ◌∷◌, ◌++◌, map, cond, if◌then◌else◌, Ordering, nat_cmp, refl, sym, ap, subst, ◌∙◌, arith}
 use Rattle.std.proofs.lemmas.{Bool.Decides.nat_tests, Bool.cases_Bool, List.append-nil}
-use Rattle.std.specs.{Bool.⊤, BTreeMap.Range.range_contains, BTreeMap.Range.entries_between}
-use Rattle.std.specs.{FinMap.Entries.where_key, Int.IsInRange}
-use Rattle.std.specs.{List.AllByRecursion, List.Sorted.IsStrictlySortedBy, Map.keys_of}
-use Rattle.std.specs.{Ordering.is_gt, Ordering.is_le, Ordering.is_lt}
-use Rattle.std.specs.{Ordering.ordering_then, declared.cmp.Ordering.TheVariants.Less}
-use Rattle.std.specs.{declared.ops.Bound.Bound}
+use Rattle.std.specs.{Bool.⊤, BTreeMap.Range.range_contains, BTreeMap.Range.entries_between, FinMap.Entries.where_key, Int.IsInRange, List.AllByRecursion, List.Sorted.IsStrictlySortedBy, Map.keys_of, Ordering.is_gt, Ordering.is_le, Ordering.is_lt, Ordering.ordering_then, declared.cmp.Ordering.TheVariants.Less, declared.ops.Bound.Bound}
 use Rattle.std.specs.declared.cmp.Ordering.TheVariants.{Equal, Greater}
-use Rattle.signal_records.specs.{Key.key_cmp, Row.key_of, Within.current_limits, Within.IsKeyWithin}
-use Rattle.signal_records.specs.{Within.IsRowWithin, declared.key.Key.Key}
+use Rattle.signal_records.specs.{Key.key_cmp, Row.key_of, Within.current_limits, Within.IsKeyWithin, Within.IsRowWithin, declared.key.Key.Key}
 use Rattle.signal_records.specs.declared.key.Key.TheVariants.{Phase, Seq, Split, Pattern}
 use Rattle.cabinet_core.specs.Within.{IsUsedLineWithin}
-use Rattle.office_tables_shelf.specs.{Cells.Cell, Cells.cells_cmp, Cells.tree_rows, Rows.timing_key}
-use Rattle.office_tables_shelf.specs.{Rows.timing_columns, Rows.left_columns, Rows.draft_key}
-use Rattle.office_tables_shelf.specs.{Rows.draft_columns}
+use Rattle.office_tables_shelf.specs.{Cells.Cell, Cells.cells_cmp, Cells.tree_rows, Rows.timing_key, Rows.timing_columns, Rows.left_columns, Rows.draft_key, Rows.draft_columns, CabinetReads.ListsUsed, Shelf.ListsTiming, Shelf.ListsDraft, Shelf.is_of, Shelf.rows_of}
 use Rattle.office_tables_shelf.specs.CabinetRows.{used_key, used_columns}
-use Rattle.office_tables_shelf.specs.{CabinetReads.ListsUsed, Shelf.ListsTiming, Shelf.ListsDraft}
-use Rattle.office_tables_shelf.specs.{Shelf.is_of, Shelf.rows_of}
 use Rattle.office_tables_maps.specs.MapCabinet.{IsUsedAt, line_place_key, with_used}
-use Rattle.office_tables_maps.specs.MapShelf.{IsRowAt, IsLeftAt, place_key, with_timing}
-use Rattle.office_tables_maps.specs.MapShelf.{with_drafts}
-use Rattle.office_tables_maps.specs.Places.{first_place, last_place, all_places, first_record}
-use Rattle.office_tables_maps.specs.Places.{last_record, all_records, first_line, last_line}
-use Rattle.office_tables_maps.specs.Places.{all_lines, under_by}
-use Rattle.office_tables_maps.specs.declared.place.{LinePlace.LinePlace, Place.Place}
-use Rattle.office_tables_maps.specs.declared.place.{RecordPlace.RecordPlace}
-use Rattle.office_tables_shelf.proofs.{CabinetLemmas.of_number, ListLemmas.cells_of}
-use Rattle.office_tables_shelf.proofs.{TreeLemmas.ranged_cmp, TreeLemmas.then_last}
-use Rattle.office_tables_maps.specs.PlaceFacts.{record_place_cmp, line_place_cmp, line_order, place_cmp}
-use Rattle.office_tables_maps.specs.PlaceFacts.{place_order}
-use Rattle.office_tables_maps.proofs.PlaceLemmas.{change_of, draft_shows, line_inter, of_place}
-use Rattle.office_tables_maps.proofs.PlaceLemmas.{place_inter, row_of}
+use Rattle.office_tables_maps.specs.MapShelf.{IsRowAt, IsLeftAt, place_key, with_timing, with_drafts}
+use Rattle.office_tables_maps.specs.Places.{first_place, last_place, all_places, first_record, last_record, all_records, first_line, last_line, all_lines, under_by}
+use Rattle.office_tables_maps.specs.declared.place.{LinePlace.LinePlace, Place.Place, RecordPlace.RecordPlace}
+use Rattle.office_tables_shelf.proofs.{CabinetLemmas.of_number, ListLemmas.cells_of, TreeLemmas.ranged_cmp, TreeLemmas.then_last}
+use Rattle.office_tables_maps.specs.PlaceFacts.{record_place_cmp, line_place_cmp, line_order, place_cmp, place_order}
+use Rattle.office_tables_maps.proofs.PlaceLemmas.{change_of, draft_shows, line_inter, of_place, place_inter, row_of}
 use Rattle.office_tables_maps.proofs.TreeRows.{tree_entries}
 
 -- What a walk found is all that it finds of a tree, once none of the entries is left that it began

@@ -1,20 +1,16 @@
 -- Trees of inspections and of orders: what an intersection has, and that no row of them is damaged.
 use Rattle.std.proofs.Common.{◌≡◌, ℕ, List, [], ◌∷◌, map, None, refl, sym, ap, subst, ◌∙◌}
-use Rattle.std.specs.{FinMap.entries, Int.IsInRange, List.AllByRecursion}
-use Rattle.std.specs.{List.Sorted.IsStrictlySortedBy, Map.keys_of}
+use Rattle.std.specs.{FinMap.entries, Int.IsInRange, List.AllByRecursion, List.Sorted.IsStrictlySortedBy, Map.keys_of}
 use Rattle.cabinet_core.specs.Within.{IsInspectionWithin, IsOrderWithin}
 use Rattle.cabinet_core.specs.declared.record.{Inspection.Inspection, Order.Order}
-use Rattle.office_tables_shelf.specs.CabinetReads.{HasAnyDamagedInspection, HasAnyDamagedOrder}
-use Rattle.office_tables_shelf.specs.CabinetReads.{IsOfOne, ListsInspections, ListsOrders}
+use Rattle.office_tables_shelf.specs.CabinetReads.{HasAnyDamagedInspection, HasAnyDamagedOrder, IsOfOne, ListsInspections, ListsOrders}
 use Rattle.office_tables_shelf.specs.CabinetRows.{inspection_columns, inspection_key, order_columns}
-use Rattle.office_tables_shelf.specs.{Cells.Cell, Cells.tree_rows, Content.Content, Content.rows_at}
-use Rattle.office_tables_shelf.specs.{Reads.HasDamagedRow, Shelf.rows_of}
+use Rattle.office_tables_shelf.specs.{Cells.Cell, Cells.tree_rows, Content.Content, Content.rows_at, Reads.HasDamagedRow, Shelf.rows_of}
 use Rattle.office_tables_shelf.specs.declared.rows.Table.{Table}
 use Rattle.office_tables_shelf.specs.declared.rows.Table.TheVariants as table
 use Rattle.office_tables_shelf.proofs.CabinetLemmas.{of_number}
 use Rattle.office_tables_shelf.proofs.{ListLemmas.cells_of, ListLemmas.where_all, ListedRows.listed_whole}
-use Rattle.office_tables_maps.specs.MapCabinet.{inspection_place_key, with_inspections, with_orders}
-use Rattle.office_tables_maps.specs.MapCabinet.{IsInspectionAt, IsOrderAt, IsRecordAt}
+use Rattle.office_tables_maps.specs.MapCabinet.{inspection_place_key, with_inspections, with_orders, IsInspectionAt, IsOrderAt, IsRecordAt}
 use Rattle.office_tables_maps.specs.Places.{all_records}
 use Rattle.office_tables_maps.specs.declared.place.RecordPlace.{RecordPlace}
 use Rattle.office_tables_maps.specs.PlaceFacts.{inspection_order, record_place_cmp}

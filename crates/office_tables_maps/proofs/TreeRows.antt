@@ -1,10 +1,7 @@
 -- Trees of records: how the numbers of their keys compare, the rows in their order, those that pass a test, and each under its own key.
 use Rattle.std.proofs.Common.{◌≡◌, inl, inr, Bool, List, [], ◌∷◌, map, filter, cond, Option, Some, None, IfSome, Ordering, T, refl, sym, ap, subst, subst₂, ◌∙◌}
 use Rattle.std.proofs.{lemmas.Bool.cases_Bool, lemmas.Map.Entries.entries_from_clone}
-use Rattle.std.specs.{BTreeMap.insert_entry, BTreeMap.is_at, FinMap.entries, FinMap.get, Option.option_map, FinMap.retain_keys, FinMap.get-retain_keys, FinMap.same_map}
-use Rattle.std.specs.{FinMap.Entries.is_sorted, FinMap.Entries.below_all, FinMap.Entries.find-where_key, List.AllByRecursion, List.AllZip}
-use Rattle.std.specs.{List.Sorted.IsStrictlySortedBy, Map.keys_of, Map.lookup, Ordering.is_eq, Ordering.is_lt, Ordering.match_ordering}
-use Rattle.std.specs.{declared.cmp.Ordering.TheVariants.Less, declared.cmp.Ordering.TheVariants.Equal}
+use Rattle.std.specs.{BTreeMap.insert_entry, BTreeMap.is_at, FinMap.entries, FinMap.get, Option.option_map, FinMap.retain_keys, FinMap.get-retain_keys, FinMap.same_map, FinMap.Entries.is_sorted, FinMap.Entries.below_all, FinMap.Entries.find-where_key, List.AllByRecursion, List.AllZip, List.Sorted.IsStrictlySortedBy, Map.keys_of, Map.lookup, Ordering.is_eq, Ordering.is_lt, Ordering.match_ordering, declared.cmp.Ordering.TheVariants.Less, declared.cmp.Ordering.TheVariants.Equal}
 use Rattle.std.specs.declared.cmp.Ordering.TheVariants.{Greater}
 use Rattle.std.specs.FinMap as finite
 use Rattle.office_tables_shelf.specs.Cells.{Cell, rows_by, tree_rows, cells_cmp}

@@ -1,9 +1,7 @@
 -- What a walk over all records has found so far, with what is left to it.
-use Rattle.std.proofs.Common.{◌≡◌, ◌==◌, ◌++◌, ℕ, true, false, cond, if◌then◌else◌, List, [], ◌∷◌}
-use Rattle.std.proofs.Common.{filter, Option, Some, None, refl, arith, append_assoc}
+use Rattle.std.proofs.Common.{◌≡◌, ◌==◌, ◌++◌, ℕ, true, false, cond, if◌then◌else◌, List, [], ◌∷◌, filter, Option, Some, None, refl, arith, append_assoc}
 use Rattle.std.proofs.lemmas.Bool.Decides.{nat_tests}
-use Rattle.cabinet_core.specs.{Orders.is_open, Overdue.greater, Overdue.latest_day}
-use Rattle.cabinet_core.specs.{declared.record.Inspection.Inspection, declared.record.Order.Order}
+use Rattle.cabinet_core.specs.{Orders.is_open, Overdue.greater, Overdue.latest_day, declared.record.Inspection.Inspection, declared.record.Order.Order}
 use Rattle.office_tables_maps.specs.Places.{records_under}
 use Rattle.office_tables_maps.specs.declared.place.RecordPlace.{RecordPlace}
 use Rattle.office_tables_maps.proofs.PlaceLemmas.{record_inter}

@@ -1,11 +1,7 @@
 -- The tables that maps of records stand for, and what is known of these.
 use Rattle.office_tables_shelf.specs.Content.{Content}
-use Rattle.office_tables_maps.specs.MapCabinet.{inspection_rows, order_rows, used_rows}
-use Rattle.office_tables_maps.specs.MapCabinet.{part_rows, delivery_rows}
-use Rattle.office_tables_maps.specs.MapCabinet.{AreInspectionsPlaced, AreOrdersPlaced}
-use Rattle.office_tables_maps.specs.MapCabinet.{AreUsedPlaced, ArePartsWithin, AreDeliveriesPlaced}
-use Rattle.office_tables_maps.specs.MapShelf.{intersection_rows, timing_rows, draft_rows}
-use Rattle.office_tables_maps.specs.MapShelf.{AreIntersectionsWithin, AreRowsPlaced, AreLeftPlaced}
+use Rattle.office_tables_maps.specs.MapCabinet.{inspection_rows, order_rows, used_rows, part_rows, delivery_rows, AreInspectionsPlaced, AreOrdersPlaced, AreUsedPlaced, ArePartsWithin, AreDeliveriesPlaced}
+use Rattle.office_tables_maps.specs.MapShelf.{intersection_rows, timing_rows, draft_rows, AreIntersectionsWithin, AreRowsPlaced, AreLeftPlaced}
 use Rattle.office_tables_maps.specs.declared.maps.Maps.TheInside.{Inside}
 
 -- the content of the tables that the maps stand for

@@ -4,15 +4,10 @@ ghost use Rattle.std.specs.FinMap as finite;
 ghost use Rattle.std.specs.List.{AllByRecursion};
 ghost use Rattle.cabinet_core.specs.Within.{IsInspectionWithin, IsOrderWithin, IsUsedLineWithin};
 ghost use Rattle.office_tables_shelf.specs.CabinetRows.{part_key, part_columns};
-ghost use Rattle.office_tables_shelf.specs.CabinetReads.{ListsInspections, ListsOrders};
-ghost use Rattle.office_tables_shelf.specs.CabinetReads.{ListsUsed, ListsParts};
-ghost use Rattle.office_tables_shelf.specs.CabinetReads.{IsHand, IsPartWithin};
+ghost use Rattle.office_tables_shelf.specs.CabinetReads.{ListsInspections, ListsOrders, ListsUsed, ListsParts, IsHand, IsPartWithin};
 ghost use Rattle.office_tables_shelf.specs.Places as place;
 ghost use Rattle.office_tables_shelf.specs.Places.{ReadsAt};
-ghost use Rattle.office_tables_maps.specs.MapCabinet.{with_inspections, with_orders, with_used};
-ghost use Rattle.office_tables_maps.specs.MapCabinet.{with_parts, part_rows, ArePartsWithin};
-ghost use Rattle.office_tables_maps.specs.MapCabinet.{AreInspectionsPlaced, AreOrdersPlaced};
-ghost use Rattle.office_tables_maps.specs.MapCabinet.{AreUsedPlaced};
+ghost use Rattle.office_tables_maps.specs.MapCabinet.{with_inspections, with_orders, with_used, with_parts, part_rows, ArePartsWithin, AreInspectionsPlaced, AreOrdersPlaced, AreUsedPlaced};
 
 use crate::place::{LinePlace, RecordPlace};
 use crate::under::copied_under;

@@ -3,21 +3,15 @@ ghost use Rattle.std.specs.Prelude.{◌≡◌, OnOk, IfOk};
 ghost use Rattle.std.specs.FinMap as finite;
 ghost use Rattle.std.specs.List.{AllByRecursion};
 ghost use Rattle.signal_records.specs.Within.{IsRowWithin, current_limits};
-ghost use Rattle.draft_state.specs.ChangedRows.{left_by};
+ghost use Rattle.signal_records.specs.ChangedRows.{left_by};
 ghost use Rattle.office_tables_shelf.specs.Content.{rows_but};
 ghost use Rattle.office_tables_shelf.specs.Rows.{timing_key, draft_key, draft_columns};
-ghost use Rattle.office_tables_shelf.specs.Shelf.{ListsIntersections, ListsTiming, ListsDraft};
-ghost use Rattle.office_tables_shelf.specs.Shelf.{CountsTiming, IsIntersectionWithin};
-ghost use Rattle.office_tables_maps.specs.MapShelf.{timing_rows, draft_rows};
-ghost use Rattle.office_tables_maps.specs.MapShelf.{change_at as left_at, AreRowsPlaced};
-ghost use Rattle.office_tables_maps.specs.MapShelf.{AreLeftPlaced, with_intersections};
-ghost use Rattle.office_tables_maps.specs.MapShelf.{with_timing, with_drafts};
-ghost use Rattle.office_tables_maps.specs.MapShelf.{AreIntersectionsWithin};
+ghost use Rattle.office_tables_shelf.specs.Shelf.{ListsIntersections, ListsTiming, ListsDraft, CountsTiming, IsIntersectionWithin};
+ghost use Rattle.office_tables_maps.specs.MapShelf.{timing_rows, draft_rows, change_at as left_at, AreRowsPlaced, AreLeftPlaced, with_intersections, with_timing, with_drafts, AreIntersectionsWithin};
 
 use crate::place::Place;
-use draft_state::changed_key;
 use office_tables_shelf::rows::IntersectionRow;
-use signal_records::{Change, InterId, Key, NoMemory, Row, key_is_within};
+use signal_records::{Change, InterId, Key, NoMemory, Row, changed_key, key_is_within};
 use std::alloc::Global;
 use std::collections::BTreeMap;
 

@@ -71,22 +71,15 @@ impl MapShelf {
 impl Shelf for MapShelf {
     ghost use Rattle.std.specs.Prelude.{◌≡◌, ℕ, OnOk, OnErr, IfOk, IfSome};
     ghost use Rattle.std.specs.List.{AllByRecursion};
-    ghost use Rattle.cabinet_core.specs.Within.{IsInspectionWithin, IsOrderWithin};
-    ghost use Rattle.cabinet_core.specs.Within.{IsUsedLineWithin, IsDeliveryWithin};
+    ghost use Rattle.cabinet_core.specs.Within.{IsInspectionWithin, IsOrderWithin, IsUsedLineWithin, IsDeliveryWithin};
     ghost use Rattle.signal_records.specs.Within.{IsRowWithin, current_limits};
     ghost use Rattle.office_tables_shelf.specs.Change.{changed_by};
     ghost use Rattle.office_tables_shelf.specs.Counts.{count_of, counts_after};
     ghost use Rattle.office_tables_shelf.specs.Rows.{IsIntersectionRow};
-    ghost use Rattle.office_tables_shelf.specs.CabinetReads.{ListsInspections, ListsOrders};
-    ghost use Rattle.office_tables_shelf.specs.CabinetReads.{ListsUsed, ListsParts};
-    ghost use Rattle.office_tables_shelf.specs.CabinetReads.{IsHand, IsPartWithin};
-    ghost use Rattle.office_tables_shelf.specs.CabinetReads.{HasAnyDamagedInspection};
-    ghost use Rattle.office_tables_shelf.specs.CabinetReads.{HasAnyDamagedOrder};
+    ghost use Rattle.office_tables_shelf.specs.CabinetReads.{ListsInspections, ListsOrders, ListsUsed, ListsParts, IsHand, IsPartWithin, HasAnyDamagedInspection, HasAnyDamagedOrder};
     ghost use Rattle.office_tables_shelf.specs.Places as place;
     ghost use Rattle.office_tables_shelf.specs.Places.{FindsAt};
-    ghost use Rattle.office_tables_shelf.specs.Shelf.{ReadsIntersection, ListsIntersections};
-    ghost use Rattle.office_tables_shelf.specs.Shelf.{ListsTiming, CountsTiming, ListsDraft};
-    ghost use Rattle.office_tables_shelf.specs.Shelf.{IsIntersectionWithin};
+    ghost use Rattle.office_tables_shelf.specs.Shelf.{ReadsIntersection, ListsIntersections, ListsTiming, CountsTiming, ListsDraft, IsIntersectionWithin};
     ghost use Rattle.office_tables_shelf.specs.Overdue.{last_day_in, ReadsLast};
     ghost use Rattle.office_tables_shelf.specs.OpenOrders.{orders_in, ReadsOpen};
     ghost use Rattle.office_tables_maps.specs.MapShelf.{IsFreeOfStore};

@@ -44,8 +44,7 @@ impl Model for Maps {
 }
 
 impl Maps {
-    ghost use Rattle.cabinet_core.specs.Within.{IsInspectionWithin, IsOrderWithin};
-    ghost use Rattle.cabinet_core.specs.Within.{IsUsedLineWithin, IsDeliveryWithin};
+    ghost use Rattle.cabinet_core.specs.Within.{IsInspectionWithin, IsOrderWithin, IsUsedLineWithin, IsDeliveryWithin};
     ghost use Rattle.office_tables_shelf.specs.CabinetReads.{IsHand};
     ghost use Rattle.office_tables_shelf.specs.Places as place;
     ghost use Rattle.office_tables_shelf.specs.Places.{FindsAt, ReadsAt};

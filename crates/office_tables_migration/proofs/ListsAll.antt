@@ -6,18 +6,15 @@ use Rattle.sqlite.specs.Order.{Row as SqlRow, column}
 use Rattle.sqlite_rules.specs.Lists.{Has}
 use Rattle.office_tables_shelf.specs.{Cells.Cell, Cells.null, Cells.number, Cells.text, declared.rows.Table.Table, Rows.body_in}
 use Rattle.office_tables_shelf.specs.Rows.{timing_key, draft_key, left_columns_in}
-use Rattle.office_tables_statements.specs.{Calls.AreOrdered, Calls.Reads, Listed.shown_key, Listed.shown_body, Stored.cells_at, Stored.content_of}
-use Rattle.office_tables_statements.specs.{Stored.cell_of, Tables.rows_at, Tables.row_shown}
+use Rattle.office_tables_statements.specs.{Calls.AreOrdered, Calls.Reads, Listed.shown_key, Listed.shown_body, Stored.cells_at, Stored.content_of, Stored.cell_of, Tables.rows_at, Tables.row_shown}
 use Rattle.office_tables_statements.specs.Tables.{places_from}
 use Rattle.office_tables_schema.specs.Schema.{office_schema}
 use Rattle.office_tables_shelf.proofs.{ListLemmas.stands, ListLemmas.where_all, RowLemmas.same_row}
 use Rattle.office_tables_statements.proofs.{ListedLemmas.is_in, StoredLists.lists, StoredLists.width}
 use Rattle.office_tables_migration.specs.{Former.shown_cells, Listing.ListsAll}
-use Rattle.signal_records.specs.{Row.key_of, Within.IsRowWithin, Within.IsChangeWithin, Within.version_1_limits}
-use Rattle.signal_records.specs.{declared.record.Change.Change, declared.record.Change.TheVariants.Put}
-use Rattle.signal_records.specs.{declared.record.Change.TheVariants.Remove, declared.record.Row.Row}
+use Rattle.signal_records.specs.{Row.key_of, Within.IsRowWithin, Within.IsChangeWithin, Within.version_1_limits, declared.record.Change.Change, declared.record.Change.TheVariants.Put, declared.record.Change.TheVariants.Remove, declared.record.Row.Row}
 use Rattle.signal_records.proofs.RowLaws.{are_version_1}
-use Rattle.draft_state.specs.ChangedRows.{left_by}
+use Rattle.signal_records.specs.ChangedRows.{left_by}
 
 -- the row of a text, in whichever intersection its first column says
 pub one_key : (row : SqlRow) (found : Row) (id mine : ℕ) (change : Change) → IsRowWithin version_1_limits found → IsChangeWithin version_1_limits change → cell_of (column row 4) ≡ text (body_in version_1_limits found)

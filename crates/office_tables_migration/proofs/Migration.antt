@@ -5,10 +5,7 @@ use Rattle.std.specs.FinMap as finite
 use Rattle.std.specs.FinMap.{get, insert, entries_sorted, get-entries, get-insert, get-empty, same_map, is_sorted}
 use Rattle.std.specs.{List.AllByRecursion, List.list_all, Ordering.is_eq, FinMap.Entries.below_all, Prelude.IfSome, Prelude.IsTrue}
 use Rattle.sqlite_rules.proofs.ListLemmas.{all_has, has_found}
-use Rattle.signal_records.specs.{PhaseList.is_phase_list, Row.key_of, Within.current_limits, Within.version_1_limits, Within.IsAnyPedWithin}
-use Rattle.signal_records.specs.{Within.IsRowWithin, Within.IsKeyWithin, Within.IsChangeWithin, Key.key_cmp, declared.key.Key.Key}
-use Rattle.signal_records.specs.{declared.limits.Limits.Limits, declared.record.Change.Change, declared.record.Change.TheVariants.Put}
-use Rattle.signal_records.specs.{declared.record.Change.TheVariants.Remove, declared.record.Ped.Ped, declared.record.Phase.Phase}
+use Rattle.signal_records.specs.{PhaseList.is_phase_list, Row.key_of, Within.current_limits, Within.version_1_limits, Within.IsAnyPedWithin, Within.IsRowWithin, Within.IsKeyWithin, Within.IsChangeWithin, Key.key_cmp, declared.key.Key.Key, declared.limits.Limits.Limits, declared.record.Change.Change, declared.record.Change.TheVariants.Put, declared.record.Change.TheVariants.Remove, declared.record.Ped.Ped, declared.record.Phase.Phase}
 use Rattle.signal_records.specs.declared.record.Row.{Row}
 use Rattle.signal_records.specs.TimingSet.{Rows as Set}
 use Rattle.signal_records.specs.declared.key.Key.TheVariants as key
@@ -17,9 +14,8 @@ use Rattle.signal_records.proofs.{Lists.is_phase_list_wider, RowLaws.are_version
 use Rattle.signal_rules.specs.{BeforeLead.HasNoLead, BeforeLead.violations_before_lead, Lookup.the_phase, Violations.violations_of}
 use Rattle.signal_rules.proofs.BeforeLead.{same_violations}
 use Rattle.draft_core.specs.DraftRows.{Said, silent, leaves, removes}
-use Rattle.draft_state.specs.ChangedRows.{left_by, changed_key}
-use Rattle.office_tables_shelf.specs.{Cells.Cell, Cells.text, Cells.TableRows, Cells.cells_cmp, Cells.rows_by, Change.changed_by}
-use Rattle.office_tables_shelf.specs.{Content.Content, Rows.timing_key, Rows.timing_columns_in, Rows.left_columns_in, Rows.body_in}
+use Rattle.signal_records.specs.ChangedRows.{left_by, changed_key}
+use Rattle.office_tables_shelf.specs.{Cells.Cell, Cells.text, Cells.TableRows, Cells.cells_cmp, Cells.rows_by, Change.changed_by, Content.Content, Rows.timing_key, Rows.timing_columns_in, Rows.left_columns_in, Rows.body_in}
 use Rattle.office_tables_shelf.specs.RegisterStands.{RegisterStands}
 use Rattle.office_machine.specs.Office.{Office, Intersection, side_at, side_of, AreRecordsIn, IsSoundIntersectionIn, IsSoundDraftIn, today, version_1}
 use Rattle.office_tables_standing.specs.StandFor.{IsTimingKey, HasTimingKeys, IsSaidIn, said_columns_in, StandForSoundIn}

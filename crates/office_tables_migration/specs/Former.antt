@@ -1,6 +1,5 @@
 -- The rows of version 1 in the cells of `timing` and `draft`, and what is put in their place.
-use Rattle.std.specs.Prelude.{◌≡◌, ◌≢◌, ℕ, Bool, true, false, if◌then◌else◌, List}
-use Rattle.std.specs.Prelude.{[], ◌∷◌, ◌++◌, map, length, Some, is_some, Result, Err}
+use Rattle.std.specs.Prelude.{◌≡◌, ◌≢◌, ℕ, Bool, true, false, if◌then◌else◌, List, [], ◌∷◌, ◌++◌, map, length, Some, is_some, Result, Err}
 use Rattle.std.specs.Int.{IsInRange}
 use Rattle.std.specs.List.{AllByRecursion, list_all}
 use Rattle.std.specs.FinMap.{get, entries}
@@ -12,7 +11,7 @@ use Rattle.signal_records.specs.declared.record.Row.{Row}
 use Rattle.signal_records.specs.declared.record.Row.TheVariants as row
 use Rattle.signal_records.specs.declared.record.Change.{Change}
 use Rattle.signal_records.specs.declared.record.Change.TheVariants.{Put, Remove}
-use Rattle.draft_state.specs.ChangedRows.{left_by}
+use Rattle.signal_records.specs.ChangedRows.{left_by}
 use Rattle.office_tables_shelf.specs.Cells.{Cell, TableRows}
 use Rattle.office_tables_shelf.specs.Rows.{timing_key, timing_columns_in, draft_key, left_columns_in}
 use Rattle.office_tables_shelf.specs.declared.rows.RowChange.{RowChange}

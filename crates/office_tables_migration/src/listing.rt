@@ -6,10 +6,8 @@ ghost use Rattle.sqlite.specs.Held.{state};
 ghost use Rattle.office_tables_statements.specs.Calls.{IsOffice, IsQuery, Keeps, TellsOpen};
 ghost use Rattle.office_tables_statements.specs.Stored.{content_now};
 ghost use Rattle.office_tables_statements.specs.Tables.{rows_at};
-ghost use Rattle.office_tables_migration.specs.Former.{former_cells, shown_cells, AreFormer};
-ghost use Rattle.office_tables_migration.specs.Former.{HaveFive, ShowNoFormer};
-ghost use Rattle.office_tables_migration.specs.Listing.{ListsKept, ListsEach};
-ghost use Rattle.office_tables_migration.specs.Listing.{TellsNoFormer, TellsNoFormerOfEach};
+ghost use Rattle.office_tables_migration.specs.Former.{former_cells, shown_cells, AreFormer, HaveFive, ShowNoFormer};
+ghost use Rattle.office_tables_migration.specs.Listing.{ListsKept, ListsEach, TellsNoFormer, TellsNoFormerOfEach};
 
 use crate::kept::read;
 use office_tables_shelf::shelf::ShelfFault;

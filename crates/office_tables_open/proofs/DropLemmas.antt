@@ -3,9 +3,7 @@ use Rattle.std.proofs.Common.{◌≡◌, inl, inr, ℕ, suc, ◌+◌, ◌-◌, �
 use Rattle.std.proofs.lemmas.Bool.{cases_Bool, false_from_ne_true}
 use Rattle.std.specs.{List.AllZip, List.position_from, List.list_any}
 use Rattle.sqlite.specs.Does.{AtPlace, Drops as DoesDrop, Empties, HoldWithout, Leaves, Tally, Tested, Uncounts, no_rows}
-use Rattle.sqlite.specs.{Rows.Gives, Rows.Outcome, Rows.Part, Rows.Task, Rows.Then, Command.Command, Command.TheVariants.DropTable, Command.TheVariants.Nothing}
-use Rattle.sqlite.specs.{Effect.Database, Effect.IsDatabase, Held.Held, Held.state, Listing.understood, State.State}
-use Rattle.sqlite.specs.{Order.Row, State.ExecutesInside, State.mode_of, Tree.Trees, declared.run.Mode.Mode}
+use Rattle.sqlite.specs.{Rows.Gives, Rows.Outcome, Rows.Part, Rows.Task, Rows.Then, Command.Command, Command.TheVariants.DropTable, Command.TheVariants.Nothing, Effect.Database, Effect.IsDatabase, Held.Held, Held.state, Listing.understood, State.State, Order.Row, State.ExecutesInside, State.mode_of, Tree.Trees, declared.run.Mode.Mode}
 use Rattle.sqlite.proofs.Callers.{runs_as, through, IsPlain}
 use Rattle.sqlite_ast.specs.declared.Statement.TheVariants as written
 use Rattle.sqlite_catalog.specs.Change.{without_table}

@@ -1,9 +1,7 @@
 -- What the texts that make the tables make of a database that has none.
 use Rattle.std.proofs.Common.{◌≡◌, ◌≤◌, ℕ, true, false, List, [], ◌∷◌, map, Some, Result, Ok, Err, refl, sym, ap, subst, ◌∙◌, arith}
 use Rattle.std.specs.{List.AllByRecursion, Prelude.OnOk, Prelude.⊤}
-use Rattle.sqlite.specs.{Does.MakesTable, Does.MakesSequence, Does.lacks_sequence, Does.no_rows, State.State, State.ExecutesInside}
-use Rattle.sqlite.specs.{State.HasCleanDisk, State.Shows, Command.TheVariants.CreateTable, Effect.Database, Effect.IsDatabase}
-use Rattle.sqlite.specs.{Given.IsPlain, Held.Held, Held.state, Listing.understood, Rows.Then, Rows.Gives, Tree.Trees, View.IsShaped}
+use Rattle.sqlite.specs.{Does.MakesTable, Does.MakesSequence, Does.lacks_sequence, Does.no_rows, State.State, State.ExecutesInside, State.HasCleanDisk, State.Shows, Command.TheVariants.CreateTable, Effect.Database, Effect.IsDatabase, Given.IsPlain, Held.Held, Held.state, Listing.understood, Rows.Then, Rows.Gives, Tree.Trees, View.IsShaped}
 use Rattle.sqlite.proofs.Callers.{runs_as, through}
 use Rattle.sqlite_catalog.specs.Change.{created, next_tree, KeepsRows}
 use Rattle.sqlite_resolve.specs.Compile.{table_defined_by}

@@ -1,21 +1,17 @@
 -- The stored version and its statements.
 use Rattle.std.proofs.Common.{◌≡◌, ℕ, [], ◌∷◌, length, codes, refl, sym, ap, subst, ◌∙◌, cond, Option, Some, IfSome, option_map, pos}
 use Rattle.std.specs.{Option.option_to_list, FinMap.get, FinMap.insert, FinMap.get-insert}
-use Rattle.sqlite.specs.{Command.TheVariants.Select, Command.TheVariants.Insert, Command.TheVariants.Delete}
-use Rattle.sqlite.specs.{Effect.Database, Listing.understood, Order.Row, Tree.Trees, Cast.cast_row, Source.Source, State.State}
-use Rattle.sqlite.specs.{Source.TheVariants.Values, Term.lit, Term.col, View.IsShaped}
+use Rattle.sqlite.specs.{Command.TheVariants.Select, Command.TheVariants.Insert, Command.TheVariants.Delete, Effect.Database, Listing.understood, Order.Row, Tree.Trees, Cast.cast_row, Source.Source, State.State, Source.TheVariants.Values, Term.lit, Term.col, View.IsShaped}
 use Rattle.sqlite.specs.declared.types.Value.TheVariants.{Null, Int}
 use Rattle.sqlite_tied.specs.Compute.{everything}
 use Rattle.office_tables_statements.specs.Layout as layout
 use Rattle.office_tables_shelf.specs.{Cells.number, declared.rows.Table.Table}
-use Rattle.office_tables_statements.specs.{Stored.rows_in, Stored.cells, Stored.rows_stored, Stored.content_now}
-use Rattle.office_tables_statements.specs.{Calls.Reads, Calls.IsReady, Calls.Ran, Tables.found_by, Layout.office_version}
+use Rattle.office_tables_statements.specs.{Stored.rows_in, Stored.cells, Stored.rows_stored, Stored.content_now, Calls.Reads, Calls.IsReady, Calls.Ran, Tables.found_by, Layout.office_version}
 use Rattle.office_tables_schema.specs.Schema.{office_schema, version_table}
 use Rattle.office_tables_open.specs.Version.{version_in, version_of, current_version}
 use Rattle.office_tables_statements.proofs.QueryLemmas.{IsRead, IsWrite, AreShaped, found_by_key, has_width}
 use Rattle.office_tables_statements.proofs.WriteLemmas.{Added, adds, IsIdle, wrote}
-use Rattle.office_tables_statements.proofs.{StoredLemmas.get_columns, StoredLemmas.sound_rowids, Casts.cast_int, Casts.cast_null, RemoveLemmas.remove_keyed}
-use Rattle.office_tables_statements.proofs.{ContentLemmas.tie_self, ContentLemmas.put_at, ContentLemmas.free_rowid, TableLemmas.apart, TableLemmas.none_in}
+use Rattle.office_tables_statements.proofs.{StoredLemmas.get_columns, StoredLemmas.sound_rowids, Casts.cast_int, Casts.cast_null, RemoveLemmas.remove_keyed, ContentLemmas.tie_self, ContentLemmas.put_at, ContentLemmas.free_rowid, TableLemmas.apart, TableLemmas.none_in}
 use Rattle.sqlite_trees.specs.declared.store.Shape.TheVariants as shape
 use Rattle.office_tables_shelf.proofs.CellLemmas.{cells_total}
 use Rattle.office_tables_open.specs.declared.version.TheConstants.{FIND as FIND_VERSION, DROP as DROP_VERSION, PUT as PUT_VERSION}

@@ -1,7 +1,6 @@
 //! What a database holds whose tables are the office's in another layout.
 
-ghost use Rattle.std.specs.Prelude.{◌≡◌, ◌≢◌, ◌∷◌, None, Some, Err, [], map, pos};
-ghost use Rattle.std.specs.Prelude.{IsTrue, IfOk, IfErr, IfSome, OnOk};
+ghost use Rattle.std.specs.Prelude.{◌≡◌, ◌≢◌, ◌∷◌, None, Some, Err, [], map, pos, IsTrue, IfOk, IfErr, IfSome, OnOk};
 ghost use Rattle.std.specs.List.{AllByRecursion};
 ghost use Rattle.sqlite.specs.Held.{state};
 ghost use Rattle.sqlite.specs.State.{HasCleanDisk};
@@ -11,10 +10,7 @@ ghost use Rattle.sqlite_value.specs.declared.value.Value.TheVariants.{Int};
 ghost use Rattle.office_tables_shelf.specs.Cells.{number};
 ghost use Rattle.office_tables_shelf.specs.Content.{no_content};
 ghost use Rattle.office_tables_open.specs.Arranged.{IsUnchanged, IsTaken, IsCheckedAgain};
-ghost use Rattle.office_tables_open.specs.Found.{HaveNoRow, IsNameAmong, IsOurs, KeepsVersion};
-ghost use Rattle.office_tables_open.specs.Found.{KeepVersion, MayBeMade, TellsHeld};
-ghost use Rattle.office_tables_open.specs.Found.{HasOtherVersion, HasRowsAlone};
-ghost use Rattle.office_tables_open.specs.Found.{eight_rows, keeper_rows};
+ghost use Rattle.office_tables_open.specs.Found.{HaveNoRow, IsNameAmong, IsOurs, KeepsVersion, KeepVersion, MayBeMade, TellsHeld, HasOtherVersion, HasRowsAlone, eight_rows, keeper_rows};
 ghost use Rattle.office_tables_open.specs.Moved.{all_put, part_moved};
 ghost use Rattle.office_tables_open.specs.Opening.{IsAsFound, MayMake};
 ghost use Rattle.office_tables_open.specs.Promises.{IsSettled};

@@ -8,8 +8,7 @@ ghost use Rattle.office_tables_shelf.specs.Content.{no_content};
 ghost use Rattle.office_tables_statements.specs.Calls.{IsHonest, IsOffice, StandsOn, StaysOpen};
 ghost use Rattle.office_tables_open.specs.Moved.{all_put, part_moved};
 ghost use Rattle.office_tables_open.specs.Opening.{AreOurs, AreRun, IsMade, IsPrepared, IsRefused};
-ghost use Rattle.office_tables_open.specs.Promises.{IsArrangedIfClean, IsSettled, KeepsCommitted};
-ghost use Rattle.office_tables_open.specs.Promises.{LeavesNoMore, WasHonest};
+ghost use Rattle.office_tables_open.specs.Promises.{IsArrangedIfClean, IsSettled, KeepsCommitted, LeavesNoMore, WasHonest};
 ghost use Rattle.office_tables_open.specs.Version.{Completes};
 
 use crate::found::{has_only_ours, looked};

@@ -6,12 +6,9 @@ ghost use Rattle.sqlite.specs.Order.{column};
 ghost use Rattle.sqlite.specs.Values.{bound, bound_value};
 ghost use Rattle.sqlite_value.specs.Value.{owned};
 ghost use Rattle.office_tables_statements.specs.Calls.{StandsOn, TurnsTo};
-ghost use Rattle.office_tables_statements.specs.Stored.{are_sound, cell_of, cells_at};
-ghost use Rattle.office_tables_statements.specs.Stored.{content_now, is_sound};
-ghost use Rattle.office_tables_statements.specs.Tables.{layout_at, schema_at, suits_kind};
-ghost use Rattle.office_tables_statements.specs.Tables.{places_of as places_in, IsInsertText};
-ghost use Rattle.office_tables_open.specs.Moved.{part_moved, row_put, rows_put, all_put};
-ghost use Rattle.office_tables_open.specs.Moved.{suit_kinds};
+ghost use Rattle.office_tables_statements.specs.Stored.{are_sound, cell_of, cells_at, content_now, is_sound};
+ghost use Rattle.office_tables_statements.specs.Tables.{layout_at, schema_at, suits_kind, places_of as places_in, IsInsertText};
+ghost use Rattle.office_tables_open.specs.Moved.{part_moved, row_put, rows_put, all_put, suit_kinds};
 ghost use Rattle.office_tables_open.specs.Promises.{LeavesNoMore};
 
 use crate::gather::Moved;

@@ -4,11 +4,9 @@ ghost use Rattle.std.specs.Prelude.{◌≡◌, ◌≢◌, length, Some, IsTrue, 
 ghost use Rattle.std.specs.Option.{option_map};
 ghost use Rattle.sqlite.specs.Held.{state};
 ghost use Rattle.office_tables_statements.specs.Stored.{cells};
-ghost use Rattle.office_tables_statements.specs.Calls.{IsHonest, IsOffice, Keeps, StandsOn};
-ghost use Rattle.office_tables_statements.specs.Calls.{StaysOpen};
+ghost use Rattle.office_tables_statements.specs.Calls.{IsHonest, IsOffice, Keeps, StandsOn, StaysOpen};
 ghost use Rattle.office_tables_open.specs.Version.{version_in, version_cells, current_version};
-ghost use Rattle.office_tables_open.specs.Promises.{WasHonest, StaysReady, StaysSame, StoresToday};
-ghost use Rattle.office_tables_open.specs.Promises.{LeavesNoMore};
+ghost use Rattle.office_tables_open.specs.Promises.{WasHonest, StaysReady, StaysSame, StoresToday, LeavesNoMore};
 
 use office_tables_statements::statement::{SqlFault, select_one, write};
 use sqlite::{Alter, Connection, Row, Transaction, params};

@@ -1,7 +1,6 @@
 -- Calls that only read.
 use Rattle.std.proofs.Common.{◌≡◌, ◌∙◌, Result, Ok, Err, IsErrAnd, subst, sym}
-use Rattle.office_tables_shelf.specs.{Content.Content, Shelf.AnswersOpen, Shelf.IsKept, Shelf.IsTold}
-use Rattle.office_tables_shelf.specs.{declared.counts.WriteCounts.WriteCounts, declared.shelf.ShelfFault.ShelfFault}
+use Rattle.office_tables_shelf.specs.{Content.Content, Shelf.AnswersOpen, Shelf.IsKept, Shelf.IsTold, declared.counts.WriteCounts.WriteCounts, declared.shelf.ShelfFault.ShelfFault}
 
 -- two calls that only read, one after the other
 pub kept_on : {S : Type 0} (is_honest : S → Type 0) (content : S → Content) (written : S → WriteCounts) (may_leave : S → Content → Type 0) (old mid new : S)

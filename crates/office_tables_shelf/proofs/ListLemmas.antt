@@ -1,12 +1,9 @@
 -- A list in key order of the rows that pass a test of their keys is the list of the map's entries that pass it.
-use Rattle.std.proofs.Common.{◌≡◌, ◌⊎◌, inl, inr, ℕ, ◌+◌, suc, Bool, true, false, ◌&&◌, List, [], ◌∷◌, map, filter, find, cond, Option, None, Some, option_map, Ordering, Less, Equal, Greater, T, refl, sym, ap, subst, subst₂, ◌∙◌, arith, true≢false, slice_index_or}
-use Rattle.std.proofs.Common.{◌++◌, ◌<◌, zero, length, get_or}
-use Rattle.std.proofs.{lemmas.Bool.cases_Bool, lemmas.List.Elements.All-head, lemmas.List.Elements.All-tail}
-use Rattle.std.proofs.{lemmas.List.Elements.All-from_recursion, lemmas.List.Sorted.IsPermutation-sym, lemmas.List.Sorted.All-permutation}
-use Rattle.std.specs.{Cmp.alike_right, Cmp.eq_by_cmp_equiv, Cmp.tied_itself, FinMap.get, FinMap.entries, FinMap.entries_sorted}
+use Rattle.std.proofs.Common.{◌≡◌, ◌⊎◌, inl, inr, ℕ, ◌+◌, suc, Bool, true, false, ◌&&◌, List, [], ◌∷◌, map, filter, find, cond, Option, None, Some, option_map, Ordering, Less, Equal, Greater, T, refl, sym, ap, subst, subst₂, ◌∙◌, arith, true≢false, slice_index_or, ◌++◌, ◌<◌, zero, length, get_or}
+use Rattle.std.proofs.{lemmas.Bool.cases_Bool, lemmas.List.Elements.All-head, lemmas.List.Elements.All-tail, lemmas.List.Elements.All-from_recursion, lemmas.List.Sorted.IsPermutation-sym, lemmas.List.Sorted.All-permutation}
+use Rattle.std.specs.{Cmp.alike_right, Cmp.eq_by_cmp_equiv, Cmp.tied_itself, FinMap.get, FinMap.entries, FinMap.entries_sorted, List.All, List.AllByRecursion, List.IsDistinct, List.Sorted.IsPermutation, List.Sorted.IsSorted, Ordering.is_eq}
 use Rattle.std.specs.FinMap.{get-entries, from_entries, from_sorted, entries-from_sorted, get-from_sorted, get-from_entries, same_map}
 use Rattle.std.specs.FinMap.Entries.{is_sorted, below_all, where_key, is_sorted-where_key, find-where_key, same_entries}
-use Rattle.std.specs.{List.All, List.AllByRecursion, List.IsDistinct, List.Sorted.IsPermutation, List.Sorted.IsSorted, Ordering.is_eq}
 use Rattle.std.specs.Ordering.{is_lt, is_gt, ordering_reverse, eq_by_cmp}
 use Rattle.std.specs.FinMap as finite
 use Rattle.office_tables_shelf.specs.Cells.{Cell, TableRows, rows_by, cells_cmp}

@@ -1,19 +1,15 @@
 -- Rows that were listed: none of them is damaged, and each stands under its key.
-use Rattle.std.proofs.Common.{◌≡◌, ℕ, ◌<◌, true, cond}
-use Rattle.std.proofs.Common.{List, map, find, length, get_or, Option, Some, None, is_some, option_map}
+use Rattle.std.proofs.Common.{◌≡◌, ℕ, ◌<◌, true, cond, List, map, find, length, get_or, Option, Some, None, is_some, option_map, refl, ap, subst, sym, ◌∙◌}
 use Rattle.std.proofs.lemmas.List.Elements.{All-from_recursion}
-use Rattle.std.proofs.Common.{refl, ap, subst, sym, ◌∙◌}
 use Rattle.std.specs.FinMap as finite
 use Rattle.std.specs.{FinMap.get, FinMap.entries, FinMap.get-entries, FinMap.Entries.find-where_key, FinMap.Entries.where_key, List.AllByRecursion}
 use Rattle.cabinet_core.specs.Within.{IsInspectionWithin, IsOrderWithin, IsUsedLineWithin}
 use Rattle.cabinet_core.specs.{declared.record.Inspection.Inspection, declared.record.Order.Order, declared.record.UsedLine.UsedLine}
 use Rattle.office_tables_shelf.proofs.CellLemmas.{cells_exact, find_entry, is_under, tied}
 use Rattle.office_tables_shelf.proofs.ListLemmas.{IsIn, all_in, found_has, in_index, stands, where_all}
-use Rattle.office_tables_shelf.specs.CabinetReads.{HasDamagedInspection, HasDamagedOrder, HasDamagedPart, HasDamagedUsed, IsPartWithin}
-use Rattle.office_tables_shelf.specs.CabinetReads.{ListsInspections, ListsOrders, ListsParts, ListsUsed}
+use Rattle.office_tables_shelf.specs.CabinetReads.{HasDamagedInspection, HasDamagedOrder, HasDamagedPart, HasDamagedUsed, IsPartWithin, ListsInspections, ListsOrders, ListsParts, ListsUsed}
 use Rattle.office_tables_shelf.specs.CabinetRows.{inspection_columns, inspection_key, order_columns, order_key, part_columns, part_key}
-use Rattle.office_tables_shelf.specs.{CabinetRows.used_columns, CabinetRows.used_key, Cells.Cell, Cells.TableRows, Cells.cells_cmp}
-use Rattle.office_tables_shelf.specs.{Content.Content, Content.rows_at, Damage.HasAnyDamagedIntersection, Rows.intersection_columns, Rows.intersection_key}
+use Rattle.office_tables_shelf.specs.{CabinetRows.used_columns, CabinetRows.used_key, Cells.Cell, Cells.TableRows, Cells.cells_cmp, Content.Content, Content.rows_at, Damage.HasAnyDamagedIntersection, Rows.intersection_columns, Rows.intersection_key}
 use Rattle.office_tables_shelf.specs.Reads.{is_among, HasDamagedRow}
 use Rattle.office_tables_shelf.specs.Shelf.{IsIntersectionWithin, IsThere, ListsIntersections}
 use Rattle.office_tables_shelf.specs.declared.rows.Table.{Table}

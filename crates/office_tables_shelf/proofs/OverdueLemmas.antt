@@ -1,14 +1,11 @@
 -- How the list of overdue intersections grows row by row, until enough are found or all were seen.
 use Rattle.std.proofs.Common.{◌≡◌, ◌<◌, ◌≤◌, ◌+◌, ◌++◌, ℕ, zero, suc, List, [], ◌∷◌, map, length, get_or, take, drop, Option, Some, None, refl, ap, sym, subst, ◌∙◌, arith, length-append}
-use Rattle.std.proofs.{Common.inl, Common.inr, Math.Seq.take-append_seam, lemmas.List.take_more, lemmas.List.take_all}
-use Rattle.std.proofs.{lemmas.List.take-append-drop, lemmas.List.length-map, lemmas.List.Elements.filter_map-append}
+use Rattle.std.proofs.{Common.inl, Common.inr, Math.Seq.take-append_seam, lemmas.List.take_more, lemmas.List.take_all, lemmas.List.take-append-drop, lemmas.List.length-map, lemmas.List.Elements.filter_map-append}
 use Rattle.std.specs.{FinMap.get, List.AllByRecursion, List.cons_option, Option.IsSome}
 use Rattle.cabinet_core.specs.Overdue.{Listed, latest_day, listed_of, lateness, overdue_list}
 use Rattle.cabinet_core.specs.{declared.overdue_inspections.OverdueRow.OverdueRow, declared.overdue_inspections.Seen.Seen}
-use Rattle.office_tables_shelf.specs.{CabinetReads.HasDamagedInspection, CabinetReads.ListsInspections, Content.Content}
+use Rattle.office_tables_shelf.specs.{CabinetReads.HasDamagedInspection, CabinetReads.ListsInspections, Content.Content, Rows.intersection_columns, Rows.intersection_key, Shelf.IsIntersectionWithin, Shelf.ListsIntersections, declared.rows.IntersectionRow.IntersectionRow}
 use Rattle.office_tables_shelf.specs.Overdue.{HasOverdueDamage, ReadsLast, last_day_in, seen_on, seen_row, AreSeenOf}
-use Rattle.office_tables_shelf.specs.{Rows.intersection_columns, Rows.intersection_key, Shelf.IsIntersectionWithin}
-use Rattle.office_tables_shelf.specs.{Shelf.ListsIntersections, declared.rows.IntersectionRow.IntersectionRow}
 use Rattle.office_tables_shelf.proofs.ListLemmas.{all_more}
 use Rattle.office_tables_shelf.proofs.ListedRows.{inspections_whole, intersections_whole, table_row}
 

@@ -1,21 +1,14 @@
 -- The cells of a row tell the row: no field has a comma, so its text, cut at the commas, gives the
 -- fields back, and these spell one row.
-use Rattle.std.proofs.Common.{◌≡◌, ℕ, ◌^◌, ◌<◌, ◌≤◌, Bool, true, false, eqb}
-use Rattle.std.proofs.Common.{List, [], ◌∷◌, map, Option, Some, None, refl, sym, ap, ◌∙◌, arith}
+use Rattle.std.proofs.Common.{◌≡◌, ℕ, ◌^◌, ◌<◌, ◌≤◌, Bool, true, false, eqb, List, [], ◌∷◌, map, Option, Some, None, refl, sym, ap, ◌∙◌, arith}
 use Rattle.std.specs.Prelude.{codes, not, IfSome, IsTrue}
 use Rattle.std.specs.{Char.is_ascii_digit, Fmt.decimal, List.All, List.list_all, List.join_with_byte}
 use Rattle.std.specs.List.{slice_split}
-use Rattle.std.proofs.{lemmas.Bool.and_parts, lemmas.Bool.and_from, lemmas.Bool.not-true}
-use Rattle.std.proofs.{lemmas.Bool.Decides.nat_tests, lemmas.List.Folds.list_all-append, lemmas.List.Elements.All-weaker}
+use Rattle.std.proofs.{lemmas.Bool.and_parts, lemmas.Bool.and_from, lemmas.Bool.not-true, lemmas.Bool.Decides.nat_tests, lemmas.List.Folds.list_all-append, lemmas.List.Elements.All-weaker}
 use Rattle.std.proofs.lemmas.List.Splits.{join_with_byte-slice_split, slice_split_at, slice_split_none}
 use Rattle.std.proofs.lemmas.List.Sums.{AllPass-from_list_all, list_all-from_AllPass}
-use Rattle.signal_records.specs.{declared.record.Ped.Ped, declared.record.Phase.Phase, declared.record.SplitMode.SplitMode}
-use Rattle.signal_records.specs.declared.record.SplitMode.TheVariants.{NoRecall, MinimumVehicleRecall, MaximumVehicleRecall}
-use Rattle.signal_records.specs.declared.record.SplitMode.TheVariants.{PedestrianRecall, MaximumVehicleAndPedestrianRecall, PhaseOmitted}
-use Rattle.signal_records.specs.{declared.record.Row.Row, PhaseList.is_phase, PhaseList.is_phase_list, PhaseList.is_distinct}
-use Rattle.signal_records.specs.{Reading.is_numeral, Reading.row_at, Spelling.list, Spelling.flag, Spelling.lead_field, Spelling.ped_fields}
-use Rattle.signal_records.specs.{Spelling.phase_front, Spelling.phase_fields, Spelling.spelling, SplitMode.mode_code}
-use Rattle.signal_records.specs.{declared.limits.Limits.Limits, Within.AreLimits}
+use Rattle.signal_records.specs.{declared.record.Ped.Ped, declared.record.Phase.Phase, declared.record.SplitMode.SplitMode, declared.record.Row.Row, PhaseList.is_phase, PhaseList.is_phase_list, PhaseList.is_distinct, Reading.is_numeral, Reading.row_at, Spelling.list, Spelling.flag, Spelling.lead_field, Spelling.ped_fields, Spelling.phase_front, Spelling.phase_fields, Spelling.spelling, SplitMode.mode_code, declared.limits.Limits.Limits, Within.AreLimits}
+use Rattle.signal_records.specs.declared.record.SplitMode.TheVariants.{NoRecall, MinimumVehicleRecall, MaximumVehicleRecall, PedestrianRecall, MaximumVehicleAndPedestrianRecall, PhaseOmitted}
 use Rattle.signal_values.specs.declared.number.TheConstants.{PHASES}
 use Rattle.signal_records.specs.Within.{current_limits, most_lead, IsAnyPedWithin, IsPhaseWithin, IsRowWithin}
 use Rattle.signal_records.specs.declared.record.Row.TheVariants as row

@@ -7,15 +7,7 @@ use Rattle.office_tables_shelf.specs.Content.{Content, rows_at, put_in, remove_i
 use Rattle.office_tables_shelf.specs.Rows.{intersection_key, intersection_columns, timing_key, timing_columns, draft_key, draft_columns}
 use Rattle.office_tables_shelf.specs.CabinetRows.{inspection_key, inspection_columns, order_key, order_columns, used_key, used_columns, part_key, part_columns, delivery_key, delivery_columns}
 use Rattle.office_tables_shelf.specs.declared.rows.RowChange.{RowChange}
-use Rattle.office_tables_shelf.specs.declared.rows.RowChange.TheVariants.{AddIntersection}
-use Rattle.office_tables_shelf.specs.declared.rows.RowChange.TheVariants.{PutIntersection}
-use Rattle.office_tables_shelf.specs.declared.rows.RowChange.TheVariants.{AddTiming, PutTiming}
-use Rattle.office_tables_shelf.specs.declared.rows.RowChange.TheVariants.{RemoveTiming, AddDraft}
-use Rattle.office_tables_shelf.specs.declared.rows.RowChange.TheVariants.{PutDraft, RemoveDraft}
-use Rattle.office_tables_shelf.specs.declared.rows.RowChange.TheVariants.{DropDraft}
-use Rattle.office_tables_shelf.specs.declared.rows.RowChange.TheVariants.{AddInspection, AddOrder}
-use Rattle.office_tables_shelf.specs.declared.rows.RowChange.TheVariants.{PutOrder, AddLine}
-use Rattle.office_tables_shelf.specs.declared.rows.RowChange.TheVariants.{PutPart, AddDelivery}
+use Rattle.office_tables_shelf.specs.declared.rows.RowChange.TheVariants.{AddIntersection, PutIntersection, AddTiming, PutTiming, RemoveTiming, AddDraft, PutDraft, RemoveDraft, DropDraft, AddInspection, AddOrder, PutOrder, AddLine, PutPart, AddDelivery}
 use Rattle.office_tables_shelf.specs.declared.rows.Table.{Table}
 use Rattle.office_tables_shelf.specs.declared.rows.Table.TheVariants as table
 

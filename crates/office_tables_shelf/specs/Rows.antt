@@ -9,11 +9,11 @@ use Rattle.signal_records.specs.declared.key.Key.{Key}
 use Rattle.signal_records.specs.declared.limits.Limits.{Limits}
 use Rattle.signal_records.specs.declared.record.Row.{Row}
 use Rattle.signal_records.specs.declared.record.Change.{Change}
-use Rattle.draft_state.specs.declared.state.Stage.{Stage}
-use Rattle.draft_state.specs.declared.state.Stage.TheVariants.{Transaction, Verify, Done}
-use Rattle.draft_state.specs.declared.state.Holder.{Holder}
-use Rattle.draft_state.specs.declared.revision.TheConstants.{LAST_REVISION}
-use Rattle.draft_state.specs.ChangedRows.{changed_key, left_by}
+use Rattle.signal_records.specs.declared.state.Stage.{Stage}
+use Rattle.signal_records.specs.declared.state.Stage.TheVariants.{Transaction, Verify, Done}
+use Rattle.signal_records.specs.declared.state.Holder.{Holder}
+use Rattle.signal_records.specs.declared.revision.TheConstants.{LAST_REVISION}
+use Rattle.signal_records.specs.ChangedRows.{changed_key, left_by}
 use Rattle.office_tables_shelf.specs.Cells.{Cell, null, number, text}
 use Rattle.office_tables_shelf.specs.declared.rows.IntersectionRow.{IntersectionRow}
 

@@ -10,9 +10,7 @@ use Rattle.signal_records.specs.declared.record.Change.{Change}
 use Rattle.office_tables_shelf.specs.Cells.{Cell, TableRows, cells_cmp}
 use Rattle.office_tables_shelf.specs.Content.{Content}
 pub use Rattle.office_tables_shelf.specs.Content.{is_of}
-use Rattle.office_tables_shelf.specs.Rows.{intersection_key, intersection_columns}
-use Rattle.office_tables_shelf.specs.Rows.{IsIntersectionRow}
-use Rattle.office_tables_shelf.specs.Rows.{timing_key, timing_columns, draft_key, draft_columns}
+use Rattle.office_tables_shelf.specs.Rows.{intersection_key, intersection_columns, IsIntersectionRow, timing_key, timing_columns, draft_key, draft_columns}
 use Rattle.office_tables_shelf.specs.declared.rows.IntersectionRow.{IntersectionRow}
 use Rattle.office_tables_shelf.specs.declared.counts.WriteCounts.{WriteCounts}
 use Rattle.office_tables_shelf.specs.declared.shelf.ShelfFault.{ShelfFault}

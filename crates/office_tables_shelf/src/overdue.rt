@@ -1,7 +1,6 @@
 //! Rows of intersections that are overdue for an inspection, and the days of their inspections.
 
-ghost use Rattle.std.specs.Prelude.{◌≡◌, ◌==◌, ◌++◌, ℕ, Some, if◌then◌else◌, [], ◌∷◌, map};
-ghost use Rattle.std.specs.Prelude.{take, IfOk, OnOk};
+ghost use Rattle.std.specs.Prelude.{◌≡◌, ◌==◌, ◌++◌, ℕ, Some, if◌then◌else◌, [], ◌∷◌, map, take, IfOk, OnOk};
 ghost use Rattle.cabinet_core.specs.Overdue.{greater, listed_of, overdue_list};
 ghost use Rattle.office_tables_shelf.specs.Overdue.{last_day_in, seen_on, seen_row};
 

@@ -4,8 +4,8 @@ ghost use Rattle.std.specs.Prelude.{◌≡◌};
 ghost use Rattle.office_tables_shelf.specs.Change.{table_of};
 
 use cabinet_core::{Delivery, Hand, Inspection, Order, PartCode, UsedLine};
-use draft_state::revision::Revision;
-use draft_state::state::Holder;
+use signal_records::revision::Revision;
+use signal_records::state::Holder;
 use signal_records::{Change, InterId, Interval, Key, Row, Words};
 use std::alloc::AllocError;
 

@@ -1,31 +1,18 @@
 //! The tables of the office as a trait.
-ghost use Rattle.std.specs.Prelude.{◌≡◌, ◌≢◌, ◌<◌, ◌⊎◌, ℕ, [], IfOk, IfSome, OnOk, OnErr};
-ghost use Rattle.std.specs.Prelude.{vec_len};
+ghost use Rattle.std.specs.Prelude.{◌≡◌, ◌≢◌, ◌<◌, ◌⊎◌, ℕ, [], IfOk, IfSome, OnOk, OnErr, vec_len};
 ghost use Rattle.std.specs.List.{AllByRecursion};
-ghost use Rattle.cabinet_core.specs.Within.{IsInspectionWithin, IsOrderWithin};
-ghost use Rattle.cabinet_core.specs.Within.{IsUsedLineWithin, IsDeliveryWithin};
+ghost use Rattle.cabinet_core.specs.Within.{IsInspectionWithin, IsOrderWithin, IsUsedLineWithin, IsDeliveryWithin};
 ghost use Rattle.signal_records.specs.Within.{IsRowWithin, current_limits};
 ghost use Rattle.office_tables_shelf.specs.Content.{Content};
 ghost use Rattle.office_tables_shelf.specs.Change.{changed_by};
 ghost use Rattle.office_tables_shelf.specs.Counts.{count_of, counts_after};
 ghost use Rattle.office_tables_shelf.specs.Rows.{IsIntersectionRow};
-ghost use Rattle.office_tables_shelf.specs.Shelf.{AnswersOpen, IsKept};
-ghost use Rattle.office_tables_shelf.specs.Shelf.{ReadsIntersection, ListsIntersections};
-ghost use Rattle.office_tables_shelf.specs.Shelf.{IsIntersectionWithin, ListsTiming};
-ghost use Rattle.office_tables_shelf.specs.Shelf.{CountsTiming, ListsDraft};
-ghost use Rattle.office_tables_shelf.specs.Damage.{HasDamagedIntersection};
-ghost use Rattle.office_tables_shelf.specs.Damage.{HasAnyDamagedIntersection, HasDamagedTiming};
-ghost use Rattle.office_tables_shelf.specs.Damage.{HasDamagedDraft};
-ghost use Rattle.office_tables_shelf.specs.CabinetReads.{ListsInspections, HasDamagedInspection};
-ghost use Rattle.office_tables_shelf.specs.CabinetReads.{ListsOrders, HasDamagedOrder};
-ghost use Rattle.office_tables_shelf.specs.CabinetReads.{HasAnyDamagedInspection};
-ghost use Rattle.office_tables_shelf.specs.CabinetReads.{HasAnyDamagedOrder};
-ghost use Rattle.office_tables_shelf.specs.CabinetReads.{ListsUsed, HasDamagedUsed, IsHand};
-ghost use Rattle.office_tables_shelf.specs.CabinetReads.{ListsParts, IsPartWithin, HasDamagedPart};
+ghost use Rattle.office_tables_shelf.specs.Shelf.{AnswersOpen, IsKept, ReadsIntersection, ListsIntersections, IsIntersectionWithin, ListsTiming, CountsTiming, ListsDraft};
+ghost use Rattle.office_tables_shelf.specs.Damage.{HasDamagedIntersection, HasAnyDamagedIntersection, HasDamagedTiming, HasDamagedDraft};
+ghost use Rattle.office_tables_shelf.specs.CabinetReads.{ListsInspections, HasDamagedInspection, ListsOrders, HasDamagedOrder, HasAnyDamagedInspection, HasAnyDamagedOrder, ListsUsed, HasDamagedUsed, IsHand, ListsParts, IsPartWithin, HasDamagedPart};
 ghost use Rattle.office_tables_shelf.specs.Places as place;
 ghost use Rattle.office_tables_shelf.specs.Places.{GivesAt, BlamesAt};
-ghost use Rattle.office_tables_shelf.specs.Overdue.{last_day_in, ReadsLast, ListsOverdue};
-ghost use Rattle.office_tables_shelf.specs.Overdue.{HasOverdueDamage};
+ghost use Rattle.office_tables_shelf.specs.Overdue.{last_day_in, ReadsLast, ListsOverdue, HasOverdueDamage};
 ghost use Rattle.office_tables_shelf.specs.OpenOrders.{orders_in, ReadsOpen};
 ghost use Rattle.office_tables_shelf.specs.declared.counts.WriteCounts.{WriteCounts};
 

@@ -2,8 +2,7 @@
 use Rattle.std.proofs.Common.{◌≡◌, inl, inr, ℕ, ◌==◌, Bool, true, false, cond, if◌then◌else◌, eqb-true, List, [], ◌∷◌, ◌++◌, map, Option, refl, sym, ap, ◌∙◌, arith}
 use Rattle.std.proofs.lemmas.{Bool.cases_Bool, Bool.Decides.nat_tests}
 use Rattle.std.specs.{FinMap.entries, FinMap.Entries.where_key, List.AllByRecursion}
-use Rattle.office_tables_shelf.specs.{Cells.Cell, Cells.TableRows, Cells.cells_cmp, CabinetReads.IsOfOne, CabinetReads.of_one}
-use Rattle.office_tables_shelf.specs.{Content.Content, Reads.HasDamagedRow, Shelf.is_of, Shelf.rows_of, declared.rows.Table.Table}
+use Rattle.office_tables_shelf.specs.{Cells.Cell, Cells.TableRows, Cells.cells_cmp, CabinetReads.IsOfOne, CabinetReads.of_one, Content.Content, Reads.HasDamagedRow, Shelf.is_of, Shelf.rows_of, declared.rows.Table.Table}
 use Rattle.office_tables_shelf.proofs.ListedRows.{listed_whole}
 use Rattle.office_tables_statements.specs.Tables.{rows_at}
 use Rattle.office_tables_statements.proofs.TableLemmas.{among}

@@ -11,14 +11,13 @@ ghost use Rattle.office_tables_statements.specs.Stored.{content_now};
 ghost use Rattle.office_tables_statements.specs.Tables.{drop_in, values_of};
 
 use crate::stored_row::{StoredRow, Texts, TimingKeyed};
-use draft_state::changed_key;
 use office_tables_shelf::rows::Table;
 use office_tables_shelf::shelf::ShelfFault;
 use office_tables_statements::body::write_body;
 use office_tables_statements::body_reading::Version;
 use office_tables_statements::listed::{body_at, check_key, read_key};
 use office_tables_statements::statement::{SqlFault, write};
-use signal_records::{Change, InterId, NoMemory};
+use signal_records::{Change, InterId, NoMemory, changed_key};
 use sqlite::types::{ToSql, ValueRef};
 use sqlite::{Alter, Row as SqlRow, Transaction, params};
 use std::alloc::Global;

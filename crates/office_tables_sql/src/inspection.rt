@@ -8,8 +8,7 @@ ghost use Rattle.office_tables_shelf.specs.CabinetReads.{of_one, HasAnyDamagedIn
 ghost use Rattle.office_tables_shelf.specs.CabinetRows.{inspection_key, inspection_columns};
 ghost use Rattle.office_tables_shelf.specs.Overdue.{last_day_in, ReadsLast};
 ghost use Rattle.office_tables_statements.specs.Stored.{content_now};
-ghost use Rattle.office_tables_statements.specs.Calls.{IsHonest, IsOffice, Keeps};
-ghost use Rattle.office_tables_statements.specs.Calls.{TellsOpen};
+ghost use Rattle.office_tables_statements.specs.Calls.{IsHonest, IsOffice, Keeps, TellsOpen};
 
 use crate::each_row::{Gather, gathered};
 use crate::stored_row::{StoredRow, Texts};

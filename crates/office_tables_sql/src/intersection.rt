@@ -7,31 +7,27 @@ ghost use Rattle.sqlite.specs.Held.{state};
 ghost use Rattle.sqlite.specs.Values.{bound_value};
 ghost use Rattle.sqlite_value.specs.Value.{owned};
 ghost use Rattle.signal_values.specs.Words.{AreWords};
-ghost use Rattle.draft_state.specs.declared.state.Holder.{Holder};
-ghost use Rattle.draft_state.specs.declared.state.Stage.{Stage};
+ghost use Rattle.signal_records.specs.declared.state.Holder.{Holder};
+ghost use Rattle.signal_records.specs.declared.state.Stage.{Stage};
 ghost use Rattle.office_tables_shelf.specs.Cells.{number};
 ghost use Rattle.office_tables_shelf.specs.Content.{put_in};
-ghost use Rattle.office_tables_shelf.specs.Rows.{stage_number, state_number, owner_cell};
-ghost use Rattle.office_tables_shelf.specs.Rows.{intersection_key, intersection_columns};
-ghost use Rattle.office_tables_shelf.specs.Rows.{IsIntersectionRow};
+ghost use Rattle.office_tables_shelf.specs.Rows.{stage_number, state_number, owner_cell, intersection_key, intersection_columns, IsIntersectionRow};
 ghost use Rattle.office_tables_shelf.specs.Shelf.{ReadsIntersection};
 ghost use Rattle.office_tables_shelf.specs.Damage.{HasDamagedIntersection};
 ghost use Rattle.office_tables_shelf.specs.declared.rows.IntersectionRow.{IntersectionRow};
 ghost use Rattle.office_tables_shelf.specs.declared.rows.Table.TheVariants as table;
 ghost use Rattle.office_tables_statements.specs.Stored.{cell_of, content_now};
-ghost use Rattle.office_tables_statements.specs.Calls.{IsHonest, IsOffice, Keeps, TurnsTo};
-ghost use Rattle.office_tables_statements.specs.Calls.{StandsOn};
-ghost use Rattle.office_tables_statements.specs.Calls.{TellsOpen};
+ghost use Rattle.office_tables_statements.specs.Calls.{IsHonest, IsOffice, Keeps, TurnsTo, StandsOn, TellsOpen};
 ghost use Rattle.office_tables_statements.specs.Tables.{value_of};
 
 use crate::stored_row::{self, StoredRow, Texts};
-use draft_state::state::{Holder, Stage};
 use office_tables_shelf::rows::IntersectionRow;
 use office_tables_shelf::shelf::ShelfFault;
 use office_tables_statements::statement::SqlFault;
 use office_tables_statements::value::{
     number_at, ranged_at, revision_at, words_at, words_or_null_at,
 };
+use signal_records::state::{Holder, Stage};
 use signal_records::{InterId, NoMemory, Words};
 use sqlite::types::{ToSql, ValueRef};
 use sqlite::{Alter, Connection, Row, Transaction, params};

@@ -1,7 +1,6 @@
 //! The table `work_order`: the orders on each cabinet.
 
-ghost use Rattle.std.specs.Prelude.{◌≡◌, ◌≢◌, ℕ, filter, length, Option, Some, None};
-ghost use Rattle.std.specs.Prelude.{IfOk, IfSome};
+ghost use Rattle.std.specs.Prelude.{◌≡◌, ◌≢◌, ℕ, filter, length, Option, Some, None, IfOk, IfSome};
 ghost use Rattle.sqlite.specs.State.{Survives};
 ghost use Rattle.sqlite.specs.Held.{state};
 ghost use Rattle.sqlite.specs.Order.{column};
@@ -10,12 +9,10 @@ ghost use Rattle.sqlite_value.specs.Value.{owned};
 ghost use Rattle.cabinet_core.specs.Orders.{is_open};
 ghost use Rattle.cabinet_core.specs.Within.{IsClosingWithin};
 ghost use Rattle.cabinet_core.specs.declared.record.Closing.{Closing};
-ghost use Rattle.office_tables_shelf.specs.CabinetRows.{order_key, order_columns};
-ghost use Rattle.office_tables_shelf.specs.CabinetRows.{closed_cell, closer_cell};
+ghost use Rattle.office_tables_shelf.specs.CabinetRows.{order_key, order_columns, closed_cell, closer_cell};
 ghost use Rattle.office_tables_shelf.specs.CabinetReads.{of_one, HasAnyDamagedOrder};
 ghost use Rattle.office_tables_shelf.specs.OpenOrders.{orders_in, ReadsOpen};
-ghost use Rattle.office_tables_statements.specs.Calls.{IsHonest, IsOffice, Keeps};
-ghost use Rattle.office_tables_statements.specs.Calls.{TellsOpen};
+ghost use Rattle.office_tables_statements.specs.Calls.{IsHonest, IsOffice, Keeps, TellsOpen};
 ghost use Rattle.office_tables_statements.specs.Stored.{cell_of, content_now};
 ghost use Rattle.office_tables_statements.specs.Tables.{value_of};
 

@@ -9,9 +9,7 @@ ghost use Rattle.office_tables_shelf.specs.CabinetRows.{part_key, part_columns};
 ghost use Rattle.office_tables_shelf.specs.Places as place;
 ghost use Rattle.office_tables_shelf.specs.Places.{GivesAt, BlamesAt};
 ghost use Rattle.office_tables_statements.specs.Stored.{content_now};
-ghost use Rattle.office_tables_statements.specs.Calls.{IsHonest, IsOffice, Keeps, TurnsTo};
-ghost use Rattle.office_tables_statements.specs.Calls.{StandsOn};
-ghost use Rattle.office_tables_statements.specs.Calls.{TellsOpen};
+ghost use Rattle.office_tables_statements.specs.Calls.{IsHonest, IsOffice, Keeps, TurnsTo, StandsOn, TellsOpen};
 
 use crate::stored_row::{self, StoredRow, Texts};
 use cabinet_core::{Hand, PartCode};

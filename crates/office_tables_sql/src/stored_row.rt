@@ -9,14 +9,8 @@ ghost use Rattle.office_tables_shelf.specs.Cells.{Cell};
 ghost use Rattle.office_tables_shelf.specs.Rows.{timing_key};
 ghost use Rattle.office_tables_shelf.specs.declared.rows.Table.{Table};
 ghost use Rattle.office_tables_statements.specs.Stored.{content_now};
-ghost use Rattle.office_tables_statements.specs.Calls.{IsHonest, IsOffice, Keeps, TurnsTo};
-ghost use Rattle.office_tables_statements.specs.Calls.{StandsOn};
-ghost use Rattle.office_tables_statements.specs.Calls.{StaysOpen, TellsOpen};
-ghost use Rattle.office_tables_statements.specs.Tables.{put_in, remove_in, key_values, key_shown};
-ghost use Rattle.office_tables_statements.specs.Tables.{columns_shown, width_of, key_given};
-ghost use Rattle.office_tables_statements.specs.Tables.{IsKeyOf, IsUnder, ReadsRow};
-ghost use Rattle.office_tables_statements.specs.Tables.{HasDamagedUnder, IsNoRow};
-ghost use Rattle.office_tables_statements.specs.Tables.{IsListText, IsRemoveText, Fits, values_of};
+ghost use Rattle.office_tables_statements.specs.Calls.{IsHonest, IsOffice, Keeps, TurnsTo, StandsOn, StaysOpen, TellsOpen};
+ghost use Rattle.office_tables_statements.specs.Tables.{put_in, remove_in, key_values, key_shown, columns_shown, width_of, key_given, IsKeyOf, IsUnder, ReadsRow, HasDamagedUnder, IsNoRow, IsListText, IsRemoveText, Fits, values_of};
 ghost use Rattle.office_tables_sql.specs.Texts.{SqlTexts, AreTextsOf};
 
 use office_tables_shelf::shelf::ShelfFault;

@@ -5,8 +5,7 @@ ghost use Rattle.sqlite.specs.State.{Survives};
 ghost use Rattle.sqlite.specs.Held.{state};
 ghost use Rattle.office_tables_shelf.specs.Shelf.{rows_of};
 ghost use Rattle.office_tables_statements.specs.Stored.{content_now};
-ghost use Rattle.office_tables_statements.specs.Calls.{IsHonest, IsOffice, Keeps};
-ghost use Rattle.office_tables_statements.specs.Calls.{StaysOpen};
+ghost use Rattle.office_tables_statements.specs.Calls.{IsHonest, IsOffice, Keeps, StaysOpen};
 
 use crate::stored_row::{StoredRow, Texts, TimingKeyed};
 use office_tables_shelf::shelf::ShelfFault;

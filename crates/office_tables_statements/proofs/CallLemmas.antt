@@ -1,11 +1,9 @@
 -- What a statement leaves of a connection, also where the rows of a query are read one at a time, and what the rows so far are.
 use Rattle.std.proofs.Common.{◌≡◌, ◌⊎◌, inl, inr, ℕ, ◌≤◌, List, [], true, false, None, Some, Ok, Option, IsTrue, refl, sym, ap, subst, subst₂, ◌∙◌, arith, true≢false, cond, ◌∷◌, ◌++◌, map}
 use Rattle.sqlite_trees.specs.View.{doubt}
-use Rattle.sqlite.specs.{Order.Row, Tree.Trees, declared.error.Error.Error, Clock.timed}
-use Rattle.sqlite.specs.{Effect.Database, Effect.IsDatabase, Given.IsPlain, Listing.understood}
+use Rattle.sqlite.specs.{Order.Row, Tree.Trees, declared.error.Error.Error, Clock.timed, Effect.Database, Effect.IsDatabase, Given.IsPlain, Listing.understood, Steps.FailsToCommit, Held.Held, Held.state}
 use Rattle.sqlite.specs.State.{State, HasCleanDisk, Survives, CommitsShowing, IsUnchanged, IsRolledBack, Shown, ShowsRows, FailsToQuery, FailsToShow, IsNotRun, ExecutesInside, IsTooLate, Begins, Fails}
 use Rattle.sqlite_schema.specs.declared.command.Returning.{Returning}
-use Rattle.sqlite.specs.{Steps.FailsToCommit, Held.Held, Held.state}
 use Rattle.sqlite_trees.specs.declared.store.Store as store
 use Rattle.office_tables_schema.specs.Schema.{office_schema}
 use Rattle.office_tables_statements.specs.Calls.{AreOrdered, IsHonest, IsOffice, IsReady, Keeps, IsQuery, Reads, IsWriting, Ran, StandsOn, command_of}

@@ -2,11 +2,8 @@
 use Rattle.std.proofs.Common.{◌≡◌, ◌⊎◌, inl, inr, ℤ, List, [], ◌∷◌, map, find, Bool, true, false, not, Some, cond, option_map, refl, sym, ap, subst, ◌∙◌, true≢false}
 use Rattle.std.proofs.lemmas.Bool.{cases_Bool, false_from_ne_true, not-true, not-false, or_parts}
 use Rattle.std.proofs.lemmas.Cmp.{tied_back}
-use Rattle.std.specs.{Cmp.tied_itself, List.AllByRecursion, List.IsDistinct, declared.cmp.Ordering.Ordering, Ordering.is_eq}
-use Rattle.std.specs.{Ordering.match_ordering, declared.cmp.Ordering.TheVariants.Less, declared.cmp.Ordering.TheVariants.Equal}
-use Rattle.std.specs.{declared.cmp.Ordering.TheVariants.Greater, FinMap.insert, FinMap.same_map, FinMap.get-insert}
-use Rattle.sqlite.specs.{declared.types.Value.TheVariants.Int, Order.Row, Order.value_cmp, Tree.rowid, Tree.has_rowid, Tree.put_row}
-use Rattle.sqlite.specs.{Tree.without_rowid, Tree.IsTable, View.IsShaped, Edit.is_taken, Edit.without_all, Edit.id_in}
+use Rattle.std.specs.{Cmp.tied_itself, List.AllByRecursion, List.IsDistinct, declared.cmp.Ordering.Ordering, Ordering.is_eq, Ordering.match_ordering, declared.cmp.Ordering.TheVariants.Less, declared.cmp.Ordering.TheVariants.Equal, declared.cmp.Ordering.TheVariants.Greater, FinMap.insert, FinMap.same_map, FinMap.get-insert}
+use Rattle.sqlite.specs.{declared.types.Value.TheVariants.Int, Order.Row, Order.value_cmp, Tree.rowid, Tree.has_rowid, Tree.put_row, Tree.without_rowid, Tree.IsTable, View.IsShaped, Edit.is_taken, Edit.without_all, Edit.id_in}
 use Rattle.sqlite_trees.specs.declared.store.Shape.TheVariants as shape
 use Rattle.sqlite_value.proofs.OrderLemmas.{value_cmp_total}
 use Rattle.sqlite_rules.specs.Lists.{Has}

@@ -3,13 +3,9 @@ use Rattle.std.proofs.Common.{◌≡◌, inl, inr, ℕ, ◌+◌, ◌<◌, Bool, 
 use Rattle.std.proofs.lemmas.Bool.{cases_Bool, false_from_ne_true, and_from, not-true}
 use Rattle.std.proofs.lemmas.List.{get_or_default, length-map, Sorted.IsPermutation-map}
 use Rattle.std.proofs.lemmas.Map.Keys.{IsDistinct-IsPermutation}
-use Rattle.std.specs.{Cmp.eq_by_cmp_equiv, List.IsDistinct, List.list_all, FinMap.entries, FinMap.get, FinMap.len, FinMap.entries_sorted}
-use Rattle.std.specs.{FinMap.get-entries, FinMap.len-entries, FinMap.len-empty, FinMap.len-insert, FinMap.Entries.where_key}
+use Rattle.std.specs.{Cmp.eq_by_cmp_equiv, List.IsDistinct, List.list_all, FinMap.entries, FinMap.get, FinMap.len, FinMap.entries_sorted, FinMap.get-entries, FinMap.len-entries, FinMap.len-empty, FinMap.len-insert, FinMap.Entries.where_key, List.Sorted.IsPermutation, List.Sorted.IsSorted, Ordering.is_lt, Ordering.eq_by_cmp}
 use Rattle.std.specs.FinMap.Entries.{is_sorted-where_key, find-where_key, same_entries}
-use Rattle.std.specs.{List.Sorted.IsPermutation, List.Sorted.IsSorted, Ordering.is_lt, Ordering.eq_by_cmp}
-use Rattle.sqlite.specs.{Order.Row, Order.column, Order.row_cmp, Order.value_cmp, Ops.binary, Query.inner, Query.end, Query.IsAnswer}
-use Rattle.sqlite.specs.{Query.output, Query.Output, Query.matches, Term.Term, Term.holds, Tree.Trees, Tree.rowid, Tree.IsTable}
-use Rattle.sqlite.specs.{Schema.Schema, declared.types.Value.TheVariants.Int, Table.Table, View.IsShaped}
+use Rattle.sqlite.specs.{Order.Row, Order.column, Order.row_cmp, Order.value_cmp, Ops.binary, Query.inner, Query.end, Query.IsAnswer, Query.output, Query.Output, Query.matches, Term.Term, Term.holds, Tree.Trees, Tree.rowid, Tree.IsTable, Schema.Schema, declared.types.Value.TheVariants.Int, Table.Table, View.IsShaped}
 use Rattle.sqlite_sql.specs.Query.{output_cmp}
 use Rattle.sqlite_rules.specs.Lists.{Has}
 use Rattle.sqlite_rules.proofs.ListLemmas.{has_at, has_filtered, all_from, all_has, some_from, test_has}

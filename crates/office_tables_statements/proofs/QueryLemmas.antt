@@ -4,17 +4,13 @@ use Rattle.std.specs.{Option.option_to_list, List.Sorted.IsPermutation, List.lis
 use Rattle.sqlite.proofs.Callers.{one_permutation}
 use Rattle.std.proofs.lemmas.{Bool.cases_Bool, List.length-map}
 use Rattle.std.proofs.lemmas.List.Sorted.{IsPermutation-map, length_permutation}
-use Rattle.sqlite.specs.{Order.Row, Order.column, Tree.Trees, Collation.TheVariants.Binary, Term.Term, Term.Env, Term.col, Term.op2}
-use Rattle.sqlite.specs.{Term.holds, Term.eval_all, Query.inner, Query.end, Query.IsAnswer, Query.output, Query.Output, Query.matches}
-use Rattle.sqlite.specs.{declared.types.Value.TheVariants.Null, Command.Command, Listing.understood, Command.TheVariants.Select}
-use Rattle.sqlite.specs.{Given.IsPlain, Effect.Database, View.IsShaped, Program.overlay}
+use Rattle.sqlite.specs.{Order.Row, Order.column, Tree.Trees, Collation.TheVariants.Binary, Term.Term, Term.Env, Term.col, Term.op2, Term.holds, Term.eval_all, Query.inner, Query.end, Query.IsAnswer, Query.output, Query.Output, Query.matches, declared.types.Value.TheVariants.Null, Command.Command, Listing.understood, Command.TheVariants.Select, Given.IsPlain, Effect.Database, View.IsShaped, Program.overlay}
 use Rattle.sqlite_sql.specs.declared.ops.{BinaryOp.TheVariants.Compare, CompareOp.TheVariants.Eq}
 use Rattle.sqlite_schema.specs.Rules.{agree}
 use Rattle.sqlite_value.specs.Keys.{plain, first_key}
 use Rattle.sqlite_rules.specs.Lists.{Has}
 use Rattle.sqlite_trees.proofs.ListLemmas.{map-map}
-use Rattle.office_tables_statements.specs.{Layout.Layout, Layout.values_at, Layout.has_key, Tables.of_key, Tables.found_by, Tables.picked_by}
-use Rattle.office_tables_statements.specs.{Tables.picked_where, Calls.IsQuery, Calls.Reads, Calls.command_of}
+use Rattle.office_tables_statements.specs.{Layout.Layout, Layout.values_at, Layout.has_key, Tables.of_key, Tables.found_by, Tables.picked_by, Tables.picked_where, Calls.IsQuery, Calls.Reads, Calls.command_of}
 use Rattle.sqlite.specs.Effect as effect
 use Rattle.sqlite_trees.specs.declared.store.Shape.TheVariants as shape
 use Rattle.office_tables_schema.specs.Schema.{office_schema}

@@ -1,13 +1,9 @@
 -- What DELETE makes of a table: by a whole key, and by the number that rows are kept of.
 use Rattle.std.proofs.Common.{◌≡◌, ◌≢◌, ◌⊎◌, inl, inr, ℕ, ℤ, List, [], ◌∷◌, map, filter, find, slice_get, not, Bool, true, false, Option, None, Some, cond, option_map, refl, sym, ap, subst, ◌∙◌, true≢false}
 use Rattle.std.proofs.{lemmas.Bool.cases_Bool, lemmas.Bool.false_from_ne_true, lemmas.List.Sorted.IsPermutation-sym}
-use Rattle.std.specs.{List.Sorted.IsPermutation, List.AllByRecursion, Ordering.is_eq}
-use Rattle.std.specs.{declared.cmp.Ordering.TheVariants.Equal, Cmp.tied_itself}
+use Rattle.std.specs.{List.Sorted.IsPermutation, List.AllByRecursion, Ordering.is_eq, declared.cmp.Ordering.TheVariants.Equal, Cmp.tied_itself}
 use Rattle.std.specs.FinMap.{get, remove, retain_keys, same_map, get-remove, get-retain_keys}
-use Rattle.sqlite.specs.{declared.types.Value.TheVariants.Null, declared.types.Value.TheVariants.Int, Command.TheVariants.Delete, Order.Row}
-use Rattle.sqlite.specs.{Order.value_cmp, Program.overlay, Edit.edit_of, Edit.without_all, Edit.id_in, Edit.taken_by, Rows.Written}
-use Rattle.sqlite.specs.{Query.Query, Query.IsAnswer, Rowids.TheVariants.Given, State.State, Table.Table, Tree.Trees, Tree.rowid}
-use Rattle.sqlite.specs.{Tree.has_rowid, View.IsShaped}
+use Rattle.sqlite.specs.{declared.types.Value.TheVariants.Null, declared.types.Value.TheVariants.Int, Command.TheVariants.Delete, Order.Row, Order.value_cmp, Program.overlay, Edit.edit_of, Edit.without_all, Edit.id_in, Edit.taken_by, Rows.Written, Query.Query, Query.IsAnswer, Rowids.TheVariants.Given, State.State, Table.Table, Tree.Trees, Tree.rowid, Tree.has_rowid, View.IsShaped}
 use Rattle.sqlite.proofs.Callers.{one_step}
 use Rattle.sqlite_schema.specs.declared.schema.Keys.TheVariants.{Enforced}
 use Rattle.sqlite_trees.specs.declared.store.Shape.TheVariants as shape
@@ -17,8 +13,7 @@ use Rattle.sqlite_rules.specs.{Calls.ids_of, Lists.Has}
 use Rattle.sqlite_rules.proofs.ListLemmas.{all_has, all_from, has_filtered, has_kept}
 use Rattle.sqlite_rules.proofs.{ProbeLemmas.has_mapped, ProbeLemmas.mapped_has, TableLemmas.int_is, TableLemmas.without_all_has}
 use Rattle.office_tables_schema.specs.Schema.{office_schema}
-use Rattle.office_tables_statements.specs.{Layout.Layout, Layout.values_at, Layout.has_key, Stored.cells_at, Stored.rows_in, Stored.are_sound}
-use Rattle.office_tables_statements.specs.{Calls.IsReady, Calls.Ran, Tables.found_by}
+use Rattle.office_tables_statements.specs.{Layout.Layout, Layout.values_at, Layout.has_key, Stored.cells_at, Stored.rows_in, Stored.are_sound, Calls.IsReady, Calls.Ran, Tables.found_by}
 use Rattle.office_tables_shelf.specs.Cells.{Cell, TableRows, cells_cmp}
 use Rattle.office_tables_shelf.proofs.CellLemmas.{cells_total, cells_exact, tied}
 use Rattle.office_tables_statements.proofs.StoredLemmas.{agree_ties, has_cells, get_rows, HaveKeys}

@@ -2,10 +2,9 @@
 use Rattle.std.proofs.Common.{◌≡◌, ℕ, zero, suc, ◌+◌, Bool, true, false, not, ◌&&◌, ◌||◌, if◌then◌else◌, List, [], ◌∷◌, drop, slice_get, Option, None, Some, refl, sym, subst, true≢false, arith}
 use Rattle.std.proofs.lemmas.Bool.{and_parts, and_from}
 use Rattle.std.specs.List.{list_all}
-use Rattle.sqlite.specs.{declared.types.Value.Value, Kind.Kind, Ops.is_null, Schema.Schema}
+use Rattle.sqlite.specs.{declared.types.Value.Value, Kind.Kind, Ops.is_null, Schema.Schema, Order.Row, Order.column, Table.Table, Tree.Trees}
 use Rattle.sqlite.specs.declared.types.Value.TheVariants.{Null, Int, Text}
 use Rattle.sqlite.specs.Kind.TheVariants as kind
-use Rattle.sqlite.specs.{Order.Row, Order.column, Table.Table, Tree.Trees}
 use Rattle.sqlite_schema.specs.declared.schema.Column.{Column}
 use Rattle.sqlite_schema.specs.declared.schema.Constraint.TheVariants.{Datatype, NotNull}
 use Rattle.sqlite_schema.specs.Rules.{suits, has_affinity, is_of, are_typed, are_present, Obeys}

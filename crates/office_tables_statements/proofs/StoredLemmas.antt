@@ -2,8 +2,7 @@
 use Rattle.std.proofs.Common.{◌≡◌, ℕ, Bool, true, false, List, [], ◌∷◌, find, cond, Option, None, Some, option_map, int_cmp, refl, sym, ap, subst, ◌∙◌, true≢false, inl, inr}
 use Rattle.std.proofs.lemmas.Bool.{and_parts, and_from}
 use Rattle.std.specs.{Cmp.both_tied, Cmp.eq_by_cmp_equiv, FinMap.get, Ordering.is_eq, Ordering.ordering_then}
-use Rattle.sqlite.specs.{Collation.TheVariants.Binary, declared.types.Value.Value, Tree.rowid, declared.types.Value.TheVariants.Int}
-use Rattle.sqlite.specs.{declared.types.Value.TheVariants.Text, Order.Row, Order.column, Order.value_cmp, Order.row_cmp, View.IsShaped}
+use Rattle.sqlite.specs.{Collation.TheVariants.Binary, declared.types.Value.Value, Tree.rowid, declared.types.Value.TheVariants.Int, declared.types.Value.TheVariants.Text, Order.Row, Order.column, Order.value_cmp, Order.row_cmp, View.IsShaped}
 use Rattle.sqlite.specs.Ops.{binary, is_true, from_truth}
 use Rattle.sqlite_trees.specs.declared.store.Shape.TheVariants as shape
 use Rattle.sqlite_rules.proofs.{ListLemmas.all_has, TableLemmas.int_is}

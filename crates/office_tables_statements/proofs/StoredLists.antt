@@ -1,10 +1,7 @@
 -- What the queries on a table show: those of its rows, of how many they are, and of one row by its key.
 use Rattle.std.proofs.Common.{◌≡◌, inl, inr, ℕ, false, List, [], ◌∷◌, map, length, refl, sym, subst, ap, ◌∙◌, find, Option, Some, None, IfSome, option_map, ◌<◌, ◌^◌, min, Bool, filter, pos, arith}
-use Rattle.std.specs.{FinMap.entries, FinMap.get, FinMap.Entries.where_key, Option.option_to_list, List.IsDistinct, List.AllByRecursion}
-use Rattle.std.specs.{List.list_all, List.AllZip, List.Sorted.IsPermutation, Ordering.is_eq, Ordering.eq_by_cmp}
-use Rattle.sqlite.specs.{declared.types.Value.TheVariants.Null, declared.types.Value.TheVariants.Int, Effect.Database, Effect.IsDatabase, Order.Row, Order.column}
-use Rattle.sqlite.specs.{Program.overlay, Term.Term, Term.holds, Term.Env, Query.IsAnswer, Query.inner, Query.end, Query.matches}
-use Rattle.sqlite.specs.{Query.output, Query.Output, View.IsShaped}
+use Rattle.std.specs.{FinMap.entries, FinMap.get, FinMap.Entries.where_key, Option.option_to_list, List.IsDistinct, List.AllByRecursion, List.list_all, List.AllZip, List.Sorted.IsPermutation, Ordering.is_eq, Ordering.eq_by_cmp}
+use Rattle.sqlite.specs.{declared.types.Value.TheVariants.Null, declared.types.Value.TheVariants.Int, Effect.Database, Effect.IsDatabase, Order.Row, Order.column, Program.overlay, Term.Term, Term.holds, Term.Env, Query.IsAnswer, Query.inner, Query.end, Query.matches, Query.output, Query.Output, View.IsShaped}
 use Rattle.sqlite.specs.Effect as effect
 use Rattle.sqlite_trees.specs.declared.store.Shape.TheVariants as shape
 use Rattle.sqlite_rules.proofs.ListLemmas.{all_from, all_has, has_found}

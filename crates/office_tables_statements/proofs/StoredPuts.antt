@@ -1,22 +1,16 @@
 -- The statements that put and remove rows, and what they make of the tables.
 use Rattle.std.proofs.Common.{◌≡◌, ◌≢◌, ℕ, List, [], ◌∷◌, ◌++◌, map, filter, length, pos, refl, sym, ap, subst, ◌∙◌}
-use Rattle.std.specs.{FinMap.insert, FinMap.remove, Cmp.eq_by_cmp_equiv}
-use Rattle.std.specs.{List.AllByRecursion, List.IsDistinct, List.Sorted.IsPermutation, Ordering.eq_by_cmp}
-use Rattle.sqlite.specs.{declared.types.Value.TheVariants.Null, declared.types.Value.TheVariants.Int, Cast.cast_row, Edit.with_rowid, Rowids.TheVariants.Chosen, Order.Row}
-use Rattle.sqlite.specs.{Program.overlay, Query.IsAnswer, Rows.Written, State.State, Term.col, Term.eval_all}
+use Rattle.std.specs.{FinMap.insert, FinMap.remove, Cmp.eq_by_cmp_equiv, List.AllByRecursion, List.IsDistinct, List.Sorted.IsPermutation, Ordering.eq_by_cmp}
+use Rattle.sqlite.specs.{declared.types.Value.TheVariants.Null, declared.types.Value.TheVariants.Int, Cast.cast_row, Edit.with_rowid, Rowids.TheVariants.Chosen, Order.Row, Program.overlay, Query.IsAnswer, Rows.Written, State.State, Term.col, Term.eval_all}
 use Rattle.sqlite.specs.Kind.TheVariants as kind
 use Rattle.sqlite_rules.specs.Lists.{Has}
 use Rattle.office_tables_shelf.specs.{Cells.Cell, Cells.TableRows, Cells.cells_cmp, Cells.null, Content.Content, Content.rows_but, Shelf.is_of, declared.rows.Table.Table}
 use Rattle.office_tables_shelf.proofs.CellLemmas.{cells_total}
 use Rattle.office_tables_statements.specs.{Calls.IsReady, Calls.IsTurned, Calls.Ran, Layout.has_key, Layout.values_at}
 use Rattle.office_tables_statements.specs.Stored.{cells_at, content_now, rows_in}
-use Rattle.office_tables_statements.specs.Tables.{beside_rowid, id_given, row_given, source_at, rows_at, with_rows, layout_at, schema_at, place_at, renewed_at, put_in, remove_in, key_given, values_of, IsKeyOf, IsUpdateText, IsInsertText, IsRemoveText, Fits}
-use Rattle.office_tables_statements.specs.Tables.{of_first, drop_in, picked_where, IsDropText}
+use Rattle.office_tables_statements.specs.Tables.{beside_rowid, id_given, row_given, source_at, rows_at, with_rows, layout_at, schema_at, place_at, renewed_at, put_in, remove_in, key_given, values_of, IsKeyOf, IsUpdateText, IsInsertText, IsRemoveText, Fits, of_first, drop_in, picked_where, IsDropText}
 use Rattle.office_tables_schema.specs.Schema.{office_schema}
-use Rattle.office_tables_statements.proofs.{Casts.cast_one, Casts.cast_suited, ContentLemmas.put_at, ContentLemmas.put_apart, WriteLemmas.Added}
-use Rattle.office_tables_statements.proofs.{WriteLemmas.adds, WriteLemmas.went_on, WriteLemmas.same_value, WriteLemmas.wrote, QueryLemmas.picked}
-use Rattle.office_tables_statements.proofs.{QueryLemmas.where_picked, RemoveLemmas.dropped_rows, RemoveLemmas.loses, RemoveLemmas.remove_keyed}
-use Rattle.office_tables_statements.proofs.{UpdateLemmas.Renewed, UpdateLemmas.renews, TableLemmas.each, TableLemmas.is_placed, TableLemmas.is_low}
+use Rattle.office_tables_statements.proofs.{Casts.cast_one, Casts.cast_suited, ContentLemmas.put_at, ContentLemmas.put_apart, WriteLemmas.Added, WriteLemmas.adds, WriteLemmas.went_on, WriteLemmas.same_value, WriteLemmas.wrote, QueryLemmas.picked, QueryLemmas.where_picked, RemoveLemmas.dropped_rows, RemoveLemmas.loses, RemoveLemmas.remove_keyed, UpdateLemmas.Renewed, UpdateLemmas.renews, TableLemmas.each, TableLemmas.is_placed, TableLemmas.is_low}
 use Rattle.office_tables_statements.proofs.TableLemmas.{is_uncounted, is_idle, facts, in_tree, same_tree, only_in, apart}
 use Rattle.office_tables_statements.proofs.StoredLists.{distinct, shaped, own_keys, seen}
 

@@ -3,29 +3,20 @@ use Rattle.std.proofs.Common.{◌≡◌, ◌≢◌, ◌≤◌, ℕ, ℤ, List, [
 use Rattle.std.proofs.lemmas.Bool.{false_from_ne_true, not-true, and_parts}
 use Rattle.std.proofs.lemmas.List.{map-append, length-map, Sorted.length_permutation}
 use Rattle.std.specs.{FinMap.insert, List.AllByRecursion, List.IsDistinct, List.Sorted.IsPermutation, Ordering.is_eq, Ordering.eq_by_cmp}
-use Rattle.sqlite.specs.{declared.types.Value.Value, Cast.cast_row, Order.Row, Order.column, declared.types.Value.TheVariants.Null}
-use Rattle.sqlite.specs.{declared.types.Value.TheVariants.Int, declared.types.Value.TheVariants.Text, Edit.Edit, Edit.edit_of}
-use Rattle.sqlite.specs.{Edit.without_all, Edit.id_in, Edit.taken_by, Edit.is_taken, Edit.are_fresh, Edit.put_all, Effect.Database}
-use Rattle.sqlite.specs.{Effect.IsDatabase, Rowids.TheVariants.Given, Rows.Edited, Term.Term, Term.lit, Term.eval_all, Tree.Trees}
-use Rattle.sqlite.specs.{Tree.rowid, Tree.put_row, View.IsShaped}
+use Rattle.sqlite.specs.{declared.types.Value.Value, Cast.cast_row, Order.Row, Order.column, declared.types.Value.TheVariants.Null, declared.types.Value.TheVariants.Int, declared.types.Value.TheVariants.Text, Edit.Edit, Edit.edit_of, Edit.without_all, Edit.id_in, Edit.taken_by, Edit.is_taken, Edit.are_fresh, Edit.put_all, Effect.Database, Effect.IsDatabase, Rowids.TheVariants.Given, Rows.Edited, Term.Term, Term.lit, Term.eval_all, Tree.Trees, Tree.rowid, Tree.put_row, View.IsShaped}
 use Rattle.sqlite.proofs.Callers.{one_step}
 use Rattle.sqlite_schema.specs.declared.schema.Keys.TheVariants.{Enforced}
 use Rattle.sqlite_trees.specs.declared.store.Shape.TheVariants as shape
 use Rattle.sqlite_trees.proofs.{TreeLemmas.IsShaped-put_row, ListLemmas.all-map}
 use Rattle.sqlite_rules.specs.{Calls.ids_of, Lists.Has}
-use Rattle.sqlite_rules.proofs.{ListLemmas.all_from, ListLemmas.all_has, ListLemmas.has_filtered, TableLemmas.int_is}
-use Rattle.sqlite_rules.proofs.{TableLemmas.without_all_has, ProbeLemmas.has_mapped}
+use Rattle.sqlite_rules.proofs.{ListLemmas.all_from, ListLemmas.all_has, ListLemmas.has_filtered, TableLemmas.int_is, TableLemmas.without_all_has, ProbeLemmas.has_mapped}
 use Rattle.office_tables_shelf.specs.{Cells.Cell, Cells.cells_cmp, Cells.null, declared.rows.Table.Table}
 use Rattle.office_tables_shelf.proofs.CellLemmas.{cells_exact, tied}
 use Rattle.office_tables_statements.specs.{Calls.AreOrdered, Layout.has_key, Layout.values_at}
 use Rattle.office_tables_statements.specs.Stored.{cell_of, cells_at, rows_in, is_sound, are_sound}
 use Rattle.office_tables_statements.specs.Tables.{layout_at, schema_at, is_keyed, beside_rowid, others_given, renewed_at, stored_beside, value_of, values_of, Fits}
 use Rattle.office_tables_schema.specs.Schema.{office_schema}
-use Rattle.office_tables_statements.proofs.{Casts.cast_int, Casts.cast_suited, ListedLemmas.distinct_kept, ContentLemmas.put_at}
-use Rattle.office_tables_statements.proofs.{ContentLemmas.tie_self, QueryLemmas.cols, QueryLemmas.shown_values, RemoveLemmas.gone}
-use Rattle.office_tables_statements.proofs.{RemoveLemmas.stays, RemoveLemmas.permuted, StoredLemmas.HaveKeys, StoredLemmas.agree_ties}
-use Rattle.office_tables_statements.proofs.{StoredLemmas.has_cells, StoredLists.shaped, StoredLists.own_keys, StoredLists.distinct}
-use Rattle.office_tables_statements.proofs.{WriteLemmas.shaped_without, TableLemmas.is_idle}
+use Rattle.office_tables_statements.proofs.{Casts.cast_int, Casts.cast_suited, ListedLemmas.distinct_kept, ContentLemmas.put_at, ContentLemmas.tie_self, QueryLemmas.cols, QueryLemmas.shown_values, RemoveLemmas.gone, RemoveLemmas.stays, RemoveLemmas.permuted, StoredLemmas.HaveKeys, StoredLemmas.agree_ties, StoredLemmas.has_cells, StoredLists.shaped, StoredLists.own_keys, StoredLists.distinct, WriteLemmas.shaped_without, TableLemmas.is_idle}
 
 -- ---- values and their cells
 

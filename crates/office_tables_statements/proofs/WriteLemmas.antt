@@ -2,13 +2,7 @@
 use Rattle.std.proofs.Common.{◌≡◌, ◌≢◌, ◌⊎◌, inl, inr, ℕ, ℤ, ◌==◌, List, [], ◌∷◌, length, slice_get, unwrap_or, not, true, false, Option, None, Some, Result, Ok, Err, sym, ap, subst, ◌∙◌, true≢false, eq-eqb, Bool, cond, MatchBool}
 use Rattle.std.proofs.lemmas.Bool.{cases_Bool, eqb-true, not-true, and_parts}
 use Rattle.std.specs.List.{AllByRecursion}
-use Rattle.sqlite.specs.{Command.Command, declared.error.Error.Error, Effect.Database, Order.Row, Does.Tally, Does.Does, Does.AtPlace}
-use Rattle.sqlite.specs.{Does.OnRows, Does.WritesRows, Edit.without_all, Edit.edit_of, Edit.with_rowid, Edit.is_taken, Edit.are_fresh}
-use Rattle.sqlite.specs.{Edit.put_all, Edit.have_rowids, Edit.taken_by, Listing.understood, Schema.Schema, Table.Table, View.IsShaped}
-use Rattle.sqlite.specs.{View.is_int, Rows.Task, Rows.Written, Rows.Part, Rows.Gives, Rows.Inserts, Rows.CountsIn, Rows.Sourced}
-use Rattle.sqlite.specs.{Rows.sequence, Rows.stamped, Rows.count_of, Rows.rowids_for, State.State, State.Runs, State.Writes, State.mode_of}
-use Rattle.sqlite.specs.{Cast.cast_row, Tree.Trees, Tree.has_rowid, Tree.without_rowid, Tree.rowid, Tree.put_row, Rowids.TheVariants.Above}
-use Rattle.sqlite.specs.{Rowids.TheVariants.Chosen, Source.Source}
+use Rattle.sqlite.specs.{Command.Command, declared.error.Error.Error, Effect.Database, Order.Row, Does.Tally, Does.Does, Does.AtPlace, Does.OnRows, Does.WritesRows, Edit.without_all, Edit.edit_of, Edit.with_rowid, Edit.is_taken, Edit.are_fresh, Edit.put_all, Edit.have_rowids, Edit.taken_by, Listing.understood, Schema.Schema, Table.Table, View.IsShaped, View.is_int, Rows.Task, Rows.Written, Rows.Part, Rows.Gives, Rows.Inserts, Rows.CountsIn, Rows.Sourced, Rows.sequence, Rows.stamped, Rows.count_of, Rows.rowids_for, State.State, State.Runs, State.Writes, State.mode_of, Cast.cast_row, Tree.Trees, Tree.has_rowid, Tree.without_rowid, Tree.rowid, Tree.put_row, Rowids.TheVariants.Above, Rowids.TheVariants.Chosen, Source.Source}
 use Rattle.sqlite_rules.specs.Action.{works}
 use Rattle.sqlite_schema.specs.declared.schema.Keys.TheVariants.{Enforced}
 use Rattle.sqlite_trees.specs.declared.store.Shape.TheVariants as shape

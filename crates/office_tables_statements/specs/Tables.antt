@@ -29,8 +29,7 @@ use Rattle.signal_records.specs.Key.{kind_of, first_of, second_of}
 use Rattle.signal_records.specs.declared.key.Key.{Key}
 use Rattle.office_tables_shelf.specs.Cells.{Cell, TableRows, null, number, text, odd}
 use Rattle.office_tables_shelf.specs.Content.{Content}
-pub use Rattle.office_tables_shelf.specs.Content.{rows_at, place_at, with_rows, put_in, remove_in}
-pub use Rattle.office_tables_shelf.specs.Content.{drop_in}
+pub use Rattle.office_tables_shelf.specs.Content.{rows_at, place_at, with_rows, put_in, remove_in, drop_in}
 pub use Rattle.office_tables_shelf.specs.Reads.{is_among, IsNoRow, HasDamagedRow, ReadsRow, HasDamagedUnder}
 use Rattle.office_tables_shelf.specs.Shelf.{rows_of}
 use Rattle.office_tables_shelf.specs.declared.rows.Table.{Table}

@@ -1,8 +1,7 @@
 //! The columns of a shown timing or draft row: intersection, kind, the two numbers of the key, and
 //! the body.
 
-ghost use Rattle.std.specs.Prelude.{◌≡◌, ◌≢◌, ◌<◌, ◌≤◌, pos, length, Option, None, Some, IfOk};
-ghost use Rattle.std.specs.Prelude.{IfSome, OnOk, Ok};
+ghost use Rattle.std.specs.Prelude.{◌≡◌, ◌≢◌, ◌<◌, ◌≤◌, pos, length, Option, None, Some, IfOk, IfSome, OnOk, Ok};
 ghost use Rattle.sqlite.specs.Order.{column};
 ghost use Rattle.signal_records.specs.Key.{kind_of, first_of, second_of};
 ghost use Rattle.signal_records.specs.KeyOrder.{key_at};

@@ -5,9 +5,7 @@ ghost use Rattle.std.specs.Option.{option_to_list};
 ghost use Rattle.sqlite.specs.Values.{bound};
 ghost use Rattle.sqlite.specs.State.{HasCleanDisk, Survives};
 ghost use Rattle.sqlite.specs.Held.{state};
-ghost use Rattle.office_tables_statements.specs.Calls.{IsHonest, IsOffice, Keeps, IsQuery, Reads};
-ghost use Rattle.office_tables_statements.specs.Calls.{IsWriting, Ran, StandsOn};
-ghost use Rattle.office_tables_statements.specs.Calls.{StaysOpen};
+ghost use Rattle.office_tables_statements.specs.Calls.{IsHonest, IsOffice, Keeps, IsQuery, Reads, IsWriting, Ran, StandsOn, StaysOpen};
 
 use office_tables_shelf::shelf::ShelfFault;
 use signal_records::NoMemory;

@@ -1,7 +1,6 @@
 //! The values of a stored row, as what they stand for.
 
-ghost use Rattle.std.specs.Prelude.{◌≡◌, ◌≢◌, ◌≤◌, ◌<◌, ◌^◌, ℕ, pos, length, List, Option};
-ghost use Rattle.std.specs.Prelude.{option_map, IfOk, IfSome, OnOk};
+ghost use Rattle.std.specs.Prelude.{◌≡◌, ◌≢◌, ◌≤◌, ◌<◌, ◌^◌, ℕ, pos, length, List, Option, option_map, IfOk, IfSome, OnOk};
 ghost use Rattle.sqlite.specs.Order.{column};
 ghost use Rattle.std.specs.Int.{IsInRange};
 ghost use Rattle.signal_values.specs.Words.{AreWords};
@@ -9,11 +8,11 @@ ghost use Rattle.cabinet_core.specs.Day.{IsDay};
 ghost use Rattle.cabinet_core.specs.Part.{IsPartCode};
 ghost use Rattle.office_tables_shelf.specs.Cells.{null, number, text};
 ghost use Rattle.office_tables_statements.specs.Stored.{cell_of, text_or_null};
-ghost use Rattle.draft_state.specs.declared.revision.TheConstants.{LAST_REVISION};
+ghost use Rattle.signal_records.specs.declared.revision.TheConstants.{LAST_REVISION};
 
 use cabinet_core::{Day, PartCode};
-use draft_state::revision::Revision;
 use office_tables_shelf::shelf::ShelfFault;
+use signal_records::revision::Revision;
 use signal_records::{Number, Words};
 use sqlite::types::{FromSql, ValueRef};
 use sqlite::{Error, ErrorCode, Row};

@@ -1,17 +1,13 @@
 -- A row before all others, or two of one key, and the differences of the rows after them.
-use Rattle.std.proofs.Common.{◌≡◌, ◌≢◌, Bool, true, false, cond, T, List, [], ◌∷◌, ◌++◌, Option}
-use Rattle.std.proofs.Common.{Some, None, get_or, drop, refl, sym, ap, subst, ◌∙◌, append_assoc}
-use Rattle.std.proofs.Common.{append-nil, inl, inr}
-use Rattle.std.specs.{declared.cmp.Ordering.Ordering, declared.cmp.Ordering.TheVariants.Less, declared.cmp.Ordering.TheVariants.Equal}
-use Rattle.std.specs.{declared.cmp.Ordering.TheVariants.Greater, Ordering.is_lt, Ordering.is_eq, Ordering.ordering_reverse, FinMap.find}
+use Rattle.std.proofs.Common.{◌≡◌, ◌≢◌, Bool, true, false, cond, T, List, [], ◌∷◌, ◌++◌, Option, Some, None, get_or, drop, refl, sym, ap, subst, ◌∙◌, append_assoc, append-nil, inl, inr}
+use Rattle.std.specs.{declared.cmp.Ordering.Ordering, declared.cmp.Ordering.TheVariants.Less, declared.cmp.Ordering.TheVariants.Equal, declared.cmp.Ordering.TheVariants.Greater, Ordering.is_lt, Ordering.is_eq, Ordering.ordering_reverse, FinMap.find}
 use Rattle.std.specs.FinMap.Entries.{below_all}
 use Rattle.signal_records.specs.{declared.key.Key.Key, declared.record.Row.Row, Key.key_cmp, KeyOrder.key_total, KeyOrder.key_exact}
 use Rattle.signal_records.specs.Row.{key_of}
 use Rattle.signal_records.proofs.Sets.{not_found}
 use Rattle.signal_values.proofs.Ties.{both, is_less, parts, tied}
-use Rattle.signal_compare.specs.{declared.difference.Difference.Difference, declared.difference.Difference.TheVariants.Added}
+use Rattle.signal_compare.specs.{declared.difference.Difference.Difference, declared.difference.Difference.TheVariants.Added, Difference.difference_at, Difference.Explains, Difference.place_of, Merging.under_keys, Merging.KeysAscend}
 use Rattle.signal_compare.specs.declared.difference.Difference.TheVariants.{Removed, Changed}
-use Rattle.signal_compare.specs.{Difference.difference_at, Difference.Explains, Difference.place_of, Merging.under_keys, Merging.KeysAscend}
 use Rattle.signal_compare.specs.Merging.{AreDifferences, TellsChange, next_order}
 
 pub less : (o : Ordering) → o ≡ Less → T (is_lt o)

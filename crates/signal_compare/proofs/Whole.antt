@@ -1,17 +1,12 @@
 -- The differences of the rows of two sets are those of the sets.
-use Rattle.std.proofs.Common.{◌≡◌, Bool, true, false, cond, T, List, [], ◌∷◌, Option, Some}
-use Rattle.std.proofs.Common.{None, Result, Ok, Err, map, refl, sym, ap, subst, ◌∙◌}
+use Rattle.std.proofs.Common.{◌≡◌, Bool, true, false, cond, T, List, [], ◌∷◌, Option, Some, None, Result, Ok, Err, map, refl, sym, ap, subst, ◌∙◌}
 use Rattle.std.specs.Prelude.{IfOk}
-use Rattle.std.specs.{Ordering.is_lt, Ordering.eq_by_cmp, List.AllByRecursion, List.Sorted.IsStrictlySortedBy}
-use Rattle.std.specs.{declared.cmp.Ordering.TheVariants.Less, FinMap.find, FinMap.get, FinMap.entries, FinMap.entries_sorted, FinMap.values}
-use Rattle.std.specs.{FinMap.get-entries, FinMap.get-insert, FinMap.get-remove, FinMap.same_map, FinMap.Entries.below_all}
+use Rattle.std.specs.{Ordering.is_lt, Ordering.eq_by_cmp, List.AllByRecursion, List.Sorted.IsStrictlySortedBy, declared.cmp.Ordering.TheVariants.Less, FinMap.find, FinMap.get, FinMap.entries, FinMap.entries_sorted, FinMap.values, FinMap.get-entries, FinMap.get-insert, FinMap.get-remove, FinMap.same_map, FinMap.Entries.below_all}
 use Rattle.std.specs.FinMap.Entries.{is_sorted}
-use Rattle.signal_records.specs.{declared.key.Key.Key, declared.record.Row.Row, Key.key_cmp, KeyOrder.key_total, KeyOrder.key_exact}
-use Rattle.signal_records.specs.{Row.key_of, TimingSet.Rows, TimingSet.AreKeyed, TimingSet.after_change, TimingSet.after_changes}
+use Rattle.signal_records.specs.{declared.key.Key.Key, declared.record.Row.Row, Key.key_cmp, KeyOrder.key_total, KeyOrder.key_exact, Row.key_of, TimingSet.Rows, TimingSet.AreKeyed, TimingSet.after_change, TimingSet.after_changes}
 use Rattle.signal_compare.specs.{declared.difference.Difference.Difference, declared.difference.Difference.TheVariants.Added}
 use Rattle.signal_compare.specs.declared.difference.Difference.TheVariants.{Removed, Changed}
-use Rattle.signal_compare.specs.Difference.{place_of, change_of, difference_changes, difference_at, AreTold}
-use Rattle.signal_compare.specs.Difference.{Explains}
+use Rattle.signal_compare.specs.Difference.{place_of, change_of, difference_changes, difference_at, AreTold, Explains}
 use Rattle.signal_compare.specs.Merging.{under_keys, KeysAscend, AreDifferences}
 use Rattle.signal_records.proofs.Sets.{keyed_values}
 use Rattle.signal_values.proofs.Ties.{is_less, parts}

@@ -2,8 +2,7 @@
 
 ghost use Rattle.std.specs.Prelude.{◌≡◌, ◌++◌, map, string_bytes, OnOk};
 ghost use Rattle.signal_records.specs.Spelling.{Writes};
-ghost use Rattle.signal_compare.specs.Text.{shown, field_change, front_changes, ped_changes};
-ghost use Rattle.signal_compare.specs.Text.{row_changes, changed_fields};
+ghost use Rattle.signal_compare.specs.Text.{shown, field_change, front_changes, ped_changes, row_changes, changed_fields};
 
 use signal_records::{Key, NoMemory, Row, write_row};
 use std::alloc::Global;

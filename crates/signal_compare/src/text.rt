@@ -3,8 +3,7 @@
 ghost use Rattle.std.specs.Prelude.{◌≡◌, ◌++◌, ◌∷◌, map, codes, string_bytes, OnOk, IfOk};
 ghost use Rattle.signal_records.specs.Spelling.{spelling};
 ghost use Rattle.signal_records.specs.Within.{current_limits};
-ghost use Rattle.signal_compare.specs.Text.{separated, key_text};
-ghost use Rattle.signal_compare.specs.Text.{difference_text, comparison_text};
+ghost use Rattle.signal_compare.specs.Text.{separated, key_text, difference_text, comparison_text};
 
 use crate::difference::Difference;
 use crate::fields::changed_fields;

@@ -2,7 +2,7 @@
 use Rattle.std.proofs.Common.{◌≡◌, ◌+◌, inl, inr, ℕ, arith, Bool, true, false, List, [], ◌++◌, codes, map, filter, length, Option, Some, None, refl, sym, ap, ap₂, ◌∙◌}
 use Rattle.std.proofs.{lemmas.List.Elements.filter-append, lemmas.List.length-append, lemmas.List.length-map}
 use Rattle.std.specs.Prelude.{cond, option_map}
-use Rattle.draft_state.specs.declared.state.Holder.{Holder}
+use Rattle.signal_records.specs.declared.state.Holder.{Holder}
 use Rattle.office_listings.specs.Intersections.{state_word}
 use Rattle.office_listings.specs.declared.orders.NamedOrder.{NamedOrder}
 use Rattle.signal_page_tables.specs.{Cells.number_cell, Cells.row_heading, Cells.words_cell, Reading.is_markup, Reading.marks}

@@ -1,6 +1,6 @@
 -- What the index shows, with its names and texts empty.
 use Rattle.std.specs.Prelude.{ℕ, List, [], map, option_map}
-use Rattle.draft_state.specs.declared.state.Holder.{Holder}
+use Rattle.signal_records.specs.declared.state.Holder.{Holder}
 use Rattle.office_listings.specs.declared.orders.NamedOrder.{NamedOrder}
 use Rattle.signal_page.specs.Blank.{blank_order}
 use Rattle.signal_index.specs.declared.shown.IndexEntry.{IndexEntry}

@@ -1,6 +1,6 @@
 -- The rows of the tables of the index.
 use Rattle.std.specs.Prelude.{ℕ, Bool, true, false, if◌then◌else◌, List, [], ◌++◌, flat_map, codes, decimal, Option, Some, None}
-use Rattle.draft_state.specs.declared.state.Holder.{Holder}
+use Rattle.signal_records.specs.declared.state.Holder.{Holder}
 use Rattle.office_listings.specs.Intersections.{state_word}
 use Rattle.office_listings.specs.declared.orders.NamedOrder.{NamedOrder}
 use Rattle.signal_page_tables.specs.Cells.{heading, words_heading, row_heading, number_cell, text_cell}

@@ -12,7 +12,7 @@ ghost use Rattle.signal_index.specs.Rows.{standing_headings};
 
 use crate::shown::IndexEntry;
 use cabinet_core::{Day, due};
-use draft_state::state::Holder;
+use signal_records::state::Holder;
 use office_listings::state_word;
 use signal_page::{push_due, push_last};
 use signal_page_tables::{

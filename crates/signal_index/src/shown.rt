@@ -4,7 +4,7 @@ ghost use Rattle.std.specs.Prelude.{◌≡◌, ◌∷◌, ◌++◌, [], IfOk, On
 ghost use Rattle.signal_index.specs.Shown.{index_entry};
 
 use cabinet_core::{Day, latest, open_count};
-use draft_state::state::Holder;
+use signal_records::state::Holder;
 use office_listings::NamedOrder;
 use office_machine::intersections::ListedIntersection;
 use office_machine::reply::{CabinetShown, Stock};

@@ -6,8 +6,8 @@ use Rattle.draft_core.specs.declared.step.Step.TheVariants as step
 use Rattle.std.specs.Str.{bytes_eq}
 use Rattle.draft_core.specs.declared.refusal.DraftRefusal.{DraftRefusal}
 use Rattle.draft_core.specs.declared.refusal.DraftRefusal.TheVariants.{NotOwner, RevisionFull}
-use Rattle.draft_state.specs.declared.state.Stage.{Stage}
-use Rattle.draft_state.specs.declared.state.Stage.TheVariants.{Transaction, Done}
+use Rattle.signal_records.specs.declared.state.Stage.{Stage}
+use Rattle.signal_records.specs.declared.state.Stage.TheVariants.{Transaction, Done}
 use Rattle.office_machine.specs.{Office.Office, Office.Intersection, Step.Run, Step.Step, Step.answered, Step.transacted, Step.with_intersection}
 use Rattle.office_machine.specs.{declared.command.Command.Command, declared.reply.Reply.Reply}
 use Rattle.office_machine.specs.Step.{moved as moved_by, refusal_of_draft}

@@ -3,8 +3,8 @@ use Rattle.std.proofs.Common.{◌≡◌, ◌⊎◌, ◌∙◌, inl, inr, ℕ, tr
 use Rattle.std.specs.{FinMap.get, Result.IsErrAnd}
 use Rattle.draft_core.specs.Transaction.{Draft, in_stage, state_of}
 use Rattle.draft_core.specs.declared.refusal.DraftRefusal.TheVariants as draft
-use Rattle.draft_state.specs.declared.state.Stage.{Stage}
-use Rattle.draft_state.specs.declared.state.Stage.TheVariants as stage
+use Rattle.signal_records.specs.declared.state.Stage.{Stage}
+use Rattle.signal_records.specs.declared.state.Stage.TheVariants as stage
 use Rattle.office_desk.specs.{Answers.AnswersAny, Changes.IsQueryCommand, Damage.IsImport, Damage.IsTurnedAway, Damage.MeetsDamage, Named.IsNamedFor, Running.HoldsTables}
 use Rattle.office_machine.specs.{Office.Intersection, Office.Office, Step.Step, Step.answered, Step.draft_shown, Step.shown, Step.state_shown}
 use Rattle.office_machine.specs.{declared.command.Command.Command, declared.reply.Reply.Reply}

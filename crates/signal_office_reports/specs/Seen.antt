@@ -2,8 +2,8 @@
 use Rattle.std.specs.Prelude.{◌≡◌, ◌≢◌, ◌⊎◌, ◌<◌, ℕ, Bool, true, false, List, [], ◌∷◌, length, map, take, Result, Ok, Err, MatchResult, Vec}
 use Rattle.std.specs.FinMap.{entries}
 use Rattle.draft_core.specs.declared.refusal.DraftRefusal.TheVariants as draft
-use Rattle.draft_state.specs.declared.state.DbState.{DbState}
-use Rattle.draft_state.specs.declared.state.DbState.TheVariants.{Normal}
+use Rattle.signal_records.specs.declared.state.DbState.{DbState}
+use Rattle.signal_records.specs.declared.state.DbState.TheVariants.{Normal}
 use Rattle.office_desk.specs.Damage.{MeetsDamage}
 use Rattle.office_desk.specs.Named.{RefusesBy, numbers_of}
 use Rattle.office_desk.specs.StandFor.{StandForSound}

@@ -4,9 +4,9 @@ use Rattle.std.specs.Prelude.{None}
 use Rattle.cabinet_core.specs.Day.{day_text}
 use Rattle.cabinet_core.specs.Orders.{is_open}
 use Rattle.cabinet_core.specs.declared.record.Order.{Order}
-use Rattle.draft_state.specs.declared.state.Verdict.{Verdict}
-use Rattle.draft_state.specs.declared.state.Verdict.TheVariants.{NotDone, DoneWithError}
-use Rattle.draft_state.specs.declared.state.Verdict.TheVariants.{DoneWithNoError}
+use Rattle.signal_records.specs.declared.state.Verdict.{Verdict}
+use Rattle.signal_records.specs.declared.state.Verdict.TheVariants.{NotDone, DoneWithError}
+use Rattle.signal_records.specs.declared.state.Verdict.TheVariants.{DoneWithNoError}
 use Rattle.office_machine.specs.States.{state_name}
 use Rattle.office_machine.specs.declared.reply.IntersectionState.{IntersectionState}
 use Rattle.signal_page_tables.specs.Words.{isolated}

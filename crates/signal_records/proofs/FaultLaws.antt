@@ -1,8 +1,7 @@
 -- The faults of the timing rows: none is of a day or a text, and reading gives no want of memory.
 use Rattle.std.proofs.Common.{◌≡◌, ℕ, Bool, true, false, eqb, List, [], ◌∷◌, length, Option, Some, None, Result, Ok, Err, refl, subst, rules}
 use Rattle.std.specs.Prelude.{IfErr, IsTrue, ◌+◌, if◌then◌else◌}
-use Rattle.signal_records.specs.{declared.fault.RowFault.RowFault, declared.limits.Limits.Limits, declared.record.Ped.Ped}
-use Rattle.signal_records.specs.{declared.record.Row.Row, declared.record.Change.Change, RowFault.is_timing_fault}
+use Rattle.signal_records.specs.{declared.fault.RowFault.RowFault, declared.limits.Limits.Limits, declared.record.Ped.Ped, declared.record.Row.Row, declared.record.Change.Change, RowFault.is_timing_fault}
 use Rattle.signal_records.specs.declared.fault.RowFault.TheVariants as fault
 use Rattle.signal_records.specs.Reading.{◌>>=◌, text_at, number_of, number_at, flag_at, mode_at, parts, phases_in, or_no_list, list_at, some_ped, ped_width, lead_in, ped_record, ped_at, phase_record, seq_record, split_record, pattern_record, row_at, phase_key, seq_key, split_key, pattern_key, key_at, removal_at, put_at, change_at, Gives}
 

@@ -4,8 +4,7 @@ use Rattle.std.proofs.lemmas.Bool.{false≢true}
 use Rattle.signal_records.specs.{declared.fault.RowFault.RowFault, declared.limits.Limits.Limits, Reading.number_at, Reading.flag_at}
 use Rattle.signal_records.specs.Reading.{mode_at, list_at, ped_at, key_at}
 use Rattle.signal_records.specs.declared.fault.RowFault.TheVariants as fault
-use Rattle.signal_records.proofs.FaultLaws.{IsTiming, none_read, number_timing, flag_timing}
-use Rattle.signal_records.proofs.FaultLaws.{mode_timing, list_timing, any_ped_timing, key_timing}
+use Rattle.signal_records.proofs.FaultLaws.{IsTiming, none_read, number_timing, flag_timing, mode_timing, list_timing, any_ped_timing, key_timing}
 
 -- what is read, if it is a fault, is no want of memory
 abbrev pub Never : {X : Type 0} → Result X RowFault → Type 0

@@ -4,10 +4,7 @@
 ghost use Rattle.std.specs.Prelude.{◌≡◌, ◌≤◌, ◌↔◌, IsTrue};
 ghost use Rattle.std.specs.Int.{IsInRange};
 ghost use Rattle.signal_records.specs.PhaseList.{is_phase_list};
-ghost use Rattle.signal_records.specs.Within.{current_limits, version_1_limits};
-ghost use Rattle.signal_records.specs.Within.{IsAnyPedWithin, IsPhaseWithin};
-ghost use Rattle.signal_records.specs.Within.{IsSplitWithin, IsPatternWithin};
-ghost use Rattle.signal_records.specs.Within.{IsRowWithin, IsKeyWithin, IsChangeWithin};
+ghost use Rattle.signal_records.specs.Within.{current_limits, version_1_limits, IsAnyPedWithin, IsPhaseWithin, IsSplitWithin, IsPatternWithin, IsRowWithin, IsKeyWithin, IsChangeWithin};
 
 use crate::key::Key;
 use crate::limits::VERSION_1_LIMITS;

@@ -2,9 +2,7 @@
 
 ghost use Rattle.std.specs.Prelude.{◌≡◌, ◌≤◌, length};
 ghost use Rattle.signal_values.specs.declared.number.TheConstants.{PHASES, RINGS};
-ghost use Rattle.signal_records.specs.Reading.{Gives, WantsOnlyFor, PutsList, texts};
-ghost use Rattle.signal_records.specs.Reading.{phase_key, seq_key, split_key, pattern_key};
-ghost use Rattle.signal_records.specs.Reading.{key_at, removal_at, put_at, change_at};
+ghost use Rattle.signal_records.specs.Reading.{Gives, WantsOnlyFor, PutsList, texts, phase_key, seq_key, split_key, pattern_key, key_at, removal_at, put_at, change_at};
 
 use crate::fault::RowFault;
 use crate::field_reading::{number, number_up_to};

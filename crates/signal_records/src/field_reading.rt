@@ -1,10 +1,8 @@
 //! One field of a row: a number, a flag, a mode or a list of phases. No field takes memory here.
 
-ghost use Rattle.std.specs.Prelude.{◌≡◌, ◌<◌, ◌≤◌, ◌-◌, ◌^◌, length};
-ghost use Rattle.std.specs.Prelude.{true, false};
+ghost use Rattle.std.specs.Prelude.{◌≡◌, ◌<◌, ◌≤◌, ◌-◌, ◌^◌, length, true, false};
 ghost use Rattle.signal_values.specs.declared.number.TheConstants.{PHASES};
-ghost use Rattle.signal_records.specs.Reading.{texts};
-ghost use Rattle.signal_records.specs.Reading.{number_at, flag_at, mode_at, list_at};
+ghost use Rattle.signal_records.specs.Reading.{texts, number_at, flag_at, mode_at, list_at};
 
 use crate::fault::RowFault;
 use crate::list_reading::SpelledPhases;

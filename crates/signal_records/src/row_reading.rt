@@ -2,10 +2,7 @@
 
 ghost use Rattle.std.specs.Prelude.{◌≡◌, ◌≤◌, ◌+◌, length};
 ghost use Rattle.signal_values.specs.declared.number.TheConstants.{PHASES, RINGS};
-ghost use Rattle.signal_records.specs.Reading.{Gives, WantsOnlyFor, HasList, texts};
-ghost use Rattle.signal_records.specs.Reading.{ped_width, lead_in, ped_record, ped_at};
-ghost use Rattle.signal_records.specs.Reading.{phase_record, seq_record, split_record};
-ghost use Rattle.signal_records.specs.Reading.{pattern_record, row_at};
+ghost use Rattle.signal_records.specs.Reading.{Gives, WantsOnlyFor, HasList, texts, ped_width, lead_in, ped_record, ped_at, phase_record, seq_record, split_record, pattern_record, row_at};
 
 use crate::fault::RowFault;
 use crate::field_reading::{byte, flag, mode, number, number_up_to, phases};

@@ -1,9 +1,7 @@
 -- The rows of each kind: their numbers rise, a key is found where its number is among them, and they are the subjects.
 use Rattle.std.proofs.Common.{◌≡◌, ℕ, ◌+◌, ◌<◌, ◌≤◌, Bool, true, false, cond, eqb, leb, ◌&&◌, List, [], ◌∷◌, map, Option, Some, None, is_some, inl, inr, refl, ap, ◌∙◌, arith}
 use Rattle.std.proofs.lemmas.Bool.{and_parts, leb-true, eqb-true, eq-eqb}
-use Rattle.std.specs.{Prelude.◌||◌, FinMap.find, Option.unwrap_or}
-use Rattle.std.specs.{declared.cmp.Ordering.TheVariants.Less, declared.cmp.Ordering.TheVariants.Equal, List.list_any, List.list_all}
-use Rattle.std.specs.{List.filter_map, List.flat_map, List.cons_option, Ordering.nat_cmp, Ordering.eq_by_cmp}
+use Rattle.std.specs.{Prelude.◌||◌, FinMap.find, Option.unwrap_or, declared.cmp.Ordering.TheVariants.Less, declared.cmp.Ordering.TheVariants.Equal, List.list_any, List.list_all, List.filter_map, List.flat_map, List.cons_option, Ordering.nat_cmp, Ordering.eq_by_cmp}
 use Rattle.signal_records.specs.declared.key.Key.TheVariants as key
 use Rattle.signal_values.specs.declared.number.TheConstants.{PHASES, RINGS}
 use Rattle.signal_records.specs.{declared.record.Row.Row, Key.key_cmp, Row.key_of}
@@ -11,8 +9,7 @@ use Rattle.signal_records.specs.declared.record.Row.TheVariants as row
 use Rattle.signal_rules.specs.declared.violation.Subject.TheVariants as subject
 use Rattle.signal_rules.specs.Lookup.{the_phase, the_list, the_split, the_pattern, last_sequence, last_split, last_pattern, ring_numbers, is_in}
 use Rattle.signal_rules.specs.RowWalk.{keyed, of_kind, sequence_of, sequences_after, is_from_to, is_within}
-use Rattle.signal_rules.proofs.{Among.any_at, Among.in_numbers, InOrder.firsts, InOrder.second_at, KeyOrder.number_less, KeyOrder.pair_less}
-use Rattle.signal_rules.proofs.{KeyOrder.pair_tied, KeyOrder.tied_alone, RowNumbers.within_bounds, RowNumbers.found_or}
+use Rattle.signal_rules.proofs.{Among.any_at, Among.in_numbers, InOrder.firsts, InOrder.second_at, KeyOrder.number_less, KeyOrder.pair_less, KeyOrder.pair_tied, KeyOrder.tied_alone, RowNumbers.within_bounds, RowNumbers.found_or}
 use Rattle.signal_rules.proofs.Unreached.{list_any_same}
 use Rattle.signal_values.proofs.Ties.{numbers_tie}
 

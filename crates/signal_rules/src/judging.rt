@@ -1,7 +1,6 @@
 //! The violations of a timing set and their reasons, subject by subject.
 
-ghost use Rattle.std.specs.Prelude.{◌≡◌, Contains, [], ◌++◌, false, map, length};
-ghost use Rattle.std.specs.Prelude.{Some, OnOk, IfOk};
+ghost use Rattle.std.specs.Prelude.{◌≡◌, Contains, [], ◌++◌, false, map, length, Some, OnOk, IfOk};
 ghost use Rattle.std.specs.List.{flat_map};
 ghost use Rattle.signal_rules.specs.declared.reason.Explained.{Explained as ExplainedOf};
 ghost use Rattle.signal_rules.specs.declared.reason.Reason.{Reason as ReasonOf};
@@ -11,10 +10,7 @@ ghost use Rattle.signal_rules.specs.Cases.{first_true, holds};
 ghost use Rattle.signal_rules.specs.Counts.{RisesAtMost, sequence_entries, most_seconds};
 ghost use Rattle.signal_rules.specs.Lookup as set_has;
 ghost use Rattle.signal_rules.specs.Slots.{agree_where_begun, conflicts_in};
-ghost use Rattle.signal_rules.specs.Violations.{violations_of, violations_at, explained};
-ghost use Rattle.signal_rules.specs.Violations.{explained_at, broken, phase_findings, subjects};
-ghost use Rattle.signal_rules.specs.Violations.{lane_findings, pattern_findings, AreReasons};
-ghost use Rattle.signal_rules.specs.Violations.{IsReason};
+ghost use Rattle.signal_rules.specs.Violations.{violations_of, violations_at, explained, explained_at, broken, phase_findings, subjects, lane_findings, pattern_findings, AreReasons, IsReason};
 
 use crate::lanes::Slot;
 use crate::lookup::{pattern_at, phase_at, phases_of, split_at};

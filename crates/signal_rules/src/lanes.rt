@@ -2,16 +2,13 @@
 //! is a sum of splits, and the rings are compared only at the seconds at which one of them starts a
 //! phase. What that takes of the set is looked up once for each ring and for each phase of its row.
 
-ghost use Rattle.std.specs.Prelude.{◌≡◌, ◌<◌, ◌≤◌, ◌+◌, ◌*◌, ◌^◌, ◌++◌, ◌==◌, true, false};
-ghost use Rattle.std.specs.Prelude.{IfOk, OnOk, is_some, length};
+ghost use Rattle.std.specs.Prelude.{◌≡◌, ◌<◌, ◌≤◌, ◌+◌, ◌*◌, ◌^◌, ◌++◌, ◌==◌, true, false, IfOk, OnOk, is_some, length};
 ghost use Rattle.signal_rules.specs.Cases.{first_true};
 ghost use Rattle.signal_rules.specs.Lookup.{phase_at, the_mates, lists};
 ghost use Rattle.signal_rules.specs.Lanes.{time_of, lane, rings_cases};
 ghost use Rattle.signal_rules.specs.CutPoints.{timed};
 ghost use Rattle.signal_rules.specs.Starts.{times};
-ghost use Rattle.signal_rules.specs.Slots.{spans_at, spans_from, spans_of, has_second, are_mates};
-ghost use Rattle.signal_rules.specs.Slots.{spans_in, later_cases, pair_cases, conflicts_in};
-ghost use Rattle.signal_rules.specs.Slots.{slot_cases, agree_where_begun};
+ghost use Rattle.signal_rules.specs.Slots.{spans_at, spans_from, spans_of, has_second, are_mates, spans_in, later_cases, pair_cases, conflicts_in, slot_cases, agree_where_begun};
 ghost use Rattle.signal_rules.specs.Counts.{RisesAtLeast, RisesAtMost};
 
 use crate::lookup::{phase_at, ring_row, split_at};

@@ -5,9 +5,7 @@ ghost use Rattle.signal_rules.specs.Lookup as set_has;
 ghost use Rattle.signal_rules.specs.Lookup.{split_at};
 ghost use Rattle.signal_rules.specs.OnePass.{rings_at};
 ghost use Rattle.signal_rules.specs.Cases.{first_true};
-ghost use Rattle.signal_rules.specs.PatternRules.{has_splits, splits_cases, rows_cases};
-ghost use Rattle.signal_rules.specs.PatternRules.{offset_cases, coordination_cases};
-ghost use Rattle.signal_rules.specs.PatternRules.{is_coordinated, has_coordinated};
+ghost use Rattle.signal_rules.specs.PatternRules.{has_splits, splits_cases, rows_cases, offset_cases, coordination_cases, is_coordinated, has_coordinated};
 ghost use Rattle.signal_rules.specs.Lanes.{used_rings};
 
 use crate::lookup::{has_phase, has_split, phase_at, phases_of, split_at};

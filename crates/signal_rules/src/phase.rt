@@ -3,9 +3,7 @@
 ghost use Rattle.std.specs.Prelude.{◌≡◌, ◌≤◌};
 ghost use Rattle.signal_rules.specs.Cases.{first_true};
 ghost use Rattle.signal_rules.specs.Lookup.{phase_at, is_in};
-ghost use Rattle.signal_rules.specs.PhaseRules.{yellow_cases, red_cases, of_ped, walk_cases};
-ghost use Rattle.signal_rules.specs.PhaseRules.{clearance, crossing_cases, setback_cases};
-ghost use Rattle.signal_rules.specs.PhaseRules.{lead_cases, mate_cases, mates_cases};
+ghost use Rattle.signal_rules.specs.PhaseRules.{yellow_cases, red_cases, of_ped, walk_cases, clearance, crossing_cases, setback_cases, lead_cases, mate_cases, mates_cases};
 
 use crate::lookup::phase_at;
 use crate::reason::{CrossingReason, IntervalReason, MateReason, Reason};

@@ -1,8 +1,7 @@
 //! The subjects that a change of some rows touches.
 
 ghost use Rattle.std.specs.Prelude.{◌≡◌, IfOk};
-ghost use Rattle.signal_rules.specs.Touched.{reaches, reaches_any, uses_sequence, uses_split};
-ghost use Rattle.signal_rules.specs.Touched.{touched_subjects};
+ghost use Rattle.signal_rules.specs.Touched.{reaches, reaches_any, uses_sequence, uses_split, touched_subjects};
 
 use crate::lanes::lists;
 use crate::lookup::pattern_at;

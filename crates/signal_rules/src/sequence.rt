@@ -5,8 +5,7 @@ ghost use Rattle.std.specs.List.{flat_map};
 ghost use Rattle.signal_rules.specs.Cases.{first_true};
 ghost use Rattle.signal_rules.specs.Lookup as set_has;
 ghost use Rattle.signal_rules.specs.Lookup.{has_sequence, phase_at, ring_numbers};
-ghost use Rattle.signal_rules.specs.SequenceRule.{place_cases, row_cases, times_in, once_cases};
-ghost use Rattle.signal_rules.specs.SequenceRule.{sequence_cases};
+ghost use Rattle.signal_rules.specs.SequenceRule.{place_cases, row_cases, times_in, once_cases, sequence_cases};
 
 use crate::lookup::{has_row, phase_at, ring_row};
 use crate::reason::{Reason, SequenceReason};

@@ -2,8 +2,7 @@
 
 ghost use Rattle.std.specs.Prelude.{◌≡◌, ◌++◌, true, OnOk, IfOk, map};
 ghost use Rattle.std.specs.List.{flat_map, list_all};
-ghost use Rattle.signal_rules.specs.RowWalk.{subject_of, of_kind, sequence_of, other_than};
-ghost use Rattle.signal_rules.specs.RowWalk.{sequences_after, is_within};
+ghost use Rattle.signal_rules.specs.RowWalk.{subject_of, of_kind, sequence_of, other_than, sequences_after, is_within};
 ghost use Rattle.signal_rules.specs.Violations.{subjects};
 
 use crate::violation::Subject;

@@ -1,8 +1,7 @@
 -- What a split has room for, and how long a walker crosses.
 use Rattle.std.proofs.Common.{◌≡◌, ◌≢◌, ◌↔◌, ℕ, ◌+◌, ◌-◌, ◌*◌, ◌<◌, ◌≤◌, max, Bool, true, false, not, ◌&&◌, eqb, ltb, [], ◌∷◌, Option, Some, None, IfSome, inl, inr, refl, sym, ap, ◌∙◌, arith}
 use Rattle.std.proofs.lemmas.Bool.{false≢true, eq-eqb, eqb-true, leb-true, ltb-false}
-use Rattle.signal_records.specs.{declared.record.Ped.Ped, declared.record.Phase.Phase, declared.record.Split.Split}
-use Rattle.signal_records.specs.{declared.record.SplitMode.SplitMode, declared.record.SplitMode.TheVariants.PhaseOmitted, Need.called}
+use Rattle.signal_records.specs.{declared.record.Ped.Ped, declared.record.Phase.Phase, declared.record.Split.Split, declared.record.SplitMode.SplitMode, declared.record.SplitMode.TheVariants.PhaseOmitted, Need.called}
 use Rattle.signal_records.specs.Need.{lead_time, walk_time, need_of}
 use Rattle.signal_rules.specs.Cases.{Cases, holds}
 use Rattle.signal_rules.specs.PhaseRules.{clearance, clears_crossing, crossing_cases, clears_setback, setback_cases, of_ped}

@@ -1,7 +1,6 @@
 -- Two tests at once, and what an order of numbers tells.
 use Rattle.std.proofs.Common.{◌≡◌, ℕ, eqb, arith, Bool, true, false, T, refl}
-use Rattle.std.specs.{declared.cmp.Ordering.Ordering, declared.cmp.Ordering.TheVariants.Less, declared.cmp.Ordering.TheVariants.Equal}
-use Rattle.std.specs.{Ordering.is_lt, Ordering.is_eq, Ordering.nat_cmp, Ordering.ordering_then}
+use Rattle.std.specs.{declared.cmp.Ordering.Ordering, declared.cmp.Ordering.TheVariants.Less, declared.cmp.Ordering.TheVariants.Equal, Ordering.is_lt, Ordering.is_eq, Ordering.nat_cmp, Ordering.ordering_then}
 use Rattle.std.specs.Prelude.{◌&&◌}
 use Rattle.std.proofs.lemmas.Bool.Decides.{nat_tests}
 

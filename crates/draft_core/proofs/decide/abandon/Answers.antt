@@ -2,7 +2,7 @@ use Rattle.std.proofs.Common.{◌≡◌, [], not, ap, sym, subst, ◌∙◌, rul
 use Rattle.std.specs.{List.AllByRecursion, Prelude.Ok}
 use Rattle.draft_core.specs.{Moves.Follows, Moves.move_to, News.AddsNone, Transaction.abandoned_from, Writes.dropping}
 use Rattle.draft_core.specs.declared.timing.Move.{Move}
-use Rattle.draft_state.specs.{declared.state.Holding.TheVariants.Dropped, declared.state.Verdict.TheVariants.NotDone}
+use Rattle.signal_records.specs.{declared.state.Holding.TheVariants.Dropped, declared.state.Verdict.TheVariants.NotDone}
 use Rattle.draft_core.proofs.{Lines.held, Makes.abandon_makes, News.among_none, Written.drafted_in-dropping, Written.dropping_adds, Written.dropping_writes}
 use Rattle.draft_core.proofs.decide.abandon.Goals as goal
 

@@ -1,6 +1,6 @@
 use Rattle.std.proofs.Common.{sym, ap, ◌∙◌, rules}
 use Rattle.draft_core.specs.Transaction.{verdict_on}
-use Rattle.draft_state.specs.declared.state.Stage.TheVariants.{Done}
+use Rattle.signal_records.specs.declared.state.Stage.TheVariants.{Done}
 use Rattle.draft_core.proofs.{Lines.owned_moves, Makes.stays_makes, News.idle_writes, Overlaid.draft_violations}
 use Rattle.draft_core.proofs.decide.check.Goals as goal
 

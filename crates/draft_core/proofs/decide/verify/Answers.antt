@@ -1,5 +1,5 @@
 use Rattle.std.proofs.Common.{refl, sym, rules}
-use Rattle.draft_state.specs.declared.state.Stage.TheVariants.{Verify}
+use Rattle.signal_records.specs.declared.state.Stage.TheVariants.{Verify}
 use Rattle.draft_core.proofs.{Lines.owned_moves, Makes.stays_makes, News.idle_writes}
 use Rattle.draft_core.proofs.decide.verify.Goals as goal
 

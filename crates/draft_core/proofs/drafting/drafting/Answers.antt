@@ -2,11 +2,9 @@ use Rattle.std.proofs.Common.{◌≡◌, ◌+◌, ◌++◌, ◌∷◌, [], List,
 use Rattle.std.proofs.lemmas.List.{take_all, take_more}
 use Rattle.std.specs.{BTreeSet.BTreeSet, BTreeSet.contains, Global.Vec}
 use Rattle.signal_records.specs.{Key.key_cmp, declared.key.Key.Key, declared.record.Change.Change}
-use Rattle.draft_core.specs.{declared.timing.TimingChange.TimingChange, declared.timing.TimingChange.TheVariants.DraftGone}
-use Rattle.draft_core.specs.{DraftRows.row_at, Drafting.DraftsChanges, Drafting.is_said}
+use Rattle.draft_core.specs.{declared.timing.TimingChange.TimingChange, declared.timing.TimingChange.TheVariants.DraftGone, DraftRows.row_at, Drafting.DraftsChanges, Drafting.is_said}
 use Rattle.draft_core.proofs.OnlyChanges.{DraftsSoFar, drafts_none, is_gone, is_kept, is_passed, one_more}
-use Rattle.draft_core.proofs.drafting.drafting.Goals.{then-not-says_committed+in_ok-is_new+in_ok-drafted_row+in_ok-push}
-use Rattle.draft_core.proofs.drafting.drafting.Goals.{else-not-says_committed+then-remove+in_ok-push-2, else-not-says_committed+else-remove}
+use Rattle.draft_core.proofs.drafting.drafting.Goals.{then-not-says_committed+in_ok-is_new+in_ok-drafted_row+in_ok-push, else-not-says_committed+then-remove+in_ok-push-2, else-not-says_committed+else-remove}
 use Rattle.draft_core.proofs.drafting.drafting.Goals as goal
 
 pub loop-change-init : goal.loop-change-init

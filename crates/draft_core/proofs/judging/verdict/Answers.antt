@@ -1,6 +1,6 @@
 use Rattle.std.proofs.Common.{◌≡◌, sym, ap, ◌∙◌}
 use Rattle.signal_rules.specs.Violations.{violations_of}
-use Rattle.draft_state.specs.{declared.state.Holder.Holder, declared.state.Stage.TheVariants.Done}
+use Rattle.signal_records.specs.{declared.state.Holder.Holder, declared.state.Stage.TheVariants.Done}
 use Rattle.draft_core.specs.Transaction.{verdict_on, verdict_of}
 use Rattle.draft_core.proofs.{Lines.held_by, Overlaid.draft_violations}
 use Rattle.draft_core.proofs.judging.verdict.Goals as goal

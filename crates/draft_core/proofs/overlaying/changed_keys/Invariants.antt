@@ -1,5 +1,5 @@
 use Rattle.std.proofs.Common.{◌≡◌, map, take}
-use Rattle.draft_state.specs.ChangedRows as rows
+use Rattle.signal_records.specs.ChangedRows as rows
 use Rattle.draft_core.proofs.overlaying.changed_keys.Given as goal
 
 -- the keys so far

@@ -1,7 +1,7 @@
 use Rattle.std.proofs.Common.{refl, sym, subst, map, ◌∙◌}
 use Rattle.std.specs.Prelude.{◌≡◌, IfOk}
 use Rattle.signal_rules.specs.{Difference.DiffersAtMost, Violations.violations_of}
-use Rattle.draft_state.specs.ChangedRows.{changed_key}
+use Rattle.signal_records.specs.ChangedRows.{changed_key}
 use Rattle.draft_core.proofs.Overlaid.{differs_at_changed}
 use Rattle.draft_core.proofs.overlaying.violations_after.Goals as goal
 

@@ -1,7 +1,6 @@
 use Rattle.std.proofs.Common.{◌≡◌, ℕ, List, [], ◌∷◌, ◌+◌, ◌-◌, ◌<◌, ◌≤◌, length, drop, refl, sym, ap, subst, ◌∙◌, inl, inr, arith}
 use Rattle.std.proofs.{KnownBytes.Appends-nil, lemmas.Bool.Decides.nat_tests, lemmas.List.append-nil, lemmas.List.length-drop, lemmas.List.length-append}
-use Rattle.office_http_framing.specs.{Front.plain, Front.BeginsWithRequest, Front.IsIncomplete, Front.IsFaulty, Stream.closed}
-use Rattle.office_http_framing.specs.{Stream.unfinished, Stream.faulty, Serve.ends_of}
+use Rattle.office_http_framing.specs.{Front.plain, Front.BeginsWithRequest, Front.IsIncomplete, Front.IsFaulty, Stream.closed, Stream.unfinished, Stream.faulty, Serve.ends_of}
 use Rattle.office_http_framing.proofs.AskLemmas.{AsksSoFar, asks-start, asks-next, asks-more, only_asks}
 use Rattle.office_http_framing.proofs.EndLemmas.{NoneStops-refl, NoneStops-trans, then-fails, then-is-empty, then-stops, wrote, wrote-in-part, Rose-after, Rose-empty}
 use Rattle.office_http_framing.proofs.StopLemmas.{ran-start, ran-next}

@@ -3,7 +3,7 @@ use Rattle.std.specs.BTreeMap.{get}
 use Rattle.std.specs.Prelude.{Option}
 use Rattle.office_spreadsheets.proofs.NoteLemmas.{latest_more, next_note}
 use Rattle.office_spreadsheets.proofs.notes.notes_on.Goals as goal
-use Rattle.draft_state.specs.ChangedRows.{changed_key}
+use Rattle.signal_records.specs.ChangedRows.{changed_key}
 use Rattle.office_spreadsheets.specs.Notes.{note_on}
 use Rattle.signal_records.specs.Key.{key_cmp}
 use Rattle.signal_records.specs.declared.key.Key.{Key}

@@ -1,5 +1,4 @@
-use Rattle.std.proofs.Common.{◌==◌, ◌++◌, if◌then◌else◌, [], ◌∷◌, filter, append-nil}
-use Rattle.std.proofs.Common.{sym, ap, subst, ◌∙◌}
+use Rattle.std.proofs.Common.{◌==◌, ◌++◌, if◌then◌else◌, [], ◌∷◌, filter, append-nil, sym, ap, subst, ◌∙◌}
 use Rattle.cabinet_core.specs.Orders.{is_open}
 use Rattle.office_tables_shelf.specs.OpenOrders.{orders_in}
 use Rattle.office_tables_maps.specs.Places.{records_under}

@@ -4,13 +4,11 @@ use Rattle.sqlite.specs.{Given.GivesOn, Given.row_if, Order.Row, State.HasCleanD
 use Rattle.sqlite.proofs.Callers.{given_begin, begun_plain, unchanged_then}
 use Rattle.office_tables_shelf.proofs.ListLemmas.{all_more}
 use Rattle.office_tables_shelf.specs.declared.shelf.ShelfFault.TheVariants.{Damaged}
-use Rattle.office_tables_statements.specs.{Calls.IsHonest, Calls.Keeps, Calls.Reads, Stored.content_now, Tables.params_of, Tables.row_shown}
+use Rattle.office_tables_statements.specs.{Calls.IsHonest, Calls.Keeps, Calls.Reads, Stored.content_now, Tables.params_of, Tables.row_shown, Tables.stored_for, Tables.HasDamagedRow}
 use Rattle.office_tables_sql.specs.Gathers.{Gathers}
-use Rattle.office_tables_statements.specs.{Tables.stored_for, Tables.HasDamagedRow}
 use Rattle.office_tables_statements.proofs.StoredLists.{lists, width, damaged_at}
 use Rattle.office_tables_sql.proofs.each_row.gather_each.Given.{Over}
-use Rattle.office_tables_statements.proofs.CallLemmas.{survives_on}
-use Rattle.office_tables_statements.proofs.CallLemmas.{plain_at, refused_keeps, began_survives, broken_keeps, all_read, some_read, has_mid, one_more, next_honest, next_keeps}
+use Rattle.office_tables_statements.proofs.CallLemmas.{survives_on, plain_at, refused_keeps, began_survives, broken_keeps, all_read, some_read, has_mid, one_more, next_honest, next_keeps}
 use Rattle.office_tables_sql.proofs.each_row.gather_each.Goals.{In_default}
 use Rattle.office_tables_sql.proofs.each_row.gather_each.Goals as goal
 

@@ -1,7 +1,7 @@
 use Rattle.std.proofs.Common.{◌≡◌, Option, None, Some, IfSome, rules, arith, ◌<◌, length}
 use Rattle.sqlite.specs.Order.{column}
 use Rattle.signal_values.specs.Words.{AreWords}
-use Rattle.draft_state.specs.declared.state.Holder.{Holder}
+use Rattle.signal_records.specs.declared.state.Holder.{Holder}
 use Rattle.office_tables_shelf.specs.Rows.{owner_cell}
 use Rattle.office_tables_statements.specs.Stored.{cell_of}
 use Rattle.office_tables_sql.proofs.intersection.holder_at.Goals as goal

@@ -2,8 +2,7 @@ use Rattle.std.proofs.Common.{◌≡◌, ◌++◌, [], ◌∷◌, Err, inr, List
 use Rattle.std.proofs.lemmas.Result.{err_from_is_err_and}
 use Rattle.std.specs.List.{AllByRecursion}
 use Rattle.cabinet_core.specs.{Overdue.listed_of, Overdue.overdue_list, declared.overdue_inspections.OverdueRow.OverdueRow}
-use Rattle.office_tables_shelf.specs.{CabinetReads.HasDamagedInspection, Overdue.ReadsLast, Overdue.seen_row, Shelf.IsIntersectionWithin}
-use Rattle.office_tables_shelf.specs.{Shelf.ListsIntersections, declared.shelf.ShelfFault.TheVariants.Damaged}
+use Rattle.office_tables_shelf.specs.{CabinetReads.HasDamagedInspection, Overdue.ReadsLast, Overdue.seen_row, Shelf.IsIntersectionWithin, Shelf.ListsIntersections, declared.shelf.ShelfFault.TheVariants.Damaged}
 use Rattle.office_tables_shelf.proofs.{KeptLemmas.hands_on, KeptLemmas.kept_on, ListedRows.listed_is_there, OverdueLemmas.seen_length}
 use Rattle.office_tables_shelf.proofs.OverdueLemmas.{seen_at, overdue_more, still_short, enough_found, all_found, whole_more, all_whole}
 use Rattle.office_tables_shelf.proofs.shelf.Shelf.overdue_of_each.Goals.{else-loop-id-test, then-loop-id-test+then-len-most}

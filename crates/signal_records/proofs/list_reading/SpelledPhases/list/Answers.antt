@@ -1,6 +1,5 @@
 use Rattle.std.proofs.Common.{◌≡◌, ℕ, Ok, eqb, true, ap, ◌∙◌, rules, tests}
-use Rattle.std.proofs.{lemmas.Iterator.items_from_collect, lemmas.Iterator.Consumers.YieldsList-at}
-use Rattle.std.proofs.{lemmas.Iterator.Consumers.YieldsList-from_filter_map, lemmas.Iterator.Splits.YieldsList-from_slice_split}
+use Rattle.std.proofs.{lemmas.Iterator.items_from_collect, lemmas.Iterator.Consumers.YieldsList-at, lemmas.Iterator.Consumers.YieldsList-from_filter_map, lemmas.Iterator.Splits.YieldsList-from_slice_split}
 use Rattle.signal_records.specs.{PhaseList.is_phase_list, Reading.phase_in, Reading.spelled_numbers}
 use Rattle.signal_values.specs.declared.number.TheConstants.{PHASES}
 use Rattle.signal_records.proofs.{Parts.bytes_found, list_reading.SpelledPhases.list.Goals.In_ok-phases}

@@ -15,7 +15,7 @@ pub struct Revision {
 
 impl Model for Revision {
     ghost use Rattle.std.specs.Prelude.{ℕ, ◌≤◌};
-    ghost use Rattle.draft_state.specs.declared.revision.TheConstants.{LAST_REVISION};
+    ghost use Rattle.signal_records.specs.declared.revision.TheConstants.{LAST_REVISION};
 
     ghost Value = { ℕ };
 

@@ -1,9 +1,9 @@
 //! The key of a changed row.
 
 ghost use Rattle.std.specs.Prelude.{◌≡◌};
-ghost use Rattle.draft_state.specs.ChangedRows as rows;
+ghost use Rattle.signal_records.specs.ChangedRows as rows;
 
-use signal_records::{Change, Key};
+use crate::{Change, Key};
 
 /// The key that a change names.
 pub fn changed_key(change: &Change) -> Key

@@ -1,7 +1,7 @@
 //! The states of the database transaction (NTCIP 1201, `dbCreateTransaction`), and who holds a
 //! draft.
 
-use signal_records::Words;
+use crate::Words;
 use std::alloc::AllocError;
 
 /// The states in which a clerk holds the draft.
