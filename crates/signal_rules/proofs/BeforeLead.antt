@@ -1,5 +1,6 @@
 -- Where no phase has a lead, today's violations are those of version 1.
-use Rattle.std.proofs.Common.{◌≡◌, ℕ, not, [], ◌∷◌, ◌++◌, filter, Option, Some, None, option_map, refl, ap, sym}
+use Rattle.std.proofs.Common.{◌≡◌, ℕ, ◌≤◌, not, [], ◌∷◌, ◌++◌, filter, Option, Some, None, option_map, refl, ap, sym, arith}
+use Rattle.std.proofs.lemmas.Bool.{le-ltb}
 use Rattle.std.specs.List.{flat_map}
 use Rattle.std.specs.Prelude.{IfSome}
 use Rattle.signal_records.specs.declared.record.{Ped.Ped, Phase.Phase, Split.Split}
@@ -19,7 +20,7 @@ dropped s (f ∷ fs) r cs none = ap (explained s f.0 (first_true f.1)) (dropped 
 -- V14 holds where there is no lead
 no_lead_right : (ped : Option Ped) → IfSome ped (λ p. p.lead ≡ 0) → first_true (of_ped ped lead_cases) ≡ None
 no_lead_right None none = refl
-no_lead_right (Some p) none = rw none refl
+no_lead_right (Some p) none = let never : 0 ≤ p.walk = omega arith in rw (none, le-ltb p.walk 0 never) refl
 
 -- what has no lead is the same without it
 ped_same : (ped : Option Ped) → IfSome ped (λ p. p.lead ≡ 0) → option_map no_lead ped ≡ ped

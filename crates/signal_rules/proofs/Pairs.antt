@@ -1,5 +1,6 @@
 -- The first of some spans, before the later ones.
-use Rattle.std.proofs.Common.{◌≡◌, ℕ, Bool, true, false, if◌then◌else◌, List, [], ◌∷◌, ◌++◌, Option, Some, None, refl, ap, ◌∙◌}
+use Rattle.std.proofs.Common.{◌≡◌, ℕ, ◌-◌, ◌≤◌, Bool, true, false, if◌then◌else◌, take, drop, length, get_or, List, [], ◌∷◌, ◌++◌, Option, Some, None, refl, sym, ap, ◌∙◌, arith}
+use Rattle.std.proofs.lemmas.List.{take_all}
 use Rattle.signal_rules.specs.declared.reason.Reason.{Reason}
 use Rattle.signal_rules.specs.Cases.{first_true}
 use Rattle.signal_rules.specs.Slots.{Span, has_second, spans_in, later_cases, slot_cases, pair_cases}
@@ -16,3 +17,8 @@ pair_here second span later why e = ap first_true (parts second span later) ∙ 
 
 pub pair_past : (second : ℕ) (span : Span) (later : List Span) → first_true (slot_cases second span later) ≡ None → first_true (pair_cases second (spans_in second (span ∷ later))) ≡ first_true (pair_cases second (spans_in second later))
 pair_past second span later e = ap first_true (parts second span later) ∙ first_past (slot_cases second span later) (pair_cases second (spans_in second later)) e
+
+-- some spans by their first and those after it
+pub parted : (spans : List Span) (span : Span) → 1 ≤ length spans → span ≡ get_or spans 0 span → spans ≡ span ∷ take (length spans - 1) (drop 1 spans)
+parted [] span le is = absurd (omega arith)
+parted (x ∷ later) span le is = ap (λ (y : Span). y ∷ later) (sym is) ∙ ap (λ l. span ∷ l) (sym (take_all (length (x ∷ later) - 1) later (omega arith)))

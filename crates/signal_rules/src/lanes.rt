@@ -164,7 +164,6 @@ pub(crate) fn conflict_reason(slots: &[Slot<'_>], cycle: Cycle) -> Option<Reason
 }
 
 /// The first two slots, in their order, that have a second and whose phases do not list each other.
-#[tactic(auto, using(crate::proofs::Pairs::pair_here, crate::proofs::Pairs::pair_past))]
 fn pair_reason(slots: &[Slot<'_>], second: u32) -> Option<Reason>
     ensures { result ≡ first_true (pair_cases second (spans_in second slots.now)) }
 {

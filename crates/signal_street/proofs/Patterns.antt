@@ -1,6 +1,7 @@
 -- The rings of a pattern of a set without violations, by the times of their phases.
-use Rattle.std.proofs.Common.{◌≡◌, ◌≢◌, ℕ, zero, suc, ◌+◌, ◌<◌, ◌≤◌, true, eqb, ltb, List, [], ◌∷◌, ◌++◌, map, length, get_or, is_some, Option, Some, None, sum_by, refl, sym, ap, ◌∙◌, arith}
+use Rattle.std.proofs.Common.{◌≡◌, ◌≢◌, ℕ, ◌+◌, ◌<◌, ◌≤◌, Bool, true, false, eqb, ltb, List, [], ◌∷◌, ◌++◌, map, length, get_or, is_some, Option, Some, None, sum_by, refl, sym, ap, ◌∙◌, arith}
 use Rattle.std.proofs.lemmas.Bool.{false≢true, and_parts, eq-eqb, eqb-true}
+use Rattle.std.proofs.lemmas.Bool.Decides.{nat_tests}
 use Rattle.std.specs.{Int.IsInRange, List.list_all, List.flat_map}
 use Rattle.signal_records.specs.declared.record.Pattern.{Pattern}
 use Rattle.signal_values.specs.{declared.number.TheConstants.PHASES, declared.number.TheConstants.RINGS}
@@ -62,10 +63,15 @@ found_in ring None h = absurd (false≢true h)
 found_in ring (Some phase) h = (phase, refl)
 
 -- what stands neither never nor twice
+none_of_two : {A : Type 0} (a b : Bool) (w x : A) → holds ((a, w) ∷ (b, x) ∷ []) ≡ true → (a ≡ false) × (b ≡ false)
+none_of_two false false w x h = (refl, refl)
+none_of_two _ _ w x h = absurd (false≢true h)
+
+one_time : (times : ℕ) → eqb times 0 ≡ false → ltb 1 times ≡ false → times ≡ 1
+one_time times some few = grind (arith, nat_tests)
+
 stands_once : {A : Type 0} (times : ℕ) (w x : A) → holds ((eqb times 0, w) ∷ (ltb 1 times, x) ∷ []) ≡ true → times ≡ 1
-stands_once zero w x h = absurd (false≢true h)
-stands_once (suc zero) w x h = refl
-stands_once (suc (suc n)) w x h = absurd (false≢true h)
+stands_once times w x h = let parts = none_of_two (eqb times 0) (ltb 1 times) w x h in one_time times parts.0 parts.1
 
 -- a set and a pattern of it, whose rules are kept
 module _ (set : Rows) (clean : IsClean set) (n : ℕ) (pattern : Pattern) (has : HasPattern set n pattern) where

@@ -6,4 +6,4 @@ use Rattle.signal_rules.proofs.lanes.conflict_reason.Given as goal
 
 abbrev pub invariant-loop-second : goal.invariant-loop-second
 invariant-loop-second l =
-    first_true (flat_map (λ second. pair_cases second (spans_in second l.slots)) (numbers (l.cycle - l.second) l.second)) ≡ first_true (conflicts_in l.cycle l.slots)
+    first_true (flat_map (λ second. pair_cases second (spans_in second l.slots)) (numbers (l.fn.cycle - l.second) l.second)) ≡ first_true (conflicts_in l.fn.cycle l.slots)
