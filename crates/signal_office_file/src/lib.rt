@@ -17,7 +17,7 @@ mod waiting;
 
 pub use closing::close_office;
 pub use copying::copied_in;
-pub use in_file::{SystemFile, TablesInFile, answered_in, done_in};
+pub use in_file::{TablesInFile, answered_in, done_in};
 pub use left::{FileLeft, Refused};
 pub use migrating::migrate_file;
 pub use opening::{FileOffice, open_file};

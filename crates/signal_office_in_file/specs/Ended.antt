@@ -17,20 +17,18 @@ use Rattle.signal_office_in_file.specs.Stopping.{AnswersToAStop}
 use Rattle.signal_office_in_file.specs.declared.Ended.{Ended}
 use Rattle.signal_office_in_file.specs.declared.Ended.TheVariants.{Unopened, Refused, Closed, Unclosed}
 
--- what is known of a file: the tables that it held as it was opened; and of what is left of it, whether the disk has returned what was written, which tables
--- it holds, closed, as the next opening finds them, which fault it was refused with, and, where it was not closed, that such tables alone are what a stop leaves,
--- as the next opening takes them
+-- What is known of the file of an office: the tables that it held as it was opened; whether a file of some bytes, with no log beside it, holds some tables,
+-- as an opening finds them. And of what is left of it: whether the disk has returned what was written; which tables it holds, closed, as the next opening
+-- finds them; which fault it was refused with, and is left as it was; that, where it was not closed, such tables alone are what a stop leaves, as the next
+-- opening takes them; and that it is closed, and holds what became of its tables, of which so many rows were written anew.
 pub record FileView (Left : Type 0) : Type 1 where
   pub held : Content → Type 0
+  pub alone : List ℕ → Content → Type 0
   pub is_clean : Left → Type 0
   pub keeps : Left → Content → Type 0
   pub refused : Left → Fault → Type 0
   pub leaves : Left → (Content → Type 0) → Type 0
-
-abbrev pub file_view : {Left : Type 0} → (Content → Type 0) → (Left → Type 0) → (Left → Content → Type 0) → (Left → Fault → Type 0)
-    → (Left → (Content → Type 0) → Type 0) → FileView Left
-file_view held is_clean keeps refused leaves =
-    record { held = held; is_clean = is_clean; keeps = keeps; refused = refused; leaves = leaves }
+  pub migrated : Left → ℕ → Type 0
 
 -- what work over tables does where they are kept after it; what is known of it where a stop leaves such tables of it alone; and that nothing was done
 pub record Work (T : Type 0) : Type 1 where
@@ -90,12 +88,12 @@ copy_work Alone start end = record {
 }
 
 -- A migration was made, and its rows are those that were counted; or it was refused, and the tables are as they were. Nothing is counted that was not closed.
-abbrev pub IsCounted : {Left : Type 0} → (is_clean : Left → Type 0) → (migrated : Left → ℕ → Type 0) → (refused : Left → Fault → Type 0) → Ended (Result ℕ Fault) Left → Type 0
-IsCounted is_clean migrated refused (Unopened why) = (why ≡ fault.Store) ⊎ (why ≡ fault.Memory)
-IsCounted is_clean migrated refused (Refused why left) = refused left why
-IsCounted is_clean migrated refused (Closed (Ok rows) left) = is_clean left → migrated left rows
-IsCounted is_clean migrated refused (Closed (Err why) left) = is_clean left → refused left why
-IsCounted is_clean migrated refused (Unclosed why left) = Unit {0}
+abbrev pub IsCounted : {Left : Type 0} → FileView Left → Ended (Result ℕ Fault) Left → Type 0
+IsCounted view (Unopened why) = (why ≡ fault.Store) ⊎ (why ≡ fault.Memory)
+IsCounted view (Refused why left) = view.refused left why
+IsCounted view (Closed (Ok rows) left) = view.is_clean left → view.migrated left rows
+IsCounted view (Closed (Err why) left) = view.is_clean left → view.refused left why
+IsCounted view (Unclosed why left) = Unit {0}
 
 -- what came of work over a file that was closed after it, or why it was not
 abbrev pub told_by : {T Left : Type 0} → Ended T Left → Result T Fault

@@ -77,36 +77,16 @@ pub trait OfficeTask<Done> {
 /// How the office of a file is opened, used and closed again. The jobs know no database. Where
 /// another run has the file open, each call tries again to open it for `wait` seconds.
 pub trait OfficeInFile {
-    ghost use Rattle.std.specs.Prelude.{◌≡◌, ℕ, List};
+    ghost use Rattle.std.specs.Prelude.{◌≡◌};
     ghost use Rattle.office_http_framing.specs.Serve.{ends_of};
-    ghost use Rattle.office_tables_shelf.specs.Content.{Content};
-    ghost use Rattle.signal_office_faults.specs.declared.fault.Fault.{Fault};
-    ghost use Rattle.signal_office_in_file.specs.Ended.{EndsOver, IsBegun, IsCounted, file_view};
+    ghost use Rattle.signal_office_in_file.specs.Ended.{EndsOver, FileView, IsBegun, IsCounted};
     ghost use Rattle.signal_office_in_file.specs.Ended.{copy_work, stream_work, task_work};
 
     /// What is left of the file.
     type Left: Drop;
 
-    // The file held these tables as it was opened.
-    ghost held: { Content → Type 0 };
-
-    // The disk has returned what was written to it.
-    ghost is_clean: { Self.Left → Type 0 };
-
-    // It holds these tables, closed, as the next opening finds them.
-    ghost keeps: { Self.Left → Content → Type 0 };
-
-    // It was refused with this fault, and is left as it was.
-    ghost refused: { Self.Left → Fault → Type 0 };
-
-    // It is not closed, and a stop leaves such tables of it, as the next opening takes them.
-    ghost leaves: { Self.Left → (Content → Type 0) → Type 0 };
-
-    // It is closed, and holds what became of its tables: so many rows were written anew.
-    ghost migrated: { Self.Left → ℕ → Type 0 };
-
-    // A file of these bytes, with no log beside it, holds these tables, as an opening finds them.
-    ghost alone: { List ℕ → Content → Type 0 };
+    // What is known of the file, and of what is left of it.
+    ghost known: { FileView Self.Left };
 
     /// Does a task over the tables of a file, which are made where there are none.
     fn do_task<Done: Drop, T: OfficeTask<Done>, W: Sink>(
@@ -117,7 +97,7 @@ pub trait OfficeInFile {
         task: &T,
         out: &mut W,
     ) -> Ended<Result<Done, Fault>, Self::Left>
-        ensures ends { EndsOver (file_view held is_clean keeps refused leaves) (task_work
+        ensures ends { EndsOver known (task_work
             (λ old done new. T.does task.now old done new (W.told out.old) (W.told out.new))
             (T.leaves task.now) (out.new ≡ out.old)) result }
         ensures said { IsBegun (out.new ≡ out.old)
@@ -133,7 +113,7 @@ pub trait OfficeInFile {
         out: &mut W,
         max_requests: u32,
     ) -> Ended<Result<Served, ServeFault>, Self::Left>
-        ensures { EndsOver (file_view held is_clean keeps refused leaves) (stream_work max_requests
+        ensures { EndsOver known (stream_work max_requests
             (ends_of (R.told source.old) (W.told out.old))
             (ends_of (R.told source.new) (W.told out.new))
             ((source.new ≡ source.old) × (out.new ≡ out.old))) result };
@@ -145,7 +125,7 @@ pub trait OfficeInFile {
         path: &str,
         wait: u32,
     ) -> Ended<Result<u128, Fault>, Self::Left>
-        ensures { IsCounted is_clean migrated refused result };
+        ensures { IsCounted known result };
 
     /// Copies the log of a file into it, and then the file's bytes into the output.
     fn copy<W: Sink>(
@@ -155,6 +135,6 @@ pub trait OfficeInFile {
         wait: u32,
         out: &mut W,
     ) -> Ended<Result<(), Fault>, Self::Left>
-        ensures { EndsOver (file_view held is_clean keeps refused leaves)
-            (copy_work alone (W.told out.old) (W.told out.new)) result };
+        ensures { EndsOver known
+            (copy_work known.alone (W.told out.old) (W.told out.new)) result };
 }

@@ -9,7 +9,7 @@ use Rattle.office_http_framing.specs.Ends.{Told}
 use Rattle.office_http_framing.specs.Serve.{Ends}
 use Rattle.signal_office_faults.specs.declared.fault.Fault.{Fault}
 use Rattle.signal_office_in_file.specs.Ended.{FileView}
-use Rattle.signal_office_jobs.specs.Printed.{Batches, JobDoes, OfficeFiles}
+use Rattle.signal_office_jobs.specs.Printed.{Batches, JobDoes}
 use Rattle.signal_office_jobs.specs.Runs.{IsFoundInWords, job_asked}
 use Rattle.signal_office_line.specs.CommandLine.{signal_app}
 use Rattle.signal_office_line.specs.Job.{Asked, asked, job_in}
@@ -19,7 +19,7 @@ use Rattle.signal_office_line.specs.declared.job.JobFault.{JobFault}
 use Rattle.signal_office_line.specs.declared.job.JobFault.TheVariants.{NoMemory}
 
 -- a job is known by its variant
-pub done_so : {Left : Type 0} (files : OfficeFiles Left) (job is : Asked) (start end : Ends) (err said : Told) (result : Result ℕ Fault)
+pub done_so : {Left : Type 0} (files : FileView Left) (job is : Asked) (start end : Ends) (err said : Told) (result : Result ℕ Fault)
     → job ≡ is → JobDoes files is start end err said result → JobDoes files job start end err said result
 done_so files job is start end err said result same it = subst (λ (x : Asked). JobDoes files x start end err said result) (sym same) it
 

@@ -1,7 +1,6 @@
 -- What a copy of an office does, and when it is refused.
-use Rattle.std.specs.Prelude.{◌≡◌, ◌⊎◌, ℕ, Bool, true, false, not, ◌&&◌, ◌||◌, List, Result, Ok, Err, ⊤}
+use Rattle.std.specs.Prelude.{◌≡◌, ◌⊎◌, ℕ, Bool, true, false, not, ◌&&◌, ◌||◌, Result, Ok, Err, ⊤}
 use Rattle.office_http_framing.specs.Ends.{Told}
-use Rattle.office_tables_shelf.specs.Content.{Content}
 use Rattle.signal_office_faults.specs.declared.fault.Fault.{Fault}
 use Rattle.signal_office_faults.specs.declared.fault.Fault.TheVariants as fault
 use Rattle.signal_office_in_file.specs.Ended.{EndsOver, FileView, copy_work, told_by}
@@ -27,13 +26,13 @@ abbrev pub FindsRoom : (force : Bool) → Result ⊤ Fault → Type 0
 FindsRoom force (Ok done) = (found : Standing) × (leaves_room force found ≡ true)
 FindsRoom force (Err why) = (why ≡ fault.Memory) ⊎ ((why ≡ fault.Exists) × ((found : Standing) × (leaves_room force found ≡ false)))
 
-module _ {Left : Type 0} (view : FileView Left) (Alone : List ℕ → Content → Type 0) where
+module _ {Left : Type 0} (view : FileView Left) where
   -- the office of the file was copied to some output, and the result tells how that ended
   pub record CopiesOffice (result : Result ⊤ Fault) : Type 0 where
     pub start : Told
     pub end : Told
     pub ended : Ended (Result ⊤ Fault) Left
-    pub over : EndsOver view (copy_work Alone start end) ended
+    pub over : EndsOver view (copy_work view.alone start end) ended
     pub put : IsPut (joined (told_by ended)) result
 
   -- the same; or there was no output, or no memory for its name

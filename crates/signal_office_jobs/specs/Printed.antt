@@ -21,7 +21,7 @@ use Rattle.signal_office_commands.specs.Plan.{AreOfPlan}
 use Rattle.signal_office_faults.specs.Lines.{fault_of_stream}
 use Rattle.signal_office_faults.specs.declared.fault.Fault.{Fault}
 use Rattle.signal_office_faults.specs.declared.fault.Fault.TheVariants as fault
-use Rattle.signal_office_in_file.specs.Ended.{EndsOver, FileView, file_view, stream_work, told_by}
+use Rattle.signal_office_in_file.specs.Ended.{EndsOver, FileView, stream_work, told_by}
 use Rattle.signal_office_in_file.specs.declared.Ended.{Ended}
 use Rattle.signal_office_line.specs.Job.{Asked}
 use Rattle.signal_office_commands.specs.declared.revising.EditMode.{EditMode}
@@ -45,17 +45,6 @@ use Rattle.signal_office_tasks.specs.declared.done.Done.{Done}
 use Rattle.signal_office_tasks.specs.declared.filed.FolderKind.TheVariants as folder
 use Rattle.signal_office_line.specs.declared.shows.Shown.{Shown}
 use Rattle.signal_office_line.specs.declared.shows.Shown.TheVariants as shown
-
--- what is known of the files of offices, of the migration of one, and of its copy
-pub record OfficeFiles (Left : Type 0) : Type 1 where
-  pub view : FileView Left
-  pub migrated : Left → ℕ → Type 0
-  pub alone : List ℕ → Content → Type 0
-
-abbrev pub office_files : {Left : Type 0} → (Content → Type 0) → (Left → Type 0) → (Left → Content → Type 0) → (Left → Fault → Type 0)
-    → (Left → (Content → Type 0) → Type 0) → (Left → ℕ → Type 0) → (List ℕ → Content → Type 0) → OfficeFiles Left
-office_files held is_clean keeps refused leaves migrated alone =
-    record { view = file_view held is_clean keeps refused leaves; migrated = migrated; alone = alone }
 
 -- what becomes of a stream from the start of its input and output to their ends, and the status or the fault that comes of it
 abbrev pub Exchange : Type 1
@@ -142,38 +131,38 @@ abbrev pub edit_mode : {T : Type 0} → Edit T → EditMode
 edit_mode edit = record { replace = edit.replace; commit = edit.commit }
 
 -- WHAT IS PRINTED by each job that only prints
-abbrev pub Printed : {Left : Type 0} → OfficeFiles Left → Asked → Output
+abbrev pub Printed : {Left : Type 0} → FileView Left → Asked → Output
 Printed files (job.Serve port count None) start end result = ServesNew port count start end result
-Printed files (job.Serve port count (Some db)) start end result = InNewFile files.view (serving port count) start end result
-Printed files (job.Show db it) start end result = Shows files.view it start end result
-Printed files (job.ExportAll db dir) start end result = InFoundFile files.view (looking (FillsAs folder.Records None)) start end result
+Printed files (job.Serve port count (Some db)) start end result = InNewFile files (serving port count) start end result
+Printed files (job.Show db it) start end result = Shows files it start end result
+Printed files (job.ExportAll db dir) start end result = InFoundFile files (looking (FillsAs folder.Records None)) start end result
 Printed files (job.Pages db day dir) start end result =
-    OnAnyDay day (λ on. InFoundFile files.view (looking (FillsAs folder.Pages on))) start end result
+    OnAnyDay day (λ on. InFoundFile files (looking (FillsAs folder.Pages on))) start end result
 Printed files (job.Overdue db first csv day) start end result =
-    OnDay day (λ on. Shows files.view (shown.Overdue on (unwrap_or first all_intersections) csv)) start end result
+    OnDay day (λ on. Shows files (shown.Overdue on (unwrap_or first all_intersections) csv)) start end result
 Printed files (job.Used db part csv) start end result =
-    OfPart part (λ of. InFoundFile files.view (looking (TellsUsed of csv))) start end result
+    OfPart part (λ of. InFoundFile files (looking (TellsUsed of csv))) start end result
 Printed files (job.Add db id interval name) start end result =
-    Naming 120 name fault.Name (InNewFile files.view (adding id interval name)) start end result
-Printed files (job.Migrate db) start end result = MigratesFile files.view files.migrated start end result
-Printed files (job.Backup db to force) start end result = BacksUpFile files.view files.alone force start end result
+    Naming 120 name fault.Name (InNewFile files (adding id interval name)) start end result
+Printed files (job.Migrate db) start end result = MigratesFile files start end result
+Printed files (job.Backup db to force) start end result = BacksUpFile files force start end result
 Printed files (job.Abandon db clerk id) start end result =
-    Naming 40 clerk fault.Clerk (InFoundFile files.view (abandoning id clerk)) start end result
-Printed files (job.CompareDraft db id csv) start end result = InFoundFile files.view (looking (ComparesAs id csv)) start end result
+    Naming 40 clerk fault.Clerk (InFoundFile files (abandoning id clerk)) start end result
+Printed files (job.CompareDraft db id csv) start end result = InFoundFile files (looking (ComparesAs id csv)) start end result
 Printed files _ start end result = ⊥
 
 -- WHAT EACH JOB DOES: `batch` answers the requests of its input; those with a CSV file read it first, from the input where its path is a dash, and say the notes
 -- on a plan; the others only print
-abbrev pub JobDoes : {Left : Type 0} → OfficeFiles Left → Asked → Course
-JobDoes files (job.Batch db) start end err said result = (said ≡ err) × Batches files.view db start end result
+abbrev pub JobDoes : {Left : Type 0} → FileView Left → Asked → Course
+JobDoes files (job.Batch db) start end err said result = (said ≡ err) × Batches files db start end result
 JobDoes files (job.Import db csv until check) start end err said result =
     OnAnyDayFirst until (λ day. ReadingCsv csv (λ records lines. OnlyPrints (InTime day records
-    (InFoundFile files.view (trying_or_importing check records lines))))) start end err said result
+    (InFoundFile files (trying_or_importing check records lines))))) start end err said result
 JobDoes files (job.Edit e) start end err said result =
-    NamingFirst 40 e.clerk fault.Clerk (ReadingAnyPlan e.csv (λ plan lines. OnlyPrints (InFoundFile files.view
+    NamingFirst 40 e.clerk fault.Clerk (ReadingAnyPlan e.csv (λ plan lines. OnlyPrints (InFoundFile files
     (editing plan lines e.id e.clerk (edit_mode e) e.explain)))) start end err said result
 JobDoes files (job.CompareRunning db id plan csv) start end err said result =
-    ReadingPlan false plan (λ other _. OnlyPrints (InFoundFile files.view (looking (ComparesWith id other csv)))) start end err said result
+    ReadingPlan false plan (λ other _. OnlyPrints (InFoundFile files (looking (ComparesWith id other csv)))) start end err said result
 JobDoes files (job.CompareFiles first second csv) start end err said result =
     ReadingPlan false first (λ plan _. ReadingPlan true second (λ other _. OnlyPrints (Made (Compares csv plan other)))) start end err said result
 JobDoes files (job.ShowPlan csv it) start end err said result =

@@ -162,13 +162,13 @@ InFoundFile view = InFile view false
 
 -- The tables of a file were brought to today's version, and the line tells how many rows were written anew, as they were counted; or they were not, and that is
 -- told.
-pub record TellsMigration {Left : Type 0} (view : FileView Left) (migrated : Left → ℕ → Type 0) (start end : Told) (result : Result ℕ Fault) : Type 0 where
+pub record TellsMigration {Left : Type 0} (view : FileView Left) (start end : Told) (result : Result ℕ Fault) : Type 0 where
   pub ended : Ended (Result ℕ Fault) Left
-  pub counted : IsCounted view.is_clean migrated view.refused ended
+  pub counted : IsCounted view ended
   pub done : Result Done Fault
   pub tells : TellsOutcome migrated_line (λ _. 0) (joined (told_by ended)) done
   pub prints : PrintsDone done start end result
 
-abbrev pub MigratesFile : {Left : Type 0} → FileView Left → (migrated : Left → ℕ → Type 0) → Output
-MigratesFile view migrated start end result =
-    TellsMigration view migrated start end result ⊎ ((why : Fault) × IsMissing fault.Version why × TellsNothing why start end result)
+abbrev pub MigratesFile : {Left : Type 0} → FileView Left → Output
+MigratesFile view start end result =
+    TellsMigration view start end result ⊎ ((why : Fault) × IsMissing fault.Version why × TellsNothing why start end result)

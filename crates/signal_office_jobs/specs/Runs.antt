@@ -14,13 +14,14 @@ use Rattle.signal_office_commands.specs.Telling.{SaysFault}
 use Rattle.signal_office_faults.specs.Lines.{status_of}
 use Rattle.signal_office_faults.specs.declared.fault.Fault.{Fault}
 use Rattle.signal_office_faults.specs.declared.fault.Fault.TheVariants as fault
+use Rattle.signal_office_in_file.specs.Ended.{FileView}
 use Rattle.signal_office_line.specs.CommandLine.{signal_app}
 use Rattle.signal_office_line.specs.Job.{Asked, asked, job_in}
 use Rattle.signal_office_line.specs.Refusals.{IsRefusedBy, clap_refusals, word_refusals}
 use Rattle.signal_office_line.specs.declared.job.Job.{Job}
 use Rattle.signal_office_line.specs.declared.job.JobFault.{JobFault}
 use Rattle.signal_office_line.specs.declared.job.JobFault.TheVariants.{Refused, NoMemory}
-use Rattle.signal_office_jobs.specs.Printed.{JobDoes, OfficeFiles}
+use Rattle.signal_office_jobs.specs.Printed.{JobDoes}
 use Rattle.signal_office_tasks.specs.Output.{Prints}
 
 -- what was found, as the words have it
@@ -52,7 +53,7 @@ ShowsRefusal error out ended err said result =
     ⊎ ((ended ≡ out) × (said ≡ err) × (result ≡ Err fault.Memory))
 
 -- What was found is done: the job, or the refusal is shown, or that memory ran out.
-abbrev pub DoesFound : {Left : Type 0} → OfficeFiles Left → Result Asked JobFault → (start end : Ends) → (err said : Told) → Result ℕ Fault → Type 0
+abbrev pub DoesFound : {Left : Type 0} → FileView Left → Result Asked JobFault → (start end : Ends) → (err said : Told) → Result ℕ Fault → Type 0
 DoesFound files (Ok job) start end err said result = JobDoes files job start end err said result
 DoesFound files (Err (Refused error)) start end err said result =
     (end.source ≡ start.source) × ShowsRefusal error start.sink end.sink err said result
@@ -64,7 +65,7 @@ EndsWith (Ok given) said ended status = (ended ≡ said) × (status ≡ given)
 EndsWith (Err why) said ended status = SaysFault why said ended × (status ≡ status_of why)
 
 -- A RUN OF THE PROGRAM, by its words: what they ask for is done, and its status is that of the run.
-pub record RunsWords {Left : Type 0} (files : OfficeFiles Left) (words : List Text) (start end : Ends) (err ended : Told) (status : ℕ) : Type 0 where
+pub record RunsWords {Left : Type 0} (files : FileView Left) (words : List Text) (start end : Ends) (err ended : Told) (status : ℕ) : Type 0 where
   pub found : Result Asked JobFault
   pub is_found : IsFoundInWords words found
   pub result : Result ℕ Fault

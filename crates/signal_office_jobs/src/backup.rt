@@ -1,7 +1,6 @@
 //! The office of a file, copied into another.
 
 ghost use Rattle.std.specs.Prelude.{◌≡◌};
-ghost use Rattle.signal_office_in_file.specs.Ended.{file_view};
 ghost use Rattle.signal_office_jobs.specs.Backup.{BacksUpFile, CopiesTo, FindsRoom, IsPut};
 ghost use Rattle.signal_office_jobs.specs.Backup.{leaves_room};
 
@@ -111,7 +110,7 @@ fn copied_to<F: OfficeInFile>(
     db: &OfficeFile<&str>,
     to: &str,
 ) -> Result<(), Fault>
-    ensures { CopiesTo (file_view F.held F.is_clean F.keeps F.refused F.leaves) F.alone result }
+    ensures { CopiesTo F.known result }
 {
     let part = format!(in alloc; "{to}.part")?;
     let Ok(file) = made_like(rt, db.path, part.as_str()) else {
@@ -132,7 +131,7 @@ pub(crate) fn backup<F: OfficeInFile, W: Sink>(
     force: bool,
     out: &mut W,
 ) -> Result<u8, Fault>
-    ensures { BacksUpFile (file_view F.held F.is_clean F.keeps F.refused F.leaves) F.alone force
+    ensures { BacksUpFile F.known force
         (W.told out.old) (W.told out.new) result }
 {
     if is_missing(rt, alloc, db.path)? {

@@ -1,7 +1,6 @@
 //! Jobs over the office of a file.
 
 ghost use Rattle.std.specs.Prelude.{◌≡◌, Option, Some, option_map, unwrap_or};
-ghost use Rattle.signal_office_in_file.specs.Ended.{file_view};
 ghost use Rattle.signal_office_faults.specs.declared.fault.Fault.TheVariants as fault;
 ghost use Rattle.signal_office_jobs.specs.Printed.{Shows, all_intersections};
 ghost use Rattle.signal_office_jobs.specs.Printing.{InFile, InFoundFile, InNewFile, IsDayRead};
@@ -74,7 +73,7 @@ pub(crate) fn in_file<F: OfficeInFile, W: Sink>(
     task: &Task<'_>,
     out: &mut W,
 ) -> Result<u8, Fault>
-    ensures { InFile (file_view F.held F.is_clean F.keeps F.refused F.leaves) (makes_file task.now)
+    ensures { InFile F.known (makes_file task.now)
         (effect_of task.now) (W.told out.old) (W.told out.new) result }
 {
     if !task.makes_file() && is_missing(rt, alloc, db.path)? {
@@ -92,7 +91,7 @@ pub(crate) fn show_of<F: OfficeInFile, W: Sink>(
     shown: Shown,
     out: &mut W,
 ) -> Result<u8, Fault>
-    ensures { Shows (file_view F.held F.is_clean F.keeps F.refused F.leaves) shown (W.told out.old)
+    ensures { Shows F.known shown (W.told out.old)
         (W.told out.new) result }
 {
     in_file::<F, W>(rt, alloc, db, &Task::Show(shown), out)
@@ -116,9 +115,8 @@ pub(crate) fn overdue<F: OfficeInFile, W: Sink>(
     word: &str,
     out: &mut W,
 ) -> Result<u8, Fault>
-    ensures { let view = file_view F.held F.is_clean F.keeps F.refused F.leaves in
-        OnDay word.now
-        (λ day. Shows view (Shown.Overdue day (unwrap_or first all_intersections) csv))
+    ensures { OnDay word.now
+        (λ day. Shows F.known (Shown.Overdue day (unwrap_or first all_intersections) csv))
         (W.told out.old) (W.told out.new) result }
 {
     let day = day_of(word)?;
@@ -155,9 +153,8 @@ pub(crate) fn used<F: OfficeInFile, W: Sink>(
     csv: bool,
     out: &mut W,
 ) -> Result<u8, Fault>
-    ensures { let view = file_view F.held F.is_clean F.keeps F.refused F.leaves in
-        OfPart (option_map (λ word. word.now) word.now)
-        (λ part. InFoundFile view (looking (TellsUsed part csv)))
+    ensures { OfPart (option_map (λ word. word.now) word.now)
+        (λ part. InFoundFile F.known (looking (TellsUsed part csv)))
         (W.told out.old) (W.told out.new) result }
 {
     let part = &any_part(alloc, word)?;
@@ -174,8 +171,7 @@ pub(crate) fn add<F: OfficeInFile, W: Sink>(
     name: &str,
     out: &mut W,
 ) -> Result<u8, Fault>
-    ensures { let view = file_view F.held F.is_clean F.keeps F.refused F.leaves in
-        Naming 120 name.now fault.Name (InNewFile view (adding id interval name.now))
+    ensures { Naming 120 name.now fault.Name (InNewFile F.known (adding id interval name.now))
         (W.told out.old) (W.told out.new) result }
 {
     let name = &named(alloc, name, Fault::Name)?;
@@ -191,7 +187,7 @@ pub(crate) fn migrate<F: OfficeInFile, W: Sink>(
     db: &OfficeFile<&str>,
     out: &mut W,
 ) -> Result<u8, Fault>
-    ensures { MigratesFile (file_view F.held F.is_clean F.keeps F.refused F.leaves) F.migrated
+    ensures { MigratesFile F.known
         (W.told out.old) (W.told out.new) result }
 {
     if is_missing(rt, alloc, db.path)? {
@@ -209,8 +205,7 @@ pub(crate) fn fill_records<F: OfficeInFile, W: Sink>(
     dir: &str,
     out: &mut W,
 ) -> Result<u8, Fault>
-    ensures { let view = file_view F.held F.is_clean F.keeps F.refused F.leaves in
-        InFoundFile view (looking (FillsAs FolderKind.Records None))
+    ensures { InFoundFile F.known (looking (FillsAs FolderKind.Records None))
         (W.told out.old) (W.told out.new) result }
 {
     let task = Task::Fill {
@@ -231,9 +226,8 @@ pub(crate) fn fill_pages<F: OfficeInFile, W: Sink>(
     dir: &str,
     out: &mut W,
 ) -> Result<u8, Fault>
-    ensures { let view = file_view F.held F.is_clean F.keeps F.refused F.leaves in
-        OnAnyDay (option_map (λ word. word.now) day.now)
-        (λ day. InFoundFile view (looking (FillsAs FolderKind.Pages day)))
+    ensures { OnAnyDay (option_map (λ word. word.now) day.now)
+        (λ day. InFoundFile F.known (looking (FillsAs FolderKind.Pages day)))
         (W.told out.old) (W.told out.new) result }
 {
     let day = any_day_of(day)?;
@@ -255,8 +249,7 @@ fn try_or_import<F: OfficeInFile, W: Sink>(
     check: bool,
     out: &mut W,
 ) -> Result<u8, Fault>
-    ensures { let view = file_view F.held F.is_clean F.keeps F.refused F.leaves in
-        InFoundFile view (trying_or_importing check csv.now lines.now)
+    ensures { InFoundFile F.known (trying_or_importing check csv.now lines.now)
         (W.told out.old) (W.told out.new) result }
 {
     if check {
@@ -278,8 +271,7 @@ fn import_text<F: OfficeInFile, W: Sink>(
     check: bool,
     out: &mut W,
 ) -> Result<u8, Fault>
-    ensures { let view = file_view F.held F.is_clean F.keeps F.refused F.leaves in
-        InTime until csv.now (InFoundFile view (trying_or_importing check csv.now lines.now))
+    ensures { InTime until csv.now (InFoundFile F.known (trying_or_importing check csv.now lines.now))
         (W.told out.old) (W.told out.new) result }
 {
     check_days(alloc, csv, until)?;
@@ -297,9 +289,8 @@ fn import_until<F: OfficeInFile, R: Source, W: Sink>(
     source: &mut R,
     out: &mut W,
 ) -> Result<u8, Fault>
-    ensures { let view = file_view F.held F.is_clean F.keeps F.refused F.leaves in
-        (err : Told) → ReadingCsv (file_asked csv.now) (λ records lines. OnlyPrints
-        (InTime until records (InFoundFile view (trying_or_importing check records lines))))
+    ensures { (err : Told) → ReadingCsv (file_asked csv.now) (λ records lines. OnlyPrints
+        (InTime until records (InFoundFile F.known (trying_or_importing check records lines))))
         (ends_of (R.told source.old) (W.told out.old))
         (ends_of (R.told source.new) (W.told out.new)) err err result }
 {
@@ -319,10 +310,9 @@ pub(crate) fn import<F: OfficeInFile, R: Source, W: Sink>(
     source: &mut R,
     out: &mut W,
 ) -> Result<u8, Fault>
-    ensures { let view = file_view F.held F.is_clean F.keeps F.refused F.leaves in
-        (err : Told) → OnAnyDayFirst (option_map (λ word. word.now) until.now)
+    ensures { (err : Told) → OnAnyDayFirst (option_map (λ word. word.now) until.now)
         (λ day. ReadingCsv (file_asked csv.now) (λ records lines. OnlyPrints
-        (InTime day records (InFoundFile view (trying_or_importing check records lines)))))
+        (InTime day records (InFoundFile F.known (trying_or_importing check records lines)))))
         (ends_of (R.told source.old) (W.told out.old))
         (ends_of (R.told source.new) (W.told out.new)) err err result }
 {
@@ -340,8 +330,7 @@ pub(crate) fn compare_running<F: OfficeInFile, W: Sink>(
     csv: bool,
     out: &mut W,
 ) -> Result<u8, Fault>
-    ensures { let view = file_view F.held F.is_clean F.keeps F.refused F.leaves in
-        InFoundFile view (looking (ComparesWith id plan.now csv))
+    ensures { InFoundFile F.known (looking (ComparesWith id plan.now csv))
         (W.told out.old) (W.told out.new) result }
 {
     in_file::<F, W>(rt, alloc, db, &Task::CompareWith { id, plan, csv }, out)
@@ -367,8 +356,7 @@ fn edit_with<F: OfficeInFile, W: Sink>(
     lines: &[usize],
     out: &mut W,
 ) -> Result<u8, Fault>
-    ensures { let view = file_view F.held F.is_clean F.keeps F.refused F.leaves in
-        InFoundFile view
+    ensures { InFoundFile F.known
         (editing csv.now lines.now edit.now.id clerk.now (edit_mode edit.now) edit.now.explain)
         (W.told out.old) (W.told out.new) result }
 {
@@ -395,9 +383,8 @@ fn edit_by<F: OfficeInFile, R: Source, W: Sink, E: Sink>(
     out: &mut W,
     err: &mut E,
 ) -> Result<u8, Fault>
-    ensures { let view = file_view F.held F.is_clean F.keeps F.refused F.leaves in
-        ReadingAnyPlan (option_map file_asked edit.now.csv) (λ plan lines. OnlyPrints
-        (InFoundFile view (editing plan lines edit.now.id clerk.now (edit_mode edit.now)
+    ensures { ReadingAnyPlan (option_map file_asked edit.now.csv) (λ plan lines. OnlyPrints
+        (InFoundFile F.known (editing plan lines edit.now.id clerk.now (edit_mode edit.now)
         edit.now.explain)))
         (ends_of (R.told source.old) (W.told out.old))
         (ends_of (R.told source.new) (W.told out.new)) (E.told err.old) (E.told err.new) result }
@@ -420,10 +407,9 @@ pub(crate) fn edit_plan<F: OfficeInFile, R: Source, W: Sink, E: Sink>(
     out: &mut W,
     err: &mut E,
 ) -> Result<u8, Fault>
-    ensures { let view = file_view F.held F.is_clean F.keeps F.refused F.leaves in
-        let clerk = edit.now.clerk.now in
+    ensures { let clerk = edit.now.clerk.now in
         NamingFirst 40 clerk fault.Clerk (ReadingAnyPlan (option_map file_asked edit.now.csv)
-        (λ plan lines. OnlyPrints (InFoundFile view
+        (λ plan lines. OnlyPrints (InFoundFile F.known
         (editing plan lines edit.now.id clerk (edit_mode edit.now) edit.now.explain))))
         (ends_of (R.told source.old) (W.told out.old))
         (ends_of (R.told source.new) (W.told out.new)) (E.told err.old) (E.told err.new) result }
@@ -441,8 +427,7 @@ pub(crate) fn abandon<F: OfficeInFile, W: Sink>(
     id: InterId,
     out: &mut W,
 ) -> Result<u8, Fault>
-    ensures { let view = file_view F.held F.is_clean F.keeps F.refused F.leaves in
-        Naming 40 clerk.now fault.Clerk (InFoundFile view (abandoning id clerk.now))
+    ensures { Naming 40 clerk.now fault.Clerk (InFoundFile F.known (abandoning id clerk.now))
         (W.told out.old) (W.told out.new) result }
 {
     let clerk = &named(alloc, clerk, Fault::Clerk)?;

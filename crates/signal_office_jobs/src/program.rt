@@ -3,9 +3,8 @@
 ghost use Rattle.std.specs.Prelude.{◌≡◌, map, option_map};
 ghost use Rattle.office_http_framing.specs.Serve.{ends_of};
 ghost use Rattle.signal_office_line.specs.Job.{asked, db_asked};
-ghost use Rattle.signal_office_in_file.specs.Ended.{file_view};
 ghost use Rattle.signal_office_jobs.specs.Printed.{Batches, JobDoes, Printed, ServesNew};
-ghost use Rattle.signal_office_jobs.specs.Printed.{office_files, status_over, stream_status};
+ghost use Rattle.signal_office_jobs.specs.Printed.{status_over, stream_status};
 ghost use Rattle.signal_office_jobs.specs.Runs.{DoesFound, EndsWith, RunsWords, ShowsRefusal};
 ghost use Rattle.signal_office_jobs.specs.Runs.{job_asked};
 ghost use Rattle.signal_office_tasks.specs.Output.{Prints};
@@ -59,7 +58,7 @@ fn batch<F: OfficeInFile, R: Source, W: Sink>(
     source: &mut R,
     out: &mut W,
 ) -> Result<u8, Fault>
-    ensures { Batches (file_view F.held F.is_clean F.keeps F.refused F.leaves) db.now
+    ensures { Batches F.known db.now
         (ends_of (R.told source.old) (W.told out.old))
         (ends_of (R.told source.new) (W.told out.new)) result }
 {
@@ -97,7 +96,7 @@ fn serve<F: OfficeInFile, W: Sink>(
     db: &Option<OfficeFile<&str>>,
     out: &mut W,
 ) -> Result<u8, Fault>
-    ensures { Printed (office_files F.held F.is_clean F.keeps F.refused F.leaves F.migrated F.alone)
+    ensures { Printed F.known
         (Job.Serve port count (option_map db_asked db.now)) (W.told out.old)
         (W.told out.new) result }
 {
@@ -116,9 +115,7 @@ fn run_job<F: OfficeInFile, R: Source, W: Sink, E: Sink>(
     out: &mut W,
     err: &mut E,
 ) -> Result<u8, Fault>
-    ensures { let files = office_files F.held F.is_clean F.keeps F.refused F.leaves F.migrated
-        F.alone in
-        JobDoes files (asked job.now) (ends_of (R.told source.old) (W.told out.old))
+    ensures { JobDoes F.known (asked job.now) (ends_of (R.told source.old) (W.told out.old))
         (ends_of (R.told source.new) (W.told out.new)) (E.told err.old) (E.told err.new) result }
 {
     match job {
@@ -201,9 +198,7 @@ fn do_found<F: OfficeInFile, R: Source, W: Sink, E: Sink>(
     out: &mut W,
     err: &mut E,
 ) -> Result<u8, Fault>
-    ensures { let files = office_files F.held F.is_clean F.keeps F.refused F.leaves F.migrated
-        F.alone in
-        DoesFound files (job_asked found.now)
+    ensures { DoesFound F.known (job_asked found.now)
         (ends_of (R.told source.old) (W.told out.old))
         (ends_of (R.told source.new) (W.told out.new))
         (E.told err.old) (E.told err.new) result }
@@ -239,9 +234,7 @@ pub fn run_words<F: OfficeInFile, R: Source, W: Sink, E: Sink>(
     // What the words ask for is done, over the office of the file that it names: what is printed is
     // the text of that, with its status, or a part of it where the output failed; a fault is said
     // by its line, with status 1. Words that are refused, or ask for help, do nothing else.
-    ensures { let files = office_files F.held F.is_clean F.keeps F.refused F.leaves F.migrated
-        F.alone in
-        RunsWords files (map (λ word. word.now) words.now)
+    ensures { RunsWords F.known (map (λ word. word.now) words.now)
         (ends_of (R.told source.old) (W.told out.old))
         (ends_of (R.told source.new) (W.told out.new))
         (E.told err.old) (E.told err.new) result }

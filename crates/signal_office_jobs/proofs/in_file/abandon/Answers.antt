@@ -1,5 +1,4 @@
 use Rattle.std.proofs.Common.{inl, inr, subst}
-use Rattle.signal_office_in_file.specs.Ended.{file_view}
 use Rattle.signal_office_jobs.proofs.PrintingLemmas.{fails}
 use Rattle.signal_office_jobs.proofs.in_file.abandon.Goals as goal
 use Rattle.signal_office_jobs.specs.Printing.{InFoundFile, abandoning}
@@ -9,8 +8,7 @@ returns-in_err-clerk g c = inr (_, c.in_err-clerk.ensures, fails _ _ c.from_resi
 
 pub returns : goal.returns
 returns g c =
-    let f = g.F.OfficeInFile in
-    let view = file_view f.held f.is_clean f.keeps f.refused f.leaves in
+    let view = g.F.OfficeInFile.known in
     let told = g.W.Sink.told in
     inl (
       c.in_ok-clerk.ensures.0,

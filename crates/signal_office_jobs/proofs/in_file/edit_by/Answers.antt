@@ -1,5 +1,4 @@
 use Rattle.std.proofs.Common.{List, ℕ, ap, inl, inr, option_map, refl, subst₂}
-use Rattle.signal_office_in_file.specs.Ended.{file_view}
 use Rattle.signal_office_jobs.proofs.PrintingLemmas.{any_plan_so, handed}
 use Rattle.signal_office_jobs.proofs.in_file.edit_by.Goals as goal
 use Rattle.signal_office_jobs.specs.Printed.{edit_mode}
@@ -14,8 +13,7 @@ returns-in_err-plan-in-Some g c =
 
 pub returns-in_ok-plan-in-Some : goal.returns-in_ok-plan-in-Some
 returns-in_ok-plan-in-Some g c =
-    let f = g.F.OfficeInFile in
-    let view = file_view f.held f.is_clean f.keeps f.refused f.leaves in
+    let view = g.F.OfficeInFile.known in
     let told = g.W.Sink.told in
     let edit = c.args.edit.now in
     let read = c.in_ok-plan-in-Some.ensures.plan in

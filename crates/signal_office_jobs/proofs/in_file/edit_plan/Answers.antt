@@ -1,6 +1,5 @@
 use Rattle.std.proofs.Common.{inl, inr, option_map, refl, subst}
 use Rattle.office_http_framing.specs.Serve.{ends_of}
-use Rattle.signal_office_in_file.specs.Ended.{file_view}
 use Rattle.signal_office_jobs.proofs.PrintingLemmas.{handed}
 use Rattle.signal_office_jobs.proofs.in_file.edit_plan.Goals as goal
 use Rattle.signal_office_jobs.specs.Printed.{edit_mode}
@@ -14,8 +13,7 @@ returns-in_err-clerk g c =
 
 pub returns : goal.returns
 returns g c =
-    let f = g.F.OfficeInFile in
-    let view = file_view f.held f.is_clean f.keeps f.refused f.leaves in
+    let view = g.F.OfficeInFile.known in
     let source = g.R.Source.told in
     let out = g.W.Sink.told in
     let err = g.E.Sink.told in

@@ -1,5 +1,4 @@
 use Rattle.std.proofs.Common.{List, ℕ, inl, inr, refl, subst₂}
-use Rattle.signal_office_in_file.specs.Ended.{file_view}
 use Rattle.signal_office_jobs.proofs.PrintingLemmas.{handed}
 use Rattle.signal_office_jobs.proofs.in_file.import_until.Goals as goal
 use Rattle.signal_office_jobs.specs.Printing.{InFoundFile, InTime, trying_or_importing}
@@ -9,8 +8,7 @@ returns-in_err-read g c err = inr (_, c.in_err-read.ensures.fault, refl, refl, h
 
 pub returns : goal.returns
 returns g c err =
-    let f = g.F.OfficeInFile in
-    let view = file_view f.held f.is_clean f.keeps f.refused f.leaves in
+    let view = g.F.OfficeInFile.known in
     let told = g.W.Sink.told in
     inl (
       c.in_ok-read.read.text.items,

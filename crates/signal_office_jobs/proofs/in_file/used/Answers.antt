@@ -1,7 +1,6 @@
 use Rattle.std.proofs.Common.{ℕ, List, Ok, inl, inr, subst}
 use Rattle.std.specs.Prelude.{option_map}
 use Rattle.std.specs.Borrow.{Bor}
-use Rattle.signal_office_in_file.specs.Ended.{file_view}
 use Rattle.signal_office_jobs.proofs.PrintingLemmas.{fails, part_is}
 use Rattle.signal_office_jobs.proofs.in_file.used.Goals as goal
 use Rattle.signal_office_jobs.specs.Printing.{InFoundFile, IsPartRead, looking}
@@ -12,8 +11,7 @@ returns-in_err-part g c = inr (_, c.in_err-part.ensures, fails _ _ c.from_residu
 
 pub returns : goal.returns
 returns g c =
-    let f = g.F.OfficeInFile in
-    let view = file_view f.held f.is_clean f.keeps f.refused f.leaves in
+    let view = g.F.OfficeInFile.known in
     let told = g.W.Sink.told in
     let word = option_map (λ (s : Bor (List ℕ)). s.now) c.args.word.now in
     let is = part_is word _ c.in_ok-part.ensures in
