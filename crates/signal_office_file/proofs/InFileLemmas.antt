@@ -16,8 +16,8 @@ module _ {D : Type 0} (g : Disk D) (image : Image) (files : Files D) (new : AreN
       → EndsOver (files_view g files) work r → EndsOver (view_at g image) work r
   ends_at work (Unopened why) it = it
   ends_at work (Refused why back) it = (it.0, (files, new, it.1))
-  ends_at work (Closed done back) it = λ clean. let x = it clean in (x.0, x.1, subst (λ (i : Image). HoldIn i x.0) new.seen x.2, x.3, x.4)
-  ends_at work (Unclosed why back) it = λ clean. let x = it clean in (x.0, subst (λ (i : Image). HoldIn i x.0) new.seen x.1, x.2)
+  ends_at work (Closed done back) it = (it.0, λ clean. let x = it.1 clean in (x.0, x.1, subst (λ (i : Image). HoldIn i x.0) new.seen x.2, x.3, x.4))
+  ends_at work (Unclosed why back) it = (it.0, λ clean. let x = it.1 clean in (x.0, subst (λ (i : Image). HoldIn i x.0) new.seen x.1, x.2))
 
   pub counted_at : (r : Ended (Result ℕ Fault) (FileLeft D g)) → IsCounted (files_view g files) r → IsCounted (view_at g image) r
   counted_at (Unopened why) it = it

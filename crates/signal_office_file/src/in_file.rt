@@ -2,7 +2,7 @@
 
 ghost use Rattle.std.specs.Prelude.{◌≡◌};
 ghost use Rattle.office_http_framing.specs.Serve.{ends_of};
-ghost use Rattle.signal_office_in_file.specs.Ended.{EndsOver, IsBegun, IsCounted};
+ghost use Rattle.signal_office_in_file.specs.Ended.{EndsOver, IsCounted};
 ghost use Rattle.signal_office_in_file.specs.Ended.{stream_work, task_work};
 ghost use Rattle.signal_office_file.specs.InFile.{IsUnclosed, WasClean, files_view, rows_counted};
 ghost use Rattle.signal_office_file.specs.Serving.{IsCutShortIn};
@@ -45,12 +45,9 @@ pub fn done_in<D: Disk + Drop, Done: Drop, T: OfficeTask<Done>, W: Sink>(
     task: &T,
     out: &mut W,
 ) -> Ended<Result<Done, Fault>, FileLeft<D>>
-    ensures ends { EndsOver (files_view D.Disk files) (task_work
-        (λ old done new. T.does task.now old done new (W.told out.old) (W.told out.new))
-        (T.leaves task.now) (out.new ≡ out.old)) result }
     // The output took what the task says before the files are closed, whatever the disk did.
-    ensures said { IsBegun (out.new ≡ out.old)
-        (T.says task.now (W.told out.old) (W.told out.new)) result }
+    ensures ends { EndsOver (files_view D.Disk files) (task_work (T.effect task.now)
+        (W.told out.old) (W.told out.new) (out.new ≡ out.old)) result }
     ensures clean { WasClean D.Disk files result }
 {
     let office = match open_file(alloc, files, options) {

@@ -30,30 +30,38 @@ pub record FileView (Left : Type 0) : Type 1 where
   pub leaves : Left → (Content → Type 0) → Type 0
   pub migrated : Left → ℕ → Type 0
 
--- what work over tables does where they are kept after it; what is known of it where a stop leaves such tables of it alone; and that nothing was done
+-- What work over tables does where they are kept after it; what is known of it where a stop leaves such tables of it alone; that nothing was done; and what is
+-- so wherever it was begun, whatever the disk did.
 pub record Work (T : Type 0) : Type 1 where
   pub does : Content → T → Content → Type 0
   pub stops : Content → (leaves : (Content → Type 0) → Type 0) → Type 0
   pub untouched : Type 0
+  pub begun : Type 0
 
 -- The work was done, once, over the tables that the file held, and they are kept in the file; or nothing was done, since the system did not open the file,
 -- or the file was refused. Where the file could not be closed that is told, whatever came of the work, and a stop leaves of it what one leaves of the work.
 abbrev pub EndsOver : {Left T : Type 0} → FileView Left → Work T → Ended T Left → Type 0
 EndsOver view work (Unopened why) = work.untouched × ((why ≡ fault.Store) ⊎ (why ≡ fault.Memory))
 EndsOver view work (Refused why left) = work.untouched × view.refused left why
-EndsOver view work (Closed done left) = view.is_clean left → (old : Content) × (new : Content) × view.held old × work.does old done new × view.keeps left new
-EndsOver view work (Unclosed why left) = view.is_clean left → (old : Content) × view.held old × work.stops old (view.leaves left)
+EndsOver view work (Closed done left) =
+    work.begun × (view.is_clean left → (old : Content) × (new : Content) × view.held old × work.does old done new × view.keeps left new)
+EndsOver view work (Unclosed why left) = work.begun × (view.is_clean left → (old : Content) × view.held old × work.stops old (view.leaves left))
 
--- The work was begun, and this was done, whatever the disk did; or nothing was.
-abbrev pub IsBegun : {Left T : Type 0} → (untouched begun : Type 0) → Ended T Left → Type 0
-IsBegun untouched begun (Unopened why) = untouched
-IsBegun untouched begun (Refused why left) = untouched
-IsBegun untouched begun (Closed done left) = begun
-IsBegun untouched begun (Unclosed why left) = begun
+-- what a task makes of the tables of an office, what it gives, and what its output took; which tables a stop may leave of it, begun over the first ones; and
+-- what its output took, whatever the disk did
+pub record Effect (T : Type 0) : Type 1 where
+  pub does : Content → Result T Fault → Content → Told → Told → Type 0
+  pub leaves : Content → Content → Type 0
+  pub says : Told → Told → Type 0
 
--- a task: what it makes of tables and gives, and which tables a stop leaves of it
-abbrev pub task_work : {T : Type 0} → (does : Content → T → Content → Type 0) → (leaves : Content → Content → Type 0) → (untouched : Type 0) → Work T
-task_work does leaves untouched = record { does = does; stops = λ old left. left (leaves old); untouched = untouched }
+-- a task that is done over the tables of a file
+abbrev pub task_work : {T : Type 0} → Effect T → (start end : Told) → (untouched : Type 0) → Work (Result T Fault)
+task_work effect start end untouched = record {
+  does = λ old done new. effect.does old done new start end;
+  stops = λ old left. left (effect.leaves old);
+  untouched = untouched;
+  begun = effect.says start end;
+}
 
 -- The requests were run from the office that the tables stood for, and the tables stand for the office after them.
 pub record RunsOver (new : Content) (before after : Office) (requests : List PlainRequest) (answers : List (List ℕ)) : Type 0 where
@@ -67,7 +75,7 @@ ServesStoredOffice limit start end old outcome new = (before : Office) → Stand
 -- a stream of requests that is answered
 abbrev pub stream_work : ℕ → Ends → Ends → (untouched : Type 0) → Work (Result Served ServeFault)
 stream_work limit start end untouched =
-    record { does = ServesStoredOffice limit start end; stops = AnswersToAStop limit start end; untouched = untouched }
+    record { does = ServesStoredOffice limit start end; stops = AnswersToAStop limit start end; untouched = untouched; begun = ⊤ }
 
 -- why bytes were not copied: the disk failed, or memory was refused, or the output failed
 abbrev pub IsUncopied : (start end : Told) → Fault → Type 0
@@ -85,6 +93,7 @@ copy_work Alone start end = record {
   does = λ old done new. (new ≡ old) × IsCopyOf Alone start end old done;
   stops = λ old leaves. leaves (λ found. found ≡ old);
   untouched = end ≡ start;
+  begun = ⊤;
 }
 
 -- A migration was made, and its rows are those that were counted; or it was refused, and the tables are as they were. Nothing is counted that was not closed.

@@ -42,20 +42,11 @@ impl<T, L: Drop> Ended<T, L> {
 
 /// What an office over any tables does, and gives.
 pub trait OfficeTask<Done> {
-    ghost use Rattle.std.specs.Prelude.{Result};
-    ghost use Rattle.office_http_framing.specs.Ends.{Told};
-    ghost use Rattle.office_tables_shelf.specs.Content.{Content};
-    ghost use Rattle.signal_office_faults.specs.declared.fault.Fault.{Fault};
-    ghost use Rattle.signal_office_in_file.specs.Stopping.{StopsWithin};
+    ghost use Rattle.signal_office_in_file.specs.Ended.{Effect};
+    ghost use Rattle.signal_office_in_file.specs.Doing.{DoesTask};
 
-    // What it makes of the tables, what it gives, and what its output took.
-    ghost does: { Self → Content → Result Done Fault → Content → Told → Told → Type 0 };
-
-    // Which tables a stop may leave of it, begun over the first ones.
-    ghost leaves: { Self → Content → Content → Type 0 };
-
-    // What its output took, whatever the disk did.
-    ghost says: { Self → Told → Told → Type 0 };
+    // What it does to the tables of an office and to its output.
+    ghost effect: { Self → Effect Done };
 
     /// Does it by an office, which is given back.
     fn done_with<S: Shelf, W: Sink>(
@@ -65,13 +56,8 @@ pub trait OfficeTask<Done> {
         office: Office<S>,
         out: &mut W,
     ) -> (Office<S>, Result<Done, Fault>)
-        ensures clean { S.is_clean result.0 → S.is_clean office }
-        ensures honest { S.is_honest result.0 → S.is_honest office }
-        ensures does { S.is_clean result.0 → S.is_honest result.0 →
-            does self.now (S.content office) result.1 (S.content result.0)
-            (W.told out.old) (W.told out.new) }
-        ensures stop { StopsWithin S.Shelf office result.0 (leaves self.now) }
-        ensures said { says self.now (W.told out.old) (W.told out.new) };
+        ensures { DoesTask S.Shelf office result.0 (effect self.now) result.1
+            (W.told out.old) (W.told out.new) };
 }
 
 /// How the office of a file is opened, used and closed again. The jobs know no database. Where
@@ -79,7 +65,7 @@ pub trait OfficeTask<Done> {
 pub trait OfficeInFile {
     ghost use Rattle.std.specs.Prelude.{◌≡◌};
     ghost use Rattle.office_http_framing.specs.Serve.{ends_of};
-    ghost use Rattle.signal_office_in_file.specs.Ended.{EndsOver, FileView, IsBegun, IsCounted};
+    ghost use Rattle.signal_office_in_file.specs.Ended.{EndsOver, FileView, IsCounted};
     ghost use Rattle.signal_office_in_file.specs.Ended.{copy_work, stream_work, task_work};
 
     /// What is left of the file.
@@ -97,11 +83,8 @@ pub trait OfficeInFile {
         task: &T,
         out: &mut W,
     ) -> Ended<Result<Done, Fault>, Self::Left>
-        ensures ends { EndsOver known (task_work
-            (λ old done new. T.does task.now old done new (W.told out.old) (W.told out.new))
-            (T.leaves task.now) (out.new ≡ out.old)) result }
-        ensures said { IsBegun (out.new ≡ out.old)
-            (T.says task.now (W.told out.old) (W.told out.new)) result };
+        ensures { EndsOver known (task_work (T.effect task.now) (W.told out.old) (W.told out.new)
+            (out.new ≡ out.old)) result };
 
     /// Answers the requests of the source over the tables of a file.
     fn answer<R: Source, W: Sink>(

@@ -5,8 +5,8 @@ use Rattle.signal_office_file.specs.InFile.{view_at}
 use Rattle.signal_office_file.proofs.InFileLemmas.{ends_at}
 use Rattle.signal_office_file.proofs.in_file.TablesInFileOfficeInFile.do_task.Goals as goal
 
-pub returns-in-Ok-clause-ends : goal.returns-in-Ok-clause-ends
-returns-in-Ok-clause-ends g c =
-    let work = task_work _ (g.T.OfficeTask.leaves c.args.task.now) _ in
+pub returns-in-Ok : goal.returns-in-Ok
+returns-in-Ok g c =
+    let work = task_work (g.T.OfficeTask.effect c.args.task.now) _ _ _ in
     subst (EndsOver (view_at _ (image_at g.S.Start)) work) (sym c.noted.ensures)
     (ends_at _ (image_at g.S.Start) c.in-Ok.files c.in-Ok.ensures.new work c.done_in.result c.done_in.ensures.ends)
