@@ -1,32 +1,20 @@
 //! The office of a file, copied: the log into the database file, and that file's bytes into a sink.
 
-ghost use Rattle.std.specs.Prelude.{◌≡◌};
 ghost use Rattle.signal_office_in_file.specs.Ended.{EndsOver, copy_work};
-ghost use Rattle.signal_office_file.specs.Copying.{PoursAs, told_of_copy};
+ghost use Rattle.signal_office_file.specs.Copying.{PoursAs};
 ghost use Rattle.signal_office_file.specs.Files.{AreUsable, HoldAlone};
 ghost use Rattle.signal_office_file.specs.InFile.{files_view};
 
+use crate::blocks::copy_all;
 use crate::closing::close_office;
 use crate::left::FileLeft;
 use crate::opening::open_file;
 use office_http::Sink;
-use signal_office_backup::{CopyFault, copy_all};
 use signal_office_faults::Fault;
 use signal_office_in_file::Ended;
 use sqlite::Options;
 use sqlite_disk::{Disk, Files};
 use std::alloc::Global;
-
-/// What is told of a file that was not copied.
-fn fault_of_copy(fault: CopyFault) -> Fault
-    ensures { result ≡ told_of_copy fault }
-{
-    match fault {
-        CopyFault::Read => Fault::Store,
-        CopyFault::Write => Fault::Write,
-        CopyFault::NoMemory => Fault::Memory,
-    }
-}
 
 /// Writes the bytes of the database file to the sink, and gives both files back.
 fn poured<D: Disk + Drop, W: Sink>(
@@ -37,10 +25,7 @@ fn poured<D: Disk + Drop, W: Sink>(
     requires { AreUsable D.Disk files }
     ensures { PoursAs D.Disk files (W.told out.old) (W.told out.new) result.0 result.1 }
 {
-    let done = match copy_all(alloc, &mut files.db, out) {
-        Ok(()) => Ok(()),
-        Err(fault) => Err(fault_of_copy(fault)),
-    };
+    let done = copy_all(alloc, &mut files.db, out);
     (done, files)
 }
 

@@ -2,6 +2,7 @@
 //! brought to today's. Each call takes the two files and gives back what is left of them.
 #![tactic(auto)]
 
+mod blocks;
 mod closing;
 mod copying;
 mod fault;
