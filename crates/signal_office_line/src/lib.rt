@@ -13,6 +13,8 @@ mod jobs;
 mod refusals;
 mod shows;
 mod values;
+mod words;
 
-pub use job::{CsvFile, Edit, Job, JobFault, OfficeFile, job_of};
+pub use job::{BadWord, CsvFile, Edit, Folder, Job, JobFault, OfficeFile, Request, job_of};
 pub use shows::{PlanShown, Shown, View};
+pub use words::{Name, Part, Path};
