@@ -5,8 +5,8 @@ ghost use Rattle.office_desk.specs.Checking.{Checks, MeetsCheckDamage};
 ghost use Rattle.office_tables_shelf.specs.Keeps.{KeepsShelf};
 ghost use Rattle.signal_office_commands.specs.Checks.{ChecksFile, check_fault};
 
-use crate::counts::counts_of;
 use crate::check_text::checks_text;
+use crate::counts::counts_of;
 use cabinet_core::RecordCommand;
 use office_desk::Checked;
 use office_desk::office::Office;

@@ -288,7 +288,15 @@ fn revise_by<S: Shelf>(
     let asked = read_timing_csv(alloc, bytes)?;
     let standing = standing_in(alloc, office, edit.id)?;
     let changes = standing.wanted(alloc, asked, edit.replace)?;
-    revise(alloc, office, edit.id, clerk, &standing, changes, edit.commit)
+    revise(
+        alloc,
+        office,
+        edit.id,
+        clerk,
+        &standing,
+        changes,
+        edit.commit,
+    )
 }
 
 /// Revises the plan of an intersection by the records of a CSV file, in a transaction of a clerk:

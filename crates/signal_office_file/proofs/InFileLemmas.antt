@@ -1,5 +1,5 @@
 -- Two files at a path, of which it is known what they held.
-use Rattle.std.proofs.Common.{Result, Ok, Err, ℕ, subst}
+use Rattle.std.proofs.Common.{◌≡◌, Result, Ok, Err, ℕ, subst, sym}
 use Rattle.sqlite.specs.Recovery.{Image}
 use Rattle.sqlite_disk.specs.declared.Disk.{Ghosts as Disk}
 use Rattle.sqlite_disk.specs.declared.Files.{Files}
@@ -12,16 +12,24 @@ use Rattle.signal_office_file.specs.InFile.{files_view, view_at}
 use Rattle.signal_office_file.specs.declared.left.FileLeft.{FileLeft}
 
 module _ {D : Type 0} (g : Disk D) (image : Image) (files : Files D) (new : AreNew g files image) where
-  pub ends_at : {T : Type 0} (work : Work T) (r : Ended T (FileLeft D g))
+  ends_at : {T : Type 0} (work : Work T) (r : Ended T (FileLeft D g))
       → EndsOver (files_view g files) work r → EndsOver (view_at g image) work r
   ends_at work (Unopened why) it = it
   ends_at work (Refused why back) it = (it.0, (files, new, it.1))
   ends_at work (Closed done back) it = (it.0, λ clean. let x = it.1 clean in (x.0, x.1, subst (λ (i : Image). HoldIn i x.0) new.seen x.2, x.3, x.4))
   ends_at work (Unclosed why back) it = (it.0, λ clean. let x = it.1 clean in (x.0, subst (λ (i : Image). HoldIn i x.0) new.seen x.1, x.2))
 
-  pub counted_at : (r : Ended (Result ℕ Fault) (FileLeft D g)) → IsCounted (files_view g files) r → IsCounted (view_at g image) r
+  -- the same of an end that was noted
+  pub ends_noted : {T : Type 0} (work : Work T) (r result : Ended T (FileLeft D g)) → result ≡ r
+      → EndsOver (files_view g files) work r → EndsOver (view_at g image) work result
+  ends_noted work r result same it = subst (EndsOver (view_at g image) work) (sym same) (ends_at work r it)
+
+  counted_at : (r : Ended (Result ℕ Fault) (FileLeft D g)) → IsCounted (files_view g files) r → IsCounted (view_at g image) r
   counted_at (Unopened why) it = it
   counted_at (Refused why back) it = (files, new, it)
   counted_at (Closed (Ok rows) back) it = λ clean. (files, new, it clean)
   counted_at (Closed (Err why) back) it = λ clean. (files, new, it clean)
   counted_at (Unclosed why back) it = tt
+
+  pub counted_noted : (r result : Ended (Result ℕ Fault) (FileLeft D g)) → result ≡ r → IsCounted (files_view g files) r → IsCounted (view_at g image) result
+  counted_noted r result same it = subst (IsCounted (view_at g image)) (sym same) (counted_at r it)

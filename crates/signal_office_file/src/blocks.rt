@@ -68,7 +68,11 @@ fn copy_blocks<D: Disk, W: Sink>(
 }
 
 /// Writes all bytes of a file to the sink, from the first to the last.
-pub(crate) fn copy_all<D: Disk, W: Sink>(alloc: Global, file: &mut D, out: &mut W) -> Result<(), Fault>
+pub(crate) fn copy_all<D: Disk, W: Sink>(
+    alloc: Global,
+    file: &mut D,
+    out: &mut W,
+) -> Result<(), Fault>
     requires { IsTrue (D.Disk.is_usable file.old) }
     // On a disk that has returned what was written.
     ensures copied { OnOk result (IsTrue (D.Disk.is_clean file.new) →

@@ -136,6 +136,11 @@ changing makes After = record {
   says = λ start end. end ≡ start;
 }
 
+-- records are taken, or only tried
+abbrev pub taking : (only_tried : Bool) → (csv lines : List ℕ) → Effect Done
+taking true csv lines = looking (ChecksAs csv lines)
+taking false csv lines = changing (ImportsAs csv) (AfterImporting csv)
+
 -- WHAT IS DONE FOR EACH REQUEST, with the text of the CSV file that was read for it, and the lines on which its records begin. Nothing is printed before the
 -- file of the office is closed.
 abbrev pub effect_of : Request → (text lines : List ℕ) → Effect Done
@@ -143,8 +148,7 @@ effect_of (request.Show it) text lines = looking (ShowsAs it)
 effect_of (request.Fill dir folder) text lines = looking (FillsAs folder)
 effect_of (request.Used part csv) text lines = looking (TellsUsed part csv)
 effect_of (request.Add id interval name) text lines = changing (AddsAs id interval name) (AfterAdding id interval name)
-effect_of (request.Import csv until true) text lines = looking (ChecksAs text lines)
-effect_of (request.Import csv until false) text lines = changing (ImportsAs text) (AfterImporting text)
+effect_of (request.Import csv until check) text lines = taking check text lines
 effect_of (request.Edit edit) text lines = changing (EditsBy text lines edit) (AfterRevising text edit.id edit.clerk edit)
 effect_of (request.Abandon id clerk) text lines = changing (AbandonsAs id clerk) (AfterAbandoning id clerk)
 effect_of (request.CompareDraft id csv) text lines = looking (ComparesAs id csv)

@@ -50,7 +50,11 @@ fn ask<F: OfficeInFile, W: Sink>(
         (W.told out.old) (W.told out.new) result }
 {
     let (text, lines) = (csv.text.as_slice(), csv.lines.as_slice());
-    let asked = Asked { request, text, lines };
+    let asked = Asked {
+        request,
+        text,
+        lines,
+    };
     in_file::<F, Asked<'_>, W>(rt, alloc, db, makes_file(request), &asked, out)
 }
 

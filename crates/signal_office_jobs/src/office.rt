@@ -12,7 +12,7 @@ ghost use Rattle.signal_office_in_file.specs.Doing.{DoesTask};
 ghost use Rattle.signal_office_jobs.specs.Requests.{AbandonsAs, AddsAs, ChecksAs, ComparesAs};
 ghost use Rattle.signal_office_jobs.specs.Requests.{ComparesWith, EditsBy, FillsAs, ImportsAs};
 ghost use Rattle.signal_office_jobs.specs.Requests.{IsBroken, ShowsAs, TellsEdit, TellsUsed};
-ghost use Rattle.signal_office_jobs.specs.Requests.{effect_of, makes_file};
+ghost use Rattle.signal_office_jobs.specs.Requests.{effect_of, makes_file, taking};
 
 use crate::done::Done;
 use crate::explained::refused_edit;
@@ -23,8 +23,8 @@ use office_files::violation_text;
 use office_http::Sink;
 use office_tables_shelf::shelf::Shelf;
 use signal_office_commands::{
-    Outcome, Revised, abandon_draft, add_intersection, check_csv, draft_differences,
-    draft_reasons, import_csv, revise_plan, running_differences,
+    Outcome, Revised, abandon_draft, add_intersection, check_csv, draft_differences, draft_reasons,
+    import_csv, revise_plan, running_differences,
 };
 use signal_office_faults::{Fault, SystemFolder};
 use signal_office_in_file::OfficeTask;
@@ -170,6 +170,24 @@ fn check<S: Shelf>(
 {
     let report = check_csv(alloc, office, csv, lines)?;
     Ok(Done::reporting(report))
+}
+
+/// Takes the records of a CSV file, or only tries them.
+fn take<S: Shelf>(
+    alloc: Global,
+    office: &mut Office<S>,
+    csv: &[u8],
+    lines: &[usize],
+    only_tried: bool,
+) -> Result<Done, Fault>
+    ensures { (out : Told) → DoesTask S.Shelf office.old office.new
+        (taking only_tried csv.now lines.now) result out out }
+{
+    if only_tried {
+        check(alloc, office, csv, lines)
+    } else {
+        import(alloc, office, csv)
+    }
 }
 
 /// The rules that a draft breaks which stays open, with their reasons where that is asked.
@@ -323,8 +341,7 @@ fn answer<S: Shelf>(
         Request::Fill { dir, folder } => fill_folder(rt, alloc, office, dir.as_str(), folder),
         Request::Used { part, csv } => show_used(alloc, office, part, *csv),
         Request::Add { id, interval, name } => add(alloc, office, *id, *interval, name),
-        Request::Import { check: true, .. } => check(alloc, office, text, lines),
-        Request::Import { check: false, .. } => import(alloc, office, text),
+        Request::Import { check, .. } => take(alloc, office, text, lines, *check),
         Request::Edit(asked) => edit(alloc, office, asked, text, lines),
         Request::Abandon { id, clerk } => abandon(alloc, office, *id, clerk),
         Request::CompareDraft { id, csv } => compare(alloc, office, *id, *csv),
@@ -334,6 +351,7 @@ fn answer<S: Shelf>(
 
 /// A request, with the text of the CSV file that was read for it, and the lines of the file on which
 /// its records begin.
+#[derive(Clone, Copy)]
 pub(crate) struct Asked<'a> {
     pub(crate) request: &'a Request<'a>,
     pub(crate) text: &'a [u8],
@@ -350,7 +368,7 @@ impl OfficeTask<Done> for Asked<'_> {
         rt: &HostRuntime,
         alloc: Global,
         mut office: Office<S>,
-        _out: &mut W,
+        out: &mut W,
     ) -> (Office<S>, Result<Done, Fault>) {
         let outcome = answer(rt, alloc, &mut office, self.request, self.text, self.lines);
         (office, outcome)

@@ -62,7 +62,15 @@ fn batch<F: OfficeInFile, R: Source, W: Sink>(
     match db {
         None => stream_status(serve_new_office(alloc, source, out, BATCH_LIMIT)),
         Some(db) => {
-            let ended = F::answer(rt, alloc, db.path.as_str(), db.wait, source, out, BATCH_LIMIT);
+            let ended = F::answer(
+                rt,
+                alloc,
+                db.path.as_str(),
+                db.wait,
+                source,
+                out,
+                BATCH_LIMIT,
+            );
             status_over(ended.told())
         }
     }

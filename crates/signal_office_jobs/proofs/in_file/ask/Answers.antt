@@ -10,4 +10,4 @@ returns g c =
     subst (λ (makes : Bool). InFile g.F.OfficeInFile.known makes (effect_of request c.args.csv.now.text.items c.args.csv.now.lines.items) (told c.args.out.now) (told c.in_file.new.out) c.in_file.result)
     c.makes_file.ensures
     (subst₂ (λ (text lines : List ℕ). InFile g.F.OfficeInFile.known c.makes_file.result (effect_of request text lines) (told c.args.out.now) (told c.in_file.new.out) c.in_file.result)
-    c.as_slice.ensures c.as_slice-2.ensures c.in_file.ensures)
+    c.as_slice-text.ensures.value c.as_slice-lines.ensures.value c.in_file.ensures)

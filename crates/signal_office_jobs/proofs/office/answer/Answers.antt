@@ -26,13 +26,8 @@ returns-in-Add g c out =
 
 pub returns-in-Import : goal.returns-in-Import
 returns-in-Import g c out =
-    subst (λ request. DoesTask g.S.Shelf c.args.office.now c.check.new.office (effect_of request c.args.text.now c.args.lines.now) c.check.result out out) (sym c.in-Import.is)
-    (looks g.S.Shelf _ _ c.check.result _ c.check.ensures.kept c.check.ensures.clean c.check.ensures.does out)
-
-pub returns-in-Import-2 : goal.returns-in-Import-2
-returns-in-Import-2 g c out =
-    subst (λ request. DoesTask g.S.Shelf c.args.office.now c.import.new.office (effect_of request c.args.text.now c.args.lines.now) c.import.result out out) (sym c.in-Import-2.is)
-    (changes g.S.Shelf _ _ c.import.result _ _ c.import.ensures.clean c.import.ensures.honest c.import.ensures.stop c.import.ensures.does out)
+    subst (λ request. DoesTask g.S.Shelf c.args.office.now c.take.new.office (effect_of request c.args.text.now c.args.lines.now) c.take.result out out) (sym c.in-Import.is)
+    (c.take.ensures out)
 
 pub returns-in-Edit : goal.returns-in-Edit
 returns-in-Edit g c out =
