@@ -19,9 +19,9 @@ file_name file.Index = codes "index.html"
 file_name (file.Page id) = decimal id ++ codes ".html"
 
 -- the day on which an index shows those that are overdue, if one is given
-abbrev pub day_of : Folder → Option ℕ
-day_of folder.Records = None
-day_of (folder.Pages day) = day
+abbrev pub index_day : Folder → Option ℕ
+index_day folder.Records = None
+index_day (folder.Pages day) = day
 
 -- what it shows: what the command prints that shows this; an index with those that are overdue on its day, or a page that is linked to it
 abbrev pub file_shown : Folder → FileOf → Shown
@@ -29,7 +29,7 @@ file_shown folder file.Intersections = shown.List true
 file_shown folder file.Stock = shown.Stock true
 file_shown folder (file.Plan id) = shown.Export id view.Timing
 file_shown folder (file.Cabinet id) = shown.Export id view.Cabinet
-file_shown folder file.Index = shown.Index (day_of folder)
+file_shown folder file.Index = shown.Index (index_day folder)
 file_shown folder (file.Page id) = shown.Page id true
 
 -- those of an intersection

@@ -1,7 +1,7 @@
 //! The files of a folder, by what they show of an office.
 
 ghost use Rattle.std.specs.Prelude.{◌≡◌, ◌++◌, IfOk, OnOk, string_bytes};
-ghost use Rattle.signal_office_jobs.specs.Filed.{day_of, files_in, files_on, first_files};
+ghost use Rattle.signal_office_jobs.specs.Filed.{index_day, files_in, files_on, first_files};
 
 use cabinet_core::Day;
 use office_machine::intersections::ListedIntersection;
@@ -10,8 +10,8 @@ use signal_records::{InterId, NoMemory};
 use std::alloc::{AllocError, Global};
 
 /// The day on which an index shows those that are overdue, if one is given.
-fn day_of(kind: FolderKind) -> Option<Day>
-    ensures { result ≡ day_of kind }
+fn index_day(kind: FolderKind) -> Option<Day>
+    ensures { result ≡ index_day kind }
 {
     match kind {
         FolderKind::Records => None,
@@ -78,7 +78,9 @@ impl FileOf {
                 id,
                 view: View::Cabinet,
             },
-            FileOf::Index => Shown::Index { day: day_of(kind) },
+            FileOf::Index => Shown::Index {
+                day: index_day(kind),
+            },
             FileOf::Page { id } => Shown::Page { id, linked: true },
         }
     }
