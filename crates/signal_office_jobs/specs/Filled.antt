@@ -26,40 +26,40 @@ IsUnshownLate it tables why = (why ≡ fault.Store) ⊎ IsShown it tables (Err w
 abbrev pub ListsOffice : Content → Result (List ListedIntersection) Fault → Type 0
 ListsOffice tables result = IsMadeOfAnswers (query.Intersections ∷ []) (λ found it. it ≡ intersections_in (first_seen found)) tables result
 
+-- each file is put under its name with what it shows, in this order
+abbrev pub AreFilesOf : Content → List FileOf → List NamedText → Type 0
+AreFilesOf tables [] [] = ⊤
+AreFilesOf tables (file ∷ files) (put ∷ rest) =
+    (put.0 ≡ file_name file) × IsShown (file_shown file) tables (Ok put.1) × AreFilesOf tables files rest
+AreFilesOf tables _ _ = ⊥
+
+-- one of the files is not shown, and this is why
+abbrev pub IsAnyUnshown : Content → List FileOf → Fault → Type 0
+IsAnyUnshown tables [] why = ⊥
+IsAnyUnshown tables (file ∷ files) why = IsShown (file_shown file) tables (Err why) ⊎ IsAnyUnshown tables files why
+
+-- the texts of all were made; or one is not shown
+abbrev pub ChecksFiles : Content → List FileOf → Result ⊤ Fault → Type 0
+ChecksFiles tables files (Ok done) = (texts : List NamedText) × AreFilesOf tables files texts
+ChecksFiles tables files (Err why) = IsAnyUnshown tables files why
+
+-- a file was put with what it shows; or nothing was, and this is why
+abbrev pub PutsFile : Content → FileOf → (old new : KnownFiles) → Result ⊤ Fault → Type 0
+PutsFile tables file old new (Ok done) =
+    (text : List ℕ) × IsShown (file_shown file) tables (Ok text) × AddsFiles old new ((file_name file, text) ∷ [])
+PutsFile tables file old new (Err why) = (new ≡ old) × (IsUnput why ⊎ IsUnshownLate (file_shown file) tables why)
+
+-- why not all files are put
+abbrev pub IsNotFilled : Content → List FileOf → Fault → Type 0
+IsNotFilled tables files why = IsUnput why ⊎ ((why ≡ fault.Store) ⊎ IsAnyUnshown tables files why)
+
+-- the files were put in their order; or the first ones
+abbrev pub PutsFiles : Content → List FileOf → (old new : KnownFiles) → Result ⊤ Fault → Type 0
+PutsFiles tables files old new (Ok done) = (put : List NamedText) × AreFilesOf tables files put × AddsFiles old new put
+PutsFiles tables files old new (Err why) =
+    ((n : ℕ) × (put : List NamedText) × AreFilesOf tables (take n files) put × AddsFiles old new put) × IsNotFilled tables files why
+
 module _ (folder : Folder) where
-  -- each file is put under its name with what it shows, in this order
-  abbrev pub AreFilesOf : Content → List FileOf → List NamedText → Type 0
-  AreFilesOf tables [] [] = ⊤
-  AreFilesOf tables (file ∷ files) (put ∷ rest) =
-      (put.0 ≡ file_name file) × IsShown (file_shown folder file) tables (Ok put.1) × AreFilesOf tables files rest
-  AreFilesOf tables _ _ = ⊥
-
-  -- one of the files is not shown, and this is why
-  abbrev pub IsAnyUnshown : Content → List FileOf → Fault → Type 0
-  IsAnyUnshown tables [] why = ⊥
-  IsAnyUnshown tables (file ∷ files) why = IsShown (file_shown folder file) tables (Err why) ⊎ IsAnyUnshown tables files why
-
-  -- the texts of all were made; or one is not shown
-  abbrev pub ChecksFiles : Content → List FileOf → Result ⊤ Fault → Type 0
-  ChecksFiles tables files (Ok done) = (texts : List NamedText) × AreFilesOf tables files texts
-  ChecksFiles tables files (Err why) = IsAnyUnshown tables files why
-
-  -- a file was put with what it shows; or nothing was, and this is why
-  abbrev pub PutsFile : Content → FileOf → (old new : KnownFiles) → Result ⊤ Fault → Type 0
-  PutsFile tables file old new (Ok done) =
-      (text : List ℕ) × IsShown (file_shown folder file) tables (Ok text) × AddsFiles old new ((file_name file, text) ∷ [])
-  PutsFile tables file old new (Err why) = (new ≡ old) × (IsUnput why ⊎ IsUnshownLate (file_shown folder file) tables why)
-
-  -- why not all files are put
-  abbrev pub IsNotFilled : Content → List FileOf → Fault → Type 0
-  IsNotFilled tables files why = IsUnput why ⊎ ((why ≡ fault.Store) ⊎ IsAnyUnshown tables files why)
-
-  -- the files were put in their order; or the first ones
-  abbrev pub PutsFiles : Content → List FileOf → (old new : KnownFiles) → Result ⊤ Fault → Type 0
-  PutsFiles tables files old new (Ok done) = (put : List NamedText) × AreFilesOf tables files put × AddsFiles old new put
-  PutsFiles tables files old new (Err why) =
-      ((n : ℕ) × (put : List NamedText) × AreFilesOf tables (take n files) put × AddsFiles old new put) × IsNotFilled tables files why
-
   -- THE FILES of an office: those over all its intersections, with what they show
   pub record AreFilesOfAll (tables : Content) (put : List NamedText) : Type 0 where
     pub listed : List ListedIntersection

@@ -1,23 +1,13 @@
 //! The files of a folder, by what they show of an office.
 
 ghost use Rattle.std.specs.Prelude.{◌≡◌, ◌++◌, IfOk, OnOk, string_bytes};
-ghost use Rattle.signal_office_jobs.specs.Filed.{index_day, files_in, files_on, first_files};
+ghost use Rattle.signal_office_jobs.specs.Filed.{files_in, files_on, first_files};
 
 use cabinet_core::Day;
 use office_machine::intersections::ListedIntersection;
 use signal_office_line::{Folder as FolderKind, Shown, View};
 use signal_records::{InterId, NoMemory};
 use std::alloc::{AllocError, Global};
-
-/// The day on which an index shows those that are overdue, if one is given.
-fn index_day(kind: FolderKind) -> Option<Day>
-    ensures { result ≡ index_day kind }
-{
-    match kind {
-        FolderKind::Records => None,
-        FolderKind::Pages { day } => day,
-    }
-}
 
 /// A file of a folder.
 #[derive(Clone, Copy)]
@@ -30,8 +20,8 @@ pub enum FileOf {
     Plan { id: InterId },
     /// The cabinet of an intersection as CSV.
     Cabinet { id: InterId },
-    /// The index page.
-    Index,
+    /// The index page, with those that are overdue on a day, if one is given.
+    Index { day: Option<Day> },
     /// The page of an intersection.
     Page { id: InterId },
 }
@@ -55,7 +45,7 @@ impl FileOf {
                 let id = id.get();
                 format!(in alloc; "{id}-cabinet.csv")
             }
-            FileOf::Index => String::from_str(alloc, "index.html"),
+            FileOf::Index { .. } => String::from_str(alloc, "index.html"),
             FileOf::Page { id } => {
                 let id = id.get();
                 format!(in alloc; "{id}.html")
@@ -64,8 +54,8 @@ impl FileOf {
     }
 
     /// What it shows.
-    pub(crate) fn shown(self, kind: FolderKind) -> Shown
-        ensures { result ≡ file_shown kind self }
+    pub(crate) fn shown(self) -> Shown
+        ensures { result ≡ file_shown self }
     {
         match self {
             FileOf::Intersections => Shown::List { csv: true },
@@ -78,9 +68,7 @@ impl FileOf {
                 id,
                 view: View::Cabinet,
             },
-            FileOf::Index => Shown::Index {
-                day: index_day(kind),
-            },
+            FileOf::Index { day } => Shown::Index { day },
             FileOf::Page { id } => Shown::Page { id, linked: true },
         }
     }
@@ -96,7 +84,7 @@ fn first_files(alloc: Global, kind: FolderKind) -> Result<Vec<FileOf>, NoMemory>
             files.push(FileOf::Intersections)?;
             files.push(FileOf::Stock)?;
         }
-        FolderKind::Pages { .. } => files.push(FileOf::Index)?,
+        FolderKind::Pages { day } => files.push(FileOf::Index { day })?,
     }
     Ok(files)
 }

@@ -35,16 +35,15 @@ fn listed_in<S: Shelf>(
 fn check_each<S: Shelf>(
     alloc: Global,
     office: &mut Office<S>,
-    kind: &FolderKind,
     files: &[FileOf],
 ) -> Result<(), Fault>
     ensures kept { KeepsShelf S.Shelf office.old office.new }
     ensures clean { S.is_clean office.new → S.is_clean office.old }
     ensures checks { S.is_honest office.new →
-        ChecksFiles kind.now (S.content office.old) files.now result }
+        ChecksFiles (S.content office.old) files.now result }
 {
     for file in files {
-        let text = shown_of(alloc, office, file.shown(*kind))?;
+        let text = shown_of(alloc, office, file.shown())?;
         drop(text);
     }
     Ok(())
@@ -81,17 +80,16 @@ fn text_of<S: Shelf>(alloc: Global, office: &mut Office<S>, shown: Shown) -> Res
 fn put_file<S: Shelf, D: Folder>(
     alloc: Global,
     office: &mut Office<S>,
-    kind: &FolderKind,
     file: &FileOf,
     folder: &mut D,
 ) -> Result<(), Fault>
     ensures kept { KeepsShelf S.Shelf office.old office.new }
     ensures clean { S.is_clean office.new → S.is_clean office.old }
-    ensures puts { S.is_honest office.new → PutsFile kind.now (S.content office.old) file.now
+    ensures puts { S.is_honest office.new → PutsFile (S.content office.old) file.now
         (D.files folder.old) (D.files folder.new) result }
     ensures undamaged { IfErr result (λ why. why ≢ Fault.Damaged) }
 {
-    let text = text_of(alloc, office, file.shown(*kind))?;
+    let text = text_of(alloc, office, file.shown())?;
     let name = file.name(alloc)?;
     folder.put(name.as_str(), &text)
 }
@@ -100,18 +98,17 @@ fn put_file<S: Shelf, D: Folder>(
 fn put_each<S: Shelf, D: Folder>(
     alloc: Global,
     office: &mut Office<S>,
-    kind: &FolderKind,
     files: &[FileOf],
     folder: &mut D,
 ) -> Result<(), Fault>
     ensures kept { KeepsShelf S.Shelf office.old office.new }
     ensures clean { S.is_clean office.new → S.is_clean office.old }
-    ensures puts { S.is_honest office.new → PutsFiles kind.now (S.content office.old) files.now
+    ensures puts { S.is_honest office.new → PutsFiles (S.content office.old) files.now
         (D.files folder.old) (D.files folder.new) result }
     ensures undamaged { IfErr result (λ why. why ≢ Fault.Damaged) }
 {
     for file in files {
-        put_file(alloc, office, kind, file, folder)?;
+        put_file(alloc, office, file, folder)?;
     }
     Ok(())
 }
@@ -136,6 +133,6 @@ pub fn fill<S: Shelf, D: Folder>(
 {
     let listed = listed_in(alloc, office)?;
     let files = files_in(alloc, *kind, listed.as_slice())?;
-    check_each(alloc, office, kind, &files)?;
-    put_each(alloc, office, kind, &files, folder)
+    check_each(alloc, office, &files)?;
+    put_each(alloc, office, &files, folder)
 }

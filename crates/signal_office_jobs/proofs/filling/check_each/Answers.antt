@@ -30,7 +30,7 @@ loop-file-preserved g c =
           let texts = so_far.texts before in
           let shows = subst (λ (held : Content). IsShown c.shown.result held (Ok text)) (so_far.kept.same_content before) (c.in_ok-text.ensures.shown honest) in (
             texts.0 ++ (file_name c.file-item.result, text) ∷ [],
-            files_more c.args.kind.now tables c.args.files.now texts.0 c.loop-file.file-index c.file-item.result text c.loop-file-test.true c.file-item.is texts.1
+            files_more tables c.args.files.now texts.0 c.loop-file.file-index c.file-item.result text c.loop-file-test.true c.file-item.is texts.1
                 (subst (λ (it : Shown). IsShown it tables (Ok text)) c.shown.ensures shows),
           );
     }
@@ -45,7 +45,7 @@ pub returns-clause-checks : goal.returns-clause-checks
 returns-clause-checks g c = λ honest.
     let texts = c.loop-file.invariant.texts honest in (
       texts.0,
-      subst (λ (files : List FileOf). AreFilesOf c.args.kind.now (g.S.Shelf.content c.args.office.now) files texts.0)
+      subst (λ (files : List FileOf). AreFilesOf (g.S.Shelf.content c.args.office.now) files texts.0)
           (take_all c.loop-file.file-index c.args.files.now (omega arith)) texts.1,
     )
 
@@ -62,6 +62,6 @@ returns-in_err-text-clause-checks g c = λ honest.
     let why = c.in_err-text.field-0.0 in
     let before = c.shown_of.ensures.kept.honest_before honest in
     let none = subst (λ (held : Content). IsShown c.shown.result held (Err why)) (so_far.kept.same_content before) (c.in_err-text.ensures.shown honest) in
-    checks_on c.args.kind.now tables c.args.files.now c.from_residual.result why c.from_residual.ensures.1
-    (unshown_at c.args.kind.now tables c.args.files.now c.loop-file.file-index c.file-item.result why c.loop-file-test.true c.file-item.is
+    checks_on tables c.args.files.now c.from_residual.result why c.from_residual.ensures.1
+    (unshown_at tables c.args.files.now c.loop-file.file-index c.file-item.result why c.loop-file-test.true c.file-item.is
     (subst (λ (it : Shown). IsShown it tables (Err why)) c.shown.ensures none))

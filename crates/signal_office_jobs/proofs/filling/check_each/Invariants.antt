@@ -11,5 +11,5 @@ invariant-loop-file g l =
     record {
       kept : KeepsShelf shelf l.fn.office l.office;
       clean : shelf.is_clean l.office → shelf.is_clean l.fn.office;
-      texts : shelf.is_honest l.office → (texts : List NamedText) × AreFilesOf l.fn.kind (shelf.content l.fn.office) (take l.file-index l.files) texts;
+      texts : shelf.is_honest l.office → (texts : List NamedText) × AreFilesOf (shelf.content l.fn.office) (take l.file-index l.files) texts;
     }

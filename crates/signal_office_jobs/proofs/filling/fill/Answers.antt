@@ -17,15 +17,15 @@ returns-clause-fills g c = λ honest.
     let first = c.listed_in.ensures.kept.same_content asked in
     let later = c.check_each.ensures.kept.same_content checked in
     let files_are = c.in_ok-files.ensures ∙ ap (files_in c.args.kind.now) c.as_slice.ensures in
-    let texts = subst (λ (held : Content). ChecksFiles c.args.kind.now held (files_in c.args.kind.now listed) (Ok tt)) first
-    (subst (λ (all : List FileOf). ChecksFiles c.args.kind.now (g.S.Shelf.content c.listed_in.new.office) all (Ok tt)) (c.deref.ensures.value ∙ files_are) (c.in_ok-check_each.ensures.checks checked)) in
-    let puts = subst (λ (held : Content). PutsFiles c.args.kind.now held (files_in c.args.kind.now listed) (files c.args.folder.now) (files c.put_each.new.folder) c.put_each.result) (later ∙ first)
-    (subst (λ (all : List FileOf). PutsFiles c.args.kind.now (g.S.Shelf.content c.check_each.new.office) all (files c.args.folder.now) (files c.put_each.new.folder) c.put_each.result)
+    let texts = subst (λ (held : Content). ChecksFiles held (files_in c.args.kind.now listed) (Ok tt)) first
+    (subst (λ (all : List FileOf). ChecksFiles (g.S.Shelf.content c.listed_in.new.office) all (Ok tt)) (c.deref.ensures.value ∙ files_are) (c.in_ok-check_each.ensures.checks checked)) in
+    let puts = subst (λ (held : Content). PutsFiles held (files_in c.args.kind.now listed) (files c.args.folder.now) (files c.put_each.new.folder) c.put_each.result) (later ∙ first)
+    (subst (λ (all : List FileOf). PutsFiles (g.S.Shelf.content c.check_each.new.office) all (files c.args.folder.now) (files c.put_each.new.folder) c.put_each.result)
     (c.deref-2.ensures.value ∙ files_are) (c.put_each.ensures.puts honest)) in
     fills_so c.args.kind.now tables (files c.args.folder.now) (files c.put_each.new.folder) listed c.put_each.result (c.in_ok-listed.ensures.lists asked) texts puts c.put_each.ensures.undamaged
 
 pub returns-clause-whole : goal.returns-clause-whole
-returns-clause-whole g c = λ is. absurd (not_damaged c.args.kind.now c.put_each.result c.put_each.ensures.undamaged is)
+returns-clause-whole g c = λ is. absurd (not_damaged c.put_each.result c.put_each.ensures.undamaged is)
 
 pub returns-in_err-listed-clause-fills : goal.returns-in_err-listed-clause-fills
 returns-in_err-listed-clause-fills g c = λ honest.
@@ -44,7 +44,7 @@ returns-in_err-check_each-clause-fills g c = λ checked.
     let asked = c.check_each.ensures.kept.honest_before checked in
     let first = c.listed_in.ensures.kept.same_content asked in
     let files_are = c.in_ok-files.ensures ∙ ap (files_in c.args.kind.now) c.as_slice.ensures in
-    let none = subst (λ (held : Content). IsAnyUnshown c.args.kind.now held (files_in c.args.kind.now c.in_ok-listed.listed) why) first
-    (subst (λ (all : List FileOf). IsAnyUnshown c.args.kind.now (g.S.Shelf.content c.listed_in.new.office) all why) (c.deref.ensures.value ∙ files_are) (c.in_err-check_each.ensures.checks checked)) in
+    let none = subst (λ (held : Content). IsAnyUnshown held (files_in c.args.kind.now c.in_ok-listed.listed) why) first
+    (subst (λ (all : List FileOf). IsAnyUnshown (g.S.Shelf.content c.listed_in.new.office) all why) (c.deref.ensures.value ∙ files_are) (c.in_err-check_each.ensures.checks checked)) in
     fills_none c.args.kind.now tables (g.D.Folder.files c.args.folder.now) c.from_residual-in_err-check_each.result why c.from_residual-in_err-check_each.ensures.1
     (inr (inr (c.in_ok-listed.listed, c.in_ok-listed.ensures.lists asked, inr (inr none))))

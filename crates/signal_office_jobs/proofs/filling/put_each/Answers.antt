@@ -12,7 +12,7 @@ pub loop-file-init : goal.loop-file-init
 loop-file-init g c = record {
   kept = record { honest_before = λ h. h; same_content = λ h. refl; same_counts = refl; same_outcomes = λ tables may. may };
   clean = λ clean. clean;
-  put = λ honest. ([], tt, adds_none c.args.kind.now (g.D.Folder.files c.args.folder.now));
+  put = λ honest. ([], tt, adds_none (g.D.Folder.files c.args.folder.now));
 }
 
 pub loop-file-preserved : goal.loop-file-preserved
@@ -27,11 +27,11 @@ loop-file-preserved g c =
       put = λ honest.
           let before = c.put_file.ensures.kept.honest_before honest in
           let first = so_far.put before in
-          let one = subst (λ (held : Content). PutsFile c.args.kind.now held file (files c.loop-file.folder) (files c.put_file.new.folder) (Ok tt))
+          let one = subst (λ (held : Content). PutsFile held file (files c.loop-file.folder) (files c.put_file.new.folder) (Ok tt))
           (so_far.kept.same_content before) (c.in_ok-put_file.ensures.puts honest) in (
             first.0 ++ (file_name file, one.0) ∷ [],
-            files_more c.args.kind.now tables c.args.files.now first.0 c.loop-file.file-index file one.0 c.loop-file-test.true c.file-item.is first.1 one.1,
-            adds_then c.args.kind.now (files c.args.folder.now) (files c.loop-file.folder) (files c.put_file.new.folder) first.0 ((file_name file, one.0) ∷ []) first.2 one.2,
+            files_more tables c.args.files.now first.0 c.loop-file.file-index file one.0 c.loop-file-test.true c.file-item.is first.1 one.1,
+            adds_then (files c.args.folder.now) (files c.loop-file.folder) (files c.put_file.new.folder) first.0 ((file_name file, one.0) ∷ []) first.2 one.2,
           );
     }
 
@@ -45,7 +45,7 @@ pub returns-clause-puts : goal.returns-clause-puts
 returns-clause-puts g c = λ honest.
     let put = c.loop-file.invariant.put honest in (
       put.0,
-      subst (λ (files : List FileOf). AreFilesOf c.args.kind.now (g.S.Shelf.content c.args.office.now) files put.0)
+      subst (λ (files : List FileOf). AreFilesOf (g.S.Shelf.content c.args.office.now) files put.0)
           (take_all c.loop-file.file-index c.args.files.now (omega arith)) put.1,
       put.2,
     )
@@ -65,18 +65,18 @@ returns-in_err-put_file-clause-puts g c = λ honest.
     let why = c.in_err-put_file.field-0.0 in
     let before = c.put_file.ensures.kept.honest_before honest in
     let first = so_far.put before in
-    let none = subst (λ (held : Content). PutsFile c.args.kind.now held file (files c.loop-file.folder) (files c.put_file.new.folder) (Err why))
+    let none = subst (λ (held : Content). PutsFile held file (files c.loop-file.folder) (files c.put_file.new.folder) (Err why))
     (so_far.kept.same_content before) (c.in_err-put_file.ensures.puts honest) in
-    puts_on c.args.kind.now tables c.args.files.now (files c.args.folder.now) (files c.put_file.new.folder) c.from_residual.result why c.from_residual.ensures.1 (
+    puts_on tables c.args.files.now (files c.args.folder.now) (files c.put_file.new.folder) c.from_residual.result why c.from_residual.ensures.1 (
       (
         c.loop-file.file-index,
         first.0,
         first.1,
-        adds_no_more c.args.kind.now (files c.args.folder.now) (files c.loop-file.folder) (files c.put_file.new.folder) first.0 first.2 none.0,
+        adds_no_more (files c.args.folder.now) (files c.loop-file.folder) (files c.put_file.new.folder) first.0 first.2 none.0,
       ),
-      not_filled c.args.kind.now tables c.args.files.now c.loop-file.file-index file why c.loop-file-test.true c.file-item.is none.1,
+      not_filled tables c.args.files.now c.loop-file.file-index file why c.loop-file-test.true c.file-item.is none.1,
     )
 
 pub returns-in_err-put_file-clause-undamaged : goal.returns-in_err-put_file-clause-undamaged
 returns-in_err-put_file-clause-undamaged g c =
-    sound_on c.args.kind.now c.from_residual.result c.in_err-put_file.field-0.0 c.from_residual.ensures.1 c.in_err-put_file.ensures.undamaged
+    sound_on c.from_residual.result c.in_err-put_file.field-0.0 c.from_residual.ensures.1 c.in_err-put_file.ensures.undamaged

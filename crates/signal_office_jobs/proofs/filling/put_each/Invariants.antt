@@ -11,6 +11,6 @@ invariant-loop-file g l =
     record {
       kept : KeepsShelf shelf l.fn.office l.office;
       clean : shelf.is_clean l.office → shelf.is_clean l.fn.office;
-      put : shelf.is_honest l.office → (put : List NamedText) × AreFilesOf l.fn.kind (shelf.content l.fn.office) (take l.file-index l.files) put
+      put : shelf.is_honest l.office → (put : List NamedText) × AreFilesOf (shelf.content l.fn.office) (take l.file-index l.files) put
           × AddsFiles (g.D.Folder.files l.fn.folder) (g.D.Folder.files l.folder) put;
     }

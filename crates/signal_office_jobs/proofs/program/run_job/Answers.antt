@@ -3,6 +3,12 @@ use Rattle.office_http_framing.specs.Serve.{ends_of}
 use Rattle.signal_office_jobs.proofs.RunLemmas.{done_so}
 use Rattle.signal_office_jobs.proofs.program.run_job.Goals as goal
 
+pub returns-in-Batch : goal.returns-in-Batch
+returns-in-Batch g c =
+    done_so g.F.OfficeInFile.known c.args.job.now _ (ends_of (g.R.Source.told c.args.source.now) (g.W.Sink.told c.args.out.now))
+    (ends_of (g.R.Source.told c.batch.new.source) (g.W.Sink.told c.batch.new.out)) (g.E.Sink.told c.args.err.now) (g.E.Sink.told c.args.err.now)
+    c.batch.result c.in-Batch.is (refl, c.batch.ensures)
+
 pub returns-in-Serve : goal.returns-in-Serve
 returns-in-Serve g c =
     done_so g.F.OfficeInFile.known c.args.job.now _ (ends_of (g.R.Source.told c.args.source.now) (g.W.Sink.told c.args.out.now))
