@@ -8,3 +8,6 @@ returns-in-Unclosed-clause-made g c clean =
 
 pub returns-in-Unclosed-clause-databases : goal.returns-in-Unclosed-clause-databases
 returns-in-Unclosed-clause-databases g c clean = (c.in-Unclosed.ensures.ends.1 clean).2.0
+
+pub returns-in-Unclosed-clause-said : goal.returns-in-Unclosed-clause-said
+returns-in-Unclosed-clause-said g c = c.in-Unclosed.ensures.ends.0
