@@ -11,7 +11,7 @@ use Rattle.office_tables_open.specs.declared.open.OpenFault.{OpenFault}
 use Rattle.signal_office_faults.specs.declared.fault.Fault.{Fault}
 use Rattle.signal_office_in_file.specs.Ended.{FileView}
 use Rattle.signal_office_in_file.specs.declared.Ended.{Ended}
-use Rattle.signal_office_in_file.specs.declared.Ended.TheVariants.{Unopened, Refused, Closed, Unclosed}
+use Rattle.signal_office_in_file.specs.declared.Ended.TheVariants.{Closed, Unclosed}
 use Rattle.signal_office_file.specs.Files.{AreNew, HoldAlone, HoldIn, KeepTables}
 use Rattle.signal_office_file.specs.Left.{IsCleanFile, IsRefusedIn, LeavesDatabases, LeavesToday, MayLeaveOf}
 use Rattle.signal_office_file.specs.Migrating.{ClosedMigrated}
