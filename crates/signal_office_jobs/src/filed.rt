@@ -75,8 +75,8 @@ impl FileOf {
 }
 
 /// The files that a folder has beside those of its intersections.
-fn first_files(alloc: Global, kind: FolderKind) -> Result<Vec<FileOf>, NoMemory>
-    ensures { IfOk result (λ files. files.items ≡ first_files kind) }
+fn first_files(alloc: Global, kind: &FolderKind) -> Result<Vec<FileOf>, NoMemory>
+    ensures { IfOk result (λ files. files.items ≡ first_files kind.now) }
 {
     let mut files = Vec::new(alloc);
     match kind {
@@ -84,14 +84,14 @@ fn first_files(alloc: Global, kind: FolderKind) -> Result<Vec<FileOf>, NoMemory>
             files.push(FileOf::Intersections)?;
             files.push(FileOf::Stock)?;
         }
-        FolderKind::Pages { day } => files.push(FileOf::Index { day })?,
+        FolderKind::Pages { day } => files.push(FileOf::Index { day: *day })?,
     }
     Ok(files)
 }
 
 /// Appends the files of an intersection.
-fn push_files(files: &mut Vec<FileOf>, kind: FolderKind, id: InterId) -> Result<(), NoMemory>
-    ensures { OnOk result (files.new.items ≡ files.old.items ++ files_on kind id) }
+fn push_files(files: &mut Vec<FileOf>, kind: &FolderKind, id: InterId) -> Result<(), NoMemory>
+    ensures { OnOk result (files.new.items ≡ files.old.items ++ files_on kind.now id) }
 {
     match kind {
         FolderKind::Records => {
@@ -106,10 +106,10 @@ fn push_files(files: &mut Vec<FileOf>, kind: FolderKind, id: InterId) -> Result<
 /// The files of a folder over these intersections.
 pub(crate) fn files_in(
     alloc: Global,
-    kind: FolderKind,
+    kind: &FolderKind,
     listed: &[ListedIntersection],
 ) -> Result<Vec<FileOf>, NoMemory>
-    ensures { IfOk result (λ files. files.items ≡ files_in kind listed.now) }
+    ensures { IfOk result (λ files. files.items ≡ files_in kind.now listed.now) }
 {
     let mut files = first_files(alloc, kind)?;
     for one in listed {

@@ -132,7 +132,7 @@ pub fn fill<S: Shelf, D: Folder>(
     ensures whole { result ≡ Err Fault.Damaged → D.files folder.new ≡ D.files folder.old }
 {
     let listed = listed_in(alloc, office)?;
-    let files = files_in(alloc, *kind, listed.as_slice())?;
+    let files = files_in(alloc, kind, listed.as_slice())?;
     check_each(alloc, office, &files)?;
     put_each(alloc, office, &files, folder)
 }
