@@ -77,14 +77,15 @@ among_more : (b : Bool) (n : ℕ) (word : Text) (r rest : Option ℕ) → Decide
     → (word ≡ day_text n → r ≡ Some n)
     → ((word ≡ day_text n → ⊥) → r ≡ rest)
     → r ≡ (if b then Some n else rest)
-among_more true n word r rest test yes no = yes (test.0 refl)
-among_more false n word r rest test yes no = no (λ is. let never : false ≡ true = test.1 is in cc)
+among_more true n word r rest test here past = here (test.0 refl)
+among_more false n word r rest test here past = past (λ is. let never : false ≡ true = test.1 is in cc)
 
 -- what is the day of each spelling among the first n days, and of no other, is what a search among them finds
 searched : (n : ℕ) (word : Text) (r : Option ℕ)
     → ((e : ℕ) → e < n → word ≡ day_text e → r ≡ Some e)
     → ((d : ℕ) → r ≡ Some d → (d < n) × (word ≡ day_text d))
     → r ≡ day_among n word
+unfolding day_among
 searched zero word None spelt back = refl
 searched zero word (Some d) spelt back = absurd (omega (arith, (back d refl).0))
 searched (suc n) word r spelt back =

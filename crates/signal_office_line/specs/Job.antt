@@ -21,6 +21,7 @@ use Rattle.signal_office_line.specs.declared.job.OfficeFile.{OfficeFile}
 use Rattle.signal_office_line.specs.declared.job.Request.{Request}
 use Rattle.signal_office_line.specs.declared.job.Request.TheVariants as request
 use Rattle.signal_office_line.specs.declared.shows.PlanShown.TheVariants as plan
+use Rattle.signal_office_line.specs.declared.shows.Shown.{Shown}
 use Rattle.signal_office_line.specs.declared.shows.Shown.TheVariants as shown
 use Rattle.signal_office_line.specs.declared.shows.View.{View}
 use Rattle.signal_office_line.specs.declared.shows.View.TheVariants as view
@@ -227,17 +228,23 @@ abandon_at rows = do
 abbrev pub under : {A : Type 0} → Text → List (Text × A) → Option A
 under name among = option_map (λ c. c.1) (find (λ c. bytes_eq name c.0) among)
 
+-- something of one intersection is shown
+abbrev pub shown_at : (ℕ → Shown) → List Row → Stated Request
+shown_at show rows = do
+  id ← id_at rows
+  Ok (request.Show (show id))
+
 -- the commands that ask something of the office of a file
 abbrev pub requests : List (Text × (List Row → Stated Request))
 requests =
     -- `sheet --db FILE ID`
-    (codes "sheet", λ rows. id_at rows >>= λ id. Ok (request.Show (shown.Sheet id)))
+    (codes "sheet", shown_at shown.Sheet)
     -- `list --db FILE [--csv]`
     ∷ (codes "list", λ rows. Ok (request.Show (shown.List (flag_at (codes "csv") rows))))
     -- `stock --db FILE [--csv]`
     ∷ (codes "stock", λ rows. Ok (request.Show (shown.Stock (flag_at (codes "csv") rows))))
     -- `cabinet --db FILE ID`
-    ∷ (codes "cabinet", λ rows. id_at rows >>= λ id. Ok (request.Show (shown.Cabinet id)))
+    ∷ (codes "cabinet", shown_at shown.Cabinet)
     ∷ (codes "overdue", overdue_at) ∷ (codes "orders", orders_at) ∷ (codes "used", used_at)
     ∷ (codes "add", add_at) ∷ (codes "import", import_at) ∷ (codes "export", export_at)
     ∷ (codes "pages", pages_at) ∷ (codes "edit", edit_at) ∷ (codes "abandon", abandon_at) ∷ []

@@ -24,7 +24,7 @@ abbrev pub part_of : Text → Option Text
 part_of word = if are_bytes is_code_byte 20 word then Some word else None
 
 -- the last of the first n days from 1970-01-01 that a word spells
-pub day_among : (n : ℕ) → Text → Option ℕ
+unfoldable pub day_among : (n : ℕ) → Text → Option ℕ
 day_among zero word = None
 day_among (suc n) word = if bytes_eq word (day_text n) then Some n else day_among n word
 

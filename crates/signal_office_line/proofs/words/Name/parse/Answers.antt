@@ -4,7 +4,7 @@ use Rattle.signal_office_line.proofs.words.Name.parse.Goals as goal
 
 pub returns-in_err-text : goal.returns-in_err-text
 returns-in_err-text g c =
-    c.from_residual-in_err-text.ensures
+    c.from_residual.ensures
     ∙ no_name _ _ c.args.word.now c.as_bytes.ensures.value c.as_bytes.ensures.utf8 (λ h.
     let never : false ≡ true = c.in_err-text.ensures.accepts.1 h in cc)
 
