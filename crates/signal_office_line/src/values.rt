@@ -4,9 +4,9 @@ ghost use Rattle.std.specs.Prelude.{◌≡◌, option_map};
 ghost use Rattle.clap.specs.Matches.{found_of};
 ghost use Rattle.clap.specs.Walk.{first_of, rows_of};
 ghost use Rattle.signal_office_line.specs.Job.{any_db_at, any_of, choice_at, choice_from, csv_at};
-ghost use Rattle.signal_office_line.specs.Job.{day_at, db_at, flag_at, id_at, name_at, number_at};
+ghost use Rattle.signal_office_line.specs.Job.{day_at, db_at, flag_at, intersection_at, name_at, number_at};
 ghost use Rattle.signal_office_line.specs.Job.{number_from, word_at};
-ghost use Rattle.signal_office_line.specs.Words.{day_of, part_of};
+ghost use Rattle.office_files.specs.RecordReading.{day_of, part_of};
 
 use crate::job::{BadWord, CsvFile, NoJob, OfficeFile};
 use crate::words::{Name, Part, Path, day_of};
@@ -55,7 +55,7 @@ pub(crate) fn any_intersection(matches: &ArgMatches<'_>, id: &str) -> Option<Int
 
 /// The number of the intersection of a command.
 pub(crate) fn intersection(matches: &ArgMatches<'_>) -> Result<InterId, NoJob>
-    ensures { result ≡ id_at (rows_of (found_of matches.now)) }
+    ensures { result ≡ intersection_at (rows_of (found_of matches.now)) }
 {
     any_intersection(matches, "ID").ok_or(NoJob::Unstated)
 }

@@ -1,5 +1,9 @@
-use Rattle.signal_office_line.proofs.WordLemmas.{day_read}
+use Rattle.std.proofs.Common.{ap, ◌∙◌}
+use Rattle.office_files.proofs.RecordFieldLemmas.{given_day}
+use Rattle.office_files.specs.RecordReading.{day_of}
 use Rattle.signal_office_line.proofs.words.day_of.Goals as goal
 
 pub returns : goal.returns
-returns c = day_read c.read_day.result _ c.args.word.now c.as_bytes.ensures.value c.read_day.ensures.spelt c.read_day.ensures.accepted
+returns c =
+    given_day c.as_bytes.result.now c.read_day.result c.read_day.ensures.spelt c.read_day.ensures.accepted
+    ∙ ap day_of c.as_bytes.ensures.value
