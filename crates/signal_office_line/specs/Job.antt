@@ -8,7 +8,7 @@ use Rattle.std.specs.Option.{option_map_or}
 use Rattle.std.specs.Str.{bytes_eq}
 use Rattle.std.specs.Str.Parse.{digits_value, without_leading_plus}
 use Rattle.clap.specs.Walk.{Row, Text, first_of}
-use Rattle.signal_office_line.specs.Words.{day_of, part_of, words_of}
+use Rattle.office_files.specs.RecordReading.{day_of, part_of, words_of}
 use Rattle.signal_office_line.specs.declared.job.BadWord.{BadWord}
 use Rattle.signal_office_line.specs.declared.job.BadWord.TheVariants as wrong
 use Rattle.signal_office_line.specs.declared.job.CsvFile.{CsvFile}
@@ -21,6 +21,7 @@ use Rattle.signal_office_line.specs.declared.job.OfficeFile.{OfficeFile}
 use Rattle.signal_office_line.specs.declared.job.Request.{Request}
 use Rattle.signal_office_line.specs.declared.job.Request.TheVariants as request
 use Rattle.signal_office_line.specs.declared.shows.PlanShown.TheVariants as plan
+use Rattle.signal_office_line.specs.declared.shows.Shown.{Shown}
 use Rattle.signal_office_line.specs.declared.shows.Shown.TheVariants as shown
 use Rattle.signal_office_line.specs.declared.shows.View.{View}
 use Rattle.signal_office_line.specs.declared.shows.View.TheVariants as view
@@ -73,8 +74,8 @@ abbrev pub choice_at : ℕ → Text → List Row → Option (Option ℕ)
 choice_at most id rows = choice_from 1 most id rows
 
 -- the number of an intersection
-abbrev pub id_at : List Row → Stated ℕ
-id_at rows = needed (number_at 9_999 (codes "ID") rows)
+abbrev pub intersection_at : List Row → Stated ℕ
+intersection_at rows = needed (number_at 9_999 (codes "ID") rows)
 
 -- whether a flag is given
 abbrev pub flag_at : Text → List Row → Bool
@@ -154,7 +155,7 @@ used_at rows = do
 -- `add --db FILE ID INTERVAL NAME`
 abbrev pub add_at : List Row → Stated Request
 add_at rows = do
-  id ← id_at rows
+  id ← intersection_at rows
   interval ← needed (number_at 3_650 (codes "INTERVAL") rows)
   name ← name_at wrong.Name 120 (codes "NAME") rows
   Ok (request.Add id interval name)
@@ -181,7 +182,7 @@ export_of true false false rows = do
   Ok (request.Fill dir folder.Records)
 export_of true _ _ rows = Err Unstated
 export_of false draft cabinet rows = do
-  id ← id_at rows
+  id ← intersection_at rows
   view ← needed (view_of draft cabinet)
   Ok (request.Show (shown.Export id view))
 
@@ -204,7 +205,7 @@ edited_file None commit replace = if commit && not replace then Some None else N
 -- `edit --db FILE --clerk NAME --commit [--explain] ID`
 abbrev pub edit_at : List Row → Stated Request
 edit_at rows = do
-  id ← id_at rows
+  id ← intersection_at rows
   csv ← needed (edited_file (csv_at (codes "CSV") rows) (flag_at (codes "commit") rows) (flag_at (codes "replace") rows))
   clerk ← name_at wrong.Clerk 40 (codes "clerk") rows
   Ok (request.Edit (record {
@@ -219,7 +220,7 @@ edit_at rows = do
 -- `abandon --db FILE --clerk NAME ID`
 abbrev pub abandon_at : List Row → Stated Request
 abandon_at rows = do
-  id ← id_at rows
+  id ← intersection_at rows
   clerk ← name_at wrong.Clerk 40 (codes "clerk") rows
   Ok (request.Abandon id clerk)
 
@@ -227,17 +228,23 @@ abandon_at rows = do
 abbrev pub under : {A : Type 0} → Text → List (Text × A) → Option A
 under name among = option_map (λ c. c.1) (find (λ c. bytes_eq name c.0) among)
 
+-- something of one intersection is shown
+abbrev pub shown_at : (ℕ → Shown) → List Row → Stated Request
+shown_at show rows = do
+  id ← intersection_at rows
+  Ok (request.Show (show id))
+
 -- the commands that ask something of the office of a file
 abbrev pub requests : List (Text × (List Row → Stated Request))
 requests =
     -- `sheet --db FILE ID`
-    (codes "sheet", λ rows. id_at rows >>= λ id. Ok (request.Show (shown.Sheet id)))
+    (codes "sheet", shown_at shown.Sheet)
     -- `list --db FILE [--csv]`
     ∷ (codes "list", λ rows. Ok (request.Show (shown.List (flag_at (codes "csv") rows))))
     -- `stock --db FILE [--csv]`
     ∷ (codes "stock", λ rows. Ok (request.Show (shown.Stock (flag_at (codes "csv") rows))))
     -- `cabinet --db FILE ID`
-    ∷ (codes "cabinet", λ rows. id_at rows >>= λ id. Ok (request.Show (shown.Cabinet id)))
+    ∷ (codes "cabinet", shown_at shown.Cabinet)
     ∷ (codes "overdue", overdue_at) ∷ (codes "orders", orders_at) ∷ (codes "used", used_at)
     ∷ (codes "add", add_at) ∷ (codes "import", import_at) ∷ (codes "export", export_at)
     ∷ (codes "pages", pages_at) ∷ (codes "edit", edit_at) ∷ (codes "abandon", abandon_at) ∷ []
@@ -308,7 +315,7 @@ compare_at rows = do
 -- `diagram --db FILE ID PATTERN`, or `diagram --file CSV [--padded] PATTERN`
 abbrev pub drawing_of : Option OfficeFile → Option CsvFile → Option Text → List Row → Stated Job
 drawing_of (Some db) None (Some word) rows = do
-  id ← id_at rows
+  id ← intersection_at rows
   pattern ← needed (number_at 48 (codes "PATTERN") rows)
   Ok (job.Office db (request.Show (shown.Diagram id pattern)))
 drawing_of None (Some file) None rows = do
@@ -324,7 +331,7 @@ diagram_at rows = do
 -- `page --db FILE ID`, or `page --file CSV [--padded]`
 abbrev pub showing_of : Option OfficeFile → Option CsvFile → Option Text → List Row → Stated Job
 showing_of (Some db) None (Some word) rows = do
-  id ← id_at rows
+  id ← intersection_at rows
   Ok (job.Office db (request.Show (shown.Page id false)))
 showing_of None (Some file) None rows = Ok (job.ShowPlan file plan.Page)
 showing_of _ _ _ rows = Err Unstated

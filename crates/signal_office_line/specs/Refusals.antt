@@ -13,7 +13,6 @@ use Rattle.clap.specs.declared.parser.matches.ArgMatches.{ArgMatches}
 use Rattle.signal_office_line.specs.declared.job.Job.{Job}
 use Rattle.signal_office_line.specs.declared.job.JobFault.{JobFault}
 use Rattle.signal_office_line.specs.declared.job.JobFault.TheVariants as fault
-use Rattle.signal_office_line.specs.declared.job.NoJob.{NoJob}
 use Rattle.signal_office_line.specs.declared.job.NoJob.TheVariants.{Unstated, Bad}
 use Rattle.signal_office_line.specs.CommandLine.{signal_app}
 use Rattle.signal_office_line.specs.Job.{Stated, job_in, number_from}

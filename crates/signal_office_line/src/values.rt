@@ -4,10 +4,9 @@ ghost use Rattle.std.specs.Prelude.{◌≡◌, option_map};
 ghost use Rattle.clap.specs.Matches.{found_of};
 ghost use Rattle.clap.specs.Walk.{first_of, rows_of};
 ghost use Rattle.signal_office_line.specs.Job.{any_db_at, any_of, choice_at, choice_from, csv_at};
-ghost use Rattle.signal_office_line.specs.Job.{day_at, db_at, flag_at, id_at, name_at, number_at};
+ghost use Rattle.signal_office_line.specs.Job.{day_at, db_at, flag_at, intersection_at, name_at, number_at};
 ghost use Rattle.signal_office_line.specs.Job.{number_from, word_at};
-ghost use Rattle.signal_office_line.specs.Words.{day_of, part_of};
-ghost use Rattle.signal_office_line.specs.declared.job.BadWord.TheVariants as wrong;
+ghost use Rattle.office_files.specs.RecordReading.{day_of, part_of};
 
 use crate::job::{BadWord, CsvFile, NoJob, OfficeFile};
 use crate::words::{Name, Part, Path, day_of};
@@ -56,7 +55,7 @@ pub(crate) fn any_intersection(matches: &ArgMatches<'_>, id: &str) -> Option<Int
 
 /// The number of the intersection of a command.
 pub(crate) fn intersection(matches: &ArgMatches<'_>) -> Result<InterId, NoJob>
-    ensures { result ≡ id_at (rows_of (found_of matches.now)) }
+    ensures { result ≡ intersection_at (rows_of (found_of matches.now)) }
 {
     any_intersection(matches, "ID").ok_or(NoJob::Unstated)
 }
@@ -102,7 +101,9 @@ pub(crate) fn flag(matches: &ArgMatches<'_>, id: &str) -> bool
 pub(crate) fn path<'a>(matches: &ArgMatches<'a>, id: &str) -> Result<Path<'a>, NoJob>
     ensures { result ≡ word_at id.now (rows_of (found_of matches.now)) }
 {
-    let word = word(matches, id).ok_or(NoJob::Unstated)?;
+    let Some(word) = word(matches, id) else {
+        return Err(NoJob::Unstated);
+    };
     Ok(Path::new(word))
 }
 
@@ -114,7 +115,9 @@ pub(crate) fn name<'a, const MAX: usize>(
 ) -> Result<Name<'a, MAX>, NoJob>
     ensures { result ≡ name_at bad MAX id.now (rows_of (found_of matches.now)) }
 {
-    let word = word(matches, id).ok_or(NoJob::Unstated)?;
+    let Some(word) = word(matches, id) else {
+        return Err(NoJob::Unstated);
+    };
     Name::parse(word).ok_or(NoJob::Bad(bad))
 }
 
@@ -122,14 +125,16 @@ pub(crate) fn name<'a, const MAX: usize>(
 pub(crate) fn day(matches: &ArgMatches<'_>, id: &str) -> Result<Day, NoJob>
     ensures { result ≡ day_at id.now (rows_of (found_of matches.now)) }
 {
-    let word = word(matches, id).ok_or(NoJob::Unstated)?;
+    let Some(word) = word(matches, id) else {
+        return Err(NoJob::Unstated);
+    };
     day_of(word).ok_or(NoJob::Bad(BadWord::Day))
 }
 
 /// The day that an argument's word spells, where it was given.
 pub(crate) fn any_day(matches: &ArgMatches<'_>, id: &str) -> Result<Option<Day>, NoJob>
     ensures { result
-        ≡ any_of wrong.Day day_of (first_of id.now (rows_of (found_of matches.now))) }
+        ≡ any_of BadWord.Day day_of (first_of id.now (rows_of (found_of matches.now))) }
 {
     match word(matches, id) {
         None => Ok(None),
@@ -143,7 +148,7 @@ pub(crate) fn any_day(matches: &ArgMatches<'_>, id: &str) -> Result<Option<Day>,
 /// The part whose code an argument's word is, where it was given.
 pub(crate) fn any_part<'a>(matches: &ArgMatches<'a>, id: &str) -> Result<Option<Part<'a>>, NoJob>
     ensures { result
-        ≡ any_of wrong.Part part_of (first_of id.now (rows_of (found_of matches.now))) }
+        ≡ any_of BadWord.Part part_of (first_of id.now (rows_of (found_of matches.now))) }
 {
     match word(matches, id) {
         None => Ok(None),

@@ -1,8 +1,7 @@
 //! Words of the command line that are names of files and people, codes of parts, or days.
 
-ghost use Rattle.std.specs.Prelude.{◌≡◌, Some, IfOk, if◌then◌else◌};
-ghost use Rattle.std.specs.Prelude.{None};
-ghost use Rattle.signal_office_line.specs.Words.{day_of, part_of, words_of};
+ghost use Rattle.std.specs.Prelude.{◌≡◌, IfOk};
+ghost use Rattle.office_files.specs.RecordReading.{day_of, part_of, words_of};
 
 use cabinet_core::{Day, PartCode, read_day};
 use signal_values::{NoMemory, Words};
