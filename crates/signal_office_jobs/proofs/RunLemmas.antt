@@ -5,7 +5,7 @@ use Rattle.office_http_framing.specs.Ends.{Told}
 use Rattle.office_http_framing.specs.Serve.{Ends}
 use Rattle.signal_office_faults.specs.declared.fault.Fault.{Fault}
 use Rattle.signal_office_in_file.specs.Ended.{FileView}
-use Rattle.signal_office_jobs.specs.Jobs.{Batches, JobDoes, Serves}
+use Rattle.signal_office_jobs.specs.Jobs.{Batches, JobDoes, ServesOn}
 use Rattle.signal_office_line.specs.declared.job.Job.{Job}
 
 -- a job is known by its variant
@@ -19,5 +19,5 @@ pub batched_so : {Left T : Type 0} (view : FileView Left) (db is : Option T) (st
 batched_so {T = T} view db is start end result same it = subst (λ (x : Option T). Batches view x start end result) (sym same) it
 
 pub served_so : {Left T : Type 0} (view : FileView Left) (port count : ℕ) (db is : Option T) (start end : Told) (result : Result ℕ Fault)
-    → db ≡ is → Serves view port count is start end result → Serves view port count db start end result
-served_so {T = T} view port count db is start end result same it = subst (λ (x : Option T). Serves view port count x start end result) (sym same) it
+    → db ≡ is → ServesOn view port count is start end result → ServesOn view port count db start end result
+served_so {T = T} view port count db is start end result same it = subst (λ (x : Option T). ServesOn view port count x start end result) (sym same) it

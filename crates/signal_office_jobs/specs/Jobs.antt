@@ -114,9 +114,9 @@ ShowsPlan plan.Page csv lines (Err why) = why ≢ fault.Memory → IsNoPlan csv 
 -- ---- the jobs
 
 -- a port is served by a new office in memory, or by that of a file where one is given
-abbrev pub Serves : {Left T : Type 0} → FileView Left → (port count : ℕ) → (db : Option T) → Output
-Serves files port count None = ServesNew port count
-Serves files port count (Some db) = InFile files true (serving port count)
+abbrev pub ServesOn : {Left T : Type 0} → FileView Left → (port count : ℕ) → (db : Option T) → Output
+ServesOn files port count None = ServesNew port count
+ServesOn files port count (Some db) = InFile files true (serving port count)
 
 -- something was made of it, and that is printed
 abbrev pub Made : (Result Done Fault → Type 0) → Output
@@ -140,7 +140,7 @@ ReadFirst {T} read unread next start end err said result =
 -- WHAT EACH JOB DOES. What is asked of the office of a file is `effect_of` (specs/Requests).
 abbrev pub JobDoes : {Left : Type 0} → FileView Left → Job → Course
 JobDoes files (job.Batch db) = λ start end err said result. (said ≡ err) × Batches files db start end result
-JobDoes files (job.Serve port count db) = OnlyPrints (Serves files port count db)
+JobDoes files (job.Serve port count db) = OnlyPrints (ServesOn files port count db)
 JobDoes files (job.Office db request) = ReadFirst (IsReadFor request) (IsUnreadFor request)
     (λ csv. InFile files (makes_file request) (effect_of request csv.text.items csv.lines.items))
 JobDoes files (job.Migrate db) = OnlyPrints (MigratesFile files)

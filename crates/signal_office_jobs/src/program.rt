@@ -2,7 +2,7 @@
 
 ghost use Rattle.std.specs.Prelude.{◌≡◌, map};
 ghost use Rattle.office_http_framing.specs.Serve.{ends_of};
-ghost use Rattle.signal_office_jobs.specs.Jobs.{Batches, JobDoes, Serves, ServesNew};
+ghost use Rattle.signal_office_jobs.specs.Jobs.{Batches, JobDoes, ServesNew, ServesOn};
 ghost use Rattle.signal_office_jobs.specs.Jobs.{status_over, stream_status};
 ghost use Rattle.signal_office_jobs.specs.Output.{Prints};
 ghost use Rattle.signal_office_jobs.specs.Runs.{DoesFound, EndsWith, RunsWords, ShowsRefusal};
@@ -76,7 +76,7 @@ fn batch<F: OfficeInFile, R: Source, W: Sink>(
     }
 }
 
-/// Serves connections on a port by a new office over tables in memory.
+/// ServesOn connections on a port by a new office over tables in memory.
 fn serve_in_memory<W: Sink>(
     rt: &HostRuntime,
     alloc: Global,
@@ -91,7 +91,7 @@ fn serve_in_memory<W: Sink>(
     print_done(done, out)
 }
 
-/// Serves connections on a port by an office over tables in memory, or in a file where one is
+/// ServesOn connections on a port by an office over tables in memory, or in a file where one is
 /// given.
 fn serve<F: OfficeInFile, W: Sink>(
     rt: &HostRuntime,
@@ -101,7 +101,7 @@ fn serve<F: OfficeInFile, W: Sink>(
     db: &Option<OfficeFile<'_>>,
     out: &mut W,
 ) -> Result<u8, Fault>
-    ensures { Serves F.known port count db.now (W.told out.old) (W.told out.new) result }
+    ensures { ServesOn F.known port count db.now (W.told out.old) (W.told out.new) result }
 {
     match db {
         None => serve_in_memory(rt, alloc, port, count, out),
