@@ -76,7 +76,7 @@ fn batch<F: OfficeInFile, R: Source, W: Sink>(
     }
 }
 
-/// ServesOn connections on a port by a new office over tables in memory.
+/// Serves connections on a port by a new office over tables in memory.
 fn serve_in_memory<W: Sink>(
     rt: &HostRuntime,
     alloc: Global,
@@ -91,7 +91,7 @@ fn serve_in_memory<W: Sink>(
     print_done(done, out)
 }
 
-/// ServesOn connections on a port by an office over tables in memory, or in a file where one is
+/// Serves connections on a port by an office over tables in memory, or in a file where one is
 /// given.
 fn serve<F: OfficeInFile, W: Sink>(
     rt: &HostRuntime,
