@@ -38,7 +38,7 @@ fn done_once<D: Disk + Drop, Done: Drop, T: OfficeTask<Done>, W: Sink>(
         AreClean D.Disk files.log files.db) }
     ensures made { IfSome result (λ it. AreClean D.Disk it.1.log it.1.db →
         (old : Content) × (new : Content) × HoldIn (image_of D.Disk files) old
-        × T.does task.now old it.0 new (W.told out.old) (W.told out.new)
+        × (T.effect task.now).does old it.0 new (W.told out.old) (W.told out.new)
         × KeepTables D.Disk it.1 new) }
 {
     match done_in(rt, alloc, files, Options::new(1), task, out) {
@@ -65,7 +65,7 @@ pub fn served_around<D: Disk + Drop, Done: Drop, T: OfficeTask<Done>, R: Source,
         × Life D.Disk old (in_order MOST
         (ends_of (R.told first_reader.old) (W.told first_writer.old))
         (ends_of (R.told first_reader.new) (W.told first_writer.new)) it.first
-        ∷ command (λ found made. T.does task.now found it.done made
+        ∷ command (λ found made. (T.effect task.now).does found it.done made
         (W.told out.old) (W.told out.new))
         ∷ in_order MOST
         (ends_of (R.told second_reader.old) (W.told second_writer.old))

@@ -42,11 +42,11 @@ pub fn served_after_a_command<D: Crash + Drop, Done: Drop, T: OfficeTask<Done>, 
 ) -> Option<CutShort<D, Done>>
     ensures lives { IfSome result (λ it. AreClean D.Disk it.files.log it.files.db →
         (old : Content) × (last : Content) × HoldIn (image_of D.Disk files) old
-        × Life D.Disk old (command_to_a_stop (T.leaves task.now) ∷ in_order MOST
+        × Life D.Disk old (command_to_a_stop (T.effect task.now).leaves ∷ in_order MOST
         (ends_of (R.told reader.old) (W.told writer.old))
         (ends_of (R.told reader.new) (W.told writer.new)) it.outcome
         ∷ []) last × KeepTables D.Disk it.files last) }
-    ensures said { IfSome result (λ _. T.says task.now (W.told out.old) (W.told out.new)) }
+    ensures said { IfSome result (λ _. (T.effect task.now).says (W.told out.old) (W.told out.new)) }
 {
     let Ok(office) = open_file(alloc, files, Options::new(1)) else {
         return None;
@@ -73,8 +73,8 @@ pub fn done_unclosed<D: Disk + Drop, Done: Drop, T: OfficeTask<Done>, W: Sink>(
     ensures made { IfSome result (λ left. IsCleanFile left →
         (old : Content) × HoldIn (image_of D.Disk files) old
         × ((found : Content) → ∥ MayLeaveOf left found ∥₁ →
-        Made D.Disk (command_to_a_stop (T.leaves task.now)) old found)) }
-    ensures said { IfSome result (λ _. T.says task.now (W.told out.old) (W.told out.new)) }
+        Made D.Disk (command_to_a_stop (T.effect task.now).leaves) old found)) }
+    ensures said { IfSome result (λ _. (T.effect task.now).says (W.told out.old) (W.told out.new)) }
 {
     match done_in(rt, alloc, files, Options::new(1), task, out) {
         Ended::Unclosed(_fault, left) => Some(left),

@@ -28,11 +28,11 @@ impl OfficeTask<Reply> for AddTask {
     ghost use Rattle.std.specs.Prelude.{◌≡◌, ⊤};
 
     // Of the tables it promises nothing here: what it made of them is tried.
-    ghost does = { λ task old done new start end. end ≡ start };
-
-    ghost leaves = { λ task old found. ⊤ };
-
-    ghost says = { λ task start end. end ≡ start };
+    ghost effect = { λ task. record {
+      does = λ old done new start end. end ≡ start;
+      leaves = λ old found. ⊤;
+      says = λ start end. end ≡ start;
+    } };
 
     fn done_with<S: Shelf, W: Sink>(
         &self,

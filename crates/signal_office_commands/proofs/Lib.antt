@@ -6,3 +6,4 @@ mod RevisedLemmas
 mod RevisingLemmas
 mod StandingLemmas
 pub mod StopLemmas
+mod CheckLemmas

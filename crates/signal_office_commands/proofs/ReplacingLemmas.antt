@@ -12,8 +12,9 @@ use Rattle.signal_office_commands.specs.{Asking.RanCommands, Committing.Goes, Co
 use Rattle.signal_office_commands.specs.Replacing.{LeavesPlan, LeftPlan, TellsNoChange, base_at, draft_set, plan_wanted}
 use Rattle.signal_office_commands.specs.Revising.{Drafts, EndsRevision, Finishes, Revises, Stays, WouldBe, outcome_of}
 use Rattle.signal_office_commands.specs.Standing.{AreWanted, ShowsStanding, base_from, base_of, standing_of, standing_seen}
-use Rattle.signal_office_commands.specs.declared.revising.{EditMode.EditMode, Outcome.TheVariants.Open, Outcome.TheVariants.Same, Outcome.TheVariants.Committed, Revised.Revised}
+use Rattle.signal_office_commands.specs.declared.revising.{Outcome.TheVariants.Open, Outcome.TheVariants.Same, Outcome.TheVariants.Committed, Revised.Revised}
 use Rattle.signal_office_commands.specs.declared.standing.StandingPlan.{StandingPlan}
+use Rattle.signal_office_line.specs.declared.job.Edit.{Edit}
 use Rattle.signal_office_faults.specs.declared.fault.Fault.{Fault}
 use Rattle.signal_office_reports.specs.Reports.{open_draft_in}
 use Rattle.signal_office_reports.specs.declared.seen.Seen.TheVariants as seen
@@ -74,12 +75,12 @@ never false violations = refl
 apart : {A E : Type 0} (x : A) (e : E) → Ok x ≡ Err e → ⊥
 apart x e same = cc
 
-module _ (bytes : List ℕ) (id : ℕ) (clerk : List ℕ) (mode : EditMode) (old new : Content) (asked : List Change) (spelled : changes_of bytes ≡ Ok asked)
+module _ (bytes : List ℕ) (id : ℕ) (clerk : List ℕ) (edit : Edit) (old new : Content) (asked : List Change) (spelled : changes_of bytes ≡ Ok asked)
     (standing : StandingPlan) (changes : List Change) (before : Office) (stands : StandForSound old before) (i : Intersection) (there : get before.intersections id ≡ Some i)
     (was : standing.committed ≡ i.timing.committed) (base : base_of standing ≡ base_at i.timing)
-    (is : after_changes (base_of standing) changes ≡ plan_wanted mode.replace (base_at i.timing) asked) where
+    (is : after_changes (base_of standing) changes ≡ plan_wanted edit.replace (base_at i.timing) asked) where
   abbrev wanted : Rows
-  wanted = plan_wanted mode.replace (base_at i.timing) asked
+  wanted = plan_wanted edit.replace (base_at i.timing) asked
 
   -- of the intersection as it is after the edit
   record After (middle : Content) : Type 0 where
@@ -108,7 +109,7 @@ module _ (bytes : List ℕ) (id : ℕ) (clerk : List ℕ) (mode : EditMode) (old
       }
 
   -- the draft stays open
-  opened : (middle : Content) → After middle → new ≡ middle → TellsNoChange mode.commit i.timing.committed wanted false → LeftPlan bytes id mode before new Open
+  opened : (middle : Content) → After middle → new ≡ middle → TellsNoChange edit.commit i.timing.committed wanted false → LeftPlan bytes id edit before new Open
   opened middle after same told = record {
     asked = asked;
     spelled = spelled;
@@ -123,7 +124,7 @@ module _ (bytes : List ℕ) (id : ℕ) (clerk : List ℕ) (mode : EditMode) (old
   }
 
   -- it is the committed set
-  kept_same : (middle : Content) → After middle → new ≡ middle → mode.commit ≡ true → standing.committed ≡ after_changes (base_of standing) changes → LeftPlan bytes id mode before new Same
+  kept_same : (middle : Content) → After middle → new ≡ middle → edit.commit ≡ true → standing.committed ≡ after_changes (base_of standing) changes → LeftPlan bytes id edit before new Same
   kept_same middle after same commit would = record {
     asked = asked;
     spelled = spelled;
@@ -134,12 +135,12 @@ module _ (bytes : List ℕ) (id : ℕ) (clerk : List ℕ) (mode : EditMode) (old
     is = after.it;
     still = after.found;
     left = ap Some (after.committed ∙ sym was ∙ would ∙ is);
-    told = tells_same mode.commit i.timing.committed wanted commit (sym was ∙ would ∙ is);
+    told = tells_same edit.commit i.timing.committed wanted commit (sym was ∙ would ∙ is);
   }
 
   -- it was committed
-  settled : (middle : Content) → After middle → RanCommands commit_told middle (commit_commands id clerk) new (Ok tt) → TellsNoChange mode.commit i.timing.committed wanted false
-      → LeftPlan bytes id mode before new Committed
+  settled : (middle : Content) → After middle → RanCommands commit_told middle (commit_commands id clerk) new (Ok tt) → TellsNoChange edit.commit i.timing.committed wanted false
+      → LeftPlan bytes id edit before new Committed
   settled middle after ran told =
       let run = ran.run after.office after.stand in
       let made = revised_set after.office run.last id clerk ran.replies tt after.it after.found run.run ran.made_is in
@@ -157,7 +158,7 @@ module _ (bytes : List ℕ) (id : ℕ) (clerk : List ℕ) (mode : EditMode) (old
       }
 
   -- nothing was done
-  stayed : new ≡ old → mode.commit ≡ true → standing.committed ≡ after_changes (base_of standing) changes → LeftPlan bytes id mode before new Same
+  stayed : new ≡ old → edit.commit ≡ true → standing.committed ≡ after_changes (base_of standing) changes → LeftPlan bytes id edit before new Same
   stayed same commit would = record {
     asked = asked;
     spelled = spelled;
@@ -168,45 +169,45 @@ module _ (bytes : List ℕ) (id : ℕ) (clerk : List ℕ) (mode : EditMode) (old
     is = i;
     still = there;
     left = ap Some (sym was ∙ would ∙ is);
-    told = tells_same mode.commit i.timing.committed wanted commit (sym was ∙ would ∙ is);
+    told = tells_same edit.commit i.timing.committed wanted commit (sym was ∙ would ∙ is);
   }
 
-  by_due : (middle : Content) → After middle → (due : Bool) → Goes due id clerk middle new (Ok tt) → TellsNoChange mode.commit i.timing.committed wanted false
-      → LeftPlan bytes id mode before new (outcome_of false due)
+  by_due : (middle : Content) → After middle → (due : Bool) → Goes due id clerk middle new (Ok tt) → TellsNoChange edit.commit i.timing.committed wanted false
+      → LeftPlan bytes id edit before new (outcome_of false due)
   by_due middle after true goes says = settled middle after (was_run tt told.Memory goes) says
   by_due middle after false goes says = opened middle after goes.1 says
 
-  finished : (same : Bool) (done : Revised) → WouldBe mode.commit standing changes same → Finishes mode.commit same id clerk changes old new (Ok done)
-      → LeftPlan bytes id mode before new done.outcome
+  finished : (same : Bool) (done : Revised) → WouldBe edit.commit standing changes same → Finishes edit.commit same id clerk changes old new (Ok done)
+      → LeftPlan bytes id edit before new done.outcome
   finished true done would finishes =
-      let commit = is_asked mode.commit standing changes would in
-      let after = after_edit mode.commit true done.violations (Ok tt) finishes.0 in
-      let idle : Goes false id clerk finishes.0.middle new (Ok tt) = subst (λ due. Goes due id clerk finishes.0.middle new (Ok tt)) (never mode.commit done.violations) finishes.0.goes in
-      subst (LeftPlan bytes id mode before new) (sym finishes.1) (kept_same finishes.0.middle after idle.1 commit.0 commit.1)
+      let commit = is_asked edit.commit standing changes would in
+      let after = after_edit edit.commit true done.violations (Ok tt) finishes.0 in
+      let idle : Goes false id clerk finishes.0.middle new (Ok tt) = subst (λ due. Goes due id clerk finishes.0.middle new (Ok tt)) (never edit.commit done.violations) finishes.0.goes in
+      subst (LeftPlan bytes id edit before new) (sym finishes.1) (kept_same finishes.0.middle after idle.1 commit.0 commit.1)
   finished false done would finishes =
-      subst (LeftPlan bytes id mode before new) (sym finishes.1)
-      (by_due finishes.0.middle (after_edit mode.commit false done.violations (Ok tt) finishes.0) (is_due (mode.commit && not false) done.violations) finishes.0.goes
-      (not_same mode.commit standing changes i.timing.committed wanted was is would))
+      subst (LeftPlan bytes id edit before new) (sym finishes.1)
+      (by_due finishes.0.middle (after_edit edit.commit false done.violations (Ok tt) finishes.0) (is_due (edit.commit && not false) done.violations) finishes.0.goes
+      (not_same edit.commit standing changes i.timing.committed wanted was is would))
 
-  by_idle : (idle same : Bool) (done : Revised) → idle ≡ (same && is_none standing.draft) → WouldBe mode.commit standing changes same
-      → Stays idle mode.commit same id clerk changes old new (Ok done) → LeftPlan bytes id mode before new done.outcome
+  by_idle : (idle same : Bool) (done : Revised) → idle ≡ (same && is_none standing.draft) → WouldBe edit.commit standing changes same
+      → Stays idle edit.commit same id clerk changes old new (Ok done) → LeftPlan bytes id edit before new done.outcome
   by_idle true true done e would stays =
       let outcome : Same ≡ done.outcome = let is = stays.0 in cc in
-      let commit = is_asked mode.commit standing changes would in
-      subst (LeftPlan bytes id mode before new) outcome (stayed stays.1 commit.0 commit.1)
+      let commit = is_asked edit.commit standing changes would in
+      subst (LeftPlan bytes id edit before new) outcome (stayed stays.1 commit.0 commit.1)
   by_idle true false done e would stays = absurd cc
   by_idle false same done e would stays = finished same done would stays
 
 -- the plan that is left is the one that was asked for
-pub leaves : (bytes : List ℕ) (id : ℕ) (clerk : List ℕ) (mode : EditMode) (old new : Content) (done : Revised)
-    → Revises bytes id clerk mode old new (Ok done) → LeavesPlan bytes id mode done.outcome old new
-leaves bytes id clerk mode old new done r before stands = by_ends r.ends where
-  by_ends : EndsRevision mode.commit r.standing id clerk r.changes old new (Ok done) → LeftPlan bytes id mode before new done.outcome
+pub leaves : (bytes : List ℕ) (id : ℕ) (clerk : List ℕ) (edit : Edit) (old new : Content) (done : Revised)
+    → Revises bytes id clerk edit old new (Ok done) → LeavesPlan bytes id edit done.outcome old new
+leaves bytes id clerk edit old new done r before stands = by_ends r.ends where
+  by_ends : EndsRevision edit.commit r.standing id clerk r.changes old new (Ok done) → LeftPlan bytes id edit before new done.outcome
   by_ends (inl memory) = absurd (apart done told.Memory memory.0)
   by_ends (inr (same, would, stays)) =
       let on = standing_on old before id r.standing r.shows stands in
       let committed = ap (λ (s : StandingPlan). s.committed) on.2 in
       let base = same_base r.standing on.0.timing committed (ap (λ (s : StandingPlan). s.draft) on.2) in
-      by_idle bytes id clerk mode old new r.asked r.spelled r.standing r.changes before stands on.0 on.1 committed base
-      (made_plan mode.replace (base_of r.standing) r.asked r.changes r.wanted ∙ ap (λ set. plan_wanted mode.replace set r.asked) base)
+      by_idle bytes id clerk edit old new r.asked r.spelled r.standing r.changes before stands on.0 on.1 committed base
+      (made_plan edit.replace (base_of r.standing) r.asked r.changes r.wanted ∙ ap (λ set. plan_wanted edit.replace set r.asked) base)
       (same && is_none r.standing.draft) same done refl would stays

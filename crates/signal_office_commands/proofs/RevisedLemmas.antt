@@ -7,7 +7,8 @@ use Rattle.signal_office_commands.proofs.{AskingLemmas.was_run, ReplacingLemmas.
 use Rattle.signal_office_commands.specs.{Committing.Does, Committing.Goes, Committing.commit_commands, Committing.is_due, Replacing.LeavesPlan}
 use Rattle.signal_office_commands.specs.Revising.{Drafts, EndsRevision, Finishes, RevisesAs, Stays, WouldBe, revise_commands, revise_told}
 use Rattle.signal_office_commands.specs.Stopping.{AfterDrafting, AfterOneOf, StopLeaves}
-use Rattle.signal_office_commands.specs.declared.revising.{EditMode.EditMode, Revised.Revised}
+use Rattle.signal_office_commands.specs.declared.revising.Revised.{Revised}
+use Rattle.signal_office_line.specs.declared.job.Edit.{Edit}
 use Rattle.signal_office_commands.specs.declared.standing.StandingPlan.{StandingPlan}
 use Rattle.signal_office_faults.specs.declared.fault.Fault.{Fault}
 use Rattle.signal_office_faults.specs.declared.fault.Fault.TheVariants as told
@@ -45,15 +46,15 @@ ends_so commit standing id clerk changes old new result same idle would is stays
 apart : {A E : Type 0} (x : A) (e : E) → Ok x ≡ Err e → ⊥
 apart x e same = cc
 
-pub plan_left_by : {S : Type 0} (g : Ghosts S) (old new : S) (bytes : List ℕ) (id : ℕ) (clerk : List ℕ) (mode : EditMode) (result : Result Revised Fault)
-    → MakesTables g old new (λ before after. RevisesAs bytes id clerk mode before after result)
-    → IfOk result (λ done. MakesTables g old new (λ before after. LeavesPlan bytes id mode done.outcome before after))
-plan_left_by g old new bytes id clerk mode (Err why) makes = tt
-plan_left_by g old new bytes id clerk mode (Ok done) makes = λ clean tables held.
+pub plan_left_by : {S : Type 0} (g : Ghosts S) (old new : S) (bytes : List ℕ) (id : ℕ) (clerk : List ℕ) (edit : Edit) (result : Result Revised Fault)
+    → MakesTables g old new (λ before after. RevisesAs bytes id clerk edit before after result)
+    → IfOk result (λ done. MakesTables g old new (λ before after. LeavesPlan bytes id edit done.outcome before after))
+plan_left_by g old new bytes id clerk edit (Err why) makes = tt
+plan_left_by g old new bytes id clerk edit (Ok done) makes = λ clean tables held.
     let made = makes clean tables held in
     (made.0, by_made made.0 tables made.1, made.2) where
-      by_made : (after before : Content) → RevisesAs bytes id clerk mode before after (Ok done) → LeavesPlan bytes id mode done.outcome before after
-      by_made after before (inl revises) = leaves bytes id clerk mode before after done revises
+      by_made : (after before : Content) → RevisesAs bytes id clerk edit before after (Ok done) → LeavesPlan bytes id edit done.outcome before after
+      by_made after before (inl revises) = leaves bytes id clerk edit before after done revises
       by_made after before (inr (why, is, none, how)) = absurd (apart done why is)
 
 -- what a stop leaves of a draft that was changed, and committed where it is due

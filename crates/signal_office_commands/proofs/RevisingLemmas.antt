@@ -8,8 +8,7 @@ use Rattle.draft_core.specs.declared.refusal.DraftRefusal.{DraftRefusal}
 use Rattle.draft_core.specs.declared.refusal.DraftRefusal.TheVariants.{NotOwner, RevisionFull}
 use Rattle.signal_records.specs.declared.state.Stage.{Stage}
 use Rattle.signal_records.specs.declared.state.Stage.TheVariants.{Transaction, Done}
-use Rattle.office_machine.specs.{Office.Office, Office.Intersection, Step.Run, Step.Step, Step.answered, Step.transacted, Step.with_intersection}
-use Rattle.office_machine.specs.{declared.command.Command.Command, declared.reply.Reply.Reply}
+use Rattle.office_machine.specs.{Office.Office, Office.Intersection, Step.Run, Step.Step, Step.answered, Step.transacted, Step.with_intersection, declared.command.Command.Command, declared.reply.Reply.Reply}
 use Rattle.office_machine.specs.Step.{moved as moved_by, refusal_of_draft}
 use Rattle.office_machine.specs.declared.command.Command.TheVariants as command
 use Rattle.office_machine.specs.declared.refusal.Refusal.TheVariants as refusal

@@ -1,8 +1,7 @@
 -- Two sets are the same exactly where nothing is told of them.
 use Rattle.std.proofs.Common.{◌≡◌, ◌≢◌, ◌==◌, false, List, [], ◌∷◌, length, Option, Some, refl, sym, ap, subst, arith}
 use Rattle.std.proofs.lemmas.Bool.{ne_eqb}
-use Rattle.std.specs.{declared.cmp.Ordering.Ordering, declared.cmp.Ordering.TheVariants.Less, declared.cmp.Ordering.TheVariants.Equal, declared.cmp.Ordering.TheVariants.Greater}
-use Rattle.std.specs.{FinMap.get, Ordering.ordering_reverse}
+use Rattle.std.specs.{declared.cmp.Ordering.Ordering, declared.cmp.Ordering.TheVariants.Less, declared.cmp.Ordering.TheVariants.Equal, declared.cmp.Ordering.TheVariants.Greater, FinMap.get, Ordering.ordering_reverse}
 use Rattle.signal_compare.specs.declared.difference.Difference.{Difference}
 use Rattle.signal_compare.specs.declared.difference.Difference.TheVariants.{Added, Removed, Changed}
 use Rattle.signal_compare.specs.Difference.{AreTold, Explains, difference_changes, difference_at, place_of}

@@ -1,6 +1,5 @@
 -- A draft that is handed over, checked, and made the committed set.
-use Rattle.std.specs.Prelude.{◌≡◌, ◌⊎◌, ◌&&◌, ◌==◌, ℕ, Bool, true, false, length, List, [], ◌∷◌}
-use Rattle.std.specs.Prelude.{Result, Ok, Err}
+use Rattle.std.specs.Prelude.{◌≡◌, ◌⊎◌, ◌&&◌, ◌==◌, ℕ, Bool, true, false, length, List, [], ◌∷◌, Result, Ok, Err}
 use Rattle.office_tables_shelf.specs.Content.{Content}
 use Rattle.signal_rules.specs.declared.violation.Violation.{Violation}
 use Rattle.office_machine.specs.declared.command.Command.{Command}

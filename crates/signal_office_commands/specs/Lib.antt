@@ -12,3 +12,6 @@ pub mod Replacing
 pub mod Stopping
 pub mod Explaining
 pub mod Telling
+pub mod Days
+pub mod Texts
+pub mod Checks

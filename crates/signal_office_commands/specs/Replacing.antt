@@ -7,7 +7,7 @@ use Rattle.office_desk.specs.StandFor.{StandForSound}
 use Rattle.office_machine.specs.Office.{Intersection, Office}
 use Rattle.office_tables_shelf.specs.Content.{Content}
 use Rattle.signal_office_commands.specs.Standing.{TellsSame, base_from}
-use Rattle.signal_office_commands.specs.declared.revising.EditMode.{EditMode}
+use Rattle.signal_office_line.specs.declared.job.Edit.{Edit}
 use Rattle.signal_office_commands.specs.declared.revising.Outcome.{Outcome}
 use Rattle.signal_office_commands.specs.declared.revising.Outcome.TheVariants.{Open, Same, Committed}
 use Rattle.signal_records.specs.TimingSet.{Rows, after_changes}
@@ -42,7 +42,7 @@ TellsNoChange false committed wanted told = told ≡ false
 TellsNoChange true committed wanted told = TellsSame committed wanted told
 
 -- of one office: what its intersection had, and has after it
-pub record LeftPlan (bytes : List ℕ) (id : ℕ) (mode : EditMode) (before : Office) (new : Content) (outcome : Outcome) : Type 0 where
+pub record LeftPlan (bytes : List ℕ) (id : ℕ) (edit : Edit) (before : Office) (new : Content) (outcome : Outcome) : Type 0 where
   pub asked : List Change
   pub spelled : changes_of bytes ≡ Ok asked
   pub was : Intersection
@@ -51,9 +51,9 @@ pub record LeftPlan (bytes : List ℕ) (id : ℕ) (mode : EditMode) (before : Of
   pub stands : StandForSound new after
   pub is : Intersection
   pub still : get after.intersections id ≡ Some is
-  pub left : plan_left outcome is.timing ≡ Some (plan_wanted mode.replace (base_at was.timing) asked)
-  pub told : TellsNoChange mode.commit was.timing.committed (plan_wanted mode.replace (base_at was.timing) asked) (is_same outcome)
+  pub left : plan_left outcome is.timing ≡ Some (plan_wanted edit.replace (base_at was.timing) asked)
+  pub told : TellsNoChange edit.commit was.timing.committed (plan_wanted edit.replace (base_at was.timing) asked) (is_same outcome)
 
 -- THE PLAN THAT IS LEFT is the one that the file asks for, whichever sound office the old tables stood for.
-abbrev pub LeavesPlan : List ℕ → ℕ → EditMode → Outcome → Content → Content → Type 0
-LeavesPlan bytes id mode outcome old new = (before : Office) → StandForSound old before → LeftPlan bytes id mode before new outcome
+abbrev pub LeavesPlan : List ℕ → ℕ → Edit → Outcome → Content → Content → Type 0
+LeavesPlan bytes id edit outcome old new = (before : Office) → StandForSound old before → LeftPlan bytes id edit before new outcome

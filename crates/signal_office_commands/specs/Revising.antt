@@ -13,7 +13,7 @@ use Rattle.signal_office_commands.specs.Committing.{Does, Goes, is_due, move_out
 use Rattle.signal_office_reports.specs.Refused.{fault_of}
 use Rattle.signal_office_reports.specs.Reports.{◌>>=◌}
 use Rattle.signal_office_commands.specs.Standing.{AreWanted, IsNotStanding, ShowsStanding, TellsSame, base_of}
-use Rattle.signal_office_commands.specs.declared.revising.EditMode.{EditMode}
+use Rattle.signal_office_line.specs.declared.job.Edit.{Edit}
 use Rattle.signal_office_commands.specs.declared.revising.Outcome.{Outcome}
 use Rattle.signal_office_commands.specs.declared.revising.Outcome.TheVariants.{Open, Same, Committed}
 use Rattle.signal_office_commands.specs.declared.revising.Revised.{Revised}
@@ -109,21 +109,21 @@ EndsRevision commit standing id clerk changes old new result =
     ⊎ ((same : Bool) × WouldBe commit standing changes same × Stays (same && is_none standing.draft) commit same id clerk changes old new result)
 
 -- The file's changes, or those that make its plan, were made of what stands.
-pub record Revises (bytes : List ℕ) (id : ℕ) (clerk : List ℕ) (mode : EditMode) (old new : Content) (result : Result Revised Fault) : Type 0 where
+pub record Revises (bytes : List ℕ) (id : ℕ) (clerk : List ℕ) (edit : Edit) (old new : Content) (result : Result Revised Fault) : Type 0 where
   pub asked : List Change
   pub spelled : changes_of bytes ≡ Ok asked
   pub standing : StandingPlan
   pub shows : ShowsStanding old id standing
   pub changes : List Change
-  pub wanted : AreWanted mode.replace (base_of standing) asked changes
-  pub ends : EndsRevision mode.commit standing id clerk changes old new result
+  pub wanted : AreWanted edit.replace (base_of standing) asked changes
+  pub ends : EndsRevision edit.commit standing id clerk changes old new result
 
 -- the file was not read, or what stands was not shown, or memory was refused
 abbrev pub IsNotRevised : List ℕ → ℕ → Content → Fault → Type 0
 IsNotRevised bytes id old why = IsUnread (changes_of bytes) why ⊎ (IsNotStanding old id why ⊎ (why ≡ told.Memory))
 
 -- what a file does to a plan: that, or nothing was changed
-abbrev pub RevisesAs : List ℕ → ℕ → List ℕ → EditMode → Content → Content → Result Revised Fault → Type 0
-RevisesAs bytes id clerk mode old new result =
-    Revises bytes id clerk mode old new result
+abbrev pub RevisesAs : List ℕ → ℕ → List ℕ → Edit → Content → Content → Result Revised Fault → Type 0
+RevisesAs bytes id clerk edit old new result =
+    Revises bytes id clerk edit old new result
     ⊎ ((why : Fault) × (result ≡ Err why) × (new ≡ old) × IsNotRevised bytes id old why)

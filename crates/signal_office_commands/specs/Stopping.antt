@@ -16,7 +16,7 @@ use Rattle.signal_office_commands.specs.Asking.{RanCommands}
 use Rattle.signal_office_commands.specs.Committing.{commit_commands, is_due}
 use Rattle.signal_office_commands.specs.Revising.{WouldBe, revise_commands, revise_told}
 use Rattle.signal_office_commands.specs.Standing.{AreWanted, ShowsStanding, base_of}
-use Rattle.signal_office_commands.specs.declared.revising.EditMode.{EditMode}
+use Rattle.signal_office_line.specs.declared.job.Edit.{Edit}
 use Rattle.signal_office_commands.specs.declared.standing.StandingPlan.{StandingPlan}
 
 -- On a clean disk a stop leaves what it could before, or such tables, made of those that an open database held.
@@ -55,7 +55,7 @@ AfterChanging commit standing id clerk changes old found =
     (same : Bool) × WouldBe commit standing changes same × AfterDrafting (commit && not same) id clerk changes old found
 
 -- it is revised by the file's changes, or by those that make its plan
-abbrev pub AfterRevising : (bytes : List ℕ) → (id : ℕ) → (clerk : List ℕ) → EditMode → Content → Content → Type 0
-AfterRevising bytes id clerk mode old found =
+abbrev pub AfterRevising : (bytes : List ℕ) → (id : ℕ) → (clerk : List ℕ) → Edit → Content → Content → Type 0
+AfterRevising bytes id clerk edit old found =
     (asked : List Change) × (changes_of bytes ≡ Ok asked) × (standing : StandingPlan) × ShowsStanding old id standing
-    × (changes : List Change) × AreWanted mode.replace (base_of standing) asked changes × AfterChanging mode.commit standing id clerk changes old found
+    × (changes : List Change) × AreWanted edit.replace (base_of standing) asked changes × AfterChanging edit.commit standing id clerk changes old found

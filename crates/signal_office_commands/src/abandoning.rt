@@ -9,7 +9,8 @@ use office_desk::office::Office;
 use office_machine::command::Command;
 use office_tables_shelf::shelf::Shelf;
 use signal_office_faults::Fault;
-use signal_records::{InterId, Words};
+use signal_office_line::Name;
+use signal_records::InterId;
 use std::alloc::Global;
 
 /// Drops the draft of an intersection, whoever holds it; the clerk is who asks.
@@ -17,7 +18,7 @@ pub fn abandon_draft<S: Shelf>(
     alloc: Global,
     office: &mut Office<S>,
     id: InterId,
-    clerk: &Words<40>,
+    clerk: &Name<40>,
 ) -> Result<(), Fault>
     ensures clean { S.is_clean office.new → S.is_clean office.old }
     ensures honest { S.is_honest office.new → S.is_honest office.old }
@@ -25,7 +26,7 @@ pub fn abandon_draft<S: Shelf>(
         (λ old new. Abandons id clerk.now old new result) }
     ensures stop { StopLeaves S.Shelf office.old office.new (AfterAbandoning id clerk.now) }
 {
-    let clerk = clerk.clone()?;
+    let clerk = clerk.to_words(alloc)?;
     let reply = office.run(alloc, &Command::Abandon { id, clerk });
     moved(&reply)
 }

@@ -10,8 +10,9 @@ use office_machine::command::Command;
 use office_machine::reply::Reply;
 use office_tables_shelf::shelf::Shelf;
 use signal_office_faults::Fault;
+use signal_office_line::Name;
 use signal_office_reports::fault_of;
-use signal_records::{InterId, Interval, Words};
+use signal_records::{InterId, Interval};
 use std::alloc::Global;
 
 /// What became of an intersection that was to be added.
@@ -24,10 +25,10 @@ pub enum Entered {
 }
 
 /// What is told of the reply.
-fn entered_told(reply: Reply) -> Result<Entered, Fault>
-    ensures { result ≡ entered_told reply }
+fn entered_told(reply: &Reply) -> Result<Entered, Fault>
+    ensures { result ≡ entered_told reply.now }
 {
-    match reply {
+    match *reply {
         Reply::Added => Ok(Entered::Added),
         Reply::Same => Ok(Entered::Same),
         Reply::Refused(refusal) => Err(fault_of(refusal)),
@@ -42,7 +43,7 @@ pub fn add_intersection<S: Shelf>(
     office: &mut Office<S>,
     id: InterId,
     interval: Interval,
-    name: &Words<120>,
+    name: &Name<120>,
 ) -> Result<Entered, Fault>
     ensures clean { S.is_clean office.new → S.is_clean office.old }
     ensures honest { S.is_honest office.new → S.is_honest office.old }
@@ -50,7 +51,7 @@ pub fn add_intersection<S: Shelf>(
         (λ old new. AddsIntersection id interval name.now old new result) }
     ensures stop { StopLeaves S.Shelf office.old office.new (AfterAdding id interval name.now) }
 {
-    let name = name.clone()?;
+    let name = name.to_words(alloc)?;
     let reply = office.run(alloc, &Command::AddIntersection { id, interval, name });
-    entered_told(reply)
+    entered_told(&reply)
 }

@@ -2,9 +2,7 @@
 
 ghost use Rattle.std.specs.Prelude.{◌≡◌, true, IfOk};
 ghost use Rattle.office_desk.specs.Running.{MakesTables};
-ghost use Rattle.signal_office_commands.specs.Committing.{commit_commands, commit_told};
-ghost use Rattle.signal_office_commands.specs.Committing.{move_outcome};
-ghost use Rattle.signal_office_commands.specs.Committing.{is_due, Does, Goes};
+ghost use Rattle.signal_office_commands.specs.Committing.{commit_commands, commit_told, move_outcome, is_due, Does, Goes};
 ghost use Rattle.signal_office_commands.specs.Stopping.{AfterOneOf, StopLeaves};
 
 use office_desk::office::Office;

@@ -6,11 +6,8 @@ ghost use Rattle.office_files.specs.Changes.{changes_of};
 ghost use Rattle.office_files.specs.Plan.{IsPlan};
 ghost use Rattle.office_tables_shelf.specs.Keeps.{KeepsShelf};
 ghost use Rattle.signal_compare.specs.Difference.{AreTold};
-ghost use Rattle.signal_office_commands.specs.Comparing.{ComparesDraft, ComparesFiles, IsCompared};
-ghost use Rattle.signal_office_commands.specs.Comparing.{ComparesRunning, IsFirstBad};
-ghost use Rattle.signal_office_commands.specs.Comparing.{IsOtherUnread};
-ghost use Rattle.signal_office_reports.specs.Reports.{IsTextOf, first_seen, plans_in, plans_of};
-ghost use Rattle.signal_office_reports.specs.Reports.{timing_in};
+ghost use Rattle.signal_office_commands.specs.Comparing.{ComparesDraft, ComparesFiles, IsCompared, ComparesRunning, IsFirstBad, IsOtherUnread};
+ghost use Rattle.signal_office_reports.specs.Reports.{IsTextOf, first_seen, plans_in, plans_of, timing_in};
 ghost use Rattle.signal_office_reports.specs.Seen.{Gives};
 
 use office_desk::office::Office;

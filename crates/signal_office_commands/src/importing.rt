@@ -25,10 +25,10 @@ pub struct Imported {
 }
 
 /// What is told of the reply to an import.
-fn import_told(reply: Reply) -> Result<Imported, Fault>
-    ensures { result ≡ import_told reply }
+fn import_told(reply: &Reply) -> Result<Imported, Fault>
+    ensures { result ≡ import_told reply.now }
 {
-    match reply {
+    match *reply {
         Reply::Imported { added, same } => Ok(Imported { added, same }),
         Reply::Refused(refusal) => Err(fault_of(refusal)),
         _ => Err(Fault::Store),
@@ -51,5 +51,5 @@ pub fn import_csv<S: Shelf>(
 {
     let records = Records::new(read_records_csv(alloc, bytes)?);
     let reply = office.run(alloc, &Command::Import { records });
-    import_told(reply)
+    import_told(&reply)
 }

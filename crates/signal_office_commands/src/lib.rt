@@ -1,11 +1,15 @@
-//! The commands of the program, over any office: what is brought in, plans that are edited and
-//! compared; and plans in CSV files.
+//! The commands of the program, over any office: what is brought in, or tried before it is; plans
+//! that are edited and compared; and plans in CSV files.
 #![tactic(auto)]
 
 mod abandoning;
 mod adding;
+mod check_text;
+mod checking;
 mod committing;
 mod comparing;
+mod counts;
+mod days;
 mod drawing;
 mod explaining;
 mod importing;
@@ -17,12 +21,14 @@ mod telling;
 
 pub use abandoning::abandon_draft;
 pub use adding::{Entered, add_intersection};
+pub use checking::{Report, check_csv};
 pub use comparing::{compare_files, draft_differences, running_differences};
+pub use counts::Counts;
+pub use days::check_days;
 pub use drawing::diagram_in;
 pub use explaining::{draft_reasons, reasons_in};
 pub use importing::{Imported, import_csv};
 pub use paging::page_in;
 pub use plan::violations_in;
-pub use revising::{EditMode, Outcome, Revised, revise_plan};
-pub use signal_office_faults::Fault;
+pub use revising::{Outcome, Revised, revise_plan};
 pub use telling::report;

@@ -4,15 +4,8 @@ ghost use Rattle.std.specs.Prelude.{◌≡◌, ◌&&◌, not, IfOk};
 ghost use Rattle.office_desk.specs.Running.{MakesTables};
 ghost use Rattle.signal_office_commands.specs.Committing.{Does};
 ghost use Rattle.signal_office_commands.specs.Replacing.{LeavesPlan};
-ghost use Rattle.signal_office_commands.specs.Revising.{EndsRevision, Finishes, RevisesAs, WouldBe};
-ghost use Rattle.signal_office_commands.specs.Revising.{as_it_stands, begin_outcome, check_outcome};
-ghost use Rattle.signal_office_commands.specs.Revising.{drafted};
-ghost use Rattle.signal_office_commands.specs.Revising.{outcome_of};
-ghost use Rattle.signal_office_commands.specs.Revising.{reopen_outcome, revise_commands};
-ghost use Rattle.signal_office_commands.specs.Revising.{revise_told};
-ghost use Rattle.signal_office_commands.specs.Revising.{taken_up};
-ghost use Rattle.signal_office_commands.specs.Stopping.{AfterChanging, AfterDrafting, AfterOneOf};
-ghost use Rattle.signal_office_commands.specs.Stopping.{AfterRevising, StopLeaves};
+ghost use Rattle.signal_office_commands.specs.Revising.{EndsRevision, Finishes, RevisesAs, WouldBe, as_it_stands, begin_outcome, check_outcome, drafted, outcome_of, reopen_outcome, revise_commands, revise_told, taken_up};
+ghost use Rattle.signal_office_commands.specs.Stopping.{AfterChanging, AfterDrafting, AfterOneOf, AfterRevising, StopLeaves};
 
 use crate::committing::{commit_where_due, is_due, moved};
 use crate::standing::{StandingPlan, standing_in};
@@ -25,18 +18,10 @@ use office_machine::refusal::Refusal;
 use office_machine::reply::{Reply, Violations};
 use office_tables_shelf::shelf::Shelf;
 use signal_office_faults::Fault;
+use signal_office_line::Edit;
 use signal_office_reports::fault_of;
 use signal_records::{Change, InterId, NoMemory, Words};
 use std::alloc::Global;
-
-/// How a plan is revised by a file.
-#[derive(Clone, Copy)]
-pub struct EditMode {
-    /// Whether the file is the whole plan: rows that it does not have are removed.
-    pub replace: bool,
-    /// Whether the draft is committed where it breaks no rule and is not the committed set.
-    pub commit: bool,
-}
 
 /// What became of a draft.
 #[derive(Clone, Copy, PartialEq, Eq)]
@@ -278,26 +263,33 @@ fn revise<S: Shelf>(
     finish(alloc, office, id, clerk, changes, commit, same)
 }
 
-/// Revises the plan of an intersection by the records of a CSV file.
+/// Revises a plan by the records of a CSV file, for a clerk whose name is in memory of its own.
 fn revise_by<S: Shelf>(
     alloc: Global,
     office: &mut Office<S>,
-    id: InterId,
+    edit: &Edit<'_>,
     clerk: &Words<40>,
     bytes: &[u8],
-    mode: EditMode,
 ) -> Result<Revised, Fault>
     ensures clean { S.is_clean office.new → S.is_clean office.old }
     ensures honest { S.is_honest office.new → S.is_honest office.old }
     ensures revises { MakesTables S.Shelf office.old office.new
-        (λ old new. RevisesAs bytes.now id clerk.now mode old new result) }
+        (λ old new. RevisesAs bytes.now edit.now.id clerk.now edit.now old new result) }
     ensures stop { StopLeaves S.Shelf office.old office.new
-        (AfterRevising bytes.now id clerk.now mode) }
+        (AfterRevising bytes.now edit.now.id clerk.now edit.now) }
 {
     let asked = read_timing_csv(alloc, bytes)?;
-    let standing = standing_in(alloc, office, id)?;
-    let changes = standing.wanted(alloc, asked, mode.replace)?;
-    revise(alloc, office, id, clerk, &standing, changes, mode.commit)
+    let standing = standing_in(alloc, office, edit.id)?;
+    let changes = standing.wanted(alloc, asked, edit.replace)?;
+    revise(
+        alloc,
+        office,
+        edit.id,
+        clerk,
+        &standing,
+        changes,
+        edit.commit,
+    )
 }
 
 /// Revises the plan of an intersection by the records of a CSV file, in a transaction of a clerk:
@@ -308,20 +300,19 @@ fn revise_by<S: Shelf>(
 pub fn revise_plan<S: Shelf>(
     alloc: Global,
     office: &mut Office<S>,
-    id: InterId,
-    clerk: &Words<40>,
+    edit: &Edit<'_>,
     bytes: &[u8],
-    mode: EditMode,
 ) -> Result<Revised, Fault>
     ensures clean { S.is_clean office.new → S.is_clean office.old }
     ensures honest { S.is_honest office.new → S.is_honest office.old }
     ensures revises { MakesTables S.Shelf office.old office.new
-        (λ old new. RevisesAs bytes.now id clerk.now mode old new result) }
+        (λ old new. RevisesAs bytes.now edit.now.id edit.now.clerk edit.now old new result) }
     ensures stop { StopLeaves S.Shelf office.old office.new
-        (AfterRevising bytes.now id clerk.now mode) }
+        (AfterRevising bytes.now edit.now.id edit.now.clerk edit.now) }
     // The plan that is left is the one that was asked for.
     ensures plan { IfOk result (λ done. MakesTables S.Shelf office.old office.new
-        (λ old new. LeavesPlan bytes.now id mode done.outcome old new)) }
+        (λ old new. LeavesPlan bytes.now edit.now.id edit.now done.outcome old new)) }
 {
-    revise_by(alloc, office, id, clerk, bytes, mode)
+    let clerk = edit.clerk.to_words(alloc)?;
+    revise_by(alloc, office, edit, &clerk, bytes)
 }

@@ -8,10 +8,9 @@ use Rattle.sqlite_disk.specs.declared.Disk.{Ghosts as Disk}
 use Rattle.sqlite_disk.specs.declared.Files.{Files}
 use Rattle.office_http_framing.specs.Ends.{Told}
 use Rattle.office_tables.specs.Content.{Content}
-use Rattle.signal_office_backup.specs.Copying.{StaysAsRead}
+use Rattle.signal_office_file.specs.Copying.{StaysAsRead, PoursAs}
 use Rattle.signal_office_faults.specs.declared.fault.Fault.{Fault}
 use Rattle.signal_office_in_file.specs.Ended.{IsCopyOf}
-use Rattle.signal_office_file.specs.Copying.{PoursAs}
 use Rattle.signal_office_file.specs.Files.{HoldAlone, IsImageOf, KeepTables}
 
 -- the bytes of the database file are the office, with no log

@@ -4,3 +4,4 @@ mod LeftLemmas
 mod MigratingLemmas
 mod InFileLemmas
 pub mod ServingLemmas
+mod HeldLemmas

@@ -1,8 +1,7 @@
 -- Version 1 of the tables and what becomes of it, in a database and in its files.
 use Rattle.std.proofs.Common.{◌≡◌, inl, inr, IsTrue, Result, Ok, Err, Some, sym, subst, ◌∙◌}
 use Rattle.std.specs.Prelude.{IfOk, OnOk}
-use Rattle.sqlite.specs.{Closing.IsCopied, Files.file_state, Files.over_files, Held.Held}
-use Rattle.sqlite.specs.{State.HasCleanDisk, State.State, Tree.Trees, WalReads.AreClean, declared.FileStore.FileStore}
+use Rattle.sqlite.specs.{Closing.IsCopied, Files.file_state, Files.over_files, Held.Held, State.HasCleanDisk, State.State, Tree.Trees, WalReads.AreClean, declared.FileStore.FileStore}
 use Rattle.sqlite_disk.specs.declared.Disk.{Ghosts as Disk}
 use Rattle.sqlite_disk.specs.declared.Files.{Files}
 use Rattle.office_tables.specs.{Calls.IsHonest, Migrate.IsBrought, Stored.content_of}

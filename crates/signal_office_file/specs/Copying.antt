@@ -1,21 +1,23 @@
 -- How the bytes of a closed office are copied.
-use Rattle.std.specs.Prelude.{◌≡◌, Result, IfErr, IsTrue, OnOk, ⊤}
+use Rattle.std.specs.Prelude.{◌≡◌, ◌⊎◌, ℕ, List, Result, IfErr, IsTrue, OnOk, ⊤}
 use Rattle.std.specs.Io.KnownBytes.{Appends}
-use Rattle.office_http_framing.specs.Ends.{Told}
-use Rattle.signal_office_backup.specs.Copying.{StaysAsRead}
-use Rattle.signal_office_backup.specs.declared.copying.CopyFault.{CopyFault}
-use Rattle.signal_office_backup.specs.declared.copying.CopyFault.TheVariants as copy
+use Rattle.office_http_framing.specs.Ends.{FailsOrGivesNone, Told}
 use Rattle.signal_office_faults.specs.declared.fault.Fault.{Fault}
 use Rattle.signal_office_faults.specs.declared.fault.Fault.TheVariants as fault
 use Rattle.signal_office_in_file.specs.Ended.{IsUncopied}
 use Rattle.sqlite_disk.specs.declared.Disk.{Ghosts as Disk}
 use Rattle.sqlite_disk.specs.declared.Files.{Files}
 
--- the fault that is told of a copy that broke off
-abbrev pub told_of_copy : CopyFault → Fault
-told_of_copy copy.Read = fault.Store
-told_of_copy copy.Write = fault.Write
-told_of_copy copy.NoMemory = fault.Memory
+-- the file is as it was, also after a stop
+pub record StaysAsRead {D : Type 0} (g : Disk D) (old new : D) : Type 0 where
+  pub seen : g.seen new ≡ g.seen old
+  pub usable : IsTrue (g.is_usable new)
+  pub clean : IsTrue (g.is_clean new) → IsTrue (g.is_clean old)
+  pub crash : (left : List ℕ) → g.may_leave new left → g.may_leave old left
+
+-- why a copy broke off that was begun: the file was not read; or the output failed, or took no byte
+abbrev pub CopyBreaksOff : (start end : Told) → Fault → Type 0
+CopyBreaksOff start end why = (why ≡ fault.Store) ⊎ ((why ≡ fault.Write) × FailsOrGivesNone start.counts end.counts)
 
 -- the bytes of the database file were written, and both files are as they were; or that broke off
 pub record PoursAs {D : Type 0} (g : Disk D) (files : Files D) (start end : Told) (done : Result ⊤ Fault) (back : Files D) : Type 0 where

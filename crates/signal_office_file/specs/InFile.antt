@@ -9,10 +9,10 @@ use Rattle.office_tables.specs.Content.{Content}
 use Rattle.office_tables_migration.specs.declared.puts.Migrated.{Migrated}
 use Rattle.office_tables_open.specs.declared.open.OpenFault.{OpenFault}
 use Rattle.signal_office_faults.specs.declared.fault.Fault.{Fault}
-use Rattle.signal_office_in_file.specs.Ended.{FileView, file_view}
+use Rattle.signal_office_in_file.specs.Ended.{FileView}
 use Rattle.signal_office_in_file.specs.declared.Ended.{Ended}
-use Rattle.signal_office_in_file.specs.declared.Ended.TheVariants.{Unopened, Refused, Closed, Unclosed}
-use Rattle.signal_office_file.specs.Files.{AreNew, HoldIn, KeepTables}
+use Rattle.signal_office_in_file.specs.declared.Ended.TheVariants.{Closed, Unclosed}
+use Rattle.signal_office_file.specs.Files.{AreNew, HoldAlone, HoldIn, KeepTables}
 use Rattle.signal_office_file.specs.Left.{IsCleanFile, IsRefusedIn, LeavesDatabases, LeavesToday, MayLeaveOf}
 use Rattle.signal_office_file.specs.Migrating.{ClosedMigrated}
 use Rattle.signal_office_file.specs.Told.{told_of}
@@ -50,7 +50,15 @@ module _ {D : Type 0} {g : Disk D} where
 
 -- what the jobs know of two files
 abbrev pub files_view : {D : Type 0} (g : Disk D) → Files D → FileView (FileLeft D g)
-files_view g files = file_view (HoldIn (image_of g files)) IsCleanFile IsKept (λ back why. IsRefusedFor files why back) LeavesTables
+files_view g files = record {
+  held = HoldIn (image_of g files);
+  alone = HoldAlone;
+  is_clean = IsCleanFile;
+  keeps = IsKept;
+  refused = λ back why. IsRefusedFor files why back;
+  leaves = LeavesTables;
+  migrated = λ back rows. IsMigrated files back rows;
+}
 
 -- Work over two files ended, and they were closed after it, on a disk that returned what was written: so before it.
 abbrev pub WasClean : {D : Type 0} (g : Disk D) {T : Type 0} → Files D → Ended T (FileLeft D g) → Type 0
@@ -64,23 +72,14 @@ IsUnclosed g files leaves (Unclosed why back) =
     → (old : Content) × HoldIn (image_of g files) old × ∥ (tables ≡ old) ⊎ leaves old tables ∥₁)
 IsUnclosed g files leaves _ = Unit {0}
 
--- the same of files that held this as they were opened
-abbrev pub IsRefusedAt : {D : Type 0} {g : Disk D} → Image → FileLeft D g → Fault → Type 0
-IsRefusedAt {D} {g} image back why = (files : Files D) × AreNew g files image × IsRefusedFor files why back
-
-abbrev pub IsMigratedAt : {D : Type 0} {g : Disk D} → Image → FileLeft D g → ℕ → Type 0
-IsMigratedAt {D} {g} image back rows = (files : Files D) × AreNew g files image × IsMigrated files back rows
-
+-- what they know of files of which it is known what they held as they were opened
 abbrev pub view_at : {D : Type 0} (g : Disk D) → Image → FileView (FileLeft D g)
-view_at g image = file_view (HoldIn image) IsCleanFile IsKept (IsRefusedAt image) LeavesTables
-
--- the same end, with what is left of the file in another form
-abbrev pub map_left : {T L M : Type 0} → (L → M) → Ended T L → Ended T M
-map_left form (Unopened why) = Unopened why
-map_left form (Refused why left) = Refused why (form left)
-map_left form (Closed done left) = Closed done (form left)
-map_left form (Unclosed why left) = Unclosed why (form left)
-
--- what is known of a file, by another form of what is left of it
-abbrev pub view_by : {L M : Type 0} → (L → M) → FileView M → FileView L
-view_by form view = file_view view.held (λ left. view.is_clean (form left)) (λ left. view.keeps (form left)) (λ left. view.refused (form left)) (λ left. view.leaves (form left))
+view_at {D} g image = record {
+  held = HoldIn image;
+  alone = HoldAlone;
+  is_clean = IsCleanFile;
+  keeps = IsKept;
+  refused = λ back why. (files : Files D) × AreNew g files image × IsRefusedFor files why back;
+  leaves = LeavesTables;
+  migrated = λ back rows. (files : Files D) × AreNew g files image × IsMigrated files back rows;
+}

@@ -1,35 +1,20 @@
 //! The office of a file, copied: the log into the database file, and that file's bytes into a sink.
 
-ghost use Rattle.std.specs.Prelude.{◌≡◌};
-ghost use Rattle.sqlite.specs.WalFiles.{image_at};
 ghost use Rattle.signal_office_in_file.specs.Ended.{EndsOver, copy_work};
-ghost use Rattle.signal_office_file.specs.Copying.{PoursAs, told_of_copy};
+ghost use Rattle.signal_office_file.specs.Copying.{PoursAs};
 ghost use Rattle.signal_office_file.specs.Files.{AreUsable, HoldAlone};
-ghost use Rattle.signal_office_file.specs.InFile.{files_view, view_at};
+ghost use Rattle.signal_office_file.specs.InFile.{files_view};
 
+use crate::blocks::copy_all;
 use crate::closing::close_office;
 use crate::left::FileLeft;
 use crate::opening::open_file;
-use crate::paths::files_at;
-use crate::waiting::Begin;
 use office_http::Sink;
-use signal_office_backup::{CopyFault, copy_all};
 use signal_office_faults::Fault;
 use signal_office_in_file::Ended;
-use sqlite::{FileFrom, Options};
+use sqlite::Options;
 use sqlite_disk::{Disk, Files};
 use std::alloc::Global;
-
-/// What is told of a file that was not copied.
-fn fault_of_copy(fault: CopyFault) -> Fault
-    ensures { result ≡ told_of_copy fault }
-{
-    match fault {
-        CopyFault::Read => Fault::Store,
-        CopyFault::Write => Fault::Write,
-        CopyFault::NoMemory => Fault::Memory,
-    }
-}
 
 /// Writes the bytes of the database file to the sink, and gives both files back.
 fn poured<D: Disk + Drop, W: Sink>(
@@ -40,10 +25,7 @@ fn poured<D: Disk + Drop, W: Sink>(
     requires { AreUsable D.Disk files }
     ensures { PoursAs D.Disk files (W.told out.old) (W.told out.new) result.0 result.1 }
 {
-    let done = match copy_all(alloc, &mut files.db, out) {
-        Ok(()) => Ok(()),
-        Err(fault) => Err(fault_of_copy(fault)),
-    };
+    let done = copy_all(alloc, &mut files.db, out);
     (done, files)
 }
 
@@ -68,22 +50,5 @@ pub fn copied_in<D: Disk + Drop, W: Sink>(
             Ended::Closed(done, FileLeft::Closed(files))
         }
         Err((fault, left)) => Ended::Unclosed(fault, left),
-    }
-}
-
-/// Copies the office of a file.
-pub(crate) fn copied_at<S: Begin, W: Sink>(
-    rt: &HostRuntime,
-    alloc: Global,
-    path: &str,
-    wait: u32,
-    out: &mut W,
-) -> Ended<Result<(), Fault>, FileLeft<FileFrom<S>>>
-    ensures { EndsOver (view_at ⟦<FileFrom<S> as Disk>⟧ (image_at S.Start))
-        (copy_work HoldAlone (W.told out.old) (W.told out.new)) result }
-{
-    match files_at::<S>(rt, path, wait) {
-        Ok((files, options)) => copied_in(alloc, files, options, out),
-        Err(fault) => Ended::Unopened(fault),
     }
 }

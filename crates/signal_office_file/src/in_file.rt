@@ -2,17 +2,12 @@
 
 ghost use Rattle.std.specs.Prelude.{◌≡◌};
 ghost use Rattle.office_http_framing.specs.Serve.{ends_of};
-ghost use Rattle.signal_office_in_file.specs.Ended.{EndsOver, IsBegun, IsCounted};
-ghost use Rattle.signal_office_in_file.specs.Ended.{stream_work, task_work};
-ghost use Rattle.sqlite.specs.WalFiles.{image_at};
-ghost use Rattle.signal_office_file.specs.InFile.{IsUnclosed, IsMigrated, IsMigratedAt};
-ghost use Rattle.signal_office_file.specs.InFile.{IsRefusedAt, IsRefusedFor, WasClean};
-ghost use Rattle.signal_office_file.specs.InFile.{files_view, map_left, rows_counted, view_at};
-ghost use Rattle.signal_office_file.specs.Left.{IsCleanFile};
+ghost use Rattle.signal_office_in_file.specs.Ended.{EndsOver, IsCounted, stream_work, task_work};
+ghost use Rattle.signal_office_file.specs.InFile.{IsUnclosed, WasClean, files_view, rows_counted};
 ghost use Rattle.signal_office_file.specs.Serving.{IsCutShortIn};
 
 use crate::closing::close_office;
-use crate::copying::copied_at;
+use crate::copying::copied_in;
 use crate::left::FileLeft;
 use crate::migrating::migrate_file;
 use crate::notes::note_content;
@@ -24,9 +19,10 @@ use office_http::{ServeFault, Served, Sink, Source};
 use office_tables::Migrated;
 use signal_office_faults::Fault;
 use signal_office_in_file::{Ended, OfficeInFile, OfficeTask};
-use sqlite::{FileFrom, Options, Start, Wary};
+use sqlite::{FileFrom, Options};
 use sqlite_disk::{Disk, Files};
 use std::alloc::Global;
+use std::marker::PhantomData;
 
 /// The first of two faults: that of the work, or else that of closing.
 fn first_fault<T: Drop, E>(done: Result<T, E>, closing: Fault) -> Fault
@@ -48,12 +44,9 @@ pub fn done_in<D: Disk + Drop, Done: Drop, T: OfficeTask<Done>, W: Sink>(
     task: &T,
     out: &mut W,
 ) -> Ended<Result<Done, Fault>, FileLeft<D>>
-    ensures ends { EndsOver (files_view D.Disk files) (task_work
-        (λ old done new. T.does task.now old done new (W.told out.old) (W.told out.new))
-        (T.leaves task.now) (out.new ≡ out.old)) result }
     // The output took what the task says before the files are closed, whatever the disk did.
-    ensures said { IsBegun (out.new ≡ out.old)
-        (T.says task.now (W.told out.old) (W.told out.new)) result }
+    ensures ends { EndsOver (files_view D.Disk files) (task_work (T.effect task.now)
+        (W.told out.old) (W.told out.new) (out.new ≡ out.old)) result }
     ensures clean { WasClean D.Disk files result }
 {
     let office = match open_file(alloc, files, options) {
@@ -113,8 +106,7 @@ fn migrated_in<D: Disk + Drop>(
     files: Files<D>,
     options: Options,
 ) -> Ended<Result<u128, Fault>, FileLeft<D>>
-    ensures { IsCounted IsCleanFile (λ left rows. IsMigrated files left rows)
-        (λ left why. IsRefusedFor files why left) result }
+    ensures { IsCounted (files_view D.Disk files) result }
 {
     match migrate_file(alloc, files, options) {
         Ended::Unopened(fault) => Ended::Unopened(fault),
@@ -124,113 +116,30 @@ fn migrated_in<D: Disk + Drop>(
     }
 }
 
-/// Does a task over the tables of a file.
-fn done_at<S: Begin, Done: Drop, T: OfficeTask<Done>, W: Sink>(
-    rt: &HostRuntime,
-    alloc: Global,
-    path: &str,
-    wait: u32,
-    task: &T,
-    out: &mut W,
-) -> Ended<Result<Done, Fault>, FileLeft<FileFrom<S>>>
-    ensures ends { EndsOver (view_at ⟦<FileFrom<S> as Disk>⟧ (image_at S.Start)) (task_work
-        (λ old done new. T.does task.now old done new (W.told out.old) (W.told out.new))
-        (T.leaves task.now) (out.new ≡ out.old)) result }
-    ensures said { IsBegun (out.new ≡ out.old)
-        (T.says task.now (W.told out.old) (W.told out.new)) result }
-{
-    match files_at::<S>(rt, path, wait) {
-        Ok((files, options)) => done_in(rt, alloc, files, options, task, out),
-        Err(fault) => Ended::Unopened(fault),
-    }
-}
-
-/// Answers the requests of the source over the tables of a file.
-fn answered_at<S: Begin, R: Source, W: Sink>(
-    rt: &HostRuntime,
-    alloc: Global,
-    path: &str,
-    wait: u32,
-    source: &mut R,
-    out: &mut W,
-    max_requests: u32,
-) -> Ended<Result<Served, ServeFault>, FileLeft<FileFrom<S>>>
-    ensures { EndsOver (view_at ⟦<FileFrom<S> as Disk>⟧ (image_at S.Start))
-        (stream_work max_requests (ends_of (R.told source.old) (W.told out.old))
-        (ends_of (R.told source.new) (W.told out.new))
-        ((source.new ≡ source.old) × (out.new ≡ out.old))) result }
-{
-    match files_at::<S>(rt, path, wait) {
-        Ok((files, options)) => answered_in(alloc, files, options, source, out, max_requests),
-        Err(fault) => Ended::Unopened(fault),
-    }
-}
-
-/// Brings the tables of a file to today's version.
-fn migrated_at<S: Begin>(
-    rt: &HostRuntime,
-    alloc: Global,
-    path: &str,
-    wait: u32,
-) -> Ended<Result<u128, Fault>, FileLeft<FileFrom<S>>>
-    ensures { IsCounted IsCleanFile (λ left rows. IsMigratedAt (image_at S.Start) left rows)
-        (λ left why. IsRefusedAt (image_at S.Start) left why) result }
-{
-    match files_at::<S>(rt, path, wait) {
-        Ok((files, options)) => migrated_in(alloc, files, options),
-        Err(fault) => Ended::Unopened(fault),
-    }
-}
-
-/// What is left of a file of the system.
-#[derive(Drop)]
-pub struct SystemFile {
-    left: FileLeft<FileFrom<Wary>>,
-}
-
-/// What is left of the file, as that of the system. A file that the store refused is noted: no
-/// write to it follows, so its lock may go with the reading.
-fn of_system<T>(
-    rt: &HostRuntime,
-    path: &str,
-    ended: Ended<T, FileLeft<FileFrom<Wary>>>,
-) -> Ended<T, SystemFile>
-    ensures { result ≡ map_left (λ left. record { left = left }) ended }
+/// The end of work over a file. One that the store refused is noted: no write to it follows, so its
+/// lock may go with the reading.
+fn noted<T, L>(rt: &HostRuntime, path: &str, ended: Ended<T, L>) -> Ended<T, L>
+    ensures { result ≡ ended }
 {
     if matches!(ended, Ended::Refused(Fault::Store, _)) {
         note_content(rt, path);
     }
-    match ended {
-        Ended::Unopened(fault) => Ended::Unopened(fault),
-        Ended::Refused(fault, left) => Ended::Refused(fault, SystemFile { left }),
-        Ended::Closed(done, left) => Ended::Closed(done, SystemFile { left }),
-        Ended::Unclosed(fault, left) => Ended::Unclosed(fault, SystemFile { left }),
-    }
+    ended
 }
 
-/// The tables of a database in a file of the system. What it held is `Wary`'s: no clause ties that
-/// to the path.
-pub struct TablesInFile;
+/// The tables of a database in a file of the system. What it held as it was opened is `S`'s: no
+/// clause ties that to the path.
+pub struct TablesInFile<S> {
+    held: PhantomData<S>,
+}
 
-impl OfficeInFile for TablesInFile {
-    ghost use Rattle.signal_office_file.specs.Files.{HoldAlone, HoldIn};
-    ghost use Rattle.signal_office_file.specs.InFile.{IsKept, LeavesTables};
+impl<S: Begin> OfficeInFile for TablesInFile<S> {
+    ghost use Rattle.sqlite.specs.WalFiles.{image_at};
+    ghost use Rattle.signal_office_file.specs.InFile.{view_at};
 
-    type Left = SystemFile;
+    type Left = FileLeft<FileFrom<S>>;
 
-    ghost held = { λ tables. HoldIn (image_at ⟦<Wary as Start>⟧) tables };
-
-    ghost is_clean = { λ file. IsCleanFile file.left };
-
-    ghost keeps = { λ file tables. IsKept file.left tables };
-
-    ghost refused = { λ file why. IsRefusedAt (image_at ⟦<Wary as Start>⟧) file.left why };
-
-    ghost leaves = { λ file says. LeavesTables file.left says };
-
-    ghost migrated = { λ file rows. IsMigratedAt (image_at ⟦<Wary as Start>⟧) file.left rows };
-
-    ghost alone = { HoldAlone };
+    ghost known = { view_at ⟦<FileFrom<S> as Disk>⟧ (image_at S.Start) };
 
     fn do_task<Done: Drop, T: OfficeTask<Done>, W: Sink>(
         rt: &HostRuntime,
@@ -239,12 +148,13 @@ impl OfficeInFile for TablesInFile {
         wait: u32,
         task: &T,
         out: &mut W,
-    ) -> Ended<Result<Done, Fault>, SystemFile> {
-        of_system(
-            rt,
-            path,
-            done_at::<Wary, Done, T, W>(rt, alloc, path, wait, task, out),
-        )
+    ) -> Ended<Result<Done, Fault>, FileLeft<FileFrom<S>>> {
+        match files_at::<S>(rt, path, wait) {
+            Ok((files, options)) => {
+                noted(rt, path, done_in(rt, alloc, files, options, task, out))
+            }
+            Err(fault) => Ended::Unopened(fault),
+        }
     }
 
     fn answer<R: Source, W: Sink>(
@@ -255,9 +165,14 @@ impl OfficeInFile for TablesInFile {
         source: &mut R,
         out: &mut W,
         max_requests: u32,
-    ) -> Ended<Result<Served, ServeFault>, SystemFile> {
-        let ended = answered_at::<Wary, R, W>(rt, alloc, path, wait, source, out, max_requests);
-        of_system(rt, path, ended)
+    ) -> Ended<Result<Served, ServeFault>, FileLeft<FileFrom<S>>> {
+        match files_at::<S>(rt, path, wait) {
+            Ok((files, options)) => {
+                let ended = answered_in(alloc, files, options, source, out, max_requests);
+                noted(rt, path, ended)
+            }
+            Err(fault) => Ended::Unopened(fault),
+        }
     }
 
     fn migrate(
@@ -265,8 +180,11 @@ impl OfficeInFile for TablesInFile {
         alloc: Global,
         path: &str,
         wait: u32,
-    ) -> Ended<Result<u128, Fault>, SystemFile> {
-        of_system(rt, path, migrated_at::<Wary>(rt, alloc, path, wait))
+    ) -> Ended<Result<u128, Fault>, FileLeft<FileFrom<S>>> {
+        match files_at::<S>(rt, path, wait) {
+            Ok((files, options)) => noted(rt, path, migrated_in(alloc, files, options)),
+            Err(fault) => Ended::Unopened(fault),
+        }
     }
 
     fn copy<W: Sink>(
@@ -275,7 +193,10 @@ impl OfficeInFile for TablesInFile {
         path: &str,
         wait: u32,
         out: &mut W,
-    ) -> Ended<Result<(), Fault>, SystemFile> {
-        of_system(rt, path, copied_at::<Wary, W>(rt, alloc, path, wait, out))
+    ) -> Ended<Result<(), Fault>, FileLeft<FileFrom<S>>> {
+        match files_at::<S>(rt, path, wait) {
+            Ok((files, options)) => noted(rt, path, copied_in(alloc, files, options, out)),
+            Err(fault) => Ended::Unopened(fault),
+        }
     }
 }

@@ -2,6 +2,7 @@
 //! brought to today's. Each call takes the two files and gives back what is left of them.
 #![tactic(auto)]
 
+mod blocks;
 mod closing;
 mod copying;
 mod fault;
@@ -17,7 +18,7 @@ mod waiting;
 
 pub use closing::close_office;
 pub use copying::copied_in;
-pub use in_file::{SystemFile, TablesInFile, answered_in, done_in};
+pub use in_file::{TablesInFile, answered_in, done_in};
 pub use left::{FileLeft, Refused};
 pub use migrating::migrate_file;
 pub use opening::{FileOffice, open_file};

@@ -1,13 +1,11 @@
 //! The tables of a file of an older version, brought to today's version.
 
 ghost use Rattle.std.specs.Prelude.{◌≡◌, IfOk, IfErr};
-ghost use Rattle.signal_office_file.specs.Migrating.{told_of_outcome, told_unclosed};
+ghost use Rattle.signal_office_file.specs.Migrating.{told_of_outcome, told_unclosed, BringsToday, EndsMigration, MigratesOnDisk, MigratesIn};
 ghost use Rattle.sqlite.specs.Held.{state};
 ghost use Rattle.sqlite.specs.State.{HasCleanDisk};
 ghost use Rattle.office_tables_open.specs.Promises.{IsArrangedIfClean};
 ghost use Rattle.signal_office_file.specs.Left.{IsUnopened};
-ghost use Rattle.signal_office_file.specs.Migrating.{BringsToday, EndsMigration};
-ghost use Rattle.signal_office_file.specs.Migrating.{MigratesOnDisk, MigratesIn};
 
 use crate::closing::close_file;
 use crate::fault::fault_of_opening;

@@ -10,8 +10,7 @@ ghost use Rattle.office_tables_open.specs.Opening.{IsOpened, IsRefused};
 ghost use Rattle.office_tables_open.specs.Promises.{IsArrangedIfClean};
 ghost use Rattle.office_tables_open.specs.SqlShelf.{IsCurrent};
 ghost use Rattle.signal_office_file.specs.Files.{HoldToday};
-ghost use Rattle.signal_office_file.specs.Left.{IsOpenedIn, IsRefusedIn, IsUnopened};
-ghost use Rattle.signal_office_file.specs.Left.{KeepsToday};
+ghost use Rattle.signal_office_file.specs.Left.{IsOpenedIn, IsRefusedIn, IsUnopened, KeepsToday};
 ghost use Rattle.signal_office_file.specs.Serving.{AreOpenedIn};
 
 use crate::fault::{fault_of_database, fault_of_opening};

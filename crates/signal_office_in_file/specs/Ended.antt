@@ -17,45 +17,51 @@ use Rattle.signal_office_in_file.specs.Stopping.{AnswersToAStop}
 use Rattle.signal_office_in_file.specs.declared.Ended.{Ended}
 use Rattle.signal_office_in_file.specs.declared.Ended.TheVariants.{Unopened, Refused, Closed, Unclosed}
 
--- what is known of a file: the tables that it held as it was opened; and of what is left of it, whether the disk has returned what was written, which tables
--- it holds, closed, as the next opening finds them, which fault it was refused with, and, where it was not closed, that such tables alone are what a stop leaves,
--- as the next opening takes them
+-- What is known of the file of an office: the tables that it held as it was opened; whether a file of some bytes, with no log beside it, holds some tables,
+-- as an opening finds them. And of what is left of it: whether the disk has returned what was written; which tables it holds, closed, as the next opening
+-- finds them; which fault it was refused with, and is left as it was; that, where it was not closed, such tables alone are what a stop leaves, as the next
+-- opening takes them; and that it is closed, and holds what became of its tables, of which so many rows were written anew.
 pub record FileView (Left : Type 0) : Type 1 where
   pub held : Content → Type 0
+  pub alone : List ℕ → Content → Type 0
   pub is_clean : Left → Type 0
   pub keeps : Left → Content → Type 0
   pub refused : Left → Fault → Type 0
   pub leaves : Left → (Content → Type 0) → Type 0
+  pub migrated : Left → ℕ → Type 0
 
-abbrev pub file_view : {Left : Type 0} → (Content → Type 0) → (Left → Type 0) → (Left → Content → Type 0) → (Left → Fault → Type 0)
-    → (Left → (Content → Type 0) → Type 0) → FileView Left
-file_view held is_clean keeps refused leaves =
-    record { held = held; is_clean = is_clean; keeps = keeps; refused = refused; leaves = leaves }
-
--- what work over tables does where they are kept after it; what is known of it where a stop leaves such tables of it alone; and that nothing was done
+-- What work over tables does where they are kept after it; what is known of it where a stop leaves such tables of it alone; that nothing was done; and what is
+-- so wherever it was begun, whatever the disk did.
 pub record Work (T : Type 0) : Type 1 where
   pub does : Content → T → Content → Type 0
   pub stops : Content → (leaves : (Content → Type 0) → Type 0) → Type 0
   pub untouched : Type 0
+  pub begun : Type 0
 
 -- The work was done, once, over the tables that the file held, and they are kept in the file; or nothing was done, since the system did not open the file,
 -- or the file was refused. Where the file could not be closed that is told, whatever came of the work, and a stop leaves of it what one leaves of the work.
 abbrev pub EndsOver : {Left T : Type 0} → FileView Left → Work T → Ended T Left → Type 0
 EndsOver view work (Unopened why) = work.untouched × ((why ≡ fault.Store) ⊎ (why ≡ fault.Memory))
 EndsOver view work (Refused why left) = work.untouched × view.refused left why
-EndsOver view work (Closed done left) = view.is_clean left → (old : Content) × (new : Content) × view.held old × work.does old done new × view.keeps left new
-EndsOver view work (Unclosed why left) = view.is_clean left → (old : Content) × view.held old × work.stops old (view.leaves left)
+EndsOver view work (Closed done left) =
+    work.begun × (view.is_clean left → (old : Content) × (new : Content) × view.held old × work.does old done new × view.keeps left new)
+EndsOver view work (Unclosed why left) = work.begun × (view.is_clean left → (old : Content) × view.held old × work.stops old (view.leaves left))
 
--- The work was begun, and this was done, whatever the disk did; or nothing was.
-abbrev pub IsBegun : {Left T : Type 0} → (untouched begun : Type 0) → Ended T Left → Type 0
-IsBegun untouched begun (Unopened why) = untouched
-IsBegun untouched begun (Refused why left) = untouched
-IsBegun untouched begun (Closed done left) = begun
-IsBegun untouched begun (Unclosed why left) = begun
+-- what a task makes of the tables of an office, what it gives, and what its output took; which tables a stop may leave of it, begun over the first ones; and
+-- what its output took, whatever the disk did
+pub record Effect (T : Type 0) : Type 1 where
+  pub does : Content → Result T Fault → Content → Told → Told → Type 0
+  pub leaves : Content → Content → Type 0
+  pub says : Told → Told → Type 0
 
--- a task: what it makes of tables and gives, and which tables a stop leaves of it
-abbrev pub task_work : {T : Type 0} → (does : Content → T → Content → Type 0) → (leaves : Content → Content → Type 0) → (untouched : Type 0) → Work T
-task_work does leaves untouched = record { does = does; stops = λ old left. left (leaves old); untouched = untouched }
+-- a task that is done over the tables of a file
+abbrev pub task_work : {T : Type 0} → Effect T → (start end : Told) → (untouched : Type 0) → Work (Result T Fault)
+task_work effect start end untouched = record {
+  does = λ old done new. effect.does old done new start end;
+  stops = λ old left. left (effect.leaves old);
+  untouched = untouched;
+  begun = effect.says start end;
+}
 
 -- The requests were run from the office that the tables stood for, and the tables stand for the office after them.
 pub record RunsOver (new : Content) (before after : Office) (requests : List PlainRequest) (answers : List (List ℕ)) : Type 0 where
@@ -69,7 +75,7 @@ ServesStoredOffice limit start end old outcome new = (before : Office) → Stand
 -- a stream of requests that is answered
 abbrev pub stream_work : ℕ → Ends → Ends → (untouched : Type 0) → Work (Result Served ServeFault)
 stream_work limit start end untouched =
-    record { does = ServesStoredOffice limit start end; stops = AnswersToAStop limit start end; untouched = untouched }
+    record { does = ServesStoredOffice limit start end; stops = AnswersToAStop limit start end; untouched = untouched; begun = ⊤ }
 
 -- why bytes were not copied: the disk failed, or memory was refused, or the output failed
 abbrev pub IsUncopied : (start end : Told) → Fault → Type 0
@@ -87,15 +93,16 @@ copy_work Alone start end = record {
   does = λ old done new. (new ≡ old) × IsCopyOf Alone start end old done;
   stops = λ old leaves. leaves (λ found. found ≡ old);
   untouched = end ≡ start;
+  begun = ⊤;
 }
 
 -- A migration was made, and its rows are those that were counted; or it was refused, and the tables are as they were. Nothing is counted that was not closed.
-abbrev pub IsCounted : {Left : Type 0} → (is_clean : Left → Type 0) → (migrated : Left → ℕ → Type 0) → (refused : Left → Fault → Type 0) → Ended (Result ℕ Fault) Left → Type 0
-IsCounted is_clean migrated refused (Unopened why) = (why ≡ fault.Store) ⊎ (why ≡ fault.Memory)
-IsCounted is_clean migrated refused (Refused why left) = refused left why
-IsCounted is_clean migrated refused (Closed (Ok rows) left) = is_clean left → migrated left rows
-IsCounted is_clean migrated refused (Closed (Err why) left) = is_clean left → refused left why
-IsCounted is_clean migrated refused (Unclosed why left) = Unit {0}
+abbrev pub IsCounted : {Left : Type 0} → FileView Left → Ended (Result ℕ Fault) Left → Type 0
+IsCounted view (Unopened why) = (why ≡ fault.Store) ⊎ (why ≡ fault.Memory)
+IsCounted view (Refused why left) = view.refused left why
+IsCounted view (Closed (Ok rows) left) = view.is_clean left → view.migrated left rows
+IsCounted view (Closed (Err why) left) = view.is_clean left → view.refused left why
+IsCounted view (Unclosed why left) = Unit {0}
 
 -- what came of work over a file that was closed after it, or why it was not
 abbrev pub told_by : {T Left : Type 0} → Ended T Left → Result T Fault

@@ -42,20 +42,11 @@ impl<T, L: Drop> Ended<T, L> {
 
 /// What an office over any tables does, and gives.
 pub trait OfficeTask<Done> {
-    ghost use Rattle.std.specs.Prelude.{Result};
-    ghost use Rattle.office_http_framing.specs.Ends.{Told};
-    ghost use Rattle.office_tables_shelf.specs.Content.{Content};
-    ghost use Rattle.signal_office_faults.specs.declared.fault.Fault.{Fault};
-    ghost use Rattle.signal_office_in_file.specs.Stopping.{StopsWithin};
+    ghost use Rattle.signal_office_in_file.specs.Ended.{Effect};
+    ghost use Rattle.signal_office_in_file.specs.Doing.{DoesTask};
 
-    // What it makes of the tables, what it gives, and what its output took.
-    ghost does: { Self → Content → Result Done Fault → Content → Told → Told → Type 0 };
-
-    // Which tables a stop may leave of it, begun over the first ones.
-    ghost leaves: { Self → Content → Content → Type 0 };
-
-    // What its output took, whatever the disk did.
-    ghost says: { Self → Told → Told → Type 0 };
+    // What it does to the tables of an office and to its output.
+    ghost effect: { Self → Effect Done };
 
     /// Does it by an office, which is given back.
     fn done_with<S: Shelf, W: Sink>(
@@ -65,48 +56,22 @@ pub trait OfficeTask<Done> {
         office: Office<S>,
         out: &mut W,
     ) -> (Office<S>, Result<Done, Fault>)
-        ensures clean { S.is_clean result.0 → S.is_clean office }
-        ensures honest { S.is_honest result.0 → S.is_honest office }
-        ensures does { S.is_clean result.0 → S.is_honest result.0 →
-            does self.now (S.content office) result.1 (S.content result.0)
-            (W.told out.old) (W.told out.new) }
-        ensures stop { StopsWithin S.Shelf office result.0 (leaves self.now) }
-        ensures said { says self.now (W.told out.old) (W.told out.new) };
+        ensures { DoesTask S.Shelf office result.0 (effect self.now) result.1
+            (W.told out.old) (W.told out.new) };
 }
 
 /// How the office of a file is opened, used and closed again. The jobs know no database. Where
 /// another run has the file open, each call tries again to open it for `wait` seconds.
 pub trait OfficeInFile {
-    ghost use Rattle.std.specs.Prelude.{◌≡◌, ℕ, List};
+    ghost use Rattle.std.specs.Prelude.{◌≡◌};
     ghost use Rattle.office_http_framing.specs.Serve.{ends_of};
-    ghost use Rattle.office_tables_shelf.specs.Content.{Content};
-    ghost use Rattle.signal_office_faults.specs.declared.fault.Fault.{Fault};
-    ghost use Rattle.signal_office_in_file.specs.Ended.{EndsOver, IsBegun, IsCounted, file_view};
-    ghost use Rattle.signal_office_in_file.specs.Ended.{copy_work, stream_work, task_work};
+    ghost use Rattle.signal_office_in_file.specs.Ended.{EndsOver, FileView, IsCounted, copy_work, stream_work, task_work};
 
     /// What is left of the file.
     type Left: Drop;
 
-    // The file held these tables as it was opened.
-    ghost held: { Content → Type 0 };
-
-    // The disk has returned what was written to it.
-    ghost is_clean: { Self.Left → Type 0 };
-
-    // It holds these tables, closed, as the next opening finds them.
-    ghost keeps: { Self.Left → Content → Type 0 };
-
-    // It was refused with this fault, and is left as it was.
-    ghost refused: { Self.Left → Fault → Type 0 };
-
-    // It is not closed, and a stop leaves such tables of it, as the next opening takes them.
-    ghost leaves: { Self.Left → (Content → Type 0) → Type 0 };
-
-    // It is closed, and holds what became of its tables: so many rows were written anew.
-    ghost migrated: { Self.Left → ℕ → Type 0 };
-
-    // A file of these bytes, with no log beside it, holds these tables, as an opening finds them.
-    ghost alone: { List ℕ → Content → Type 0 };
+    // What is known of the file, and of what is left of it.
+    ghost known: { FileView Self.Left };
 
     /// Does a task over the tables of a file, which are made where there are none.
     fn do_task<Done: Drop, T: OfficeTask<Done>, W: Sink>(
@@ -117,11 +82,8 @@ pub trait OfficeInFile {
         task: &T,
         out: &mut W,
     ) -> Ended<Result<Done, Fault>, Self::Left>
-        ensures ends { EndsOver (file_view held is_clean keeps refused leaves) (task_work
-            (λ old done new. T.does task.now old done new (W.told out.old) (W.told out.new))
-            (T.leaves task.now) (out.new ≡ out.old)) result }
-        ensures said { IsBegun (out.new ≡ out.old)
-            (T.says task.now (W.told out.old) (W.told out.new)) result };
+        ensures { EndsOver known (task_work (T.effect task.now) (W.told out.old) (W.told out.new)
+            (out.new ≡ out.old)) result };
 
     /// Answers the requests of the source over the tables of a file.
     fn answer<R: Source, W: Sink>(
@@ -133,7 +95,7 @@ pub trait OfficeInFile {
         out: &mut W,
         max_requests: u32,
     ) -> Ended<Result<Served, ServeFault>, Self::Left>
-        ensures { EndsOver (file_view held is_clean keeps refused leaves) (stream_work max_requests
+        ensures { EndsOver known (stream_work max_requests
             (ends_of (R.told source.old) (W.told out.old))
             (ends_of (R.told source.new) (W.told out.new))
             ((source.new ≡ source.old) × (out.new ≡ out.old))) result };
@@ -145,7 +107,7 @@ pub trait OfficeInFile {
         path: &str,
         wait: u32,
     ) -> Ended<Result<u128, Fault>, Self::Left>
-        ensures { IsCounted is_clean migrated refused result };
+        ensures { IsCounted known result };
 
     /// Copies the log of a file into it, and then the file's bytes into the output.
     fn copy<W: Sink>(
@@ -155,6 +117,6 @@ pub trait OfficeInFile {
         wait: u32,
         out: &mut W,
     ) -> Ended<Result<(), Fault>, Self::Left>
-        ensures { EndsOver (file_view held is_clean keeps refused leaves)
-            (copy_work alone (W.told out.old) (W.told out.new)) result };
+        ensures { EndsOver known
+            (copy_work known.alone (W.told out.old) (W.told out.new)) result };
 }

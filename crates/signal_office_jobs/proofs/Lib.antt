@@ -1,3 +1,9 @@
+pub mod FillLemmas
+pub mod InFileLemmas
+pub mod InputLemmas
 pub mod MemoryLemmas
-pub mod PrintingLemmas
+pub mod RequestLemmas
+pub mod RevisedLemmas
 pub mod RunLemmas
+pub mod ServingLemmas
+pub mod StopLemmas

@@ -1,17 +1,15 @@
 -- What a copy of an office does, and when it is refused.
-use Rattle.std.specs.Prelude.{◌≡◌, ◌⊎◌, ℕ, Bool, true, false, not, ◌&&◌, ◌||◌, List, Result, Ok, Err, ⊤}
+use Rattle.std.specs.Prelude.{◌≡◌, ◌⊎◌, ℕ, Bool, true, false, not, ◌&&◌, ◌||◌, Result, Ok, Err, ⊤}
 use Rattle.office_http_framing.specs.Ends.{Told}
-use Rattle.office_tables_shelf.specs.Content.{Content}
 use Rattle.signal_office_faults.specs.declared.fault.Fault.{Fault}
 use Rattle.signal_office_faults.specs.declared.fault.Fault.TheVariants as fault
 use Rattle.signal_office_in_file.specs.Ended.{EndsOver, FileView, copy_work, told_by}
 use Rattle.signal_office_in_file.specs.declared.Ended.{Ended}
-use Rattle.signal_office_jobs.specs.Printing.{IsMissing}
-use Rattle.signal_office_tasks.specs.Output.{Output, PrintsDone, TellsNothing, joined}
-use Rattle.signal_office_tasks.specs.Done.{copied_line}
-use Rattle.signal_office_tasks.specs.Tasks.{TellsOutcome}
+use Rattle.signal_office_jobs.specs.InFile.{IsMissing}
+use Rattle.signal_office_jobs.specs.Output.{Output, PrintsDone, TellsNothing, joined}
+use Rattle.signal_office_jobs.specs.Done.{TellsOutcome, copied_line}
 use Rattle.signal_office_jobs.specs.declared.backup.Standing.{Standing}
-use Rattle.signal_office_tasks.specs.declared.done.Done.{Done}
+use Rattle.signal_office_jobs.specs.declared.done.Done.{Done}
 
 -- A copy may be put where no log lies, which would bring another office back, nor a copy that was not finished; a file is replaced only by force.
 abbrev pub leaves_room : (force : Bool) → Standing → Bool
@@ -27,13 +25,13 @@ abbrev pub FindsRoom : (force : Bool) → Result ⊤ Fault → Type 0
 FindsRoom force (Ok done) = (found : Standing) × (leaves_room force found ≡ true)
 FindsRoom force (Err why) = (why ≡ fault.Memory) ⊎ ((why ≡ fault.Exists) × ((found : Standing) × (leaves_room force found ≡ false)))
 
-module _ {Left : Type 0} (view : FileView Left) (Alone : List ℕ → Content → Type 0) where
+module _ {Left : Type 0} (view : FileView Left) where
   -- the office of the file was copied to some output, and the result tells how that ended
   pub record CopiesOffice (result : Result ⊤ Fault) : Type 0 where
     pub start : Told
     pub end : Told
     pub ended : Ended (Result ⊤ Fault) Left
-    pub over : EndsOver view (copy_work Alone start end) ended
+    pub over : EndsOver view (copy_work view.alone start end) ended
     pub put : IsPut (joined (told_by ended)) result
 
   -- the same; or there was no output, or no memory for its name

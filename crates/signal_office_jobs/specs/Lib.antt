@@ -1,6 +1,13 @@
-pub mod Memory
-pub mod Backup
-pub mod Printed
-pub mod Printing
+pub mod Done
+pub mod Output
+pub mod Explained
+pub mod Filed
+pub mod Filled
+pub mod Serving
+pub mod Requests
 pub mod Reading
+pub mod InFile
+pub mod Backup
+pub mod Memory
+pub mod Jobs
 pub mod Runs

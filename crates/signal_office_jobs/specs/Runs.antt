@@ -1,8 +1,5 @@
 -- What a run of the program does: the words, what is found in them, and how it ends.
-use Rattle.std.specs.Prelude.{◌≡◌, ◌⊎◌, ℕ, true, is_some, List, [], Some, Result, Ok, Err}
-use Rattle.std.specs.Borrow.{Bor}
-use Rattle.clap.specs.Simple.{subcommand_of}
-use Rattle.clap.specs.Takes.{takes}
+use Rattle.std.specs.Prelude.{◌≡◌, ◌⊎◌, ℕ, List, Result, Ok, Err}
 use Rattle.clap.specs.Values.{kind_of}
 use Rattle.clap.specs.Walk.{Text}
 use Rattle.clap.specs.declared.error.Error.{Error}
@@ -14,27 +11,15 @@ use Rattle.signal_office_commands.specs.Telling.{SaysFault}
 use Rattle.signal_office_faults.specs.Lines.{status_of}
 use Rattle.signal_office_faults.specs.declared.fault.Fault.{Fault}
 use Rattle.signal_office_faults.specs.declared.fault.Fault.TheVariants as fault
-use Rattle.signal_office_line.specs.CommandLine.{signal_app}
-use Rattle.signal_office_line.specs.Job.{Asked, asked, job_in}
-use Rattle.signal_office_line.specs.Refusals.{IsRefusedBy, clap_refusals, word_refusals}
+use Rattle.signal_office_in_file.specs.Ended.{FileView}
+use Rattle.signal_office_line.specs.Refusals.{IsFoundInWords}
 use Rattle.signal_office_line.specs.declared.job.Job.{Job}
 use Rattle.signal_office_line.specs.declared.job.JobFault.{JobFault}
-use Rattle.signal_office_line.specs.declared.job.JobFault.TheVariants.{Refused, NoMemory}
-use Rattle.signal_office_jobs.specs.Printed.{JobDoes, OfficeFiles}
-use Rattle.signal_office_tasks.specs.Output.{Prints}
-
--- what was found, as the words have it
-abbrev pub job_asked : Result (Job (Bor Text)) JobFault → Result Asked JobFault
-job_asked (Ok job) = Ok (asked job)
-job_asked (Err why) = Err why
-
--- The words ask for this job, as `clap` finds its command and values; or they are refused, as `clap` refuses them or for a value. Words that ask for a job are
--- refused only where memory ran out.
-abbrev pub IsFoundInWords : List Text → Result Asked JobFault → Type 0
-IsFoundInWords words (Ok job) = (clap_refusals words ≡ []) × (job_in (subcommand_of signal_app words) ≡ Some job)
-IsFoundInWords words (Err why) =
-    IsRefusedBy (word_refusals words) why
-    × (takes signal_app words ≡ true → is_some (job_in (subcommand_of signal_app words)) ≡ true → why ≡ NoMemory)
+use Rattle.signal_office_line.specs.declared.job.JobFault.TheVariants.{Refused, Bad, NoMemory}
+use Rattle.signal_office_line.specs.declared.job.BadWord.{BadWord}
+use Rattle.signal_office_line.specs.declared.job.BadWord.TheVariants as word
+use Rattle.signal_office_jobs.specs.Jobs.{Course, JobDoes}
+use Rattle.signal_office_jobs.specs.Output.{Prints}
 
 -- the words ask for help
 abbrev pub IsHelp : ErrorKind → Type 0
@@ -51,12 +36,24 @@ ShowsRefusal error out ended err said result =
     ((text : List ℕ) × ShowsText (kind_of error) text out ended err said result)
     ⊎ ((ended ≡ out) × (said ≡ err) × (result ≡ Err fault.Memory))
 
--- What was found is done: the job, or the refusal is shown, or that memory ran out.
-abbrev pub DoesFound : {Left : Type 0} → OfficeFiles Left → Result Asked JobFault → (start end : Ends) → (err said : Told) → Result ℕ Fault → Type 0
+-- the fault that tells of a word that is not what it is to be
+abbrev pub fault_of_word : BadWord → Fault
+fault_of_word word.Day = fault.Day
+fault_of_word word.Clerk = fault.Clerk
+fault_of_word word.Name = fault.Name
+fault_of_word word.Part = fault.Part
+
+-- nothing was read or printed, and this is told
+abbrev pub OnlyTells : Fault → Course
+OnlyTells why start end err said result = (end ≡ start) × (said ≡ err) × (result ≡ Err why)
+
+-- What was found is done: the job, or the refusal is shown, or a bad word is told, or that memory ran out.
+abbrev pub DoesFound : {Left : Type 0} → FileView Left → Result Job JobFault → Course
 DoesFound files (Ok job) start end err said result = JobDoes files job start end err said result
 DoesFound files (Err (Refused error)) start end err said result =
     (end.source ≡ start.source) × ShowsRefusal error start.sink end.sink err said result
-DoesFound files (Err NoMemory) start end err said result = (end ≡ start) × (said ≡ err) × (result ≡ Err fault.Memory)
+DoesFound files (Err (Bad bad)) start end err said result = OnlyTells (fault_of_word bad) start end err said result
+DoesFound files (Err NoMemory) start end err said result = OnlyTells fault.Memory start end err said result
 
 -- The run ends with the status; or with that of the fault, whose line is said on standard error.
 abbrev pub EndsWith : Result ℕ Fault → (said ended : Told) → (status : ℕ) → Type 0
@@ -64,8 +61,8 @@ EndsWith (Ok given) said ended status = (ended ≡ said) × (status ≡ given)
 EndsWith (Err why) said ended status = SaysFault why said ended × (status ≡ status_of why)
 
 -- A RUN OF THE PROGRAM, by its words: what they ask for is done, and its status is that of the run.
-pub record RunsWords {Left : Type 0} (files : OfficeFiles Left) (words : List Text) (start end : Ends) (err ended : Told) (status : ℕ) : Type 0 where
-  pub found : Result Asked JobFault
+pub record RunsWords {Left : Type 0} (files : FileView Left) (words : List Text) (start end : Ends) (err ended : Told) (status : ℕ) : Type 0 where
+  pub found : Result Job JobFault
   pub is_found : IsFoundInWords words found
   pub result : Result ℕ Fault
   pub said : Told

@@ -1,16 +1,13 @@
 //! The office of a file, copied into another.
 
 ghost use Rattle.std.specs.Prelude.{◌≡◌};
-ghost use Rattle.signal_office_in_file.specs.Ended.{file_view};
-ghost use Rattle.signal_office_jobs.specs.Backup.{BacksUpFile, CopiesTo, FindsRoom, IsPut};
-ghost use Rattle.signal_office_jobs.specs.Backup.{leaves_room};
+ghost use Rattle.signal_office_jobs.specs.Backup.{BacksUpFile, CopiesTo, FindsRoom, IsPut, leaves_room};
 
+use crate::done::{copied, joined, print_done};
 use office_http::{Sink, ToWrite};
-use signal_office_commands::Fault;
-use signal_office_faults::is_missing;
+use signal_office_faults::{Fault, is_missing};
 use signal_office_in_file::OfficeInFile;
-use signal_office_line::OfficeFile;
-use signal_office_tasks::{copied, joined, print_done};
+use signal_office_line::{OfficeFile, Path};
 use std::alloc::{AllocError, Global};
 use std::fs::{File, OpenOptions};
 use std::os::unix::fs::{MetadataExt, OpenOptionsExt};
@@ -108,17 +105,17 @@ fn put(
 fn copied_to<F: OfficeInFile>(
     rt: &HostRuntime,
     alloc: Global,
-    db: &OfficeFile<&str>,
+    db: &OfficeFile<'_>,
     to: &str,
 ) -> Result<(), Fault>
-    ensures { CopiesTo (file_view F.held F.is_clean F.keeps F.refused F.leaves) F.alone result }
+    ensures { CopiesTo F.known result }
 {
     let part = format!(in alloc; "{to}.part")?;
-    let Ok(file) = made_like(rt, db.path, part.as_str()) else {
+    let Ok(file) = made_like(rt, db.path.as_str(), part.as_str()) else {
         return Err(Fault::Write);
     };
     let mut sink = ToWrite::new(file);
-    let ended = F::copy(rt, alloc, db.path, db.wait, &mut sink);
+    let ended = F::copy(rt, alloc, db.path.as_str(), db.wait, &mut sink);
     put(rt, &sink.writer, joined(ended.told()), part.as_str(), to)
 }
 
@@ -127,17 +124,18 @@ fn copied_to<F: OfficeInFile>(
 pub(crate) fn backup<F: OfficeInFile, W: Sink>(
     rt: &HostRuntime,
     alloc: Global,
-    db: &OfficeFile<&str>,
-    to: &str,
+    db: &OfficeFile<'_>,
+    to: &Path<'_>,
     force: bool,
     out: &mut W,
 ) -> Result<u8, Fault>
-    ensures { BacksUpFile (file_view F.held F.is_clean F.keeps F.refused F.leaves) F.alone force
+    ensures { BacksUpFile F.known force
         (W.told out.old) (W.told out.new) result }
 {
-    if is_missing(rt, alloc, db.path)? {
+    if is_missing(rt, alloc, db.path.as_str())? {
         return Err(Fault::File);
     }
+    let to = to.as_str();
     match room_at(rt, alloc, to, force) {
         Ok(()) => print_done(copied(alloc, copied_to::<F>(rt, alloc, db, to)), out),
         Err(fault) => Err(fault),

@@ -2,18 +2,16 @@
 
 ghost use Rattle.std.specs.Prelude.{false, true};
 ghost use Rattle.office_http_framing.specs.Serve.{ends_of};
-ghost use Rattle.signal_office_jobs.specs.Printed.{Compares, ShowsPlan};
-ghost use Rattle.signal_office_jobs.specs.Printing.{Made};
-ghost use Rattle.signal_office_jobs.specs.Reading.{OnlyPrints, ReadingPlan};
-ghost use Rattle.signal_office_line.specs.Job.{file_asked};
+ghost use Rattle.signal_office_jobs.specs.Jobs.{Compares, Made, ReadFirst, ShowsPlan};
+ghost use Rattle.signal_office_jobs.specs.Reading.{ArePlansRead, ArePlansUnread, IsPlanRead, IsPlanUnread};
 
+use crate::done::{Done, print_done};
+use crate::explained::explained_file;
+use crate::reading::{read_plan, read_plans};
 use office_http::{Sink, Source};
-use signal_office_commands::{
-    Fault, compare_files, diagram_in, page_in, reasons_in, violations_in,
-};
+use signal_office_commands::{compare_files, diagram_in, page_in, reasons_in, violations_in};
+use signal_office_faults::Fault;
 use signal_office_line::{CsvFile, PlanShown};
-use signal_office_reading::read_plan;
-use signal_office_tasks::{Done, explained_file, print_done};
 use std::alloc::Global;
 
 /// Tells the rules that a plan breaks with their reasons, and a bad record with its line.
@@ -44,14 +42,14 @@ fn shown_in(alloc: Global, csv: &[u8], lines: &[usize], shown: PlanShown) -> Res
 pub(crate) fn show_plan<R: Source, W: Sink, E: Sink>(
     rt: &HostRuntime,
     alloc: Global,
-    csv: &CsvFile<&str>,
+    csv: &CsvFile<'_>,
     shown: PlanShown,
     source: &mut R,
     out: &mut W,
     err: &mut E,
 ) -> Result<u8, Fault>
-    ensures { ReadingPlan false (file_asked csv.now)
-        (λ plan lines. OnlyPrints (Made (ShowsPlan shown plan lines)))
+    ensures { ReadFirst (IsPlanRead false csv.now) (IsPlanUnread csv.now)
+        (λ plan. Made (ShowsPlan shown plan.text.items plan.lines.items))
         (ends_of (R.told source.old) (W.told out.old))
         (ends_of (R.told source.new) (W.told out.new)) (E.told err.old) (E.told err.new) result }
 {
@@ -71,20 +69,18 @@ fn compared(alloc: Global, first: &[u8], second: &[u8], csv: bool) -> Result<Don
 pub(crate) fn compare_plans<R: Source, W: Sink, E: Sink>(
     rt: &HostRuntime,
     alloc: Global,
-    first: &CsvFile<&str>,
-    second: &CsvFile<&str>,
+    first: &CsvFile<'_>,
+    second: &CsvFile<'_>,
     csv: bool,
     source: &mut R,
     out: &mut W,
     err: &mut E,
 ) -> Result<u8, Fault>
-    ensures { ReadingPlan false (file_asked first.now) (λ plan _.
-        ReadingPlan true (file_asked second.now) (λ other _.
-        OnlyPrints (Made (Compares csv plan other))))
+    ensures { ReadFirst (ArePlansRead first.now second.now) (ArePlansUnread first.now second.now)
+        (λ both. Made (Compares csv both.0.text.items both.1.text.items))
         (ends_of (R.told source.old) (W.told out.old))
         (ends_of (R.told source.new) (W.told out.new)) (E.told err.old) (E.told err.new) result }
 {
-    let plan = read_plan(rt, alloc, first, false, source, err)?;
-    let other = read_plan(rt, alloc, second, true, source, err)?;
+    let (plan, other) = read_plans(rt, alloc, first, second, source, err)?;
     print_done(compared(alloc, &plan.text, &other.text, csv), out)
 }

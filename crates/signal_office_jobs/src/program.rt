@@ -1,28 +1,22 @@
 //! What the program's words ask for, from a source of bytes to its two outputs.
 
-ghost use Rattle.std.specs.Prelude.{◌≡◌, map, option_map};
+ghost use Rattle.std.specs.Prelude.{◌≡◌, map};
 ghost use Rattle.office_http_framing.specs.Serve.{ends_of};
-ghost use Rattle.signal_office_line.specs.Job.{asked, db_asked};
-ghost use Rattle.signal_office_in_file.specs.Ended.{file_view};
-ghost use Rattle.signal_office_jobs.specs.Printed.{Batches, JobDoes, Printed, ServesNew};
-ghost use Rattle.signal_office_jobs.specs.Printed.{office_files, status_over, stream_status};
-ghost use Rattle.signal_office_jobs.specs.Runs.{DoesFound, EndsWith, RunsWords, ShowsRefusal};
-ghost use Rattle.signal_office_jobs.specs.Runs.{job_asked};
-ghost use Rattle.signal_office_tasks.specs.Output.{Prints};
+ghost use Rattle.signal_office_jobs.specs.Jobs.{Batches, JobDoes, ServesNew, ServesOn, status_over, stream_status};
+ghost use Rattle.signal_office_jobs.specs.Output.{Prints};
+ghost use Rattle.signal_office_jobs.specs.Runs.{DoesFound, EndsWith, RunsWords, ShowsRefusal, fault_of_word};
 
 use crate::backup::backup;
-use crate::in_file::{
-    abandon, add, compare_running, edit_plan, fill_pages, fill_records, import, in_file, migrate,
-    overdue, show_of, used,
-};
+use crate::done::print_done;
+use crate::in_file::{ask_office, in_file, migrate};
 use crate::memory::{open_in_memory, serve_new_office};
 use crate::plans::{compare_plans, show_plan};
+use crate::serving::{Serving, serve as serve_office};
 use office_http::{ServeFault, Served, Sink, Source, write_all};
-use signal_office_commands::{Fault, report};
+use signal_office_commands::report;
+use signal_office_faults::Fault;
 use signal_office_in_file::OfficeInFile;
-use signal_office_line::{Job, JobFault, OfficeFile, job_of};
-use signal_office_reading::read_plan;
-use signal_office_tasks::{Task, print_done};
+use signal_office_line::{BadWord, Job, JobFault, OfficeFile, job_of};
 use std::alloc::Global;
 
 /// The most requests of one run of `batch`.
@@ -55,18 +49,26 @@ fn status_over(outcome: Result<Result<Served, ServeFault>, Fault>) -> Result<u8,
 fn batch<F: OfficeInFile, R: Source, W: Sink>(
     rt: &HostRuntime,
     alloc: Global,
-    db: &Option<OfficeFile<&str>>,
+    db: &Option<OfficeFile<'_>>,
     source: &mut R,
     out: &mut W,
 ) -> Result<u8, Fault>
-    ensures { Batches (file_view F.held F.is_clean F.keeps F.refused F.leaves) db.now
+    ensures { Batches F.known db.now
         (ends_of (R.told source.old) (W.told out.old))
         (ends_of (R.told source.new) (W.told out.new)) result }
 {
     match db {
         None => stream_status(serve_new_office(alloc, source, out, BATCH_LIMIT)),
         Some(db) => {
-            let ended = F::answer(rt, alloc, db.path, db.wait, source, out, BATCH_LIMIT);
+            let ended = F::answer(
+                rt,
+                alloc,
+                db.path.as_str(),
+                db.wait,
+                source,
+                out,
+                BATCH_LIMIT,
+            );
             status_over(ended.told())
         }
     }
@@ -83,7 +85,7 @@ fn serve_in_memory<W: Sink>(
     ensures { ServesNew port count (W.told out.old) (W.told out.new) result }
 {
     let mut office = open_in_memory(alloc);
-    let done = signal_office_tasks::serve(rt, alloc, &mut office, port, count, out);
+    let done = serve_office(rt, alloc, &mut office, port, count, out);
     print_done(done, out)
 }
 
@@ -94,16 +96,17 @@ fn serve<F: OfficeInFile, W: Sink>(
     alloc: Global,
     port: u16,
     count: u32,
-    db: &Option<OfficeFile<&str>>,
+    db: &Option<OfficeFile<'_>>,
     out: &mut W,
 ) -> Result<u8, Fault>
-    ensures { Printed (office_files F.held F.is_clean F.keeps F.refused F.leaves F.migrated F.alone)
-        (Job.Serve port count (option_map db_asked db.now)) (W.told out.old)
-        (W.told out.new) result }
+    ensures { ServesOn F.known port count db.now (W.told out.old) (W.told out.new) result }
 {
     match db {
         None => serve_in_memory(rt, alloc, port, count, out),
-        Some(db) => in_file::<F, W>(rt, alloc, db, &Task::Serve { port, count }, out),
+        Some(db) => {
+            let task = Serving { port, count };
+            in_file::<F, Serving, W>(rt, alloc, db, true, &task, out)
+        }
     }
 }
 
@@ -111,52 +114,22 @@ fn serve<F: OfficeInFile, W: Sink>(
 fn run_job<F: OfficeInFile, R: Source, W: Sink, E: Sink>(
     rt: &HostRuntime,
     alloc: Global,
-    job: &Job<&str>,
+    job: &Job<'_>,
     source: &mut R,
     out: &mut W,
     err: &mut E,
 ) -> Result<u8, Fault>
-    ensures { let files = office_files F.held F.is_clean F.keeps F.refused F.leaves F.migrated
-        F.alone in
-        JobDoes files (asked job.now) (ends_of (R.told source.old) (W.told out.old))
+    ensures { JobDoes F.known job.now (ends_of (R.told source.old) (W.told out.old))
         (ends_of (R.told source.new) (W.told out.new)) (E.told err.old) (E.told err.new) result }
 {
     match job {
         Job::Batch { db } => batch::<F, R, W>(rt, alloc, db, source, out),
         Job::Serve { port, count, db } => serve::<F, W>(rt, alloc, *port, *count, db, out),
-        Job::Show { db, shown } => show_of::<F, W>(rt, alloc, db, *shown, out),
-        Job::ExportAll { db, dir } => fill_records::<F, W>(rt, alloc, db, dir, out),
-        Job::Pages { db, day, dir } => fill_pages::<F, W>(rt, alloc, db, day, dir, out),
-        Job::Overdue {
-            db,
-            first,
-            csv,
-            day,
-        } => overdue::<F, W>(rt, alloc, db, *first, *csv, day, out),
-        Job::Used { db, part, csv } => used::<F, W>(rt, alloc, db, part, *csv, out),
-        Job::Add {
-            db,
-            id,
-            interval,
-            name,
-        } => add::<F, W>(rt, alloc, db, *id, *interval, name, out),
+        Job::Office { db, request } => {
+            ask_office::<F, R, W, E>(rt, alloc, db, request, source, out, err)
+        }
         Job::Migrate { db } => migrate::<F, W>(rt, alloc, db, out),
         Job::Backup { db, to, force } => backup::<F, W>(rt, alloc, db, to, *force, out),
-        Job::Import {
-            db,
-            csv,
-            until,
-            check,
-        } => import::<F, R, W>(rt, alloc, db, csv, until, *check, source, out),
-        Job::Edit(edit) => edit_plan::<F, R, W, E>(rt, alloc, edit, source, out, err),
-        Job::Abandon { db, clerk, id } => abandon::<F, W>(rt, alloc, db, clerk, *id, out),
-        Job::CompareDraft { db, id, csv } => {
-            in_file::<F, W>(rt, alloc, db, &Task::Compare { id: *id, csv: *csv }, out)
-        }
-        Job::CompareRunning { db, id, plan, csv } => {
-            let plan = read_plan(rt, alloc, plan, false, source, err)?;
-            compare_running::<F, W>(rt, alloc, db, *id, &plan.text, *csv, out)
-        }
         Job::CompareFiles { first, second, csv } => {
             compare_plans(rt, alloc, first, second, *csv, source, out, err)
         }
@@ -192,18 +165,28 @@ fn show<W: Sink, E: Sink>(
     }
 }
 
+/// The fault that tells of a word that is not what it is to be.
+fn fault_of_word(bad: BadWord) -> Fault
+    ensures { result ≡ fault_of_word bad }
+{
+    match bad {
+        BadWord::Day => Fault::Day,
+        BadWord::Clerk => Fault::Clerk,
+        BadWord::Name => Fault::Name,
+        BadWord::Part => Fault::Part,
+    }
+}
+
 /// Does what was found in the words, and gives the status.
 fn do_found<F: OfficeInFile, R: Source, W: Sink, E: Sink>(
     rt: &HostRuntime,
     alloc: Global,
-    found: &Result<Job<&str>, JobFault>,
+    found: &Result<Job<'_>, JobFault>,
     source: &mut R,
     out: &mut W,
     err: &mut E,
 ) -> Result<u8, Fault>
-    ensures { let files = office_files F.held F.is_clean F.keeps F.refused F.leaves F.migrated
-        F.alone in
-        DoesFound files (job_asked found.now)
+    ensures { DoesFound F.known found.now
         (ends_of (R.told source.old) (W.told out.old))
         (ends_of (R.told source.new) (W.told out.new))
         (E.told err.old) (E.told err.new) result }
@@ -211,6 +194,7 @@ fn do_found<F: OfficeInFile, R: Source, W: Sink, E: Sink>(
     match found {
         Ok(job) => run_job::<F, R, W, E>(rt, alloc, job, source, out, err),
         Err(JobFault::Refused(error)) => show(alloc, error, out, err),
+        Err(JobFault::Bad(bad)) => Err(fault_of_word(*bad)),
         Err(JobFault::NoMemory) => Err(Fault::Memory),
     }
 }
@@ -239,9 +223,7 @@ pub fn run_words<F: OfficeInFile, R: Source, W: Sink, E: Sink>(
     // What the words ask for is done, over the office of the file that it names: what is printed is
     // the text of that, with its status, or a part of it where the output failed; a fault is said
     // by its line, with status 1. Words that are refused, or ask for help, do nothing else.
-    ensures { let files = office_files F.held F.is_clean F.keeps F.refused F.leaves F.migrated
-        F.alone in
-        RunsWords files (map (λ word. word.now) words.now)
+    ensures { RunsWords F.known (map (λ word. word.now) words.now)
         (ends_of (R.told source.old) (W.told out.old))
         (ends_of (R.told source.new) (W.told out.new))
         (E.told err.old) (E.told err.new) result }

@@ -1,173 +1,175 @@
 //! What the words of a command line ask for.
 
-ghost use Rattle.std.specs.Prelude.{◌≡◌, Some, IfOk, IfErr, [], map, true, is_some};
+ghost use Rattle.std.specs.Prelude.{◌≡◌, IfOk, IfErr, map, true};
 ghost use Rattle.clap.specs.Kinds.{FailsBy};
 ghost use Rattle.clap.specs.Simple.{subcommand_of, subcommand_rows_of};
 ghost use Rattle.clap.specs.Takes.{takes};
 ghost use Rattle.clap.specs.Values.{kind_of};
 ghost use Rattle.signal_office_line.specs.CommandLine.{signal_app};
-ghost use Rattle.signal_office_line.specs.Job.{asked, job_in};
-ghost use Rattle.signal_office_line.specs.Refusals.{IsJobFound, IsJudged, IsRefusalTold};
-ghost use Rattle.signal_office_line.specs.Refusals.{IsRefusedBy, clap_refusals, word_refusals};
+ghost use Rattle.signal_office_line.specs.Job.{job_in};
+ghost use Rattle.signal_office_line.specs.Refusals.{IsFoundInWords, IsJobFound, IsJudged, IsRefusalTold, clap_refusals};
 
 use crate::command_line::command_line;
 use crate::jobs::job_at;
 use crate::refusals::value_refusal;
 use crate::shows::{PlanShown, Shown};
+use crate::words::{Name, Part, Path};
+use cabinet_core::Day;
 use clap::error::ErrorKind;
 use clap::{ArgMatches, Error};
 use signal_values::{InterId, Interval};
 use std::alloc::{AllocError, Global};
 
 /// A CSV file, and whether its records are padded with empty fields.
-#[derive(Clone, Copy)]
-pub struct CsvFile<T> {
-    pub path: T,
+#[derive(Drop)]
+pub struct CsvFile<'a> {
+    pub path: Path<'a>,
     pub padded: bool,
 }
 
 /// The file of an office, and for how many seconds, 0 to 3600, a run tries again to open it where
 /// another run has it open.
-#[derive(Clone, Copy)]
-pub struct OfficeFile<T> {
-    pub path: T,
+#[derive(Drop)]
+pub struct OfficeFile<'a> {
+    pub path: Path<'a>,
     pub wait: u32,
+}
+
+/// What a folder is filled with.
+#[derive(Clone, Copy)]
+pub enum Folder {
+    /// The lists, and what is kept of each intersection as CSV.
+    Records,
+    /// The pages of all intersections and an index, which marks those that are overdue on a day, if
+    /// one is given.
+    Pages { day: Option<Day> },
 }
 
 /// An edit of an intersection's plan by a CSV file, in a transaction of a clerk. Without a file the
 /// clerk's draft is committed as it is. Where the file is the whole plan, rows that it does not
 /// have are removed. The draft is committed where that is asked, and its violations are printed
 /// with their reasons where that is.
-#[derive(Clone, Copy)]
-pub struct Edit<T> {
-    pub db: OfficeFile<T>,
-    pub clerk: T,
+#[derive(Drop)]
+pub struct Edit<'a> {
     pub id: InterId,
-    pub csv: Option<CsvFile<T>>,
+    pub clerk: Name<'a, 40>,
+    pub csv: Option<CsvFile<'a>>,
     pub replace: bool,
     pub commit: bool,
     pub explain: bool,
 }
 
-/// What the words ask the program to do. A word `T` that names a file, a clerk, an intersection, a
-/// part or a day may name none: a job that reads such a word, or a file, before it opens the
-/// office's is a variant of its own, as is one that writes or tells by its status.
-#[derive(Copy)]
-pub enum Job<T> {
-    /// Answer the requests on standard input, over a file or memory.
-    Batch {
-        db: Option<OfficeFile<T>>,
-    },
-    /// Answer so many connections on a port, 1 to 65535. The count is 1 to 1,000,000, the most
-    /// where none is given.
-    Serve {
-        port: u16,
-        count: u32,
-        db: Option<OfficeFile<T>>,
-    },
-    /// Print what is shown of an office.
-    Show {
-        db: OfficeFile<T>,
-        shown: Shown,
-    },
-    /// Write the lists, and what is kept of each intersection as CSV, into a folder.
-    ExportAll {
-        db: OfficeFile<T>,
-        dir: T,
-    },
-    /// Print the intersections that are overdue on a day, at most so many, 1 to 9999, as a report
-    /// or as CSV.
-    Overdue {
-        db: OfficeFile<T>,
-        first: Option<u32>,
-        csv: bool,
-        day: T,
+/// What is asked of the office of one file.
+#[derive(Drop)]
+pub enum Request<'a> {
+    /// Print what is shown of it.
+    Show(Shown),
+    /// Fill a folder with what it shows.
+    Fill {
+        dir: Path<'a>,
+        folder: Folder,
     },
     /// Print what was used of all parts, or of one, as a text or as CSV.
     Used {
-        db: OfficeFile<T>,
-        part: Option<T>,
+        part: Option<Part<'a>>,
         csv: bool,
     },
     /// Add an intersection.
     Add {
-        db: OfficeFile<T>,
         id: InterId,
         interval: Interval,
-        name: T,
-    },
-    /// Bring the tables of a file to today's version.
-    Migrate {
-        db: OfficeFile<T>,
-    },
-    /// Copy the office of a file into another, which is replaced where that is asked.
-    Backup {
-        db: OfficeFile<T>,
-        to: T,
-        force: bool,
-    },
-    /// Fill a folder with the pages of all intersections and an index, which marks those that are
-    /// overdue on a day, if one is given.
-    Pages {
-        db: OfficeFile<T>,
-        day: Option<T>,
-        dir: T,
+        name: Name<'a, 120>,
     },
     /// Take the records of a CSV file in turn: all of them, or none. None is taken where one is of
     /// a later day than one that is given, or where they are only tried: then those that would be
     /// refused are told.
     Import {
-        db: OfficeFile<T>,
-        csv: CsvFile<T>,
-        until: Option<T>,
+        csv: CsvFile<'a>,
+        until: Option<Day>,
         check: bool,
     },
     /// Change a plan by a CSV file.
-    Edit(Edit<T>),
+    Edit(Edit<'a>),
     /// Drop the draft of an intersection, whoever holds it.
     Abandon {
-        db: OfficeFile<T>,
-        clerk: T,
         id: InterId,
+        clerk: Name<'a, 40>,
     },
     /// Print what an intersection's draft changes, as a text or as CSV.
     CompareDraft {
-        db: OfficeFile<T>,
         id: InterId,
         csv: bool,
     },
     /// Print what the plan in a CSV file differs in from the committed timing set of an
     /// intersection, as a text or as CSV.
     CompareRunning {
-        db: OfficeFile<T>,
         id: InterId,
-        plan: CsvFile<T>,
+        plan: CsvFile<'a>,
         csv: bool,
+    },
+}
+
+/// What the words ask the program to do.
+#[derive(Drop)]
+pub enum Job<'a> {
+    /// Answer the requests on standard input, over a file or memory.
+    Batch {
+        db: Option<OfficeFile<'a>>,
+    },
+    /// Answer so many connections on a port, 1 to 65535. The count is 1 to 1,000,000, the most
+    /// where none is given.
+    Serve {
+        port: u16,
+        count: u32,
+        db: Option<OfficeFile<'a>>,
+    },
+    /// Do what is asked of the office of a file.
+    Office {
+        db: OfficeFile<'a>,
+        request: Request<'a>,
+    },
+    /// Bring the tables of a file to today's version.
+    Migrate {
+        db: OfficeFile<'a>,
+    },
+    /// Copy the office of a file into another, which is replaced where that is asked.
+    Backup {
+        db: OfficeFile<'a>,
+        to: Path<'a>,
+        force: bool,
     },
     /// Print what the plans in two CSV files differ in, as a text or as CSV.
     CompareFiles {
-        first: CsvFile<T>,
-        second: CsvFile<T>,
+        first: CsvFile<'a>,
+        second: CsvFile<'a>,
         csv: bool,
     },
     /// Print what is shown of the plan in a CSV file.
     ShowPlan {
-        csv: CsvFile<T>,
+        csv: CsvFile<'a>,
         shown: PlanShown,
     },
 }
 
-// By hand: what a derive writes for all variants takes half a minute to prove.
-impl<T: Copy> Clone for Job<T> {
-    ghost use Rattle.std.specs.Prelude.{◌≡◌, ⊤};
+/// A word that is not what it is to be.
+#[derive(Clone, Copy, Debug, PartialEq, Eq)]
+pub enum BadWord {
+    /// It spells no day from 1970-01-01 to 2199-12-31.
+    Day,
+    /// It is no clerk's name: 1 to 40 bytes without control characters.
+    Clerk,
+    /// It is no intersection's name: 1 to 120 bytes without control characters.
+    Name,
+    /// It is no part's code: 1 to 20 of the bytes `A` to `Z`, `0` to `9` and `-`.
+    Part,
+}
 
-    ghost is_clone = { λ job copy. copy ≡ job };
-
-    ghost is_infallible = { λ _. ⊤ };
-
-    fn clone(&self) -> Result<Job<T>, AllocError> {
-        Ok(*self)
-    }
+/// Why the values of a command state no job.
+#[derive(Clone, Copy)]
+pub(crate) enum NoJob {
+    /// They are too few or too many, or a number is out of its range.
+    Unstated,
+    Bad(BadWord),
 }
 
 /// Why there is nothing to do.
@@ -175,6 +177,8 @@ impl<T: Copy> Clone for Job<T> {
 pub enum JobFault {
     /// The words were refused, or ask for help.
     Refused(Error),
+    /// A job is stated, but for one word.
+    Bad(BadWord),
     NoMemory,
 }
 
@@ -203,35 +207,13 @@ fn matches_of<'a>(alloc: Global, words: &'a [&'a str]) -> Result<ArgMatches<'a>,
     command_line(alloc)?.try_get_matches_from(words)
 }
 
-/// What stands in the words that `clap` takes: a job, or none in what it found.
-#[derive(Drop)]
-enum Found<'a> {
-    Job(Job<&'a str>),
-    NoJob(ArgMatches<'a>),
-}
-
-/// The job that the found command asks for, if any.
-fn found_in<'a>(matches: ArgMatches<'a>) -> Found<'a>
-    ensures { IsJobFound matches.entry result }
+/// What the found command and its values state.
+fn stated<'a>(matches: &ArgMatches<'a>) -> Result<Job<'a>, NoJob>
+    ensures { result ≡ job_in (subcommand_rows_of matches.now) }
 {
-    let job = match matches.subcommand() {
+    match matches.subcommand() {
         Some((name, inner)) => job_at(name, inner),
-        None => None,
-    };
-    match job {
-        Some(job) => Found::Job(job),
-        None => Found::NoJob(matches),
-    }
-}
-
-/// What the words ask for, if anything, by what `clap` answered to them. Out of memory is told
-/// exactly where `clap` told it.
-fn judged<'a>(answer: Result<ArgMatches<'a>, Error>) -> Result<Found<'a>, JobFault>
-    ensures { IsJudged answer.entry result }
-{
-    match answer {
-        Ok(matches) => Ok(found_in(matches)),
-        Err(error) => Err(JobFault::from(error)),
+        None => Err(NoJob::Unstated),
     }
 }
 
@@ -246,29 +228,33 @@ fn value_refused(answer: Result<Error, AllocError>) -> JobFault
     }
 }
 
-/// What the words ask for, the first being the program's name.
-pub fn job_of<'a>(alloc: Global, words: &'a [&'a str]) -> Result<Job<&'a str>, JobFault>
-    // Words that `clap` refuses state no job.
-    ensures taken { IfOk result (λ job.
-        clap_refusals (map (λ word. word.now) words.entry.now) ≡ []) }
-    // The command and its values are those that `clap` finds, each number in its range.
-    ensures found { IfOk result (λ job.
-        job_in (subcommand_of signal_app (map (λ word. word.now) words.entry.now))
-        ≡ Some (asked job)) }
-    // A refusal is one that `clap` gives or, of words that it takes and that state no job, that of
-    // a value.
-    ensures refused { IfErr result (λ fault.
-        IsRefusedBy (word_refusals (map (λ word. word.now) words.entry.now)) fault) }
-    // Words that `clap` takes, and that ask for a job, are refused only where memory ran out.
-    ensures answered { IfErr result (λ fault.
-        takes signal_app (map (λ word. word.now) words.entry.now) ≡ true →
-        is_some (job_in (subcommand_of signal_app (map (λ word. word.now) words.entry.now))) ≡ true
-        →
-        fault ≡ JobFault.NoMemory) }
+/// The job that the found command and its values state, or why they state none.
+fn job_in<'a>(alloc: Global, matches: &ArgMatches<'a>) -> Result<Job<'a>, JobFault>
+    ensures { IsJobFound (job_in (subcommand_rows_of matches.now)) result }
 {
-    match judged(matches_of(alloc, words)) {
-        Ok(Found::Job(job)) => Ok(job),
-        Ok(Found::NoJob(matches)) => Err(value_refused(value_refusal(alloc, &matches))),
-        Err(fault) => Err(fault),
+    match stated(matches) {
+        Ok(job) => Ok(job),
+        Err(NoJob::Bad(bad)) => Err(JobFault::Bad(bad)),
+        Err(NoJob::Unstated) => Err(value_refused(value_refusal(alloc, matches))),
     }
+}
+
+/// What the words ask for, by what `clap` answered to them. Out of memory is told where `clap` told
+/// it.
+fn judged<'a>(alloc: Global, answer: Result<ArgMatches<'a>, Error>) -> Result<Job<'a>, JobFault>
+    ensures { IsJudged answer.entry result }
+{
+    match answer {
+        Ok(matches) => job_in(alloc, &matches),
+        Err(error) => Err(JobFault::from(error)),
+    }
+}
+
+/// What the words ask for, the first being the program's name: a job; or the one word of a job that
+/// is not what it is to be; or a refusal, or help, of words that state no job. Words that state one
+/// are refused only where memory ran out.
+pub fn job_of<'a>(alloc: Global, words: &'a [&'a str]) -> Result<Job<'a>, JobFault>
+    ensures { IsFoundInWords (map (λ word. word.now) words.entry.now) result }
+{
+    judged(alloc, matches_of(alloc, words))
 }

@@ -1,18 +1,21 @@
 //! The command line of the program: the job that its words ask for.
 //!
-//! A new command is an entry of `COMMANDS` (`command_line.rt`). One that only shows an office is
-//! besides a variant of `Shown` and an arm of `shown_at` (`shows.rt`), each other one a variant of
-//! `Job` (`job.rt`) and a function in `jobs.rt`. In `specs` each has a line of `commands`, and of
-//! `shows` or of `asked` and `jobs`.
+//! A new command is a line of `COMMANDS` (`command_line.rt`), with texts in `help.rt`. What it asks
+//! of the office of a file is a variant of `Shown` (`shows.rt`) or of `Request` (`job.rt`) and an
+//! arm of `request_at` (`jobs.rt`); each other one is a variant of `Job` and an arm of `job_at`. In
+//! `specs` it has a line of `commands`, and of `requests` or of `jobs`.
 #![tactic(auto)]
 
 mod arguments;
 mod command_line;
+mod help;
 mod job;
 mod jobs;
 mod refusals;
 mod shows;
 mod values;
+mod words;
 
-pub use job::{CsvFile, Edit, Job, JobFault, OfficeFile, job_of};
+pub use job::{BadWord, CsvFile, Edit, Folder, Job, JobFault, OfficeFile, Request, job_of};
 pub use shows::{PlanShown, Shown, View};
+pub use words::{Name, Part, Path};

@@ -1,13 +1,6 @@
 //! What commands show, of an office or of a plan in a CSV file.
 
-ghost use Rattle.std.specs.Prelude.{◌≡◌};
-ghost use Rattle.clap.specs.Matches.{found_of};
-ghost use Rattle.clap.specs.Walk.{rows_of};
-ghost use Rattle.signal_office_line.specs.Job.{choice_at, shown_at, view_of};
-
-use crate::values::{flag, intersection, word};
 use cabinet_core::Day;
-use clap::ArgMatches;
 use signal_values::{InterId, PatternNo};
 
 /// What of an intersection is exported as CSV.
@@ -55,60 +48,4 @@ pub enum PlanShown {
     Diagram { pattern: PatternNo },
     /// Its page.
     Page,
-}
-
-/// The number of an intersection, where it was given. None where its word is none.
-fn chosen_intersection(matches: &ArgMatches<'_>, id: &str) -> Option<Option<InterId>>
-    ensures { result ≡ choice_at 9_999 id.now (rows_of (found_of matches.now)) }
-{
-    match word(matches, id) {
-        None => Some(None),
-        Some(_) => {
-            let number = intersection(matches, id)?;
-            Some(Some(number))
-        }
-    }
-}
-
-/// What is exported: the committed timing set where no flag asks for something else.
-fn view_of(draft: bool, cabinet: bool) -> Option<View>
-    ensures { result ≡ view_of draft cabinet }
-{
-    match (draft, cabinet) {
-        (false, false) => Some(View::Timing),
-        (true, false) => Some(View::Draft),
-        (false, true) => Some(View::Cabinet),
-        (true, true) => None,
-    }
-}
-
-/// What the command of a name shows of an office, where it shows something and its numbers are in
-/// their ranges.
-pub(crate) fn shown_at(name: &str, matches: &ArgMatches<'_>) -> Option<Shown>
-    ensures { result ≡ shown_at name.now (rows_of (found_of matches.now)) }
-{
-    let shown = match name {
-        "sheet" => Shown::Sheet {
-            id: intersection(matches, "ID")?,
-        },
-        "list" => Shown::List {
-            csv: flag(matches, "csv"),
-        },
-        "stock" => Shown::Stock {
-            csv: flag(matches, "csv"),
-        },
-        "orders" => Shown::Orders {
-            id: chosen_intersection(matches, "ID")?,
-            csv: flag(matches, "csv"),
-        },
-        "cabinet" => Shown::Cabinet {
-            id: intersection(matches, "ID")?,
-        },
-        "export" => Shown::Export {
-            id: intersection(matches, "ID")?,
-            view: view_of(flag(matches, "draft"), flag(matches, "cabinet"))?,
-        },
-        _ => return None,
-    };
-    Some(shown)
 }

@@ -6,8 +6,7 @@ use Rattle.draft_core.specs.declared.refusal.DraftRefusal.TheVariants as draft
 use Rattle.signal_records.specs.declared.state.Stage.{Stage}
 use Rattle.signal_records.specs.declared.state.Stage.TheVariants as stage
 use Rattle.office_desk.specs.{Answers.AnswersAny, Changes.IsQueryCommand, Damage.IsImport, Damage.IsTurnedAway, Damage.MeetsDamage, Named.IsNamedFor, Running.HoldsTables}
-use Rattle.office_machine.specs.{Office.Intersection, Office.Office, Step.Step, Step.answered, Step.draft_shown, Step.shown, Step.state_shown}
-use Rattle.office_machine.specs.{declared.command.Command.Command, declared.reply.Reply.Reply}
+use Rattle.office_machine.specs.{Office.Intersection, Office.Office, Step.Step, Step.answered, Step.draft_shown, Step.shown, Step.state_shown, declared.command.Command.Command, declared.reply.Reply.Reply}
 use Rattle.office_machine.specs.declared.command.Command.TheVariants as command
 use Rattle.office_machine.specs.declared.refusal.Refusal.{Refusal}
 use Rattle.office_machine.specs.declared.refusal.Refusal.TheVariants as refusal

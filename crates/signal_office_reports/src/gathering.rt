@@ -5,8 +5,7 @@ ghost use Rattle.office_desk.specs.Running.{TellsTables};
 ghost use Rattle.office_tables_shelf.specs.CabinetReads.{HasAnyDamagedOrder};
 ghost use Rattle.office_tables_shelf.specs.Keeps.{KeepsShelf};
 ghost use Rattle.office_tables_shelf.specs.OpenOrders.{orders_in};
-ghost use Rattle.signal_office_reports.specs.Gathering.{SeesCabinet, SeesCabinets, SeesList};
-ghost use Rattle.signal_office_reports.specs.Gathering.{SeesMap, filed_in, with_cabinet};
+ghost use Rattle.signal_office_reports.specs.Gathering.{SeesCabinet, SeesCabinets, SeesList, SeesMap, filed_in, with_cabinet};
 ghost use Rattle.signal_office_reports.specs.Listing.{named_from};
 ghost use Rattle.signal_office_reports.specs.Seen.{Gives, IsUnseen, Sees};
 

@@ -1,9 +1,7 @@
 //! The index of all intersections, and what was used at them.
 
 ghost use Rattle.std.specs.Prelude.{◌≡◌, flat_map, map, IfOk};
-ghost use Rattle.signal_office_reports.specs.Reports.{IsMade, IsUsedMade, index_entry_of, index_in};
-ghost use Rattle.signal_office_reports.specs.Reports.{index_of, index_shown, named_of};
-ghost use Rattle.signal_office_reports.specs.Reports.{used_among};
+ghost use Rattle.signal_office_reports.specs.Reports.{IsMade, IsUsedMade, index_entry_of, index_in, index_of, index_shown, named_of, used_among};
 ghost use Rattle.signal_office_reports.specs.Seen.{Gives};
 
 use crate::parts::{cabinets_in, first_seen, next_of, stock_in};

@@ -6,8 +6,7 @@ ghost use Rattle.office_desk.specs.Damage.{MeetsDamage};
 ghost use Rattle.office_desk.specs.Running.{TellsTables};
 ghost use Rattle.office_machine.specs.Step.{answered};
 ghost use Rattle.office_tables_shelf.specs.Keeps.{KeepsShelf};
-ghost use Rattle.signal_office_reports.specs.Seen.{Gives, IsAnswer, Looks, Sees, SeesAs};
-ghost use Rattle.signal_office_reports.specs.Seen.{is_normal, seen_in};
+ghost use Rattle.signal_office_reports.specs.Seen.{Gives, IsAnswer, Looks, Sees, SeesAs, is_normal, seen_in};
 
 use crate::asking::ask;
 use crate::gathering::{see_cabinets, see_intersections, see_open_orders};

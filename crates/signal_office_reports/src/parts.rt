@@ -2,11 +2,7 @@
 
 ghost use Rattle.std.specs.Prelude.{◌≡◌};
 ghost use Rattle.std.specs.Vec.Iter.{into_iter_items};
-ghost use Rattle.signal_office_reports.specs.Reports.{cabinet_in, cabinets_in, draft_in};
-ghost use Rattle.signal_office_reports.specs.Reports.{first_seen, intersections_in, open_draft_in};
-ghost use Rattle.signal_office_reports.specs.Reports.{orders_seen, overdue_in, register_in};
-ghost use Rattle.signal_office_reports.specs.Reports.{register_of, rest_of, state_in, stock_in};
-ghost use Rattle.signal_office_reports.specs.Reports.{timing_in};
+ghost use Rattle.signal_office_reports.specs.Reports.{cabinet_in, cabinets_in, draft_in, first_seen, intersections_in, open_draft_in, orders_seen, overdue_in, register_in, register_of, rest_of, state_in, stock_in, timing_in};
 
 use crate::refused::fault_of;
 use crate::seen::{ListedCabinet, Seen};

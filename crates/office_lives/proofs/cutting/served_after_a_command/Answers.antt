@@ -18,3 +18,6 @@ returns-clause-lives g c clean =
     (λ m. task.stop was_clean old (λ _. refl) opened.crash two.0
     (was_clean, two.2.trees, m, sym (hold_today two.2.trees two.0 (c.stopped-files.ensures.current.left was_clean two.2.trees m) two.2.hold))) in
     (old, two.1, opened.held, (two.0, may, (two.1, two.3, refl)), two.4)
+
+pub returns-clause-said : goal.returns-clause-said
+returns-clause-said g c = c.done_with-office.ensures.said

@@ -7,7 +7,7 @@ use Rattle.signal_office_commands.proofs.abandoning.abandon_draft.Goals as goal
 
 pub returns-clause-abandons : goal.returns-clause-abandons
 returns-clause-abandons g c = λ clean tables held.
-    let ran = subst (λ clerk. IsRun g.S.Shelf (command.Abandon c.args.id clerk) c.run-reply.result c.args.office.now c.run-reply.new.self) c.in_ok-clerk.ensures.cases c.run-reply.ensures.ran in
+    let ran = subst (λ clerk. IsRun g.S.Shelf (command.Abandon c.args.id clerk) c.run-reply.result c.args.office.now c.run-reply.new.self) c.in_ok-clerk.ensures c.run-reply.ensures.ran in
     let made = command_answered g.S.Shelf _ _ _ c.run-reply.result ran _ _ c.moved.ensures clean tables held in
     (made.0, inl made.1, made.2)
 
@@ -22,7 +22,7 @@ returns-in_err-clerk-clause-abandons g c = λ clean tables held. (tables, search
 
 pub returns-clause-stop : goal.returns-clause-stop
 returns-clause-stop g c =
-    let ran = subst (λ clerk. IsRun g.S.Shelf (command.Abandon c.args.id clerk) c.run-reply.result c.args.office.now c.run-reply.new.self) c.in_ok-clerk.ensures.cases c.run-reply.ensures.ran in
+    let ran = subst (λ clerk. IsRun g.S.Shelf (command.Abandon c.args.id clerk) c.run-reply.result c.args.office.now c.run-reply.new.self) c.in_ok-clerk.ensures c.run-reply.ensures.ran in
     stop_one g.S.Shelf _ c.run-reply.result _ _ ran
 
 pub returns-in_err-clerk-clause-stop : goal.returns-in_err-clerk-clause-stop

@@ -7,7 +7,7 @@ use Rattle.signal_office_commands.proofs.adding.add_intersection.Goals as goal
 
 pub returns-clause-adds : goal.returns-clause-adds
 returns-clause-adds g c = λ clean tables held.
-    let ran = subst (λ name. IsRun g.S.Shelf (command.AddIntersection c.args.id c.args.interval name) c.run-reply.result c.args.office.now c.run-reply.new.self) c.in_ok-name.ensures.cases c.run-reply.ensures.ran in
+    let ran = subst (λ name. IsRun g.S.Shelf (command.AddIntersection c.args.id c.args.interval name) c.run-reply.result c.args.office.now c.run-reply.new.self) c.in_ok-name.ensures c.run-reply.ensures.ran in
     let made = command_answered g.S.Shelf _ _ _ c.run-reply.result ran _ _ c.entered_told.ensures clean tables held in
     (made.0, inl made.1, made.2)
 
@@ -22,7 +22,7 @@ returns-in_err-name-clause-adds g c = λ clean tables held. (tables, search rule
 
 pub returns-clause-stop : goal.returns-clause-stop
 returns-clause-stop g c =
-    let ran = subst (λ name. IsRun g.S.Shelf (command.AddIntersection c.args.id c.args.interval name) c.run-reply.result c.args.office.now c.run-reply.new.self) c.in_ok-name.ensures.cases c.run-reply.ensures.ran in
+    let ran = subst (λ name. IsRun g.S.Shelf (command.AddIntersection c.args.id c.args.interval name) c.run-reply.result c.args.office.now c.run-reply.new.self) c.in_ok-name.ensures c.run-reply.ensures.ran in
     stop_one g.S.Shelf _ c.run-reply.result _ _ ran
 
 pub returns-in_err-name-clause-stop : goal.returns-in_err-name-clause-stop

@@ -7,24 +7,30 @@ use Rattle.signal_office_file.proofs.copying.copied_in.Goals as goal
 
 -- closed on a clean disk, the files hold what they held, and so do the bytes of the database file
 pub returns-in-Ok-close_office : goal.returns-in-Ok-close_office
-returns-in-Ok-close_office g c clean =
-    let disk = g.D.Disk in
-    let files = c.in-Ok-close_office.files in
-    let back = c.poured-done.result.1 in
-    let start = g.W.Sink.told c.args.out.now in
-    let end = g.W.Sink.told c.poured-done.new.out in
-    let done = c.poured-done.result.0 in
-    let tables = content_now (file_state c.in-Ok.office.conn) in
-    let before = poured_clean disk files back start end done c.poured-done.ensures clean in
-    let closed = c.in-Ok-close_office.ensures in
-    let kept = closed.kept before in
-    let opened = c.in-Ok.ensures.opened (closed.copied before).was_clean in
-    (tables, tables, opened.held, (refl, poured_copy disk files back start end done c.poured-done.ensures clean tables kept), poured_kept disk files back start end done c.poured-done.ensures tables kept)
+returns-in-Ok-close_office g c = (
+  tt,
+  λ clean.
+      let disk = g.D.Disk in
+      let files = c.in-Ok-close_office.files in
+      let back = c.poured-done.result.1 in
+      let start = g.W.Sink.told c.args.out.now in
+      let end = g.W.Sink.told c.poured-done.new.out in
+      let done = c.poured-done.result.0 in
+      let tables = content_now (file_state c.in-Ok.office.conn) in
+      let before = poured_clean disk files back start end done c.poured-done.ensures clean in
+      let closed = c.in-Ok-close_office.ensures in
+      let kept = closed.kept before in
+      let opened = c.in-Ok.ensures.opened (closed.copied before).was_clean in
+      (tables, tables, opened.held, (refl, poured_copy disk files back start end done c.poured-done.ensures clean tables kept), poured_kept disk files back start end done c.poured-done.ensures tables kept),
+)
 
 -- a stop leaves no more of the database than of the connection, which holds what the files held
 pub returns-in-Err-close_office : goal.returns-in-Err-close_office
-returns-in-Err-close_office g c clean =
-    let back = c.in-Err-close_office.ensures in
-    let left = unclosed_leaves c.in-Ok.office.conn c.in-Err-close_office.fault c.in-Err-close_office.left back.unclosed back.current clean in
-    let opened = c.in-Ok.ensures.opened left.1 in
-    (content_now (file_state c.in-Ok.office.conn), opened.held, (left.0, back.current, λ found may. opened.crash found (left.2 found may)))
+returns-in-Err-close_office g c = (
+  tt,
+  λ clean.
+      let back = c.in-Err-close_office.ensures in
+      let left = unclosed_leaves c.in-Ok.office.conn c.in-Err-close_office.fault c.in-Err-close_office.left back.unclosed back.current clean in
+      let opened = c.in-Ok.ensures.opened left.1 in
+      (content_now (file_state c.in-Ok.office.conn), opened.held, (left.0, back.current, λ found may. opened.crash found (left.2 found may))),
+)

@@ -10,45 +10,51 @@ use Rattle.signal_office_file.proofs.in_file.answered_in.Goals as goal
 
 -- closed on a clean disk, the database was open to the end, and holds what was kept
 pub returns-in-Ok-close_office-clause-ends : goal.returns-in-Ok-close_office-clause-ends
-returns-in-Ok-close_office-clause-ends g c clean =
-    let closed = c.in-Ok-close_office.ensures in
-    let served = c.in-Ok.served in
-    let honest : IsHonest (file_state served.0.conn) = ((closed.copied clean).was_clean, (closed.copied clean).was_open) in
-    let did = c.in-Ok.ensures.did honest.0 in (
-      did.0,
-      content_now (file_state served.0.conn),
-      did.1,
-      (λ before stands.
-          let ran = did.2 before stands in (
-            ran.0,
-            Did-weaker office_protocol _ _ c.args.max_requests _ _ served.1
-                (λ requests answers it. record {
-                  laws = it.serves.laws;
-                  stands = subst (λ t. StandForSound t ran.0) (sym (it.serves.ran.keeps.held honest)) it.serves.ran.keeps.stands;
-                }) ran.1,
-          )),
-      closed.kept clean,
-    )
+returns-in-Ok-close_office-clause-ends g c = (
+  tt,
+  λ clean.
+      let closed = c.in-Ok-close_office.ensures in
+      let served = c.in-Ok.served in
+      let honest : IsHonest (file_state served.0.conn) = ((closed.copied clean).was_clean, (closed.copied clean).was_open) in
+      let did = c.in-Ok.ensures.did honest.0 in (
+        did.0,
+        content_now (file_state served.0.conn),
+        did.1,
+        (λ before stands.
+            let ran = did.2 before stands in (
+              ran.0,
+              Did-weaker office_protocol _ _ c.args.max_requests _ _ served.1
+                  (λ requests answers it. record {
+                    laws = it.serves.laws;
+                    stands = subst (λ t. StandForSound t ran.0) (sym (it.serves.ran.keeps.held honest)) it.serves.ran.keeps.stands;
+                  }) ran.1,
+            )),
+        closed.kept clean,
+      ),
+)
 
 pub returns-in-Ok-close_office-clause-clean : goal.returns-in-Ok-close_office-clause-clean
 returns-in-Ok-close_office-clause-clean g c clean = c.in-Ok.ensures.clean (c.in-Ok-close_office.ensures.copied clean).was_clean
 
 pub returns-in-Err-close_office-clause-ends : goal.returns-in-Err-close_office-clause-ends
-returns-in-Err-close_office-clause-ends g c clean =
-    let back = c.in-Err-close_office.ensures in
-    let served = c.in-Ok.served in
-    let left = unclosed_leaves served.0.conn c.in-Err-close_office.fault c.in-Err-close_office.left back.unclosed back.current clean in
-    let did = c.in-Ok.ensures.did left.1 in (
-      did.0,
-      did.1,
-      λ before stands.
-          let ran = did.2 before stands in (
-            ran.0,
-            served.1,
-            Did-weaker office_protocol _ _ c.args.max_requests _ _ served.1
-                (λ requests answers it. (it.serves.laws, (left.0, back.current, λ found may. served_leaves file_state did.0 before served.0 ran.0 requests answers it found (left.2 found may)))) ran.1,
-          ),
-    )
+returns-in-Err-close_office-clause-ends g c = (
+  tt,
+  λ clean.
+      let back = c.in-Err-close_office.ensures in
+      let served = c.in-Ok.served in
+      let left = unclosed_leaves served.0.conn c.in-Err-close_office.fault c.in-Err-close_office.left back.unclosed back.current clean in
+      let did = c.in-Ok.ensures.did left.1 in (
+        did.0,
+        did.1,
+        λ before stands.
+            let ran = did.2 before stands in (
+              ran.0,
+              served.1,
+              Did-weaker office_protocol _ _ c.args.max_requests _ _ served.1
+                  (λ requests answers it. (it.serves.laws, (left.0, back.current, λ found may. served_leaves file_state did.0 before served.0 ran.0 requests answers it found (left.2 found may)))) ran.1,
+            ),
+      ),
+)
 
 pub returns-in-Err-close_office-clause-unclosed : goal.returns-in-Err-close_office-clause-unclosed
 returns-in-Err-close_office-clause-unclosed g c clean =

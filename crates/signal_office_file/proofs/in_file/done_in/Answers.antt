@@ -6,12 +6,15 @@ use Rattle.signal_office_file.proofs.in_file.done_in.Goals as goal
 
 -- closed on a clean disk, the database was open to the end
 pub returns-in-Ok-close_office-clause-ends : goal.returns-in-Ok-close_office-clause-ends
-returns-in-Ok-close_office-clause-ends g c clean =
-    let closed = c.in-Ok-close_office.ensures in
-    let task = c.done_with-office.ensures in
-    let honest : IsHonest (file_state c.done_with-office.result.0.conn) = ((closed.copied clean).was_clean, (closed.copied clean).was_open) in
-    let opened = c.in-Ok.ensures.opened (task.honest honest).0 in
-    (content_now (file_state c.in-Ok.office.conn), content_now (file_state c.done_with-office.result.0.conn), opened.held, task.does (closed.copied clean).was_clean honest, closed.kept clean)
+returns-in-Ok-close_office-clause-ends g c = (
+  c.done_with-office.ensures.said,
+  λ clean.
+      let closed = c.in-Ok-close_office.ensures in
+      let task = c.done_with-office.ensures in
+      let honest : IsHonest (file_state c.done_with-office.result.0.conn) = ((closed.copied clean).was_clean, (closed.copied clean).was_open) in
+      let opened = c.in-Ok.ensures.opened (task.honest honest).0 in
+      (content_now (file_state c.in-Ok.office.conn), content_now (file_state c.done_with-office.result.0.conn), opened.held, task.does (closed.copied clean).was_clean honest, closed.kept clean),
+)
 
 pub returns-in-Ok-close_office-clause-clean : goal.returns-in-Ok-close_office-clause-clean
 returns-in-Ok-close_office-clause-clean g c clean =
@@ -21,10 +24,13 @@ returns-in-Ok-close_office-clause-clean g c clean =
 
 -- a stop leaves no more of the database than of the connection, and of that what it leaves of the task
 pub returns-in-Err-close_office-clause-ends : goal.returns-in-Err-close_office-clause-ends
-returns-in-Err-close_office-clause-ends g c clean =
-    let back = c.in-Err-close_office.ensures in
-    let task = c.done_with-office.ensures in
-    let left = unclosed_leaves c.done_with-office.result.0.conn c.in-Err-close_office.fault c.in-Err-close_office.left back.unclosed back.current clean in
-    let old = content_now (file_state c.in-Ok.office.conn) in
-    let opened = c.in-Ok.ensures.opened (task.clean left.1) in
-    (old, opened.held, (left.0, back.current, λ found may. task.stop left.1 old (λ _. refl) opened.crash found (left.2 found may)))
+returns-in-Err-close_office-clause-ends g c = (
+  c.done_with-office.ensures.said,
+  λ clean.
+      let back = c.in-Err-close_office.ensures in
+      let task = c.done_with-office.ensures in
+      let left = unclosed_leaves c.done_with-office.result.0.conn c.in-Err-close_office.fault c.in-Err-close_office.left back.unclosed back.current clean in
+      let old = content_now (file_state c.in-Ok.office.conn) in
+      let opened = c.in-Ok.ensures.opened (task.clean left.1) in
+      (old, opened.held, (left.0, back.current, λ found may. task.stop left.1 old (λ _. refl) opened.crash found (left.2 found may))),
+)

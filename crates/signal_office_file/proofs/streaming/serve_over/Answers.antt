@@ -1,4 +1,4 @@
-use Rattle.std.proofs.Common.{refl, subst}
+use Rattle.std.proofs.Common.{subst}
 use Rattle.sqlite.specs.Held.{state}
 use Rattle.office_http.specs.Protocol.{office_protocol}
 use Rattle.office_http_framing.proofs.ServeLemmas.{Did-weaker}

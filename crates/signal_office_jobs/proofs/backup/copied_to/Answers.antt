@@ -1,7 +1,7 @@
 use Rattle.std.proofs.Common.{inl, ap, subst, ◌∙◌}
 use Rattle.signal_office_jobs.proofs.backup.copied_to.Goals as goal
 use Rattle.signal_office_jobs.specs.Backup.{IsPut}
-use Rattle.signal_office_tasks.specs.Output.{joined}
+use Rattle.signal_office_jobs.specs.Output.{joined}
 
 pub returns : goal.returns
 returns g c = inl (record {

@@ -1,8 +1,7 @@
 use Rattle.std.proofs.Common.{inl, ap, subst, ◌∙◌}
 use Rattle.signal_office_jobs.proofs.in_file.migrate.Goals as goal
-use Rattle.signal_office_tasks.specs.Output.{joined}
-use Rattle.signal_office_tasks.specs.Done.{migrated_line}
-use Rattle.signal_office_tasks.specs.Tasks.{TellsOutcome}
+use Rattle.signal_office_jobs.specs.Output.{joined}
+use Rattle.signal_office_jobs.specs.Done.{migrated_line, TellsOutcome}
 
 pub returns : goal.returns
 returns g c = inl (record {

@@ -1,4 +1,4 @@
-use Rattle.signal_office_jobs.proofs.PrintingLemmas.{file_told}
+use Rattle.signal_office_jobs.proofs.InFileLemmas.{file_told}
 use Rattle.signal_office_jobs.proofs.plans.reasons_told.Goals as goal
 
 pub returns-in-Err : goal.returns-in-Err

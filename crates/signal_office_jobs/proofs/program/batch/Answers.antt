@@ -1,12 +1,10 @@
 use Rattle.office_http_framing.specs.Serve.{ends_of}
-use Rattle.signal_office_in_file.specs.Ended.{file_view}
 use Rattle.signal_office_jobs.proofs.RunLemmas.{batched_so}
 use Rattle.signal_office_jobs.proofs.program.batch.Goals as goal
 
 pub returns-in-None : goal.returns-in-None
 returns-in-None g c =
-    let f = g.F.OfficeInFile in
     let served = c.serve_new_office.ensures in
-    batched_so (file_view f.held f.is_clean f.keeps f.refused f.leaves) c.args.db.now _ (ends_of (g.R.Source.told c.args.source.now) (g.W.Sink.told c.args.out.now))
+    batched_so g.F.OfficeInFile.known c.args.db.now _ (ends_of (g.R.Source.told c.args.source.now) (g.W.Sink.told c.args.out.now))
     (ends_of (g.R.Source.told c.serve_new_office.new.reader) (g.W.Sink.told c.serve_new_office.new.writer)) c.stream_status.result
     c.in-None.is (c.serve_new_office.result, served.did.0, served.did.1, served.fault, c.stream_status.ensures)

@@ -1,3 +1,0 @@
-pub mod Days
-pub mod Texts
-pub mod Checks

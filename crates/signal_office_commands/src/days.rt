@@ -1,0 +1,74 @@
+//! The days of records that are to be imported.
+
+ghost use Rattle.std.specs.Prelude.{◌≡◌, ◌<◌, IfSome, length};
+ghost use Rattle.std.specs.List.{position};
+ghost use Rattle.signal_office_commands.specs.Days.{record_day, AreInTime, AreUntil, first_late, is_late};
+
+use cabinet_core::{Day, RecordCommand};
+use office_files::read_records_csv;
+use signal_office_faults::Fault;
+use std::alloc::Global;
+
+/// The day of a record; a used part has none.
+fn record_day(record: &RecordCommand) -> Option<Day>
+    ensures { result ≡ record_day record.now }
+{
+    match record {
+        RecordCommand::Inspect { inspection, .. } => Some(inspection.day),
+        RecordCommand::OpenOrder { opening, .. } => Some(opening.day),
+        RecordCommand::UsePart { .. } => None,
+        RecordCommand::CloseOrder { closing, .. } => Some(closing.day),
+        RecordCommand::Receive { delivery } => Some(delivery.day),
+    }
+}
+
+/// Whether a record has a later day.
+fn is_late(until: Day, record: &RecordCommand) -> bool
+    ensures { result ≡ is_late until record.now }
+{
+    match record_day(record) {
+        Some(day) => until < day,
+        None => false,
+    }
+}
+
+/// The place of the first record that has a later day.
+fn late_place(until: Day, records: &[RecordCommand]) -> Option<usize>
+    ensures found { result ≡ position (is_late until) records.now }
+    ensures bound { IfSome result (λ index. index < length records.now) }
+{
+    records.iter().position(|record| is_late(until, record))
+}
+
+/// The first record that has a later day, counted from 1.
+fn first_late(until: Day, records: &[RecordCommand]) -> Option<usize>
+    ensures { result ≡ first_late until records.now }
+{
+    match late_place(until, records) {
+        Some(index) => Some(index + 1),
+        None => None,
+    }
+}
+
+/// Looks whether no record of a CSV file has a later day than one.
+fn check_until(alloc: Global, csv: &[u8], until: Day) -> Result<(), Fault>
+    ensures { AreUntil until csv.now result }
+{
+    let records = read_records_csv(alloc, csv)?;
+    match first_late(until, &records) {
+        Some(at) => Err(Fault::Late { at }),
+        None => Ok(()),
+    }
+}
+
+/// Looks whether no record of a CSV file has a later day than one that is given; without that
+/// nothing is looked at. The first that has is told by its number, and so is the first that spells
+/// nothing.
+pub fn check_days(alloc: Global, csv: &[u8], until: Option<Day>) -> Result<(), Fault>
+    ensures { AreInTime until csv.now result }
+{
+    match until {
+        Some(until) => check_until(alloc, csv, until),
+        None => Ok(()),
+    }
+}

@@ -1,0 +1,35 @@
+-- An edit that was made and is not told, and a comparison that was not made.
+use Rattle.std.proofs.Common.{◌≡◌, ◌≢◌, ℕ, Bool, true, List, Ok, Err, subst, sym}
+use Rattle.std.specs.Prelude.{IsErrAnd, Result}
+use Rattle.office_tables_shelf.specs.Content.{Content}
+use Rattle.signal_office_commands.specs.{Comparing.ComparesRunning, Explaining.ExplainsDraft, Revising.RevisesAs}
+use Rattle.signal_office_commands.specs.declared.revising.{Outcome.TheVariants.Open, Revised.Revised}
+use Rattle.signal_office_line.specs.declared.job.Edit.{Edit}
+use Rattle.signal_office_faults.specs.declared.fault.Fault.{Fault}
+use Rattle.signal_office_faults.specs.declared.fault.Fault.TheVariants as told
+use Rattle.signal_office_jobs.specs.Requests.{ComparesWith, EditsBy, TellsEdit}
+use Rattle.signal_office_jobs.specs.declared.done.Done.{Done}
+
+pub not_explained : (csv lines : List ℕ) (commit explain : Bool) (id : ℕ) (tables : Content) (revised : Revised) (result : Result Done Fault) (fault : Fault)
+    → IsErrAnd result (λ why. why ≡ fault)
+    → (fault ≢ told.Memory → (explain ≡ true) × (revised.outcome ≡ Open) × ExplainsDraft tables id (Err fault))
+    → TellsEdit csv lines commit explain id tables (Ok revised) result
+not_explained csv lines commit explain id tables revised (Ok done) fault is says = absurd is
+not_explained csv lines commit explain id tables revised (Err why) fault is says =
+    subst (λ (w : Fault). TellsEdit csv lines commit explain id tables (Ok revised) (Err w)) (sym is) says
+
+-- an edit, and then a look at the tables that it left
+pub edits_so : (csv lines : List ℕ) (edit : Edit) (old middle new : Content) (revised : Result Revised Fault) (result : Result Done Fault) → new ≡ middle
+    → RevisesAs csv edit.id edit.clerk edit old middle revised → TellsEdit csv lines edit.commit edit.explain edit.id middle revised result
+    → EditsBy csv lines edit old result new
+edits_so csv lines edit old middle new revised result same revises tells = (
+  revised,
+  subst (λ (tables : Content). RevisesAs csv edit.id edit.clerk edit old tables revised) (sym same) revises,
+  subst (λ (tables : Content). TellsEdit csv lines edit.commit edit.explain edit.id tables revised result) (sym same) tells,
+)
+
+pub not_compared : (id : ℕ) (plan : List ℕ) (csv : Bool) (old : Content) (result : Result Done Fault) (fault : Fault)
+    → IsErrAnd result (λ why. why ≡ fault) → ComparesRunning old id plan (Err fault) → ComparesWith id plan csv old result
+not_compared id plan csv old (Ok done) fault is none = absurd is
+not_compared id plan csv old (Err why) fault is none =
+    subst (λ (w : Fault). ComparesWith id plan csv old (Err w)) (sym is) (λ other. none)

@@ -1,0 +1,14 @@
+use Rattle.std.proofs.Common.{Ok, Err, rules}
+use Rattle.signal_office_commands.specs.Explaining.{ExplainsDraft}
+use Rattle.signal_office_commands.proofs.HonestLemmas.{honest_tells}
+use Rattle.signal_office_jobs.proofs.office.open_rules.Goals as goal
+
+pub returns-in_err-draft_reasons-clause-fault : goal.returns-in_err-draft_reasons-clause-fault
+returns-in_err-draft_reasons-clause-fault g c =
+    let fault = honest_tells g.S.Shelf g.met.S.Shelf.honest_is_clean _ _ (λ tables. ExplainsDraft tables c.args.id (Err c.in_err-draft_reasons.field-0.0)) c.in_err-draft_reasons.ensures.explains in
+    search rules
+
+pub returns-in_ok-explained_text-clause-told : goal.returns-in_ok-explained_text-clause-told
+returns-in_ok-explained_text-clause-told g c = λ honest.
+    let found = honest_tells g.S.Shelf g.met.S.Shelf.honest_is_clean _ _ (λ tables. ExplainsDraft tables c.args.id (Ok c.in_ok-draft_reasons.field-0.items)) c.in_ok-draft_reasons.ensures.explains honest in
+    search rules

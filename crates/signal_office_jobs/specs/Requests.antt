@@ -1,0 +1,154 @@
+-- What is asked of the office of a file: what it makes of the tables, what it tells, and what a stop leaves of it.
+use Rattle.std.specs.Prelude.{◌≡◌, ◌≢◌, ℕ, List, [], ◌++◌, codes, decimal, Bool, true, false, Option, Result, Ok, Err}
+use Rattle.office_files.specs.Violations.{violations_text, explained_text_of}
+use Rattle.office_tables_shelf.specs.Content.{Content}
+use Rattle.signal_compare.specs.declared.difference.Difference.{Difference}
+use Rattle.signal_office_commands.specs.Checks.{ChecksFile}
+use Rattle.signal_office_commands.specs.Commands.{Abandons, AddsIntersection}
+use Rattle.signal_office_commands.specs.Comparing.{ComparesDraft, ComparesRunning}
+use Rattle.signal_office_commands.specs.Explaining.{ExplainsDraft}
+use Rattle.signal_office_commands.specs.Importing.{Imports}
+use Rattle.signal_office_commands.specs.Revising.{RevisesAs}
+use Rattle.signal_office_commands.specs.Stopping.{AfterAbandoning, AfterAdding, AfterImporting, AfterRevising}
+use Rattle.signal_office_commands.specs.declared.adding.Entered.{Entered}
+use Rattle.signal_office_commands.specs.declared.adding.Entered.TheVariants as entered
+use Rattle.signal_office_commands.specs.declared.checking.Report.{Report}
+use Rattle.signal_office_commands.specs.declared.importing.Imported.{Imported}
+use Rattle.signal_office_commands.specs.declared.revising.Outcome.{Outcome}
+use Rattle.signal_office_commands.specs.declared.revising.Outcome.TheVariants.{Open, Same, Committed}
+use Rattle.signal_office_commands.specs.declared.revising.Revised.{Revised}
+use Rattle.signal_office_faults.specs.Folder.{NamedText}
+use Rattle.signal_office_faults.specs.declared.fault.Fault.{Fault}
+use Rattle.signal_office_faults.specs.declared.fault.Fault.TheVariants as fault
+use Rattle.signal_office_in_file.specs.Ended.{Effect}
+use Rattle.signal_office_in_file.specs.Stopping.{SameOr}
+use Rattle.signal_office_jobs.specs.Done.{TellsOf, compared_status, compared_text, edited_status, outcome_line, refused_status, status_of, text_of}
+use Rattle.signal_office_jobs.specs.Explained.{IsEditRefused}
+use Rattle.signal_office_jobs.specs.Filled.{AreFilesOfAll, IsBeginning, IsUnfilled}
+use Rattle.signal_office_jobs.specs.declared.done.Done.{Done}
+use Rattle.signal_office_line.specs.declared.job.Edit.{Edit}
+use Rattle.signal_office_line.specs.declared.job.Folder.{Folder}
+use Rattle.signal_office_line.specs.declared.job.Request.{Request}
+use Rattle.signal_office_line.specs.declared.job.Request.TheVariants as request
+use Rattle.signal_office_line.specs.declared.shows.Shown.{Shown}
+use Rattle.signal_office_reports.specs.Reports.{IsShown, IsUsedShown}
+use Rattle.signal_rules.specs.declared.reason.Explained.{Explained}
+use Rattle.signal_rules.specs.declared.violation.Violation.{Violation}
+
+-- An intersection that is added begins a new office where there is none; whatever asks, changes a plan, or takes records of an office's cabinets, does not: a
+-- mistyped name is no office.
+abbrev pub makes_file : Request → Bool
+makes_file (request.Add id interval name) = true
+makes_file _ = false
+
+-- ---- what is told
+
+-- the line that tells whether an intersection was new
+abbrev pub entered_line : Entered → List ℕ
+entered_line entered.Added = codes "added\n"
+entered_line entered.Same = codes "same\n"
+
+-- the line that tells how many records of an import were new, and how many were there
+abbrev pub imported_line : Imported → List ℕ
+imported_line imported = codes "added " ++ decimal imported.added ++ codes ", same " ++ decimal imported.same ++ codes "\n"
+
+-- what was used is told with status 0, or why it is not
+abbrev pub TellsUsed : (part : Option (List ℕ)) → (csv : Bool) → Content → Result Done Fault → Type 0
+TellsUsed part csv old (Ok done) = IsUsedShown part csv old (Ok (text_of done)) × (status_of done ≡ 0)
+TellsUsed part csv old (Err why) = IsUsedShown part csv old (Err why)
+
+-- what is shown is told with status 0, or why it is not
+abbrev pub ShowsAs : Shown → Content → Result Done Fault → Type 0
+ShowsAs it tables (Ok done) = IsShown it tables (Ok (text_of done)) × (status_of done ≡ 0)
+ShowsAs it tables (Err why) = IsShown it tables (Err why)
+
+-- one command was done, and the result tells what came of it
+abbrev pub AddsAs : (id interval : ℕ) → (name : List ℕ) → Content → Result Done Fault → Content → Type 0
+AddsAs id interval name old result new = TellsOf (AddsIntersection id interval name old new) entered_line (λ _. 0) result
+
+abbrev pub ImportsAs : (csv : List ℕ) → Content → Result Done Fault → Content → Type 0
+ImportsAs csv old result new = TellsOf (Imports csv old new) imported_line (λ _. 0) result
+
+abbrev pub AbandonsAs : (id : ℕ) → (clerk : List ℕ) → Content → Result Done Fault → Content → Type 0
+AbandonsAs id clerk old result new = TellsOf (Abandons id clerk old new) (λ _. codes "abandoned\n") (λ _. 0) result
+
+-- the records of the file were tried, and those that would be refused are told, with the status whether there are any; or a fault is
+abbrev pub ChecksAs : (csv lines : List ℕ) → Content → Result Done Fault → Type 0
+ChecksAs csv lines old (Ok done) =
+    (report : Report) × ChecksFile csv lines old (Ok report) × (text_of done ≡ report.text.items) × (status_of done ≡ refused_status report.refused)
+ChecksAs csv lines old (Err why) = ChecksFile csv lines old (Err why)
+
+-- The rules that an edited draft breaks, as they are told: where that is asked and the draft stays open, those of the draft that the tables hold, each with
+-- its reason. Of a draft that would be the committed set nothing is told.
+abbrev pub IsBroken : (explain : Bool) → Outcome → (id : ℕ) → Content → List Violation → (text : List ℕ) → Type 0
+IsBroken explain Same id tables violations text = text ≡ []
+IsBroken true Open id tables violations text = (found : List Explained) × ExplainsDraft tables id (Ok found) × (text ≡ explained_text_of found)
+IsBroken false Open id tables violations text = text ≡ violations_text violations
+IsBroken explain Committed id tables violations text = text ≡ violations_text violations
+
+-- The edit is told: its fault, explained where that is asked; or what the draft breaks, and what became of it. A fault after the edit is why a draft with reasons is not shown, or
+-- that memory was refused.
+abbrev pub TellsEdit : (csv lines : List ℕ) → (commit explain : Bool) → (id : ℕ) → Content → Result Revised Fault → Result Done Fault → Type 0
+TellsEdit csv lines commit explain id tables (Ok revised) (Ok done) =
+    (broken : List ℕ) × IsBroken explain revised.outcome id tables revised.violations broken
+    × (text_of done ≡ broken ++ outcome_line commit revised.outcome) × (status_of done ≡ edited_status commit revised.outcome revised.violations)
+TellsEdit csv lines commit explain id tables (Ok revised) (Err why) =
+    why ≢ fault.Memory → (explain ≡ true) × (revised.outcome ≡ Open) × ExplainsDraft tables id (Err why)
+TellsEdit csv lines commit explain id tables (Err why) result = (told : Fault) × (result ≡ Err told) × IsEditRefused explain csv lines id tables why told
+
+abbrev pub EditsBy : (csv lines : List ℕ) → Edit → Content → Result Done Fault → Content → Type 0
+EditsBy csv lines edit old result new =
+    (revised : Result Revised Fault) × RevisesAs csv edit.id edit.clerk edit old new revised × TellsEdit csv lines edit.commit edit.explain edit.id new revised result
+
+-- what the draft differs in is told, and the status whether it does; a fault is what its query is refused with, or that memory was refused
+abbrev pub ComparesAs : ℕ → Bool → Content → Result Done Fault → Type 0
+ComparesAs id csv old (Ok done) = (found : List Difference) × ComparesDraft old id (Ok found)
+    × (text_of done ≡ compared_text csv found) × (status_of done ≡ compared_status found)
+ComparesAs id csv old (Err why) = why ≢ fault.Memory → ComparesDraft old id (Err why)
+
+-- the same of what the plan of a file differs in from the committed set
+abbrev pub ComparesWith : (id : ℕ) → (plan : List ℕ) → (csv : Bool) → Content → Result Done Fault → Type 0
+ComparesWith id plan csv old (Ok done) = (found : List Difference) × ComparesRunning old id plan (Ok found)
+    × (text_of done ≡ compared_text csv found) × (status_of done ≡ compared_status found)
+ComparesWith id plan csv old (Err why) = why ≢ fault.Memory → ComparesRunning old id plan (Err why)
+
+-- a folder was filled, and nothing is told; or this is why not
+abbrev pub FillsAs : Folder → Content → Result Done Fault → Type 0
+FillsAs folder tables (Ok done) = (put : List NamedText) × AreFilesOfAll folder tables put × (text_of done ≡ []) × (status_of done ≡ 0)
+FillsAs folder tables (Err why) = (put : List NamedText) × IsBeginning folder tables put × (why ≡ fault.Damaged → put ≡ []) × IsUnfilled folder tables why
+
+-- ---- what is made of the tables
+
+-- what only shows leaves the tables as they were, also after a stop
+abbrev pub looking : (Content → Result Done Fault → Type 0) → Effect Done
+looking tells = record {
+  does = λ old result new start end. (new ≡ old) × (end ≡ start) × tells old result;
+  leaves = λ old found. found ≡ old;
+  says = λ start end. end ≡ start;
+}
+
+-- a stop leaves of a change the tables as they were, or after it
+abbrev pub changing : (makes : Content → Result Done Fault → Content → Type 0) → (After : Content → Content → Type 0) → Effect Done
+changing makes After = record {
+  does = λ old result new start end. makes old result new × (end ≡ start);
+  leaves = SameOr After;
+  says = λ start end. end ≡ start;
+}
+
+-- records are taken, or only tried
+abbrev pub taking : (only_tried : Bool) → (csv lines : List ℕ) → Effect Done
+taking true csv lines = looking (ChecksAs csv lines)
+taking false csv lines = changing (ImportsAs csv) (AfterImporting csv)
+
+-- WHAT IS DONE FOR EACH REQUEST, with the text of the CSV file that was read for it, and the lines on which its records begin. Nothing is printed before the
+-- file of the office is closed.
+abbrev pub effect_of : Request → (text lines : List ℕ) → Effect Done
+effect_of (request.Show it) text lines = looking (ShowsAs it)
+effect_of (request.Fill dir folder) text lines = looking (FillsAs folder)
+effect_of (request.Used part csv) text lines = looking (TellsUsed part csv)
+effect_of (request.Add id interval name) text lines = changing (AddsAs id interval name) (AfterAdding id interval name)
+effect_of (request.Import csv until check) text lines = taking check text lines
+effect_of (request.Edit edit) text lines = changing (EditsBy text lines edit) (AfterRevising text edit.id edit.clerk edit)
+effect_of (request.Abandon id clerk) text lines = changing (AbandonsAs id clerk) (AfterAbandoning id clerk)
+effect_of (request.CompareDraft id csv) text lines = looking (ComparesAs id csv)
+effect_of (request.CompareRunning id plan csv) text lines = looking (ComparesWith id text csv)

@@ -1,0 +1,134 @@
+//! A fault as `--explain` tells it: of a bad record also its line and what is wrong there, and of a
+//! draft that another clerk owns also that clerk.
+
+ghost use Rattle.std.specs.Prelude.{◌≡◌};
+ghost use Rattle.office_tables_shelf.specs.Keeps.{KeepsShelf};
+ghost use Rattle.signal_office_jobs.specs.Explained.{IsEditExplained, IsEditRefused, IsFileExplained, IsOwnerTold, TellsOwner, TellsOwnerIn, with_hint};
+ghost use Rattle.signal_office_reports.specs.Reports.{first_seen, state_in};
+ghost use Rattle.office_files.specs.declared.fault.CsvFault.TheVariants as file;
+ghost use Rattle.signal_office_faults.specs.declared.fault.Fault.TheVariants as fault;
+
+use arrayvec::ArrayString;
+use draft_core::refusal::DraftRefusal;
+use office_desk::office::Office;
+use office_files::{BadRow, CsvFault};
+use office_machine::refusal::Refusal;
+use office_spreadsheets::{Hint, hint_of, line_of_record};
+use office_tables_shelf::shelf::Shelf;
+use signal_office_faults::Fault;
+use signal_office_reports::{Query, Seen, first_seen, look, state_in};
+use signal_records::{InterId, Words};
+use std::alloc::Global;
+
+/// A bad record on a line, with the hint on it, if there is one.
+fn with_hint(bad: BadRow, line: usize, hint: Option<Hint>) -> Fault
+    ensures { result ≡ with_hint bad line hint }
+{
+    match hint {
+        Some(hint) => Fault::Explained { bad, line, hint },
+        None => Fault::Csv(CsvFault::Row(bad)),
+    }
+}
+
+/// A bad record of a plan's CSV file, with its line and what is wrong there.
+fn explained_row(alloc: Global, csv: &[u8], lines: &[usize], bad: BadRow) -> Fault
+    ensures { IsFileExplained csv.now lines.now (fault.Csv (file.Row bad)) result }
+{
+    match hint_of(alloc, csv, bad) {
+        Ok(hint) => with_hint(bad, line_of_record(lines, bad.at), hint),
+        Err(_) => Fault::Memory,
+    }
+}
+
+/// Why a plan's CSV file is not taken: of a bad record also its line, and what is wrong there.
+pub fn explained_file(alloc: Global, csv: &[u8], lines: &[usize], why: Fault) -> Fault
+    ensures { IsFileExplained csv.now lines.now why result }
+{
+    match why {
+        Fault::Csv(CsvFault::Row(bad)) => explained_row(alloc, csv, lines, bad),
+        why => why,
+    }
+}
+
+/// The name of a clerk, which has at most 40 bytes.
+fn name_of(clerk: &Words<40>) -> ArrayString<40>
+    ensures { result.bytes ≡ clerk.now }
+{
+    let mut name = ArrayString::new();
+    name.push_str(clerk.as_str());
+    name
+}
+
+/// Tells the clerk who owns a draft.
+fn held_by(owner: &Option<Words<40>>) -> Fault
+    ensures { TellsOwner owner.now result }
+{
+    match owner {
+        Some(owner) => Fault::HeldBy(name_of(owner)),
+        None => Fault::Refused(Refusal::Draft(DraftRefusal::NotOwner)),
+    }
+}
+
+/// Tells the clerk who owns the draft of an intersection, as it was seen.
+fn owner_in(seen: Vec<Seen>) -> Fault
+    ensures { TellsOwnerIn (state_in (first_seen seen.items)) result }
+{
+    match state_in(first_seen(seen)) {
+        Ok(state) => held_by(&state.owner),
+        Err(why) => why,
+    }
+}
+
+/// Tells the clerk who owns the draft of an intersection.
+fn owner_told<S: Shelf>(alloc: Global, office: &mut Office<S>, id: InterId) -> Fault
+    ensures kept { KeepsShelf S.Shelf office.old office.new }
+    ensures clean { S.is_clean office.new → S.is_clean office.old }
+    ensures told { S.is_honest office.new → IsOwnerTold (S.content office.old) id result }
+{
+    match look(alloc, office, &[Query::State { id }]) {
+        Ok(seen) => owner_in(seen),
+        Err(why) => why,
+    }
+}
+
+/// Why an edit is refused, with more than its line.
+fn explained_edit<S: Shelf>(
+    alloc: Global,
+    office: &mut Office<S>,
+    id: InterId,
+    csv: &[u8],
+    lines: &[usize],
+    why: Fault,
+) -> Fault
+    ensures kept { KeepsShelf S.Shelf office.old office.new }
+    ensures clean { S.is_clean office.new → S.is_clean office.old }
+    ensures told { S.is_honest office.new →
+        IsEditExplained csv.now lines.now id (S.content office.old) why result }
+{
+    match why {
+        Fault::Refused(Refusal::Draft(DraftRefusal::NotOwner)) => owner_told(alloc, office, id),
+        why => explained_file(alloc, csv, lines, why),
+    }
+}
+
+/// Why an edit is refused, with more where that is asked.
+pub(crate) fn refused_edit<S: Shelf>(
+    alloc: Global,
+    office: &mut Office<S>,
+    id: InterId,
+    csv: &[u8],
+    lines: &[usize],
+    explain: bool,
+    why: Fault,
+) -> Fault
+    ensures kept { KeepsShelf S.Shelf office.old office.new }
+    ensures clean { S.is_clean office.new → S.is_clean office.old }
+    ensures told { S.is_honest office.new →
+        IsEditRefused explain csv.now lines.now id (S.content office.old) why result }
+{
+    if explain {
+        explained_edit(alloc, office, id, csv, lines, why)
+    } else {
+        why
+    }
+}

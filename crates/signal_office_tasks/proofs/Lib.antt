@@ -1,4 +1,0 @@
-pub mod FillLemmas
-pub mod RevisedLemmas
-pub mod StopLemmas
-pub mod TaskLemmas

@@ -1,9 +1,0 @@
-pub mod Done
-pub mod Filed
-pub mod Filled
-pub mod Serving
-pub mod Shown
-pub mod Tasks
-pub mod Stopped
-pub mod Output
-pub mod Explained
