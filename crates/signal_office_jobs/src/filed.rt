@@ -98,7 +98,7 @@ fn push_files(files: &mut Vec<FileOf>, kind: &FolderKind, id: InterId) -> Result
             files.push(FileOf::Plan { id })?;
             files.push(FileOf::Cabinet { id })?;
         }
-        FolderKind::Pages { .. } => files.push(FileOf::Page { id })?,
+        FolderKind::Pages { day: _day } => files.push(FileOf::Page { id })?,
     }
     Ok(())
 }
