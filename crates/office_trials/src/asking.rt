@@ -1,12 +1,14 @@
 //! An office that is asked, request by request, and what it shows.
 
+use crate::files::{database, stopping};
 use office_desk::office::Office;
 use office_http::{Request, answer_of, command_of};
 use office_http_responses::ask_fault_answer;
 use office_tables::sql_shelf::SqlShelf;
 use office_tables_maps::map_shelf::MapShelf;
 use office_tables_shelf::shelf::Shelf;
-use sqlite::{Connection, MemStore};
+use sqlite::{Alter, Connection, FileStore};
+use sqlite_disk::{Fuse, Memory};
 use std::alloc::Global;
 use std::process::Abort;
 
@@ -33,17 +35,25 @@ impl Tables for InMaps {
     }
 }
 
-/// In a database in memory, which is opened again before it is used.
+/// The office over the tables of a database, which is opened again before it is used.
+fn opened_twice<S: Alter + Drop>(
+    rt: &Bench<impl Abort>,
+    conn: Connection<S>,
+) -> Office<SqlShelf<S>> {
+    let new = SqlShelf::open(rt.1, conn).ok();
+    let conn = new.expect(rt, "new tables").into_conn();
+    Office::new(SqlShelf::open(rt.1, conn).ok().expect(rt, "tables"))
+}
+
+/// In a database whose files are in memory.
 pub(crate) struct InDatabase;
 
 impl Tables for InDatabase {
-    type Shelf = SqlShelf<MemStore>;
+    type Shelf = SqlShelf<FileStore<Fuse<Memory>>>;
 
-    fn office(rt: &Bench<impl Abort>) -> Office<SqlShelf<MemStore>> {
-        let conn = Connection::open_in_memory(rt.1).ok();
-        let new = SqlShelf::open(rt.1, conn.expect(rt, "a database")).ok();
-        let conn = new.expect(rt, "new tables").into_conn();
-        Office::new(SqlShelf::open(rt.1, conn).ok().expect(rt, "tables"))
+    fn office(rt: &Bench<impl Abort>) -> Office<SqlShelf<FileStore<Fuse<Memory>>>> {
+        let conn = database(rt, stopping(rt, b"", true, u64::MAX)).ok();
+        opened_twice(rt, conn.expect(rt, "a database"))
     }
 }
 

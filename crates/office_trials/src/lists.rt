@@ -1,10 +1,10 @@
-//! Commands over maps and over a database: as one list, and the drawn ones. The replies are equal,
-//! and so is what is there after them. And how many rows each step of a draft writes.
+//! A list of commands over maps and over a database: the replies are equal, and so is what is there
+//! after them. And how many rows each step of a draft writes.
 
 use crate::asking::{
-    Bench, InDatabase, InMaps, Step, Tables, is_done, play, request, same, shown, told, words,
+    Bench, InDatabase, InMaps, Step, Tables, is_done, request, same, shown, told, words,
 };
-use crate::rows::{CHANGES, DRAWN, LIST, rows, steps};
+use crate::rows::{CHANGES, LIST, rows, steps};
 use office_desk::office::Office;
 use office_files::read_timing_csv;
 use office_http::{Form, answer_of, command_of};
@@ -53,24 +53,6 @@ fn lists_are_answered_equally(host: HostRuntime) {
     let in_maps = run_list::<InMaps>(&rt, &steps);
     let in_database = run_list::<InDatabase>(&rt, &steps);
     same(&rt, "what is there after a list", &in_maps, &in_database);
-}
-
-/// Runs the drawn commands, those of each row by a new office, and tells how many are answered.
-fn run_drawn<T: Tables>(rt: &Bench<impl Abort>) -> usize {
-    let rows = rows(rt);
-    let mut done = 0usize;
-    for at in DRAWN..DRAWN + 5 {
-        let steps = steps(rt, rows.as_str(), at);
-        done = done.saturating_add(play(rt, &mut T::office(rt), &steps));
-    }
-    done
-}
-
-#[test]
-fn drawn_commands_are_answered(host: HostRuntime) {
-    let rt = (&host, host.alloc());
-    assert!(rt; run_drawn::<InMaps>(&rt) == 2_000);
-    assert!(rt; run_drawn::<InDatabase>(&rt) == 2_000);
 }
 
 /// How many committed rows and draft rows each step writes, two digits and two. A plan of eleven
