@@ -145,8 +145,10 @@ pub(crate) fn database<D: Disk + Drop>(
 ) -> Result<Connection<FileStore<D>>, Files<D>>
     ensures { IfOk result (λ conn. IsArrangedIfClean (file_state conn)) }
 {
+    let mut options = Options::new(1);
+    options.cache_pages = 64;
     assert!(rt; files.may_be_used(), "files that may be used");
-    match Connection::open_files(rt.1, files, Options::new(1)) {
+    match Connection::open_files(rt.1, files, options) {
         Ok(conn) => Ok(conn),
         Err((_error, left)) => Err(left.into_files()),
     }
