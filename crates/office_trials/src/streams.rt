@@ -2,7 +2,7 @@
 //! full, wait or never stop, and connections.
 
 use crate::asking::{
-    Bench, InDatabase, InMaps, Step, Tables, UNAVAILABLE, same, told, whole, words,
+    Bench, Step, UNAVAILABLE, Work, in_maps, same, told, whole, words, work_in_both,
 };
 use crate::ends::{After, Feed, Taker};
 use crate::rows::{LIST, rows, steps};
@@ -106,22 +106,41 @@ pub(crate) fn stream<S: Shelf>(
     all.len()
 }
 
-/// Serves the worked streams by new offices: two requests, none, those that commit a plan, and two
-/// equal lengths, which end the stream, so that nothing is added.
-fn serve_worked<T: Tables>(rt: &Bench<impl Abort>, plan: &[Step<'_>], most: usize) {
-    let bytes = bytes_of(rt, plan);
-    let mut office = T::office(rt);
-    let came = serves(rt, &mut office, (sent(0, 127), 2), most);
-    same(rt, "the first stream", answered(0, 273), &came);
-    let came = serves(rt, &mut office, (b"", 0), most);
-    same(rt, "the empty stream", b"", &came);
-    let came = serves(rt, &mut office, (bytes.as_bytes(), 5), most);
-    same(rt, "a plan", &told(rt, plan), &came);
-    let mut office = T::office(rt);
-    let came = serves(rt, &mut office, (TWO_LENGTHS, 0), most);
-    same(rt, "two equal lengths", &whole(rt, REFUSED), &came);
-    let came = serves(rt, &mut office, (sent(93, 127), 1), most);
-    same(rt, "what they add", &whole(rt, UNKNOWN), &came);
+/// Serves a stream, whose answers must be these.
+fn serves_as<S: Shelf>(
+    rt: &Bench<impl Abort>,
+    office: &mut Office<S>,
+    sent: (&[u8], u32),
+    most: usize,
+    wanted: &[u8],
+) {
+    let came = serves(rt, office, sent, most);
+    same(rt, "a worked stream", wanted, &came);
+}
+
+/// Reads of so many bytes at most: two requests, none, and these steps, which commit a plan.
+#[derive(Clone, Copy)]
+struct Plan<'a, 'b>(usize, &'a [Step<'b>]);
+
+impl Work for Plan<'_, '_> {
+    fn work<S: Shelf>(&self, rt: &Bench<impl Abort>, office: &mut Office<S>) {
+        serves_as(rt, office, (sent(0, 127), 2), self.0, answered(0, 273));
+        serves_as(rt, office, (b"", 0), self.0, b"");
+        let (bytes, answers) = (bytes_of(rt, self.1), told(rt, self.1));
+        serves_as(rt, office, (bytes.as_bytes(), 5), self.0, &answers);
+    }
+}
+
+/// Reads of so many bytes at most: two equal lengths end a stream, so that nothing is added.
+#[derive(Clone, Copy)]
+struct TwoLengths(usize);
+
+impl Work for TwoLengths {
+    fn work<S: Shelf>(&self, rt: &Bench<impl Abort>, office: &mut Office<S>) {
+        let (refused, unknown) = (whole(rt, REFUSED), whole(rt, UNKNOWN));
+        serves_as(rt, office, (TWO_LENGTHS, 0), self.0, &refused);
+        serves_as(rt, office, (sent(93, 127), 1), self.0, &unknown);
+    }
 }
 
 #[test]
@@ -131,8 +150,8 @@ fn worked_streams_are_answered(host: HostRuntime) {
     let steps = steps(&rt, rows.as_str(), LIST);
     let plan = steps.get(2..7).unwrap_or(&[]);
     for most in [usize::MAX, 1] {
-        serve_worked::<InMaps>(&rt, plan, most);
-        serve_worked::<InDatabase>(&rt, plan, most);
+        work_in_both(&rt, &Plan(most, plan));
+        work_in_both(&rt, &TwoLengths(most));
     }
 }
 
@@ -163,7 +182,7 @@ fn serve_ends(
     taken.set(0);
     let mut source = FromRead::new(Feed::new(sent(0, end), usize::MAX, after));
     let mut sink = ToWrite::new(Taker::new(rt, room, fails, taken));
-    let served = serve(rt.1, &mut InMaps::office(rt), &mut source, &mut sink, 9);
+    let served = serve(rt.1, &mut in_maps(rt), &mut source, &mut sink, 9);
     let bytes = sink.writer.bytes;
     assert!(rt;
         bytes.starts_with(answered(0, bytes.len())),
@@ -223,7 +242,7 @@ fn two_connections_are_served(host: HostRuntime) -> Result<(), Fail> {
     let first = send(&host, &listener)?;
     let second = send(&host, &listener)?;
     let mut listener = FromListener::new(listener);
-    assert!(rt; serve_each(rt.1, &mut listener, 2, &mut InMaps::office(&rt)).is_ok());
+    assert!(rt; serve_each(rt.1, &mut listener, 2, &mut in_maps(&rt)).is_ok());
     let counts = listener.counts();
     assert!(rt; counts.accepted == 2 && counts.failures == 0);
     let came = io::read_to_string(rt.1, first)?;
