@@ -8,6 +8,7 @@
 
 mod arguments;
 mod command_line;
+mod help;
 mod job;
 mod jobs;
 mod refusals;
