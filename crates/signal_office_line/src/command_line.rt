@@ -17,11 +17,19 @@ const ANY_DB: Argument<'static> = Argument("db", Form::Choice("FILE"));
 
 const WAIT: Argument<'static> = Argument("wait", Form::Choice("SECONDS"));
 
-const FILE: Argument<'static> = Argument("file", Form::Choice("FILE"));
+const PORT: Argument<'static> = Argument("port", Form::Needed("N"));
+
+const COUNT: Argument<'static> = Argument("count", Form::Choice("N"));
+
+const FIRST: Argument<'static> = Argument("first", Form::Choice("N"));
+
+const ON_DAY: Argument<'static> = Argument("day", Form::Choice("DAY"));
+
+const UNTIL: Argument<'static> = Argument("until", Form::Choice("DAY"));
 
 const CLERK: Argument<'static> = Argument("clerk", Form::Needed("NAME"));
 
-const ID: Argument<'static> = Argument("ID", Form::Word);
+const FILE: Argument<'static> = Argument("file", Form::Choice("FILE"));
 
 const CSV: Argument<'static> = Argument("csv", Form::Flag);
 
@@ -29,131 +37,83 @@ const EXPLAIN: Argument<'static> = Argument("explain", Form::Flag);
 
 const PADDED: Argument<'static> = Argument("padded", Form::Flag);
 
+const FORCE: Argument<'static> = Argument("force", Form::Flag);
+
+const CHECK: Argument<'static> = Argument("check", Form::Flag);
+
+const DRAFT: Argument<'static> = Argument("draft", Form::Flag);
+
+const CABINET: Argument<'static> = Argument("cabinet", Form::Flag);
+
+const ALL: Argument<'static> = Argument("all", Form::Flag);
+
+const REPLACE: Argument<'static> = Argument("replace", Form::Flag);
+
+const COMMIT: Argument<'static> = Argument("commit", Form::Flag);
+
+const ID: Argument<'static> = Argument("ID", Form::Word);
+
+const ANY_ID: Argument<'static> = Argument("ID", Form::SecondWord);
+
+const DAY: Argument<'static> = Argument("DAY", Form::Word);
+
+const INTERVAL: Argument<'static> = Argument("INTERVAL", Form::Word);
+
+const NAME: Argument<'static> = Argument("NAME", Form::Word);
+
+const PART: Argument<'static> = Argument("PART", Form::SecondWord);
+
+const DIR: Argument<'static> = Argument("DIR", Form::Word);
+
+const TO: Argument<'static> = Argument("TO", Form::Word);
+
+const RECORDS: Argument<'static> = Argument("CSV", Form::Word);
+
+const ANY_RECORDS: Argument<'static> = Argument("CSV", Form::SecondWord);
+
+const PLAN: Argument<'static> = Argument("PLAN", Form::Word);
+
+const OTHER: Argument<'static> = Argument("OTHER", Form::SecondWord);
+
+const PATTERN: Argument<'static> = Argument("PATTERN", Form::SecondWord);
+
 /// The commands with their arguments, in the order of the help. What the help says of them stands
 /// in `help.rt`.
 const COMMANDS: &[Usage<'static>] = &[
     Usage("batch", &[ANY_DB, WAIT]),
-    Usage(
-        "serve",
-        &[
-            Argument("port", Form::Needed("N")),
-            Argument("count", Form::Choice("N")),
-            ANY_DB,
-            WAIT,
-        ],
-    ),
+    Usage("serve", &[PORT, COUNT, ANY_DB, WAIT]),
     Usage("sheet", &[DB, WAIT, ID]),
-    Usage(
-        "overdue",
-        &[
-            DB,
-            WAIT,
-            Argument("first", Form::Choice("N")),
-            CSV,
-            Argument("DAY", Form::Word),
-        ],
-    ),
-    Usage(
-        "add",
-        &[
-            DB,
-            WAIT,
-            ID,
-            Argument("INTERVAL", Form::Word),
-            Argument("NAME", Form::Word),
-        ],
-    ),
+    Usage("overdue", &[DB, WAIT, FIRST, CSV, DAY]),
+    Usage("add", &[DB, WAIT, ID, INTERVAL, NAME]),
     Usage("list", &[DB, WAIT, CSV]),
     Usage("stock", &[DB, WAIT, CSV]),
-    Usage("orders", &[DB, WAIT, CSV, Argument("ID", Form::SecondWord)]),
-    Usage("used", &[DB, WAIT, CSV, Argument("PART", Form::SecondWord)]),
+    Usage("orders", &[DB, WAIT, CSV, ANY_ID]),
+    Usage("used", &[DB, WAIT, CSV, PART]),
     Usage("cabinet", &[DB, WAIT, ID]),
-    Usage(
-        "pages",
-        &[
-            DB,
-            WAIT,
-            Argument("day", Form::Choice("DAY")),
-            Argument("DIR", Form::Word),
-        ],
-    ),
-    Usage(
-        "verify-file",
-        &[EXPLAIN, PADDED, Argument("CSV", Form::Word)],
-    ),
+    Usage("pages", &[DB, WAIT, ON_DAY, DIR]),
+    Usage("verify-file", &[EXPLAIN, PADDED, RECORDS]),
     Usage("migrate", &[DB, WAIT]),
-    Usage(
-        "backup",
-        &[
-            DB,
-            WAIT,
-            Argument("force", Form::Flag),
-            Argument("TO", Form::Word),
-        ],
-    ),
-    Usage(
-        "import",
-        &[
-            DB,
-            WAIT,
-            Argument("check", Form::Flag),
-            Argument("until", Form::Choice("DAY")),
-            PADDED,
-            Argument("CSV", Form::Word),
-        ],
-    ),
-    Usage(
-        "export",
-        &[
-            DB,
-            WAIT,
-            Argument("draft", Form::Flag),
-            Argument("cabinet", Form::Flag),
-            Argument("all", Form::Flag),
-            ID,
-        ],
-    ),
+    Usage("backup", &[DB, WAIT, FORCE, TO]),
+    Usage("import", &[DB, WAIT, CHECK, UNTIL, PADDED, RECORDS]),
+    Usage("export", &[DB, WAIT, DRAFT, CABINET, ALL, ID]),
     Usage(
         "edit",
         &[
             DB,
             WAIT,
             CLERK,
-            Argument("replace", Form::Flag),
-            Argument("commit", Form::Flag),
+            REPLACE,
+            COMMIT,
             EXPLAIN,
             PADDED,
             ID,
-            Argument("CSV", Form::SecondWord),
+            ANY_RECORDS,
         ],
     ),
     Usage("abandon", &[DB, WAIT, CLERK, ID]),
-    Usage(
-        "compare",
-        &[
-            ANY_DB,
-            WAIT,
-            CSV,
-            PADDED,
-            Argument("PLAN", Form::Word),
-            Argument("OTHER", Form::SecondWord),
-        ],
-    ),
-    Usage(
-        "diagram",
-        &[
-            ANY_DB,
-            WAIT,
-            FILE,
-            PADDED,
-            ID,
-            Argument("PATTERN", Form::SecondWord),
-        ],
-    ),
-    Usage(
-        "page",
-        &[ANY_DB, WAIT, FILE, PADDED, Argument("ID", Form::SecondWord)],
-    ),
+    Usage("compare", &[ANY_DB, WAIT, CSV, PADDED, PLAN, OTHER]),
+    Usage("diagram", &[ANY_DB, WAIT, FILE, PADDED, ID, PATTERN]),
+    Usage("page", &[ANY_DB, WAIT, FILE, PADDED, ANY_ID]),
 ];
 
 // The table is named in one function, since it counts in every one that names it.
