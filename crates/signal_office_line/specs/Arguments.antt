@@ -20,4 +20,4 @@ abbrev pub rule_for : Argument → Rule
 rule_for argument = rule_in argument.1 argument.0.now
 
 abbrev pub app_for : Usage → App
-app_for usage = command_app usage.0.now (map rule_for usage.2.now)
+app_for usage = command_app usage.0.now (map rule_for usage.1.now)

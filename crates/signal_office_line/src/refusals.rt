@@ -6,13 +6,14 @@ ghost use Rattle.clap.specs.Values.{kind_of};
 ghost use Rattle.clap.specs.Walk.{rows_of};
 ghost use Rattle.signal_office_line.specs.Refusals.{IsWrongNumber};
 
-use crate::command_line::{command_line, command_named};
+use crate::arguments::{Argument, Usage};
+use crate::command_line::{command_line, command_named, usage_of};
 use crate::values::{flag, number_from, word};
 use clap::error::ErrorKind;
 use clap::{ArgMatches, Error};
 use std::alloc::{AllocError, Global};
 
-/// An argument whose word is a number from `least` to `most`, and how the help shows its name.
+/// A word that is to be a number from `least` to `most`, and how the help shows its argument's name.
 #[derive(Clone, Copy)]
 struct NumberArgument<'a> {
     id: &'a str,
@@ -21,94 +22,34 @@ struct NumberArgument<'a> {
     most: u32,
 }
 
-const WAITING: &[NumberArgument<'static>] = &[NumberArgument {
-    id: "wait",
-    shown: "--wait",
-    least: 0,
-    most: 3_600,
-}];
-
-const INTERSECTION: NumberArgument<'static> = NumberArgument {
-    id: "ID",
-    shown: "ID",
-    least: 1,
-    most: 9_999,
-};
-
-const SERVER: &[NumberArgument<'static>] = &[
-    NumberArgument {
-        id: "port",
-        shown: "--port",
-        least: 1,
-        most: 65_535,
-    },
-    NumberArgument {
-        id: "count",
-        shown: "--count",
-        least: 1,
-        most: 1_000_000,
-    },
-];
-
-const REPORT: &[NumberArgument<'static>] = &[NumberArgument {
-    id: "first",
-    shown: "--first",
-    least: 1,
-    most: 9_999,
-}];
-
-const NEW_INTERSECTION: &[NumberArgument<'static>] = &[
-    INTERSECTION,
-    NumberArgument {
-        id: "INTERVAL",
-        shown: "INTERVAL",
-        least: 1,
-        most: 3_650,
-    },
-];
-
-/// `compare --db` takes an intersection in place of its first file.
-const COMPARED: &[NumberArgument<'static>] = &[NumberArgument {
-    id: "PLAN",
-    shown: "ID",
-    least: 1,
-    most: 9_999,
-}];
-
-const DRAWN: &[NumberArgument<'static>] = &[
-    INTERSECTION,
-    NumberArgument {
-        id: "PATTERN",
-        shown: "PATTERN",
-        least: 1,
-        most: 48,
-    },
-];
-
-/// `diagram --file` takes a pattern alone.
-const DRAWN_OF_FILE: &[NumberArgument<'static>] = &[NumberArgument {
-    id: "ID",
-    shown: "PATTERN",
-    least: 1,
-    most: 48,
-}];
-
-const OTHER: &[NumberArgument<'static>] = &[INTERSECTION];
-
-/// The numbers that a command takes, by what else is given.
-fn numbers_of(name: &str, matches: &ArgMatches<'_>) -> &'static [NumberArgument<'static>] {
-    let has_file = word(matches, "file").is_some();
-    match name {
-        "serve" => SERVER,
-        "overdue" => REPORT,
-        "add" => NEW_INTERSECTION,
-        "compare" if word(matches, "db").is_some() => COMPARED,
-        "compare" => &[],
-        "export" if flag(matches, "all") => &[],
-        "diagram" if has_file => DRAWN_OF_FILE,
-        "diagram" => DRAWN,
-        _ => OTHER,
-    }
+/// The number that a command's argument is to be, if it is to be one, by what else is given.
+fn number_of(
+    command: &str,
+    id: &'static str,
+    matches: &ArgMatches<'_>,
+) -> Option<NumberArgument<'static>> {
+    let draws_file = command == "diagram" && word(matches, "file").is_some();
+    let (shown, least, most) = match id {
+        "wait" => ("--wait", 0, 3_600),
+        "port" => ("--port", 1, 65_535),
+        "count" => ("--count", 1, 1_000_000),
+        "first" => ("--first", 1, 9_999),
+        "INTERVAL" => ("INTERVAL", 1, 3_650),
+        "PATTERN" if !draws_file => ("PATTERN", 1, 48),
+        // `diagram --file` takes a pattern alone.
+        "ID" if draws_file => ("PATTERN", 1, 48),
+        // `export --all` takes a folder.
+        "ID" if !flag(matches, "all") => ("ID", 1, 9_999),
+        // `compare --db` takes an intersection in place of its first file.
+        "PLAN" if word(matches, "db").is_some() => ("ID", 1, 9_999),
+        _ => return None,
+    };
+    Some(NumberArgument {
+        id,
+        shown,
+        least,
+        most,
+    })
 }
 
 /// What a command takes, where each of its numbers is one.
@@ -126,39 +67,46 @@ fn forms_of(name: &str, matches: &ArgMatches<'_>) -> &'static str {
     }
 }
 
-/// The first of these arguments whose word is given and is no number of its range, with that word.
-fn wrong_number<'a>(
+/// The word of a command's argument, with what it is to be, where it is given, is to be a number,
+/// and is none of its range.
+fn wrong_word<'a>(
+    command: &str,
+    id: &'static str,
     matches: &ArgMatches<'a>,
-    among: &[NumberArgument<'static>],
 ) -> Option<(NumberArgument<'static>, &'a str)>
     ensures { IfSome result (λ found.
         IsWrongNumber found.0 found.1.now (rows_of (found_of matches.entry.now))) }
 {
-    for argument in among {
-        if let Some(word) = word(matches, argument.id) {
-            if number_from(matches, argument.id, argument.least, argument.most).is_none() {
-                return Some((*argument, word));
+    let argument = number_of(command, id, matches)?;
+    let word = word(matches, argument.id)?;
+    match number_from(matches, argument.id, argument.least, argument.most) {
+        None => Some((argument, word)),
+        Some(_) => None,
+    }
+}
+
+/// The first word of a command that is to be a number and is none of its range, with what it is to
+/// be; that of `--wait` comes last.
+fn wrong_number<'a>(
+    command: &str,
+    matches: &ArgMatches<'a>,
+) -> Option<(NumberArgument<'static>, &'a str)> {
+    let Usage(_, arguments) = usage_of(command)?;
+    for argument in arguments {
+        let Argument(id, _) = *argument;
+        if id != "wait" {
+            if let Some(found) = wrong_word(command, id, matches) {
+                return Some(found);
             }
         }
     }
-    None
-}
-
-/// The first word of a command that is no number of its range, with its argument.
-fn wrong_number_of<'a>(
-    name: &str,
-    matches: &ArgMatches<'a>,
-) -> Option<(NumberArgument<'static>, &'a str)> {
-    match wrong_number(matches, numbers_of(name, matches)) {
-        Some(found) => Some(found),
-        None => wrong_number(matches, WAITING),
-    }
+    wrong_word(command, "wait", matches)
 }
 
 /// Why the words of a command state no job: the word that is no number, with what it may be, or
 /// what the command takes.
-fn reason(alloc: Global, name: &str, matches: &ArgMatches<'_>) -> Result<String, AllocError> {
-    match wrong_number_of(name, matches) {
+fn reason(alloc: Global, command: &str, matches: &ArgMatches<'_>) -> Result<String, AllocError> {
+    match wrong_number(command, matches) {
         Some((argument, word)) => {
             let NumberArgument {
                 shown,
@@ -168,7 +116,7 @@ fn reason(alloc: Global, name: &str, matches: &ArgMatches<'_>) -> Result<String,
             } = argument;
             format!(in alloc; "{shown} {word}: a number from {least} to {most}")
         }
-        None => String::from_str(alloc, forms_of(name, matches)),
+        None => String::from_str(alloc, forms_of(command, matches)),
     }
 }
 

@@ -17,12 +17,12 @@ pub loop-argument-preserved : goal.loop-argument-preserved
 loop-argument-preserved c =
     let added = ParsesAs-arg _ _ _ _ _ c.loop-argument.invariant c.arg_of.ensures.rule
     c.arg_of.ensures.local c.in_ok-command.ensures in
-    ParsesAs-more _ _ c.args.usage.now.2.now c.loop-argument.argument-index _
+    ParsesAs-more _ _ c.args.usage.now.1.now c.loop-argument.argument-index _
     c.loop-argument-test.true added
 
 pub returns : goal.returns
 returns c =
     subst (λ (xs : List Argument). ParsesAs c.loop-argument.command
     (with_rules (new_app c.args.usage.now.0.now) (map rule_for xs)))
-    (take_all c.loop-argument.argument-index c.args.usage.now.2.now c.loop-argument-test.false)
+    (take_all c.loop-argument.argument-index c.args.usage.now.1.now c.loop-argument-test.false)
     c.loop-argument.invariant

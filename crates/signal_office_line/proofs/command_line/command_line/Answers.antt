@@ -2,16 +2,14 @@ use Rattle.std.proofs.Common.{ap, subst, ◌∙◌, true}
 use Rattle.std.specs.Prelude.{IfOk}
 use Rattle.clap.specs.{declared.builder.command.Command.Command, declared.builder.command.Command.TheOpen.Command-F, Simple.app_of_fields}
 use Rattle.clap.specs.Simple.{on_top}
-use Rattle.signal_office_line.specs.CommandLine.{ParsesAs, office_commands, signal_top, with_subcommands}
+use Rattle.signal_office_line.specs.CommandLine.{ParsesAs, signal_top, with_subcommands}
 use Rattle.signal_office_line.proofs.command_line.command_line.Goals as goal
 
 pub returns : goal.returns
 returns c =
-    subst (λ apps. IfOk c.with_commands-2.result (λ x. ParsesAs x (with_subcommands (with_subcommands signal_top office_commands) apps)))
-    c.plan_commands.ensures
-    (c.with_commands-2.ensures (with_subcommands signal_top office_commands)
-    (subst (λ apps. ParsesAs c.in_ok-begun.begun (with_subcommands signal_top apps)) c.office_commands.ensures
-    (c.in_ok-begun.ensures signal_top (record {
+    subst (λ apps. IfOk c.with_commands.result (λ x. ParsesAs x (with_subcommands signal_top apps)))
+    c.commands.ensures
+    (c.with_commands.ensures signal_top (record {
       app_is = ap app_of_fields c.subcommand_required-program.ensures
           ∙ ap (on_top (λ s. record s { subcommand_required = true }))
           (ap app_of_fields c.version.ensures ∙ ap (on_top (λ s. record s { has_version = true }))
@@ -19,4 +17,4 @@ returns c =
       local = ap (λ (x : Command-F Command). x.has_globals) c.subcommand_required-program.ensures
           ∙ (ap (λ (x : Command-F Command). x.has_globals) c.version.ensures
           ∙ (ap (λ (x : Command-F Command). x.has_globals) c.about.ensures ∙ c.new.ensures.local));
-    }))))
+    }))
