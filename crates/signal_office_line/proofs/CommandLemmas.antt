@@ -1,11 +1,8 @@
 -- How what a parse reads of a command grows with its arguments and subcommands.
-use Rattle.std.proofs.Common.{◌≡◌, ℕ, ◌+◌, ◌<◌, Bool, false, ◌||◌, List, [], ◌∷◌, ◌++◌, map, take}
-use Rattle.std.proofs.Common.{get_or, length, refl, sym, ap, ap₂, subst, ◌∙◌}
+use Rattle.std.proofs.Common.{◌≡◌, ℕ, ◌+◌, ◌<◌, Bool, false, ◌||◌, List, [], ◌∷◌, ◌++◌, map, take, get_or, length, refl, sym, ap, ap₂, subst, ◌∙◌}
 use Rattle.std.proofs.lemmas.List.{map-append, take_more}
-use Rattle.clap.specs.{declared.builder.command.Command.Command, declared.builder.arg.Arg.Arg, Walk.Rule, Walk.rule_of, Simple.App}
-use Rattle.clap.specs.{Simple.with_rule, Simple.with_subcommand, Built.AddsArg, Built.AddsSubcommand}
-use Rattle.signal_office_line.specs.{Arguments.app_for, Arguments.rule_for, CommandLine.ParsesAs, CommandLine.with_rules, CommandLine.with_subcommands}
-use Rattle.signal_office_line.specs.{declared.arguments.Argument.Argument, declared.arguments.Usage.Usage}
+use Rattle.clap.specs.{declared.builder.command.Command.Command, declared.builder.arg.Arg.Arg, Walk.Rule, Walk.rule_of, Simple.App, Simple.with_rule, Simple.with_subcommand, Built.AddsArg, Built.AddsSubcommand}
+use Rattle.signal_office_line.specs.{Arguments.app_for, Arguments.rule_for, CommandLine.ParsesAs, CommandLine.with_rules, CommandLine.with_subcommands, declared.arguments.Argument.Argument, declared.arguments.Usage.Usage}
 
 neither : (x y z : Bool) → x ≡ (y || z) → y ≡ false → z ≡ false → x ≡ false
 neither x y z e f g = rw (f, g) at e

@@ -1,8 +1,6 @@
 -- Which number a word spells, by what `parse` says of it.
-use Rattle.std.proofs.Common.{◌≡◌, ℕ, ◌<◌, ◌≤◌, ◌^◌, Bool, true, false, ◌&&◌, if◌then◌else◌, nat_lt}
+use Rattle.std.proofs.Common.{◌≡◌, ℕ, ◌<◌, ◌≤◌, ◌^◌, Bool, true, false, ◌&&◌, if◌then◌else◌, nat_lt, [], ◌∷◌, length, Some, None, Result, Ok, Err, sym, ap, ◌∙◌, refl, arith}
 use Rattle.std.proofs.{Common.nat_le, lemmas.Bool.ltb-true, lemmas.Bool.lt-ltb, lemmas.Bool.leb-true, lemmas.Bool.le-leb}
-use Rattle.std.proofs.Common.{[], ◌∷◌, length, Some, None, Result, Ok, Err, sym, ap}
-use Rattle.std.proofs.Common.{◌∙◌, refl, arith}
 use Rattle.std.specs.{Char.digit_value, List.list_all, Cmp.Derive.both_true, Result.OkIff, Result.result_ok, Str.Parse.AllDigits}
 use Rattle.std.specs.Str.Parse.{IsNumeral, digits_value}
 use Rattle.clap.proofs.WalkLemmas.{both}

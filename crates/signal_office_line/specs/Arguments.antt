@@ -2,8 +2,7 @@
 use Rattle.std.specs.Prelude.{ℕ, List, map}
 use Rattle.clap.specs.Simple.{App}
 use Rattle.clap.specs.Walk.{Rule}
-use Rattle.signal_office_line.specs.CommandLine.{command_app, flag_rule, needed_rule, option_rule}
-use Rattle.signal_office_line.specs.CommandLine.{positional_rule, second_rule}
+use Rattle.signal_office_line.specs.CommandLine.{command_app, flag_rule, needed_rule, option_rule, positional_rule, second_rule}
 use Rattle.signal_office_line.specs.declared.arguments.Argument.{Argument}
 use Rattle.signal_office_line.specs.declared.arguments.Form.{Form}
 use Rattle.signal_office_line.specs.declared.arguments.Form.TheVariants as form

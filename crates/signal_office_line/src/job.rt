@@ -7,8 +7,7 @@ ghost use Rattle.clap.specs.Takes.{takes};
 ghost use Rattle.clap.specs.Values.{kind_of};
 ghost use Rattle.signal_office_line.specs.CommandLine.{signal_app};
 ghost use Rattle.signal_office_line.specs.Job.{asked, job_in};
-ghost use Rattle.signal_office_line.specs.Refusals.{IsJobFound, IsJudged, IsRefusalTold};
-ghost use Rattle.signal_office_line.specs.Refusals.{IsRefusedBy, clap_refusals, word_refusals};
+ghost use Rattle.signal_office_line.specs.Refusals.{IsJobFound, IsJudged, IsRefusalTold, IsRefusedBy, clap_refusals, word_refusals};
 
 use crate::command_line::command_line;
 use crate::jobs::job_at;

@@ -3,15 +3,7 @@
 ghost use Rattle.std.specs.Prelude.{◌≡◌, option_map};
 ghost use Rattle.clap.specs.Matches.{found_of};
 ghost use Rattle.clap.specs.Walk.{rows_of};
-ghost use Rattle.signal_office_line.specs.Job.{abandon_at, add_at, any_db_at, asked};
-ghost use Rattle.signal_office_line.specs.Job.{backup_at, batch_at, db_asked, db_at};
-ghost use Rattle.signal_office_line.specs.Job.{compare_at};
-ghost use Rattle.signal_office_line.specs.Job.{diagram_at, edit_at, import_at, job_at, migrate_at};
-ghost use Rattle.signal_office_line.specs.Job.{csv_at, edited_file, export_job_at, file_asked};
-ghost use Rattle.signal_office_line.specs.Job.{number_at, overdue_at, page_at, pages_at};
-ghost use Rattle.signal_office_line.specs.Job.{serve_at, show_at};
-ghost use Rattle.signal_office_line.specs.Job.{used_at};
-ghost use Rattle.signal_office_line.specs.Job.{verify_file_at};
+ghost use Rattle.signal_office_line.specs.Job.{abandon_at, add_at, any_db_at, asked, backup_at, batch_at, db_asked, db_at, compare_at, diagram_at, edit_at, import_at, job_at, migrate_at, csv_at, edited_file, export_job_at, file_asked, number_at, overdue_at, page_at, pages_at, serve_at, show_at, used_at, verify_file_at};
 
 use crate::job::{CsvFile, Edit, Job, OfficeFile};
 use crate::shows::{PlanShown, Shown, shown_at};

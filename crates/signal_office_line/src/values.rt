@@ -3,8 +3,7 @@
 ghost use Rattle.std.specs.Prelude.{◌≡◌, option_map};
 ghost use Rattle.clap.specs.Matches.{found_of};
 ghost use Rattle.clap.specs.Walk.{first_of, rows_of};
-ghost use Rattle.signal_office_line.specs.Job.{choice_at, choice_from, flag_at, number_at};
-ghost use Rattle.signal_office_line.specs.Job.{number_from};
+ghost use Rattle.signal_office_line.specs.Job.{choice_at, choice_from, flag_at, number_at, number_from};
 
 use clap::ArgMatches;
 use signal_values::InterId;
