@@ -1,12 +1,11 @@
 #!/usr/bin/env python3
 """Draws requests, has the second office (tests/model) answer them, and writes both as row files,
-which tests/rows.py plays, and packed into sources of crates/office_trials, which runs them without
-a stream.
+which tests/rows.py plays.
 
     tests/draw_rows.py                          checks that the stored rows are what is drawn today
     tests/draw_rows.py SEED COUNT               prints how often each answer, refusal, fault and
                                                 broken rule would come, and the bytes of each file
-    tests/draw_rows.py SEED COUNT --write       writes tests/rows/drawn_*.row and packed_*.rt
+    tests/draw_rows.py SEED COUNT --write       writes tests/rows/drawn_*.row
 
 Each route must be answered, and each refusal but 18, each fault of a row and each broken rule must
 come up; if one does not, it says so and ends with status 1. Builds nothing; needs no program.
@@ -18,7 +17,6 @@ import random
 import re
 import sys
 
-import packed
 from model import requests
 from model.office import Office
 from model.rows import DATA, written
@@ -28,18 +26,6 @@ from model.wire import answer
 # Of a hundred requests so many are of a theme.
 SHARES = {"transactions": 22, "plans": 30, "registers": 22, "days": 8, "faults": 18}
 STREAM, OPENED = 50, 3  # requests of a stream, and streams after which the tables are opened again
-
-SOURCES = pathlib.Path(__file__).resolve().parent.parent / "crates" / "office_trials" / "src"
-WORKED = ["one_long_list_of_commands", "only_the_changed_rows_are_written"]
-SOURCE = '''//! The {name} half of packed rows. It is written by tests/draw_rows.py.
-
-/// The packed lines.
-pub(crate) fn packed() -> &'static str {{
-    r##"
-{lines}
-"##
-}}
-'''
 
 # The requests of a stream that breaks off.
 CUT = [("POST", "/intersections", '{"id":12,"interval":365,"name":"Main St"}'),
@@ -95,23 +81,11 @@ def cuts(seed, count):
         yield f"served {whole}"
 
 
-def sources(drawn):
-    """The sources that hold the requests and answers of rows, two worked ones and those drawn, with
-    an empty line between two rows."""
-    texts = [*((DATA / f"{name}.row").read_text() for name in WORKED), *drawn]
-    said = [[it for it in text.split("\n") if it[:2] in ("> ", "< ")] for text in texts]
-    lines = packed.packed("\n\n".join("\n".join(row) for row in said))
-    half = len(lines) // 2
-    for name, part in (("first", lines[:half]), ("second", lines[half:])):
-        yield SOURCES / f"packed_{name}.rt", SOURCE.format(name=name, lines="\n".join(part))
-
-
 def rows(seed, count):
-    """The name and the text of each row file and each source, and the tally of all."""
+    """The name and the text of each row file, and the tally of all."""
     tally = Tally()
     texts = {DATA / f"drawn_{name}.row": "\n".join([*row(name, seed, count, tally), ""])
              for name in SHARES}
-    texts.update(dict(sources([*texts.values()])))
     texts[DATA / "drawn_cuts.row"] = "\n".join([*cuts(seed, count), ""])
     return texts, tally
 

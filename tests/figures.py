@@ -77,14 +77,14 @@ DEFINITIONS = [
     ("yellow_is_right phase = nat_le (30) phase.yellow && nat_le phase.yellow (60)",
      "V1 (phase): yellow is # to #"),
     ("red_is_right phase = nat_le phase.red (60)", "V2 (phase): red is at most #"),
-    ("walk_is_long ped = nat_le (if ped.short then (4) else (7)) ped.walk",
+    ("least_walk ped = if ped.short then (4) else (7)",
      "or at least # with `short`", "V3 (phase with pedestrian): walk is at least #,"),
     ("clearance phase ped = (10) * ped.clear", "V4 (phase with pedestrian): `7 * (#*clear"),
     ("clears_crossing phase ped = nat_le ((2) * ped.width) ((7) * clearance phase ped)",
      ">= # * width`", "V4 (phase with pedestrian): `# *"),
     ("nat_le (ped.width + ped.setback) ((3) * ((10) * ped.walk + clearance phase ped))",
      "V5 (phase with pedestrian): `# * (#*walk"),
-    ("(nat_le (3) ped.lead && nat_le ped.lead ped.walk)", "lead is 0, or at least # and"),
+    ("(not (ped.lead == 0) && nat_lt ped.lead (3)", "lead is 0, or at least # and"),
 ]
 
 
@@ -168,7 +168,7 @@ def wrong_measurements():
     readme = plain((TOP / "README.md").read_text())
     text = plain((TOP / "docs/MEASUREMENTS.md").read_text())
     took = re.search(r"this took ([\d, and]+) minutes", readme)
-    gate = re.search(r"the gate, `rt ci`, took (\d+) minutes", readme)
+    gate = re.search(r"the gate, `rt ci`, and the\s+scripts behind it took (\d+) minutes", readme)
     first = re.search(r"first build: begin.*\| (\d+) min \|", text)
     builds = [*first.groups(), *re.findall(r"the first build took (\d+) minutes", text)]
     if not took or not gate:

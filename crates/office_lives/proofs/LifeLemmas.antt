@@ -1,5 +1,5 @@
 -- From one run over a file to the next.
-use Rattle.std.proofs.Common.{◌≡◌, inl, inr, Some, Result, Ok, Err, refl, sym, ap, subst}
+use Rattle.std.proofs.Common.{◌≡◌, inl, inr, None, Some, Option, Result, Ok, Err, refl, sym, ap, subst}
 use Rattle.std.specs.Prelude.{IfSome}
 use Rattle.sqlite.specs.{Files.image_of, Held.Held, WalReads.AreClean}
 use Rattle.sqlite.specs.declared.FileStore.{FileStore}
@@ -9,13 +9,17 @@ use Rattle.office_tables.specs.{Content.Content, Stored.content_of}
 use Rattle.office_tables_migration.specs.declared.puts.Migrated.{Migrated}
 use Rattle.office_tables_migration.proofs.Migration.{stand_anew}
 use Rattle.office_tables_open.specs.{Version.AreToday}
-use Rattle.signal_office_file.specs.Files.{HoldIn, KeepTables}
-use Rattle.signal_office_file.specs.InFile.{IsKept}
-use Rattle.signal_office_file.specs.Left.{IsCleanFile, closed_of, database_of}
+use Rattle.signal_office_file.specs.Files.{KeepTables}
+use Rattle.signal_office_file.specs.Left.{closed_of, database_of}
 use Rattle.signal_office_file.specs.Migrating.{IsClosedMigrated}
 use Rattle.signal_office_file.specs.declared.left.FileLeft.{FileLeft}
 use Rattle.signal_office_file.specs.declared.left.FileLeft.TheVariants as left
 use Rattle.office_lives.specs.Life.{HoldFormerly, Made, migrated}
+
+-- what follows from what holds of a value holds of it, if there is one
+pub some_so : {T : Type 0} (P Q : T → Type 0) (found : Option T) → ((it : T) → P it → Q it) → IfSome found P → IfSome found Q
+some_so P Q (Some it) so holds = so it holds
+some_so P Q None so holds = holds
 
 module _ {D : Type 0} (g : Disk D) where
   -- closed files of which the migration was done
@@ -37,15 +41,13 @@ module _ {D : Type 0} (g : Disk D) where
   done_migrated files count (left.Unopened back) none = absurd none
   done_migrated files count (left.Database back) none = absurd none
 
-  -- closed files, over which work was done
-  pub closed_after : (files : Files D) (does : Content → Content → Type 0) (back : FileLeft D g) (closed : Files D) → Some closed ≡ closed_of back
-      → (IsCleanFile back → (old : Content) × (new : Content) × HoldIn (image_of g files) old × does old new × IsKept back new)
-      → AreClean g closed.log closed.db → (old : Content) × (new : Content) × HoldIn (image_of g files) old × does old new × KeepTables g closed new
-  closed_after files does (left.Closed it) closed is ended =
-      let same : it ≡ closed = cc in
-      subst (λ (c : Files D). AreClean g c.log c.db → (old : Content) × (new : Content) × HoldIn (image_of g files) old × does old new × KeepTables g c new) same ended
-  closed_after files does (left.Unopened it) closed is ended = absurd (cc)
-  closed_after files does (left.Database it) closed is ended = absurd (cc)
+  -- where the files are closed, that is what is left
+  pub closed_is : (file : FileLeft D g) (back : Files D) → Some back ≡ closed_of file → left.Closed back ≡ file
+  closed_is (left.Closed it) back is =
+      let same : back ≡ it = cc in
+      ap left.Closed same
+  closed_is (left.Unopened it) back is = absurd (cc)
+  closed_is (left.Database it) back is = absurd (cc)
 
   -- where a database is left, that is what is left
   pub database_is : (file : FileLeft D g) (back : Result (Held (FileStore D g)) (FileStore D g)) → Some back ≡ database_of file → left.Database back ≡ file

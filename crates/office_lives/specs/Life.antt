@@ -4,6 +4,7 @@ use Rattle.sqlite.specs.Files.{file_state}
 use Rattle.sqlite.specs.Recovery.{Image}
 use Rattle.sqlite.specs.Tree.{Trees}
 use Rattle.sqlite_disk.specs.declared.Disk.{Ghosts as Disk}
+use Rattle.sqlite_disk.specs.declared.Files.{Files}
 use Rattle.sqlite_store.specs.FileStore.{view}
 use Rattle.office_machine.specs.Office.{Office, version_1}
 use Rattle.office_tables.specs.Stored.{content_of}
@@ -13,7 +14,10 @@ use Rattle.office_tables_standing.specs.StandFor.{StandForSoundIn}
 use Rattle.office_http_framing.specs.Serve.{Ends}
 use Rattle.office_http_framing.specs.declared.engine.Served.{Served}
 use Rattle.office_http_framing.specs.declared.engine.ServeFault.{ServeFault}
+use Rattle.signal_office_faults.specs.declared.fault.Fault.{Fault}
 use Rattle.signal_office_in_file.specs.Ended.{ServesStoredOffice}
+use Rattle.signal_office_in_file.specs.declared.Ended.{Ended}
+use Rattle.signal_office_in_file.specs.declared.Ended.TheVariants.{Closed, Unclosed}
 use Rattle.signal_office_file.specs.Files.{AreThoseOf}
 use Rattle.signal_office_file.specs.Serving.{IsCutShortIn, IsServedToAStop}
 use Rattle.signal_office_file.specs.declared.left.FileLeft.{FileLeft}
@@ -63,3 +67,12 @@ module _ {D : Type 0} {g : Disk D} where
   abbrev pub IsNumbered : FileLeft D g → Type 0
   IsNumbered (left.Database (Err store)) = IsTrue (view store).is_numbered
   IsNumbered _ = Unit {0}
+
+module _ {D : Type 0} {g : Disk D} {T : Type 0} where
+  -- work came to this, and these are its files, closed
+  abbrev pub IsClosedWith : Ended T (FileLeft D g) → T → Files D → Type 0
+  IsClosedWith ended done files = ended ≡ Closed done (left.Closed files)
+
+  -- the files could not be closed, and this is left of them
+  abbrev pub IsUnclosedWith : Ended T (FileLeft D g) → FileLeft D g → Type 0
+  IsUnclosedWith ended back = (why : Fault) × (ended ≡ Unclosed why back)

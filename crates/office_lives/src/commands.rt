@@ -8,11 +8,12 @@ ghost use Rattle.office_tables.specs.Content.{Content};
 ghost use Rattle.signal_office_file.specs.Files.{HoldIn, KeepTables};
 ghost use Rattle.office_lives.specs.Life.{Life, command, in_order};
 
+use crate::ending::closed_after;
 use crate::lives::{MOST, Outcome, served_once};
 use office_http::{Sink, Source};
 use signal_office_faults::Fault;
 use signal_office_file::done_in;
-use signal_office_in_file::{Ended, OfficeTask};
+use signal_office_in_file::OfficeTask;
 use sqlite::Options;
 use sqlite_disk::{Disk, Files};
 use std::alloc::Global;
@@ -41,10 +42,8 @@ fn done_once<D: Disk + Drop, Done: Drop, T: OfficeTask<Done>, W: Sink>(
         × (T.effect task.now).does old it.0 new (W.told out.old) (W.told out.new)
         × KeepTables D.Disk it.1 new) }
 {
-    match done_in(rt, alloc, files, Options::new(1), task, out) {
-        Ended::Closed(done, left) => Some((done, left.closed()?)),
-        _ => None,
-    }
+    let ended = done_in(rt, alloc, files, Options::new(1), task, out);
+    closed_after(ended)
 }
 
 /// Serves a first stream, does a command over the files that came back, and serves a second stream

@@ -8,15 +8,15 @@ ghost use Rattle.office_http_framing.specs.Serve.{ends_of};
 ghost use Rattle.office_tables.specs.Content.{Content};
 ghost use Rattle.signal_office_file.specs.Files.{HoldIn, KeepTables};
 ghost use Rattle.signal_office_file.specs.Left.{IsCleanFile, LeavesDatabases, MayLeaveOf};
-ghost use Rattle.office_lives.specs.Life.{Life, Made};
-ghost use Rattle.office_lives.specs.Life.{command_to_a_stop, in_order};
+ghost use Rattle.office_lives.specs.Life.{Life, Made, command_to_a_stop, in_order};
 
+use crate::ending::left_after;
 use crate::lives::{MOST, Outcome, served_once};
 use crate::stopping::stopped;
 use office_http::{Sink, Source};
 use signal_office_faults::Fault;
 use signal_office_file::{FileLeft, done_in, open_file};
-use signal_office_in_file::{Ended, OfficeTask};
+use signal_office_in_file::OfficeTask;
 use sqlite::Options;
 use sqlite_disk::{Crash, Disk, Files};
 use std::alloc::Global;
@@ -76,8 +76,6 @@ pub fn done_unclosed<D: Disk + Drop, Done: Drop, T: OfficeTask<Done>, W: Sink>(
         Made D.Disk (command_to_a_stop (T.effect task.now).leaves) old found)) }
     ensures said { IfSome result (λ _. (T.effect task.now).says (W.told out.old) (W.told out.new)) }
 {
-    match done_in(rt, alloc, files, Options::new(1), task, out) {
-        Ended::Unclosed(_fault, left) => Some(left),
-        _ => None,
-    }
+    let ended = done_in(rt, alloc, files, Options::new(1), task, out);
+    left_after(ended)
 }

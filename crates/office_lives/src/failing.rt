@@ -7,14 +7,13 @@ ghost use Rattle.office_http_framing.specs.Serve.{ends_of};
 ghost use Rattle.office_tables.specs.Content.{Content};
 ghost use Rattle.signal_office_file.specs.Files.{HoldIn, KeepTables};
 ghost use Rattle.signal_office_file.specs.Left.{IsCleanFile, LeavesDatabases, MayLeaveOf};
-ghost use Rattle.office_lives.specs.Life.{IsNumbered, Made};
-ghost use Rattle.office_lives.specs.Life.{in_order, unclosed};
+ghost use Rattle.office_lives.specs.Life.{IsNumbered, Made, in_order, unclosed};
 
+use crate::ending::left_after;
 use crate::lives::{MOST, Outcome, served_once};
 use crate::stopping::abandoned;
 use office_http::{Sink, Source};
 use signal_office_file::{FileLeft, answered_in};
-use signal_office_in_file::Ended;
 use sqlite::Options;
 use sqlite_disk::{Crash, Disk, Files};
 use std::alloc::Global;
@@ -32,10 +31,8 @@ pub fn served_unclosed<D: Disk + Drop, R: Source, W: Sink>(
         × Made D.Disk (unclosed MOST (ends_of (R.told reader.old) (W.told writer.old))
         (ends_of (R.told reader.new) (W.told writer.new))) old found) }
 {
-    match answered_in(alloc, files, Options::new(1), reader, writer, MOST) {
-        Ended::Unclosed(_fault, left) => Some(left),
-        _ => None,
-    }
+    let ended = answered_in(alloc, files, Options::new(1), reader, writer, MOST);
+    left_after(ended)
 }
 
 /// Serves a stream over what a run left of files that it could not close, as an opening finds them

@@ -4,6 +4,7 @@
 
 mod commands;
 mod cutting;
+mod ending;
 mod failing;
 mod lives;
 mod stopping;

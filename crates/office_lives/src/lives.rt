@@ -6,12 +6,12 @@ ghost use Rattle.sqlite.specs.WalReads.{AreClean};
 ghost use Rattle.office_http_framing.specs.Serve.{ends_of};
 ghost use Rattle.office_tables.specs.Content.{Content};
 ghost use Rattle.signal_office_file.specs.Files.{HoldIn, KeepTables};
-ghost use Rattle.office_lives.specs.Life.{HoldFormerly, Life, Made};
-ghost use Rattle.office_lives.specs.Life.{in_order, migrated, to_a_stop};
+ghost use Rattle.office_lives.specs.Life.{HoldFormerly, Life, Made, in_order, migrated, to_a_stop};
 
+use crate::ending::closed_after;
 use crate::stopping::stopped;
 use office_http::{ServeFault, Served, Sink, Source};
-use signal_office_file::{close_office, migrate_file, serve_file};
+use signal_office_file::{answered_in, migrate_file, serve_file};
 use signal_office_in_file::Ended;
 use sqlite::Options;
 use sqlite_disk::{Crash, Disk, Files};
@@ -46,14 +46,8 @@ pub(crate) fn served_once<D: Disk + Drop, R: Source, W: Sink>(
         (ends_of (R.told reader.new) (W.told writer.new)) it.0) old new
         × KeepTables D.Disk it.1 new) }
 {
-    let served = serve_file(alloc, files, Options::new(1), reader, writer, MOST);
-    let Ok((office, outcome)) = served else {
-        return None;
-    };
-    match close_office(office) {
-        Ok(files) => Some((outcome, files)),
-        Err(_) => None,
-    }
+    let ended = answered_in(alloc, files, Options::new(1), reader, writer, MOST);
+    closed_after(ended)
 }
 
 /// Serves a first stream, closes the files, opens those that came back, and serves a second one.

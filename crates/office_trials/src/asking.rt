@@ -1,12 +1,13 @@
 //! An office that is asked, request by request, and what it shows.
 
+use crate::files::{database, stopping};
 use office_desk::office::Office;
 use office_http::{Request, answer_of, command_of};
 use office_http_responses::ask_fault_answer;
 use office_tables::sql_shelf::SqlShelf;
 use office_tables_maps::map_shelf::MapShelf;
 use office_tables_shelf::shelf::Shelf;
-use sqlite::{Connection, MemStore};
+use sqlite::{Alter, Connection};
 use std::alloc::Global;
 use std::process::Abort;
 
@@ -16,35 +17,37 @@ pub(crate) type Bench<R> = (R, Global);
 /// A request as `METHOD path body`, and its answer as `status reason body`.
 pub(crate) type Step<'a> = (&'a str, &'a str);
 
-/// New offices over one kind of tables.
-pub(crate) trait Tables {
-    type Shelf: Shelf + Drop;
-
-    fn office(rt: &Bench<impl Abort>) -> Office<Self::Shelf>;
+/// What is done by an office over any tables.
+pub(crate) trait Work {
+    fn work<S: Shelf>(&self, rt: &Bench<impl Abort>, office: &mut Office<S>);
 }
 
-pub(crate) struct InMaps;
-
-impl Tables for InMaps {
-    type Shelf = MapShelf;
-
-    fn office(rt: &Bench<impl Abort>) -> Office<MapShelf> {
-        Office::new(MapShelf::new(rt.1))
-    }
+/// A new office over maps.
+pub(crate) fn in_maps(rt: &Bench<impl Abort>) -> Office<MapShelf> {
+    Office::new(MapShelf::new(rt.1))
 }
 
-/// In a database in memory, which is opened again before it is used.
-pub(crate) struct InDatabase;
+/// Does work by a new office over the tables of a database, which is opened again before. Gives
+/// what is shown then.
+fn work_opened<S: Alter + Drop>(
+    rt: &Bench<impl Abort>,
+    conn: Connection<S>,
+    work: &impl Work,
+) -> Vec<u8> {
+    let new = SqlShelf::open(rt.1, conn).ok();
+    let conn = new.expect(rt, "new tables").into_conn();
+    let mut office = Office::new(SqlShelf::open(rt.1, conn).ok().expect(rt, "tables"));
+    work.work(rt, &mut office);
+    shown(rt, &mut office)
+}
 
-impl Tables for InDatabase {
-    type Shelf = SqlShelf<MemStore>;
-
-    fn office(rt: &Bench<impl Abort>) -> Office<SqlShelf<MemStore>> {
-        let conn = Connection::open_in_memory(rt.1).ok();
-        let new = SqlShelf::open(rt.1, conn.expect(rt, "a database")).ok();
-        let conn = new.expect(rt, "new tables").into_conn();
-        Office::new(SqlShelf::open(rt.1, conn).ok().expect(rt, "tables"))
-    }
+/// Does work over maps, and over a database whose files are in memory: the same is there then.
+pub(crate) fn work_in_both(rt: &Bench<impl Abort>, work: &impl Work) {
+    let mut maps = in_maps(rt);
+    work.work(rt, &mut maps);
+    let conn = database(rt, stopping(rt, b"", true, u64::MAX)).ok();
+    let seen = work_opened(rt, conn.expect(rt, "a database"), work);
+    same(rt, "what is there", &shown(rt, &mut maps), &seen);
 }
 
 /// The answer to what could not be done.
@@ -157,7 +160,7 @@ pub(crate) fn shown<S: Shelf>(rt: &Bench<impl Abort>, office: &mut Office<S>) ->
 
 /// What an office over maps shows before each of these steps, and after the last.
 pub(crate) fn states(rt: &Bench<impl Abort>, steps: &[Step<'_>]) -> Vec<Vec<u8>> {
-    let mut office = InMaps::office(rt);
+    let mut office = in_maps(rt);
     let mut states = Vec::new(rt.1);
     for step in steps {
         states.push(shown(rt, &mut office)).expect(rt, "memory");

@@ -1,11 +1,13 @@
 //! A reader of bytes that are there already, after which it ends, fails, waits or goes on; a writer
-//! that tells how much it took; and an end that moves no byte and counts its calls.
+//! that has room for so many bytes; and an end that moves no byte and counts its calls.
 
 ghost use Rattle.std.specs.Prelude.{◌≡◌, ◌≤◌, length, IfOk};
 
+use crate::asking::Bench;
 use std::cell::Cell;
 use std::io;
 use std::io::{ErrorKind, Read, Write};
+use std::process::Abort;
 
 /// What comes after the bytes of a reader.
 #[derive(Clone, Copy)]
@@ -84,16 +86,41 @@ impl Read for Feed<'_> {
     }
 }
 
-/// A writer that takes all, and tells a cell how many bytes it took.
+/// A writer that keeps what it takes, and tells a cell how many bytes that are. Without room it
+/// takes none, or fails.
 #[derive(Drop)]
-pub(crate) struct Telling<'a> {
-    pub(crate) taken: &'a Cell<usize>,
+pub(crate) struct Taker<'a> {
+    pub(crate) bytes: Vec<u8>,
+    room: usize,
+    fails: bool,
+    taken: &'a Cell<usize>,
 }
 
-impl Write for Telling<'_> {
+impl<'a> Taker<'a> {
+    pub(crate) fn new(
+        rt: &Bench<impl Abort>,
+        room: usize,
+        fails: bool,
+        taken: &'a Cell<usize>,
+    ) -> Taker<'a> {
+        Taker {
+            bytes: Vec::new(rt.1),
+            room,
+            fails,
+            taken,
+        }
+    }
+}
+
+impl Write for Taker<'_> {
     fn write(&mut self, buf: &[u8]) -> io::Result<usize> {
-        self.taken.set(self.taken.get().saturating_add(buf.len()));
-        Ok(buf.len())
+        let n = buf.len().min(self.room.saturating_sub(self.bytes.len()));
+        let is_kept = self.bytes.extend_from_slice(&buf[..n]).is_ok();
+        if !is_kept || n == 0 && self.fails {
+            return Err(io::Error::from(ErrorKind::Other));
+        }
+        self.taken.set(self.bytes.len());
+        Ok(n)
     }
 
     fn flush(&mut self) -> io::Result<()> {

@@ -1,9 +1,17 @@
-//! Database files in memory that stop after so many calls, and what is found in them then.
+//! Database files in memory that stop after so many calls, and work that is done over them.
 
-use crate::asking::Bench;
-use sqlite::{Connection, Options};
+ghost use Rattle.std.specs.Prelude.{IfOk};
+ghost use Rattle.sqlite.specs.Files.{file_state};
+ghost use Rattle.sqlite.specs.Held.{state};
+ghost use Rattle.office_tables_open.specs.Promises.{IsArrangedIfClean};
+
+use crate::asking::{Bench, Step, shown};
+use crate::streams::stream;
+use office_desk::office::Office;
+use office_tables::open::{Left, OpenFault};
+use office_tables::sql_shelf::SqlShelf;
+use sqlite::{Alter, Connection, FileStore, Options};
 use sqlite_disk::{Crash, Disk, Files, Fuse, Memory};
-use std::alloc::Global;
 use std::process::Abort;
 
 /// The two files.
@@ -46,20 +54,122 @@ pub(crate) fn crashed<D: Crash>(left: Files<D>) -> Files<D> {
     Files { log, db }
 }
 
+/// What is done over files.
+#[derive(Clone, Copy)]
+pub(crate) enum Work<'a> {
+    /// An office makes these steps by one stream.
+    Steps(&'a [Step<'a>]),
+    /// An office shows what it holds.
+    Show,
+    /// The tables of a new office become such of version 1, with rows.
+    Age,
+    /// Tables of version 1, with those rows, become today's.
+    Migrate,
+}
+
+/// How much was done, and what was shown.
+type Done = (usize, Vec<u8>);
+
+/// What tables of version 1 show.
+pub(crate) const OLD: &[u8] = b"version 1";
+
 /// What makes tables of version 1 of those of a new office: a phase, and the draft of it that a
 /// clerk holds.
-const FORMER: &str = "UPDATE office_version SET version = 1;
+const AGE: &str = "UPDATE office_version SET version = 1;
 INSERT INTO intersection VALUES (12, 'Main St', 365, 1, 1, 'Ana');
 INSERT INTO timing VALUES (12, 1, 2, 0, 'phase,2,1,8,20,40,40,15,,7,12,490,60,0');
 INSERT INTO draft VALUES (12, 1, 2, 0, 'phase,2,1,8,20,40,40,15,,7,12,480,60,0')";
 
-/// Puts tables of version 1 into files that have those of a new office.
-pub(crate) fn put_former<D: Disk + Drop>(alloc: Global, files: Files<D>) -> Option<Files<D>> {
-    if !files.may_be_used() {
-        return None;
+/// Brings tables to today's version, for which both rows are written anew.
+fn migrate<S: Alter>(rt: &Bench<impl Abort>, conn: &mut Connection<S>) -> usize
+    requires { IsArrangedIfClean (state S.Store conn.old) }
+{
+    let Ok(rows) = SqlShelf::migrate(rt.1, conn) else {
+        return 0;
+    };
+    assert!(rt;
+        rows.timing == 1 && rows.draft == 1,
+        "the rows of a migration"
+    );
+    1
+}
+
+/// Makes steps by the office over these tables, or has it show what it holds.
+fn work_over<S: Alter + Drop>(
+    rt: &Bench<impl Abort>,
+    conn: Connection<S>,
+    work: Work<'_>,
+) -> (Done, Left<S>)
+    requires { IsArrangedIfClean (state S.Store conn) }
+{
+    let mut shows = Vec::new(rt.1);
+    match SqlShelf::open_arranged(rt.1, conn) {
+        Ok(shelf) => {
+            let mut office = Office::new(shelf);
+            let mut done = 0;
+            match work {
+                Work::Steps(steps) => done = stream(rt, &mut office, steps),
+                _ => shows = shown(rt, &mut office),
+            }
+            ((done, shows), Ok(office.into_shelf().into_conn()))
+        }
+        Err((fault, left)) => {
+            if matches!(fault, OpenFault::Version) {
+                shows.extend_from_slice(OLD).expect(rt, "memory");
+            }
+            ((0, shows), left)
+        }
     }
-    let mut conn = Connection::open_files(alloc, files, Options::new(1)).ok()?;
-    let is_put = conn.execute_batch(FORMER).is_ok();
-    let files = conn.close_files().ok()?;
-    is_put.then_some(files)
+}
+
+/// Does work over the tables of a database.
+fn done_over<S: Alter + Drop>(
+    rt: &Bench<impl Abort>,
+    mut conn: Connection<S>,
+    work: Work<'_>,
+) -> (Done, Left<S>)
+    requires { IsArrangedIfClean (state S.Store conn) }
+{
+    let done = match work {
+        Work::Age => usize::from(conn.execute_batch(AGE).is_ok()),
+        Work::Migrate => migrate(rt, &mut conn),
+        _ => return work_over(rt, conn, work),
+    };
+    ((done, Vec::new(rt.1)), Ok(conn))
+}
+
+/// The database in these files, which is made where they are empty, or the files.
+pub(crate) fn database<D: Disk + Drop>(
+    rt: &Bench<impl Abort>,
+    files: Files<D>,
+) -> Result<Connection<FileStore<D>>, Files<D>>
+    ensures { IfOk result (λ conn. IsArrangedIfClean (file_state conn)) }
+{
+    let mut options = Options::new(1);
+    options.cache_pages = 64;
+    assert!(rt; files.may_be_used(), "files that may be used");
+    match Connection::open_files(rt.1, files, options) {
+        Ok(conn) => Ok(conn),
+        Err((_error, left)) => Err(left.into_files()),
+    }
+}
+
+/// Does work over files, and closes them. Tells how much was done, what was shown, and whether they
+/// were closed, and gives the files as they were left.
+pub(crate) fn over_files<D: Disk + Drop>(
+    rt: &Bench<impl Abort>,
+    files: Files<D>,
+    work: Work<'_>,
+) -> (Done, bool, Files<D>) {
+    let conn = match database(rt, files) {
+        Ok(conn) => conn,
+        Err(files) => return ((0, Vec::new(rt.1)), false, files),
+    };
+    match done_over(rt, conn, work) {
+        (done, Ok(conn)) => match conn.close_files() {
+            Ok(files) => (done, true, files),
+            Err((_error, store)) => (done, false, store.close()),
+        },
+        (done, Err(store)) => (done, false, store.close()),
+    }
 }

@@ -1,8 +1,7 @@
-//! Trials of an office by calls: what no row of the program shows. Commands as one list, the drawn
-//! commands and whole streams over maps and over a database in memory; a shelf that refuses each of
-//! its calls; ends of a stream that fail, wait or never stop, and connections; files that stop at
-//! each of their calls; runs over the same files; how many rows a step writes; and the public calls
-//! that the program does not make.
+//! Trials of an office by calls: what no row of the program shows. Commands as one list, and whole
+//! streams, over maps and over a database; a shelf that refuses each of its calls; ends of a stream
+//! that fail, wait or never stop, and connections; files that stop at each of their calls; how many
+//! rows a step writes; and the public calls that the program does not make.
 #![tactic(auto)]
 
 #[cfg(test)]
@@ -14,11 +13,7 @@ mod files;
 #[cfg(test)]
 mod lists;
 #[cfg(test)]
-mod lives;
-#[cfg(test)]
-mod packed_first;
-#[cfg(test)]
-mod packed_second;
+mod packed;
 #[cfg(test)]
 mod refusing;
 #[cfg(test)]

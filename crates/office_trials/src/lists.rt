@@ -1,10 +1,8 @@
-//! Commands over maps and over a database: as one list, and the drawn ones. The replies are equal,
-//! and so is what is there after them. And how many rows each step of a draft writes.
+//! A list of commands over maps and over a database: the replies are equal, and so is what is there
+//! after them. And how many rows each step of a draft writes.
 
-use crate::asking::{
-    Bench, InDatabase, InMaps, Step, Tables, is_done, play, request, same, shown, told, words,
-};
-use crate::rows::{CHANGES, DRAWN, LIST, rows, steps};
+use crate::asking::{Bench, Step, Work, is_done, request, same, told, words, work_in_both};
+use crate::rows::{CHANGES, LIST, rows, steps};
 use office_desk::office::Office;
 use office_files::read_timing_csv;
 use office_http::{Form, answer_of, command_of};
@@ -30,47 +28,28 @@ fn commands(rt: &Bench<impl Abort>, steps: &[Step<'_>]) -> (Vec<Command>, Vec<Fo
     (commands, forms)
 }
 
-/// Runs commands as one list by a new office: they are answered as they must be. Gives what it
-/// shows then.
-fn run_list<T: Tables>(rt: &Bench<impl Abort>, steps: &[Step<'_>]) -> Vec<u8> {
-    let mut office = T::office(rt);
-    let (commands, forms) = commands(rt, steps);
-    let replies = office.run_all(rt.1, &commands).ok().expect(rt, "memory");
-    let mut answers = Vec::new(rt.1);
-    for (reply, form) in replies.iter().zip(&forms) {
-        let answer = answer_of(rt.1, reply, *form).expect(rt, "memory");
-        answers.extend_from_slice(&answer).expect(rt, "memory");
+/// Commands that are run as one list: they are answered as they must be.
+#[derive(Clone, Copy)]
+struct List<'a, 'b>(&'a [Step<'b>]);
+
+impl Work for List<'_, '_> {
+    fn work<S: Shelf>(&self, rt: &Bench<impl Abort>, office: &mut Office<S>) {
+        let (commands, forms) = commands(rt, self.0);
+        let replies = office.run_all(rt.1, &commands).ok().expect(rt, "memory");
+        let mut answers = Vec::new(rt.1);
+        for (reply, form) in replies.iter().zip(&forms) {
+            let answer = answer_of(rt.1, reply, *form).expect(rt, "memory");
+            answers.extend_from_slice(&answer).expect(rt, "memory");
+        }
+        same(rt, "a list of commands", &told(rt, self.0), &answers);
     }
-    same(rt, "a list of commands", &told(rt, steps), &answers);
-    shown(rt, &mut office)
 }
 
 #[test]
 fn lists_are_answered_equally(host: HostRuntime) {
     let rt = (&host, host.alloc());
     let rows = rows(&rt);
-    let steps = steps(&rt, rows.as_str(), LIST);
-    let in_maps = run_list::<InMaps>(&rt, &steps);
-    let in_database = run_list::<InDatabase>(&rt, &steps);
-    same(&rt, "what is there after a list", &in_maps, &in_database);
-}
-
-/// Runs the drawn commands, those of each row by a new office, and tells how many are answered.
-fn run_drawn<T: Tables>(rt: &Bench<impl Abort>) -> usize {
-    let rows = rows(rt);
-    let mut done = 0usize;
-    for at in DRAWN..DRAWN + 5 {
-        let steps = steps(rt, rows.as_str(), at);
-        done = done.saturating_add(play(rt, &mut T::office(rt), &steps));
-    }
-    done
-}
-
-#[test]
-fn drawn_commands_are_answered(host: HostRuntime) {
-    let rt = (&host, host.alloc());
-    assert!(rt; run_drawn::<InMaps>(&rt) == 2_000);
-    assert!(rt; run_drawn::<InDatabase>(&rt) == 2_000);
+    work_in_both(&rt, &List(&steps(&rt, rows.as_str(), LIST)));
 }
 
 /// How many committed rows and draft rows each step writes, two digits and two. A plan of eleven
@@ -80,17 +59,21 @@ const WRITES: [u64; 21] = [
     0, 0, 11, 0, 0, 11_01, 0, 4, 0, 0, 4_01, 0, 0, 1, 1, 0, 1, 0, 0, 1_01, 0,
 ];
 
-/// Makes steps by a new office, which counts the rows that each writes.
-fn count_rows<T: Tables>(rt: &Bench<impl Abort>, steps: &[Step<'_>]) {
-    let mut office = T::office(rt);
-    let mut wanted = (0u64, 0u64);
-    for (step, writes) in steps.iter().zip(WRITES) {
-        assert!(rt; is_done(rt, &mut office, *step), "a step over new tables");
-        wanted.0 = wanted.0.saturating_add(writes / 100);
-        wanted.1 = wanted.1.saturating_add(writes % 100);
-        let shelf = office.shelf();
-        let came = (shelf.writes(Table::Timing), shelf.writes(Table::Draft));
-        assert!(rt; came == wanted, "the rows that {} writes", step.0);
+/// Steps of which the written rows are counted.
+#[derive(Clone, Copy)]
+struct Counted<'a, 'b>(&'a [Step<'b>]);
+
+impl Work for Counted<'_, '_> {
+    fn work<S: Shelf>(&self, rt: &Bench<impl Abort>, office: &mut Office<S>) {
+        let mut wanted = (0u64, 0u64);
+        for (step, writes) in self.0.iter().zip(WRITES) {
+            assert!(rt; is_done(rt, office, *step), "a step over new tables");
+            wanted.0 = wanted.0.saturating_add(writes / 100);
+            wanted.1 = wanted.1.saturating_add(writes % 100);
+            let shelf = office.shelf();
+            let came = (shelf.writes(Table::Timing), shelf.writes(Table::Draft));
+            assert!(rt; came == wanted, "the rows that {} writes", step.0);
+        }
     }
 }
 
@@ -98,9 +81,7 @@ fn count_rows<T: Tables>(rt: &Bench<impl Abort>, steps: &[Step<'_>]) {
 fn only_the_changed_rows_are_written(host: HostRuntime) {
     let rt = (&host, host.alloc());
     let rows = rows(&rt);
-    let steps = steps(&rt, rows.as_str(), CHANGES);
-    count_rows::<InMaps>(&rt, &steps);
-    count_rows::<InDatabase>(&rt, &steps);
+    work_in_both(&rt, &Counted(&steps(&rt, rows.as_str(), CHANGES)));
 }
 
 /// A plan of one phase is fit for the street, and one whose phase lists a phase that is not there

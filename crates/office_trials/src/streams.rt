@@ -1,18 +1,19 @@
 //! Streams of bytes by `serve`: worked ones over maps and over a database, and ends that fail, are
 //! full, wait or never stop, and connections.
 
-use crate::asking::{Bench, InDatabase, InMaps, Step, Tables, same, told, whole, words};
-use crate::ends::{After, Feed, Patience, Reluctant, Telling};
+use crate::asking::{
+    Bench, Step, UNAVAILABLE, Work, in_maps, same, told, whole, words, work_in_both,
+};
+use crate::ends::{After, Feed, Patience, Reluctant, Taker};
 use crate::rows::{LIST, rows, steps};
 use office_desk::office::Office;
 use office_http::{
-    FromListener, FromRead, ServeFault, Served, Sink, Source, ToWrite, WaitsOnce, serve,
-    serve_each, serve_on,
+    FromListener, FromRead, ServeFault, Served, Sink, Source, ToWrite, serve, serve_each, serve_on,
 };
 use office_tables_shelf::shelf::Shelf;
 use std::cell::Cell;
 use std::io;
-use std::io::{Read, Write};
+use std::io::Write;
 use std::net::{Ipv4Addr, Shutdown, SocketAddr, TcpListener, TcpStream};
 use std::process::Abort;
 use std::test::Fail;
@@ -47,17 +48,17 @@ const REFUSED: &str = r#"400 Bad Request {"error":"Length","number":3}"#;
 const UNKNOWN: &str = r#"404 Not Found {"error":"UnknownIntersection","number":10}"#;
 
 /// The bytes of the stream from one place to another.
-pub(crate) fn sent(from: usize, to: usize) -> &'static [u8] {
+fn sent(from: usize, to: usize) -> &'static [u8] {
     STREAM.get(from..to).unwrap_or(b"")
 }
 
 /// The bytes of its answers from one place to another.
-pub(crate) fn answered(from: usize, to: usize) -> &'static [u8] {
+fn answered(from: usize, to: usize) -> &'static [u8] {
     ANSWERS.get(from..to).unwrap_or(b"")
 }
 
 /// The bytes of requests.
-pub(crate) fn bytes_of(rt: &Bench<impl Abort>, steps: &[Step<'_>]) -> String {
+fn bytes_of(rt: &Bench<impl Abort>, steps: &[Step<'_>]) -> String {
     let mut bytes = String::new(rt.1);
     for (request, _) in steps {
         let (method, path, body) = words(request);
@@ -73,35 +74,75 @@ pub(crate) fn bytes_of(rt: &Bench<impl Abort>, steps: &[Step<'_>]) -> String {
 
 /// Serves a stream that ends in so many requests, by reads of so many bytes at most, and gives the
 /// answers.
-pub(crate) fn serves<S: Shelf>(
+fn serves<S: Shelf>(
     rt: &Bench<impl Abort>,
     office: &mut Office<S>,
     (stream, requests): (&[u8], u32),
     most: usize,
 ) -> Vec<u8> {
+    let taken = Cell::new(0);
     let mut source = FromRead::new(Feed::new(stream, most, After::End));
-    let mut sink = ToWrite::new(Vec::new(rt.1));
+    let mut sink = ToWrite::new(Taker::new(rt, usize::MAX, true, &taken));
     let served = serve(rt.1, office, &mut source, &mut sink, 10_000);
     assert!(rt; served == Ok(Served { requests }), "the end of a stream");
-    sink.writer
+    sink.writer.bytes
 }
 
-/// Serves the worked streams by new offices: two requests, none, those that commit a plan, and two
-/// equal lengths, which end the stream, so that nothing is added.
-fn serve_worked<T: Tables>(rt: &Bench<impl Abort>, plan: &[Step<'_>], most: usize) {
-    let bytes = bytes_of(rt, plan);
-    let mut office = T::office(rt);
-    let came = serves(rt, &mut office, (sent(0, 127), 2), most);
-    same(rt, "the first stream", answered(0, 273), &came);
-    let came = serves(rt, &mut office, (b"", 0), most);
-    same(rt, "the empty stream", b"", &came);
-    let came = serves(rt, &mut office, (bytes.as_bytes(), 5), most);
-    same(rt, "a plan", &told(rt, plan), &came);
-    let mut office = T::office(rt);
-    let came = serves(rt, &mut office, (TWO_LENGTHS, 0), most);
-    same(rt, "two equal lengths", &whole(rt, REFUSED), &came);
-    let came = serves(rt, &mut office, (sent(93, 127), 1), most);
-    same(rt, "what they add", &whole(rt, UNKNOWN), &came);
+/// Makes steps by one stream, and tells how many are answered before one that is unavailable.
+pub(crate) fn stream<S: Shelf>(
+    rt: &Bench<impl Abort>,
+    office: &mut Office<S>,
+    all: &[Step<'_>],
+) -> usize {
+    let requests = u32::try_from(all.len()).ok().expect(rt, "a count");
+    let bytes = bytes_of(rt, all);
+    let answers = serves(rt, office, (bytes.as_bytes(), requests), usize::MAX);
+    let mut rest = answers.as_slice();
+    for (n, (_, answer)) in all.iter().enumerate() {
+        if rest.starts_with(UNAVAILABLE) {
+            return n;
+        }
+        let told = whole(rt, answer);
+        rest = rest.strip_prefix(told.as_slice()).expect(rt, "an answer");
+    }
+    all.len()
+}
+
+/// Serves a stream, whose answers must be these.
+fn serves_as<S: Shelf>(
+    rt: &Bench<impl Abort>,
+    office: &mut Office<S>,
+    sent: (&[u8], u32),
+    most: usize,
+    wanted: &[u8],
+) {
+    let came = serves(rt, office, sent, most);
+    same(rt, "a worked stream", wanted, &came);
+}
+
+/// Reads of so many bytes at most: two requests, none, and these steps, which commit a plan.
+#[derive(Clone, Copy)]
+struct Plan<'a, 'b>(usize, &'a [Step<'b>]);
+
+impl Work for Plan<'_, '_> {
+    fn work<S: Shelf>(&self, rt: &Bench<impl Abort>, office: &mut Office<S>) {
+        serves_as(rt, office, (sent(0, 127), 2), self.0, answered(0, 273));
+        serves_as(rt, office, (b"", 0), self.0, b"");
+        let (bytes, answers) = (bytes_of(rt, self.1), told(rt, self.1));
+        serves_as(rt, office, (bytes.as_bytes(), 5), self.0, &answers);
+    }
+}
+
+/// Reads of so many bytes at most: two equal lengths end a stream, so that nothing is added.
+#[derive(Clone, Copy)]
+struct TwoLengths(usize);
+
+impl Work for TwoLengths {
+    fn work<S: Shelf>(&self, rt: &Bench<impl Abort>, office: &mut Office<S>) {
+        let (refused, unknown) = (whole(rt, REFUSED), whole(rt, UNKNOWN));
+        serves_as(rt, office, (TWO_LENGTHS, 0), self.0, &refused);
+        serves_as(rt, office, (sent(93, 127), 1), self.0, &unknown);
+    }
 }
 
 #[test]
@@ -111,60 +152,68 @@ fn worked_streams_are_answered(host: HostRuntime) {
     let steps = steps(&rt, rows.as_str(), LIST);
     let plan = steps.get(2..7).unwrap_or(&[]);
     for most in [usize::MAX, 1] {
-        serve_worked::<InMaps>(&rt, plan, most);
-        serve_worked::<InDatabase>(&rt, plan, most);
+        work_in_both(&rt, &Plan(most, plan));
+        work_in_both(&rt, &TwoLengths(most));
     }
 }
 
-/// Serves up to 9 requests of a reader by a new office over maps.
-fn serve_ends<R: Read + Drop, W: Write + Drop>(
-    rt: &Bench<impl Abort>,
-    reader: R,
-    writer: W,
-) -> Result<Served, ServeFault> {
-    let (mut source, mut sink) = (FromRead::new(reader), ToWrite::new(writer));
-    serve(rt.1, &mut InMaps::office(rt), &mut source, &mut sink, 9)
+/// How a stream ended.
+type Outcome = Result<Served, ServeFault>;
+
+fn done(requests: u32) -> Outcome {
+    Ok(Served { requests })
 }
 
-/// A reader that fails or ends behind so many bytes, never ends, or gives its second request only
-/// once the answer to the first was taken, and is not called before.
+fn unread(requests: u32) -> Outcome {
+    Err(ServeFault::Read { requests })
+}
+
+fn unwritten(requests: u32) -> Outcome {
+    Err(ServeFault::Write { requests })
+}
+
+/// Serves up to 9 requests of a reader that gives so many bytes of the stream, and of what comes
+/// after them, to a writer that has room for so many, and fails without. Tells how the stream ends,
+/// and how many bytes of its answers were taken.
+fn serve_ends(
+    rt: &Bench<impl Abort>,
+    (end, after): (usize, After<'_>),
+    (room, fails): (usize, bool),
+    taken: &Cell<usize>,
+) -> (Outcome, usize) {
+    taken.set(0);
+    let mut source = FromRead::new(Feed::new(sent(0, end), usize::MAX, after));
+    let mut sink = ToWrite::new(Taker::new(rt, room, fails, taken));
+    let served = serve(rt.1, &mut in_maps(rt), &mut source, &mut sink, 9);
+    let bytes = sink.writer.bytes;
+    assert!(rt;
+        bytes.starts_with(answered(0, bytes.len())),
+        "bytes that are taken"
+    );
+    (served, bytes.len())
+}
+
+/// A reader fails or ends behind so many bytes, never ends, or gives its second request only once
+/// the answer to the first was taken, and is not called before.
 #[test]
-fn readers_end_and_fail(host: HostRuntime) {
+fn readers_fail_and_wait(host: HostRuntime) {
     let rt = (&host, host.alloc());
     let patience = Patience {
         taken: Cell::new(0),
         wanted: 89,
         early: Cell::new(0),
     };
-    let taken = &patience.taken;
-    for (end, after, wanted, answers) in [
-        (0, After::Failure, Err(ServeFault::Read { requests: 0 }), 0),
-        (
-            93,
-            After::Failure,
-            Err(ServeFault::Read { requests: 1 }),
-            89,
-        ),
-        (
-            100,
-            After::Failure,
-            Err(ServeFault::Read { requests: 1 }),
-            89,
-        ),
-        (100, After::End, Ok(Served { requests: 1 }), 89),
-        (93, After::Again, Ok(Served { requests: 9 }), 89 + 8 * 88),
-        (
-            93,
-            After::Answer(sent(93, 203), &patience),
-            Ok(Served { requests: 3 }),
-            399,
-        ),
+    for (end, after, wanted) in [
+        (0, After::Failure, (unread(0), 0)),
+        (93, After::Failure, (unread(1), 89)),
+        (100, After::Failure, (unread(1), 89)),
+        (100, After::End, (done(1), 89)),
+        (93, After::Again, (done(9), 89 + 8 * 88)),
+        (93, After::Answer(sent(93, 203), &patience), (done(3), 399)),
     ] {
-        taken.set(0);
-        let reader = Feed::new(sent(0, end), usize::MAX, after);
-        let served = serve_ends(&rt, reader, Telling { taken });
+        let came = serve_ends(&rt, (end, after), (usize::MAX, false), &patience.taken);
         assert!(rt;
-            served == wanted && taken.get() == answers && patience.early.get() == 0,
+            came == wanted && patience.early.get() == 0,
             "a reader of {end} bytes"
         );
     }
@@ -189,27 +238,19 @@ fn each_call_is_handed_on_once(host: HostRuntime) {
     assert!(rt; sink.write(&buf).is_ok() && calls.get() == 2);
 }
 
-/// A writer that takes none; one that takes 100 bytes, and then none; and one that fails then.
+/// A writer takes none; it takes 100 bytes, and then none; or it fails then.
 #[test]
 fn writers_take_none_and_fail(host: HostRuntime) {
     let rt = (&host, host.alloc());
-    let mut room = [0u8; 100];
-    let served = serve_ends(&rt, sent(0, 203), &mut room[..0]);
-    assert!(rt;
-        served == Err(ServeFault::Write { requests: 1 }),
-        "a writer without room"
-    );
-    let served = serve_ends(&rt, sent(0, 203), room.as_mut_slice());
-    assert!(rt;
-        served == Err(ServeFault::Write { requests: 2 }),
-        "room for 100 bytes"
-    );
-    same(&rt, "room for 100 bytes", answered(0, 100), &room);
-    let served = serve_ends(&rt, sent(0, 203), WaitsOnce::new(room.as_mut_slice()));
-    assert!(rt;
-        served == Err(ServeFault::Write { requests: 2 }),
-        "a writer that fails"
-    );
+    let taken = Cell::new(0);
+    for (room, fails, wanted) in [
+        (0, false, (unwritten(1), 0)),
+        (100, false, (unwritten(2), 100)),
+        (100, true, (unwritten(2), 100)),
+    ] {
+        let came = serve_ends(&rt, (203, After::End), (room, fails), &taken);
+        assert!(rt; came == wanted, "a writer with room for {room} bytes");
+    }
 }
 
 /// Sends the first two requests of the stream to the listener, and closes the sending side.
@@ -228,7 +269,7 @@ fn two_connections_are_served(host: HostRuntime) -> Result<(), Fail> {
     let listener = TcpListener::bind(&host, SocketAddr::from((Ipv4Addr::LOCALHOST, 0)))?;
     let first = send(&host, &listener)?;
     let second = send(&host, &listener)?;
-    let mut office = InMaps::office(&rt);
+    let mut office = in_maps(&rt);
     assert!(rt; serve_on(rt.1, &listener, 1, &mut office).is_ok());
     let mut listener = FromListener::new(listener);
     assert!(rt; serve_each(rt.1, &mut listener, 1, &mut office).is_ok());

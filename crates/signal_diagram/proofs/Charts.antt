@@ -9,8 +9,8 @@ use Rattle.std.specs.Prelude.{decimal, ◌||◌, ◌&&◌}
 use Rattle.std.specs.List.{list_all}
 use Rattle.signal_records.specs.{declared.record.Pattern.Pattern, TimingSet.Rows}
 use Rattle.signal_rules.specs.{Lookup.is_in, Lookup.pattern_at, Lookup.phase_at, Lookup.split_at, SequenceRule.ring_row}
-use Rattle.signal_rules.specs.{PatternRules.lane, PatternRules.used_rings, CutPoints.timed, Starts.times}
-use Rattle.signal_rules.proofs.Among.{is_filtered, is_number}
+use Rattle.signal_rules.specs.{PatternRules.lane, PatternRules.used_rings, CutPoints.timed, Starts.times, Starts.rings_fill}
+use Rattle.signal_rules.proofs.{Among.is_filtered, Among.is_number, Starts.fill_by_rings}
 use Rattle.signal_diagram.specs.{declared.geometry.TheConstants.LABEL_LEFT, Geometry.shown_seconds, Geometry.top_of, Geometry.width_of}
 use Rattle.signal_diagram.specs.{Geometry.height_of, Elements.where_long, Elements.words_at, PhasePicture.phase_picture, Lanes.lane_phases}
 use Rattle.signal_diagram.specs.{Lanes.lane_pictures, Barriers.all_start, Barriers.barrier, Barriers.barriers, Barriers.seconds_within}
@@ -58,8 +58,7 @@ each_ring set pattern (ring ∷ rings) =
     ap (λ (xs : List ℕ). ring ∷ xs) (each_ring set pattern rings)
 
 end_together : (set : Rows) (pattern : Pattern) (rings : List ℕ)
-    → list_all (λ (xs : List ℕ). eqb (length xs) pattern.cycle)
-    (map (lane set pattern.seq pattern.split) rings)
+    → rings_fill set pattern rings
     ≡ list_all (λ (shown : Lane). eqb (end_of 0 shown.bars) pattern.cycle)
     (map (lane_of set pattern) rings)
 end_together set pattern rings =
@@ -70,8 +69,7 @@ end_together set pattern rings =
     let each : list_all (λ ring. eqb (length (timed time (row ring))) pattern.cycle) rings
     ≡ list_all (λ ring. eqb (end_of 0 (bars time 0 (row ring))) pattern.cycle) rings =
     λ i. list_all (λ ring. eqb (whole ring i) pattern.cycle) rings in
-    list_all-map _ (lane set pattern.seq pattern.split) rings ∙ each
-    ∙ sym (list_all-map _ (lane_of set pattern) rings)
+    each ∙ sym (list_all-map _ (lane_of set pattern) rings)
 
 -- ---- the barriers
 
@@ -117,7 +115,8 @@ is_chart set pattern = record {
   rings = each_ring set pattern (used_rings set);
   lanes = All-map (IsLane set pattern) (lane_of set pattern) (used_rings set)
       (λ k d lt. is_lane set pattern (get_or (used_rings set) k d));
-  together = end_together set pattern (used_rings set);
+  together = sym (fill_by_rings set pattern (used_rings set) refl)
+      ∙ end_together set pattern (used_rings set);
   barriers = are_barriers set pattern (used_rings set);
 }
 

@@ -65,10 +65,10 @@ all_hold fs = list_all (λ (f : Rule × Cases Reason). holds f.1) fs
 
 none_broken : (s : Subject) (fs : Findings) → violations_in (broken s fs) ≡ [] → all_hold fs ≡ true
 none_broken s [] none = refl
-none_broken s ((r, cs) ∷ fs) none = by_reason (first_true cs) refl none where
-  by_reason : (o : Option Reason) → first_true cs ≡ o → violations_in (explained s r o (broken s fs)) ≡ [] → (holds cs && all_hold fs) ≡ true
-  by_reason None e none = rw e (none_broken s fs none)
-  by_reason (Some why) e none = absurd (cc)
+none_broken s ((r, cs) ∷ fs) none = by_reason (first_true cs) refl (none_broken s fs) none where
+  by_reason : (o : Option Reason) → first_true cs ≡ o → (violations_in (broken s fs) ≡ [] → all_hold fs ≡ true) → violations_in (explained s r o (broken s fs)) ≡ [] → (holds cs && all_hold fs) ≡ true
+  by_reason None e later none = rw e (later none)
+  by_reason (Some why) e later none = absurd (cc)
 
 only : (b : Bool) → (b && true) ≡ true → b ≡ true
 only true h = refl

@@ -1,0 +1,32 @@
+//! What comes back from work over files: they were closed after it, or not.
+
+ghost use Rattle.std.specs.Prelude.{IfSome};
+ghost use Rattle.office_lives.specs.Life.{IsClosedWith, IsUnclosedWith};
+
+use signal_office_file::FileLeft;
+use signal_office_in_file::Ended;
+use sqlite_disk::{Disk, Files};
+
+/// What came of work, and its files, where they were closed after it.
+pub(crate) fn closed_after<D: Disk + Drop, T: Drop>(
+    ended: Ended<T, FileLeft<D>>,
+) -> Option<(T, Files<D>)>
+    ensures { IfSome result (λ it. IsClosedWith ended it.0 it.1) }
+{
+    match ended {
+        Ended::Closed(done, left) => Some((done, left.closed()?)),
+        _ => None,
+    }
+}
+
+/// What is left of files that could not be closed after work.
+pub(crate) fn left_after<D: Disk + Drop, T: Drop>(
+    ended: Ended<T, FileLeft<D>>,
+) -> Option<FileLeft<D>>
+    ensures { IfSome result (λ left. IsUnclosedWith ended left) }
+{
+    match ended {
+        Ended::Unclosed(_fault, left) => Some(left),
+        _ => None,
+    }
+}
