@@ -11,5 +11,5 @@ returns-then-only_tried g c out =
 
 pub returns-else-only_tried : goal.returns-else-only_tried
 returns-else-only_tried g c out =
-    subst (λ (only_tried : Bool). DoesTask g.S.Shelf c.args.office.now c.import-else-only_tried.new.office (taking only_tried c.args.csv.now c.args.lines.now) c.import-else-only_tried.result out out) (sym c.if-only_tried.false)
-    (changes g.S.Shelf _ _ c.import-else-only_tried.result _ _ c.import-else-only_tried.ensures.clean c.import-else-only_tried.ensures.honest c.import-else-only_tried.ensures.stop c.import-else-only_tried.ensures.does out)
+    subst (λ (only_tried : Bool). DoesTask g.S.Shelf c.args.office.now c.import.new.office (taking only_tried c.args.csv.now c.args.lines.now) c.import.result out out) (sym c.if-only_tried.false)
+    (changes g.S.Shelf _ _ c.import.result _ _ c.import.ensures.clean c.import.ensures.honest c.import.ensures.stop c.import.ensures.does out)
