@@ -6,7 +6,6 @@ use signal_office_commands::report;
 use signal_office_faults::Fault;
 use signal_office_file::TablesInFile;
 use signal_office_jobs::run_words;
-use sqlite::Wary;
 use std::env;
 use std::io::ErrorKind;
 use std::process::ExitCode;
@@ -25,7 +24,7 @@ fn run(rt: &HostRuntime) -> Result<u8, Fault> {
     let mut source = FromRead::new(rt.stdin());
     let mut out = ToWrite::new(rt.stdout());
     let mut err = ToWrite::new(rt.stderr());
-    Ok(run_words::<TablesInFile<Wary>, _, _, _>(rt, alloc, &words, &mut source, &mut out, &mut err))
+    Ok(run_words::<TablesInFile, _, _, _>(rt, alloc, &words, &mut source, &mut out, &mut err))
 }
 
 fn main(rt: HostRuntime) -> ExitCode {

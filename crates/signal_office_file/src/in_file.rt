@@ -14,15 +14,13 @@ use crate::notes::note_content;
 use crate::opening::open_file;
 use crate::paths::files_at;
 use crate::serving::serve_file;
-use crate::waiting::Begin;
 use office_http::{ServeFault, Served, Sink, Source};
 use office_tables::Migrated;
 use signal_office_faults::Fault;
 use signal_office_in_file::{Ended, OfficeInFile, OfficeTask};
-use sqlite::{FileFrom, Options};
+use sqlite::{FileFrom, Options, Start, Wary};
 use sqlite_disk::{Disk, Files};
 use std::alloc::Global;
-use std::marker::PhantomData;
 
 /// The first of two faults: that of the work, or else that of closing.
 fn first_fault<T: Drop, E>(done: Result<T, E>, closing: Fault) -> Fault
@@ -127,19 +125,17 @@ fn noted<T, L>(rt: &HostRuntime, path: &str, ended: Ended<T, L>) -> Ended<T, L>
     ended
 }
 
-/// The tables of a database in a file of the system. What it held as it was opened is `S`'s: no
+/// The tables of a database in a file of the system. What it held as it was opened is `Wary`'s: no
 /// clause ties that to the path.
-pub struct TablesInFile<S> {
-    held: PhantomData<S>,
-}
+pub struct TablesInFile;
 
-impl<S: Begin> OfficeInFile for TablesInFile<S> {
+impl OfficeInFile for TablesInFile {
     ghost use Rattle.sqlite.specs.WalFiles.{image_at};
     ghost use Rattle.signal_office_file.specs.InFile.{view_at};
 
-    type Left = FileLeft<FileFrom<S>>;
+    type Left = FileLeft<FileFrom<Wary>>;
 
-    ghost known = { view_at ⟦<FileFrom<S> as Disk>⟧ (image_at S.Start) };
+    ghost known = { view_at ⟦<FileFrom<Wary> as Disk>⟧ (image_at ⟦<Wary as Start>⟧) };
 
     fn do_task<Done: Drop, T: OfficeTask<Done>, W: Sink>(
         rt: &HostRuntime,
@@ -148,8 +144,8 @@ impl<S: Begin> OfficeInFile for TablesInFile<S> {
         wait: u32,
         task: &T,
         out: &mut W,
-    ) -> Ended<Result<Done, Fault>, FileLeft<FileFrom<S>>> {
-        match files_at::<S>(rt, path, wait) {
+    ) -> Ended<Result<Done, Fault>, FileLeft<FileFrom<Wary>>> {
+        match files_at::<Wary>(rt, path, wait) {
             Ok((files, options)) => {
                 noted(rt, path, done_in(rt, alloc, files, options, task, out))
             }
@@ -165,8 +161,8 @@ impl<S: Begin> OfficeInFile for TablesInFile<S> {
         source: &mut R,
         out: &mut W,
         max_requests: u32,
-    ) -> Ended<Result<Served, ServeFault>, FileLeft<FileFrom<S>>> {
-        match files_at::<S>(rt, path, wait) {
+    ) -> Ended<Result<Served, ServeFault>, FileLeft<FileFrom<Wary>>> {
+        match files_at::<Wary>(rt, path, wait) {
             Ok((files, options)) => {
                 let ended = answered_in(alloc, files, options, source, out, max_requests);
                 noted(rt, path, ended)
@@ -180,8 +176,8 @@ impl<S: Begin> OfficeInFile for TablesInFile<S> {
         alloc: Global,
         path: &str,
         wait: u32,
-    ) -> Ended<Result<u128, Fault>, FileLeft<FileFrom<S>>> {
-        match files_at::<S>(rt, path, wait) {
+    ) -> Ended<Result<u128, Fault>, FileLeft<FileFrom<Wary>>> {
+        match files_at::<Wary>(rt, path, wait) {
             Ok((files, options)) => noted(rt, path, migrated_in(alloc, files, options)),
             Err(fault) => Ended::Unopened(fault),
         }
@@ -193,8 +189,8 @@ impl<S: Begin> OfficeInFile for TablesInFile<S> {
         path: &str,
         wait: u32,
         out: &mut W,
-    ) -> Ended<Result<(), Fault>, FileLeft<FileFrom<S>>> {
-        match files_at::<S>(rt, path, wait) {
+    ) -> Ended<Result<(), Fault>, FileLeft<FileFrom<Wary>>> {
+        match files_at::<Wary>(rt, path, wait) {
             Ok((files, options)) => noted(rt, path, copied_in(alloc, files, options, out)),
             Err(fault) => Ended::Unopened(fault),
         }

@@ -1,4 +1,3 @@
-use Rattle.sqlite.specs.WalFiles.{image_at}
 use Rattle.signal_office_in_file.specs.Ended.{copy_work}
 use Rattle.signal_office_file.specs.Files.{HoldAlone}
 use Rattle.signal_office_file.proofs.InFileLemmas.{ends_noted}
@@ -6,5 +5,5 @@ use Rattle.signal_office_file.proofs.in_file.TablesInFileOfficeInFile.copy.Goals
 
 pub returns-in-Ok : goal.returns-in-Ok
 returns-in-Ok g c =
-    ends_noted _ (image_at g.S.Start) c.in-Ok.files c.in-Ok.ensures.new (copy_work HoldAlone (g.W.Sink.told c.args.out.now) (g.W.Sink.told c.copied_in.new.out))
+    ends_noted _ _ c.in-Ok.files c.in-Ok.ensures.new (copy_work HoldAlone (g.W.Sink.told c.args.out.now) (g.W.Sink.told c.copied_in.new.out))
     c.copied_in.result c.noted.result c.noted.ensures c.copied_in.ensures
