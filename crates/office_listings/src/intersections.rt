@@ -10,9 +10,9 @@ ghost use Rattle.office_listings.specs.Intersections.{intersections_csv_text};
 use crate::columns::{push_count, push_long_number, push_number, push_word};
 use crate::listed::{Listed, list_csv, text_record};
 use csv::ByteRecord;
-use signal_records::state::{Holder, Stage};
 use office_machine::intersections::ListedIntersection;
 use signal_records::NoMemory;
+use signal_records::state::{Holder, Stage};
 use std::alloc::{AllocError, Global};
 use std::fmt::Write;
 

@@ -12,13 +12,13 @@ ghost use Rattle.signal_index.specs.Rows.{standing_headings};
 
 use crate::shown::IndexEntry;
 use cabinet_core::{Day, due};
-use signal_records::state::Holder;
 use office_listings::state_word;
 use signal_page::{push_due, push_last};
 use signal_page_tables::{
     begin_rows, end_table, open_table, push_heading, push_markup, push_none_since, push_number,
     push_text, push_words, push_words_heading,
 };
+use signal_records::state::Holder;
 use signal_records::{InterId, Interval};
 use std::alloc::AllocError;
 use std::fmt::Write;

@@ -4,10 +4,10 @@ ghost use Rattle.std.specs.Prelude.{◌≡◌, ◌∷◌, ◌++◌, [], IfOk, On
 ghost use Rattle.signal_index.specs.Shown.{index_entry};
 
 use cabinet_core::{Day, latest, open_count};
-use signal_records::state::Holder;
 use office_listings::NamedOrder;
 use office_machine::intersections::ListedIntersection;
 use office_machine::reply::{CabinetShown, Stock};
+use signal_records::state::Holder;
 use signal_records::{Listing, NoMemory};
 
 /// An intersection as the index shows it.
