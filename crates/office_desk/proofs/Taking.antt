@@ -46,7 +46,7 @@ module _ (is_honest : Type 0) (stored : Content) (before : List RowChange) (c : 
       → TakesWhole stored before c before
   idle_whole about whole = record { about = about.whole; whole = whole; spares = nothing_kept (changed_by stored before) }
 
-  -- as it was decided
+  -- a record is taken as it was decided
   takes_as : (decided : Option Registered) → DecidesAfter is_honest stored before c decided → is_honest → TakesInTurn stored before c (taken_as decided) (before ++ rows_decided decided)
   takes_as None decides honest =
       let about = decides.1 honest in

@@ -79,7 +79,7 @@ fn take_decided(decided: Option<Registered>, pending: Pending) -> Result<(Taken,
     }
 }
 
-/// TakesInTurn a record after those whose rows are pending, and gives them back with its own. Of the
+/// Takes a record after those whose rows are pending, and gives them back with its own. Of the
 /// intersections that were found no row is read again.
 pub(crate) fn take_record<S: Shelf>(
     shelf: &mut S,

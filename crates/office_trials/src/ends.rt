@@ -20,7 +20,8 @@ pub(crate) enum After<'a> {
     Answer(&'a [u8], &'a Patience),
 }
 
-/// How long a reader waits: until a writer took so many bytes. It counts the reads that came before.
+/// How long a reader waits: until a writer took so many bytes. It counts the reads that came
+/// before.
 #[derive(Drop)]
 pub(crate) struct Patience {
     pub(crate) taken: Cell<usize>,

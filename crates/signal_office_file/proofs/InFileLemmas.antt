@@ -19,7 +19,7 @@ module _ {D : Type 0} (g : Disk D) (image : Image) (files : Files D) (new : AreN
   ends_at work (Closed done back) it = (it.0, λ clean. let x = it.1 clean in (x.0, x.1, subst (λ (i : Image). HoldIn i x.0) new.seen x.2, x.3, x.4))
   ends_at work (Unclosed why back) it = (it.0, λ clean. let x = it.1 clean in (x.0, subst (λ (i : Image). HoldIn i x.0) new.seen x.1, x.2))
 
-  -- the same of an end that was noted
+  -- an end of work over the two files that is noted is the end of work over the file at the path
   pub ends_noted : {T : Type 0} (work : Work T) (r result : Ended T (FileLeft D g)) → result ≡ r
       → EndsOver (files_view g files) work r → EndsOver (view_at g image) work result
   ends_noted work r result same it = subst (EndsOver (view_at g image) work) (sym same) (ends_at work r it)

@@ -9,7 +9,7 @@ use Rattle.signal_office_line.specs.declared.job.Folder.{Folder}
 use Rattle.signal_office_line.specs.declared.job.Folder.TheVariants as folder
 use Rattle.signal_office_jobs.specs.declared.filed.FileOf.TheVariants as file
 
--- its name
+-- the name of a file that `export --all` or `pages` writes into the folder
 abbrev pub file_name : FileOf → List ℕ
 file_name file.Intersections = codes "intersections.csv"
 file_name file.Stock = codes "stock.csv"

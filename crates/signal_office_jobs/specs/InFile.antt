@@ -21,7 +21,7 @@ pub record WorksOver {Left : Type 0} (view : FileView Left) (effect : Effect Don
 abbrev pub IsMissing : (absent : Fault) → Fault → Type 0
 IsMissing absent why = (why ≡ absent) ⊎ (why ≡ fault.Memory)
 
--- the same of a file that is made where there is none, or of one that has to be there
+-- work over a file, which is made where there is none, or has to be there
 abbrev pub InFile : {Left : Type 0} → FileView Left → (makes : Bool) → Effect Done → Output
 InFile view makes effect start end result =
     WorksOver view effect start end result

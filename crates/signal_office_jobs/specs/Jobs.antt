@@ -55,7 +55,7 @@ abbrev pub stream_status : Result Served ServeFault → Result ℕ Fault
 stream_status (Ok served) = Ok 0
 stream_status (Err why) = Err (fault_of_stream why)
 
--- the same over a file, whose fault comes first
+-- the status of a stream that was served over a file: a fault of the file comes first
 abbrev pub status_over : Result (Result Served ServeFault) Fault → Result ℕ Fault
 status_over (Ok outcome) = stream_status outcome
 status_over (Err why) = Err why
@@ -66,7 +66,7 @@ BatchInMemory start end result =
     (outcome : Result Served ServeFault) × (after : Office) × Did office_protocol (ServesInMemory after) batch_limit start end outcome
     × TellsFault start end outcome × (result ≡ stream_status outcome)
 
--- the same by the office of a file
+-- `batch` over a file: what its office answers to the requests of the input
 abbrev pub BatchOver : {Left : Type 0} → FileView Left → Exchange
 BatchOver {Left} view start end result =
     (ended : Ended (Result Served ServeFault) Left) × EndsOver view (stream_work batch_limit start end (end ≡ start)) ended
@@ -106,7 +106,7 @@ ShowsPlan (plan.Violations true) csv lines (Err why) = why ≢ fault.Memory → 
 -- the picture of a pattern; or also that the plan lacks the pattern
 ShowsPlan (plan.Diagram pattern) csv lines (Ok done) = DrawsFile csv pattern (text_of done) × (status_of done ≡ 0)
 ShowsPlan (plan.Diagram pattern) csv lines (Err why) = why ≢ fault.Memory → DrawsNoFile csv pattern why
--- its page
+-- the page of a plan
 ShowsPlan plan.Page csv lines (Ok done) = IsPageOfFile csv (text_of done) × (status_of done ≡ 0)
 ShowsPlan plan.Page csv lines (Err why) = why ≢ fault.Memory → IsNoPlan csv why
 

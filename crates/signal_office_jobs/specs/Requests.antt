@@ -78,8 +78,8 @@ ChecksAs csv lines old (Ok done) =
     (report : Report) × ChecksFile csv lines old (Ok report) × (text_of done ≡ report.text.items) × (status_of done ≡ refused_status report.refused)
 ChecksAs csv lines old (Err why) = ChecksFile csv lines old (Err why)
 
--- The rules that an edited draft breaks, as they are told: where that is asked and the draft stays open, those of the draft that the tables hold, each with
--- its reason. Of a draft that would be the committed set nothing is told.
+-- The rules that an edited draft breaks, as they are printed. With `explain`, a draft that stays open has each rule with a reason, by the draft in the
+-- tables. Nothing is printed of a draft that would be the committed set.
 abbrev pub IsBroken : (explain : Bool) → Outcome → (id : ℕ) → Content → List Violation → (text : List ℕ) → Type 0
 IsBroken explain Same id tables violations text = text ≡ []
 IsBroken true Open id tables violations text = (found : List Explained) × ExplainsDraft tables id (Ok found) × (text ≡ explained_text_of found)
@@ -106,7 +106,7 @@ ComparesAs id csv old (Ok done) = (found : List Difference) × ComparesDraft old
     × (text_of done ≡ compared_text csv found) × (status_of done ≡ compared_status found)
 ComparesAs id csv old (Err why) = why ≢ fault.Memory → ComparesDraft old id (Err why)
 
--- the same of what the plan of a file differs in from the committed set
+-- what the plan of a file differs in from the committed set, as a text or CSV
 abbrev pub ComparesWith : (id : ℕ) → (plan : List ℕ) → (csv : Bool) → Content → Result Done Fault → Type 0
 ComparesWith id plan csv old (Ok done) = (found : List Difference) × ComparesRunning old id plan (Ok found)
     × (text_of done ≡ compared_text csv found) × (status_of done ≡ compared_status found)

@@ -344,8 +344,8 @@ fn answer<S: Shelf>(
     }
 }
 
-/// A request, with the text of the CSV file that was read for it, and the lines of the file on which
-/// its records begin.
+/// A request, with the text of the CSV file that was read for it, and the lines of that file on
+/// which the records begin.
 #[derive(Clone, Copy)]
 pub(crate) struct Asked<'a> {
     pub(crate) request: &'a Request<'a>,

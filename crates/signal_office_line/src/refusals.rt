@@ -13,7 +13,8 @@ use clap::error::ErrorKind;
 use clap::{ArgMatches, Error};
 use std::alloc::{AllocError, Global};
 
-/// A word that is to be a number from `least` to `most`, and how the help shows its argument's name.
+/// A word that is to be a number from `least` to `most`, and how the help shows the name of its
+/// argument.
 #[derive(Clone, Copy)]
 struct NumberArgument<'a> {
     id: &'a str,

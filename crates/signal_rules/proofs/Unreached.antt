@@ -50,7 +50,7 @@ pub flat_map_same : {A B : Type 0} (f g : A → List B) (xs : List A) → ((x : 
     → flat_map f xs ≡ flat_map g xs
 flat_map_same f g xs h = λ i. flat_map (λ x. h x i) xs
 
--- the same findings are the same violations
+-- equal findings of a subject are equal violations
 told_alike : (s : Subject) (fs gs : Findings) → fs ≡ gs → violations_in (broken s fs) ≡ violations_in (broken s gs)
 told_alike s fs gs e = ap (λ hs. violations_in (broken s hs)) e
 

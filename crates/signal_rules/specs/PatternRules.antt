@@ -31,7 +31,10 @@ abbrev pub offset_is_right : Pattern → Bool
 offset_is_right pattern = nat_lt pattern.offset pattern.cycle
 
 abbrev pub offset_cases : Pattern → Cases Reason
-offset_cases pattern = (not (offset_is_right pattern), reason.Pattern (LateOffset pattern.offset pattern.cycle)) ∷ []
+offset_cases pattern = (
+  not (offset_is_right pattern),
+  reason.Pattern (LateOffset pattern.offset pattern.cycle),
+) ∷ []
 
 abbrev pub is_coordinated : Option Split → Bool
 is_coordinated None = false

@@ -27,7 +27,7 @@ abbrev pub place_cases : ℕ → ℕ → Option Phase → Cases Reason
 place_cases ring p None = (true, reason.Sequence (sequence.NotInPlan p)) ∷ []
 place_cases ring p (Some phase) = (not (phase.ring == ring), reason.Sequence (sequence.OtherRing p ring phase.ring)) ∷ []
 
--- so is each phase of the row, in its order
+-- each phase of a ring's row is of that ring, in the order of the row
 abbrev pub row_cases : Rows → ℕ → ℕ → Cases Reason
 row_cases set n ring = flat_map (λ p. place_cases ring p (phase_at set p)) (ring_row set n ring)
 

@@ -112,7 +112,7 @@ subjects set =
 unfoldable pub violations_of : Rows → List Violation
 violations_of set = flat_map (violations_at set) (subjects set)
 
--- the same with their reasons
+-- the violations of a set with their reasons: those of its subjects, in order
 unfoldable pub reasons_of : Rows → List Explained
 reasons_of set = flat_map (explained_at set) (subjects set)
 

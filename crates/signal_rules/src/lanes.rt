@@ -37,7 +37,7 @@ impl<'s> Model for Slot<'s> {
     } };
 }
 
-/// V12: the splits of each ring's row sum up to the cycle; else the first ring of which they do not.
+/// V12: the splits of each ring's row sum up to the cycle; else the first ring whose splits do not.
 /// Where they do, the slots of the rows are added.
 pub(crate) fn sum_reason<'s>(
     set: &'s TimingSet,
@@ -64,7 +64,8 @@ pub(crate) fn sum_reason<'s>(
     Ok(None)
 }
 
-/// Whether the splits of a row sum up to the cycle. The row is left where it passes the cycle, so that no sum grows past it.
+/// Whether the splits of a row sum up to the cycle. The row is left where it passes the cycle, so
+/// that no sum grows past it.
 fn row_fills<'s>(
     set: &'s TimingSet,
     pattern: &Pattern,
@@ -187,8 +188,8 @@ fn slot_reason(slot: &Slot<'_>, later: &[Slot<'_>], second: u32) -> Option<Reaso
     }
 }
 
-/// The first of some later slots that has the second of a slot and conflicts with it, for as long
-/// as both last.
+/// The first of some later slots that has the second of a slot and conflicts with it, for the
+/// seconds that both last.
 fn later_reason(slot: &Slot<'_>, later: &[Slot<'_>], second: u32) -> Option<Reason>
     ensures { result ≡ first_true (later_cases second slot.now (spans_in second later.now)) }
 {
