@@ -12,27 +12,21 @@ import sys
 
 TOP = pathlib.Path(__file__).resolve().parent.parent
 PICTURE = TOP / "docs" / "layers.svg"
-TESTS = {"signal_core_tests", "office_trials"}
 MARGIN = 10  # around all, in pixels
-# Each layer: its column and row in the picture, what it does, what it knows, and its crates by the
-# fronts of their names. The first that fits counts.
+APART = "tests"  # the layer that the picture leaves out
+TESTS = {"signal_core_tests", "office_trials"}  # crates of tests alone: `office_lives` has laws
+# Each layer of crates.txt: its column and row in the picture, what it does, and what it knows.
 LAYERS = {
-    "program": (1, 0, "words, files, a port", "all layers", ("signal_office",)),
-    "bytes": (2, 2, "requests in a stream (1, 6)", "no office", ("office_http_framing",)),
-    "wire": (1, 1, "reads requests (2), writes answers (4)", "machine, no rows",
-             ("office_http",)),
-    "texts": (0, 2, "CSV, lists, pictures, pages", "plans and replies", (
-        "office_files", "office_spreadsheets", "office_listings", "signal_page", "signal_index",
-        "signal_diagram", "signal_compare")),
-    "desk": (1, 2, "reads, decides, gives changes (3)", "machine and tables", ("office_desk",)),
-    "tables": (1, 3, "eight maps: memory or SQL (5)", "rows and records", ("office_tables",)),
-    "machine": (1, 4, "what each command means", "no storage", ("office_machine",)),
-    "transaction": (0, 5, "draft, owner, commit", "rules", ("draft_",)),
-    "register": (2, 5, "inspections, orders, parts", "its records", ("cabinet_core",)),
-    "rules": (0, 6, "V1 to V14, reasons, street", "a plan",
-              ("signal_rules", "signal_street")),
-    "records": (1, 7, "rows of a plan, numbers, texts", "nothing else",
-                ("signal_records", "signal_values")),
+    "program": (1, 0, "words, files, a port", "all layers"),
+    "wire": (1, 1, "requests (1, 2), answers (4, 6)", "machine, no rows"),
+    "texts": (0, 2, "CSV, lists, pictures, pages", "plans and replies"),
+    "desk": (1, 2, "reads, decides, gives changes (3)", "machine and tables"),
+    "tables": (1, 3, "eight maps: memory or SQL (5)", "rows and records"),
+    "machine": (1, 4, "what each command means", "no storage"),
+    "transaction": (0, 5, "draft, owner, commit", "rules"),
+    "register": (2, 5, "inspections, orders, parts", "its records"),
+    "rules": (0, 6, "V1 to V14, reasons, street", "a plan"),
+    "records": (1, 7, "rows of a plan, numbers, texts", "nothing else"),
 }
 ACROSS, BOX, DEEP, DOWN = 300, 280, 50, 78  # of the layers' picture: columns, boxes, rows
 
@@ -54,16 +48,23 @@ STYLE = """
 """
 
 
+def lines():
+    """Each crate with its layer, what it is for, and the words of its line."""
+    layer, remark = "", ""
+    for line in (TOP / "crates.txt").read_text().splitlines():
+        name, colon, words = line.partition(":")
+        if line.startswith("## "):
+            layer = line[3:]
+        elif line.startswith("#"):
+            remark = line.lstrip("# ")
+        elif colon:
+            yield name.strip(), layer, remark, words.split()
+
+
 def crates():
     """Each crate with the crates of this repository that its line names, and what it is for."""
-    remark, named, remarks = "", {}, {}
-    for line in (TOP / "crates.txt").read_text().splitlines():
-        if line.startswith("#"):
-            remark = line.lstrip("# ")
-            continue
-        name, colon, words = line.partition(":")
-        if colon:
-            named[name.strip()], remarks[name.strip()] = words.split(), remark
+    named = {name: words for name, _, _, words in lines()}
+    remarks = {name: remark for name, _, remark, _ in lines()}
     return {name: [it for it in words if it in named] for name, words in named.items()}, remarks
 
 
@@ -88,20 +89,15 @@ def arrows_of(named):
             for name, others in named.items()}
 
 
-def layer_of(name):
-    """The layer of a crate; none of a test."""
-    if name in TESTS or name == "office_lives":
-        return None
-    fits = [it for it, (*_, fronts) in LAYERS.items() if name.startswith(fronts)]
-    return fits[0] if fits else sys.exit(f"drawing.py: LAYERS has no layer for {name}")
-
-
 def layer_arrows():
     """The layers that each layer uses and reaches by no other one."""
+    layers = {name: layer for name, layer, _, _ in lines() if layer != APART}
+    if unknown := {*layers.values()} - LAYERS.keys():
+        sys.exit(f"drawing.py: LAYERS has no layer {', '.join(sorted(unknown))}")
     uses = {layer: [] for layer in LAYERS}
     for name, others in crates()[0].items():
-        if (high := layer_of(name)):
-            found = {layer_of(it) for it in others} - {high}
+        if (high := layers.get(name)):
+            found = {layers[it] for it in others} - {high}
             uses[high] += sorted(found - {*uses[high]})
     return arrows_of(uses)
 
@@ -124,9 +120,8 @@ def picture():
             x, to = middle[upper], middle[lower]
             yield (f'<path marker-end="url(#end)" d="M{x} {begin}C{x} {half} {to} {half} '
                    f'{to} {end}"/>')
-    kinds = {"program": "program", "wire": "http", "bytes": "http", "desk": "desk",
-             "tables": "tables"}
-    for name, (_, _, does, knows, _) in LAYERS.items():
+    kinds = {"program": "program", "wire": "http", "desk": "desk", "tables": "tables"}
+    for name, (_, _, does, knows) in LAYERS.items():
         yield (f'<rect class="{kinds.get(name, "rules")}" x="{middle[name] - BOX // 2}" '
                f'y="{top[name]}" width="{BOX}" height="{DEEP}" rx="5"/>')
         lines = ((name, 15, ' class="name"'), (does, 30, ""), (f"knows {knows}", 43, ""))

@@ -1,4 +1,4 @@
-//! What the types of the records keep, told to callers: numbers, days and texts are within their
+//! What the types of the records guarantee to callers: numbers, days and texts are within their
 //! limits.
 
 ghost use Rattle.std.specs.Prelude.{IfSome};

@@ -26,7 +26,7 @@ pub enum CsvFault {
 }
 
 /// What was read of the record with that number, counted from 1, or its fault with the number
-/// beside it. Out of memory is told exactly where the reader of the record told it.
+/// beside it. Out of memory is reported exactly where the reader of the record reported it.
 pub fn told_of_record<T>(at: usize, read: Result<T, RowFault>) -> Result<T, CsvFault>
     ensures { result ≡ told_at at read }
 {

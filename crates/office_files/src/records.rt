@@ -26,8 +26,8 @@ pub fn read_records(alloc: Global, text: &[u8]) -> Result<Vec<ByteRecord>, NoMem
 }
 
 /// Keeps a record that was read. A reader over a slice stops only where memory runs out: a slice
-/// can't fail to be read, and records may differ in length. So out of memory is told only where the
-/// reader told it, or where there was no room left.
+/// can't fail to be read, and records may differ in length. So out of memory is reported only where
+/// the reader reported it, or where there was no room left.
 fn keep(records: &mut Vec<ByteRecord>, read: Result<ByteRecord, Error>) -> Result<(), NoMemory>
     requires { IfErr read (λ error. stops_reader (error_kind error) ≡ true) }
     ensures kept { IfOk result (λ _. (found : Record)

@@ -1,4 +1,4 @@
-//! What the types of the records keep, told to callers: every row and change is within today's
+//! What the types of the records guarantee to callers: every row and change is within today's
 //! limits, so that what is written of it is read back.
 
 ghost use Rattle.std.specs.Prelude.{◌≡◌, ◌≤◌, ◌↔◌, IsTrue};

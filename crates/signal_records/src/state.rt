@@ -49,10 +49,10 @@ impl Clone for Holder {
     }
 }
 
-/// Who holds the draft after a step, told without a copy of a name.
+/// Who holds the draft after a step, without a copy of a name.
 #[derive(Clone, Copy, PartialEq, Eq)]
 pub enum Holding {
-    /// The clerk who asked becomes its owner, in stage Transaction.
+    /// The clerk of the command becomes its owner, in stage Transaction.
     Begun,
     /// Its owner stays, in this stage.
     Kept(Stage),
