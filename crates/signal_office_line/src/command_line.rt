@@ -1,7 +1,7 @@
 //! The words that the program takes.
 
-ghost use Rattle.std.specs.Prelude.{◌≡◌, IfOk};
-ghost use Rattle.signal_office_line.specs.CommandLine.{ParsesAs, signal_app, usages};
+ghost use Rattle.std.specs.Prelude.{◌≡◌, IfOk, map};
+ghost use Rattle.signal_office_line.specs.CommandLine.{ParsesAs, app_for, commands, signal_app};
 
 use crate::arguments::{Argument, Form, Usage, command_of, with_commands};
 use clap::Command;
@@ -82,7 +82,7 @@ pub(crate) const PATTERN: Argument<'static> = Argument("PATTERN", Form::SecondWo
 
 /// The commands with their arguments, in the order of the help. What the help says of them stands
 /// in `help.rt`.
-pub(crate) const COMMANDS: &[Usage<'static>] = &[
+const COMMANDS: &[Usage<'static>] = &[
     Usage("batch", &[ANY_DB, WAIT]),
     Usage("serve", &[PORT, COUNT, ANY_DB, WAIT]),
     Usage("sheet", &[DB, WAIT, ID]),
@@ -121,7 +121,7 @@ pub(crate) const COMMANDS: &[Usage<'static>] = &[
 
 // The table is named in one function, since it counts in every one that names it.
 fn commands() -> &'static [Usage<'static>]
-    ensures { result.now ≡ usages }
+    ensures { map app_for result.now ≡ commands }
 {
     COMMANDS
 }
