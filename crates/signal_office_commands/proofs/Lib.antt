@@ -1,9 +1,8 @@
-pub mod AskingLemmas
 pub mod FaultLemmas
 pub mod HonestLemmas
+pub mod InTurnLemmas
 mod ReplacingLemmas
 mod RevisedLemmas
 mod RevisingLemmas
 mod StandingLemmas
-pub mod StopLemmas
 mod CheckLemmas

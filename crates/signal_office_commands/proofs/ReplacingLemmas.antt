@@ -1,39 +1,38 @@
 -- The plan that a revision leaves, from what stood and what was done.
-use Rattle.std.proofs.Common.{◌≡◌, inl, inr, ℕ, Bool, true, false, ◌&&◌, not, List, Option, Some, None, Result, Ok, Err, refl, sym, ap, subst, ◌∙◌}
-use Rattle.std.specs.{FinMap.get, Prelude.is_none, Prelude.option_map}
+use Rattle.std.proofs.Common.{◌≡◌, inl, inr, ℕ, Bool, true, false, ◌&&◌, not, List, [], ◌∷◌, Option, Some, None, Result, Ok, Err, refl, sym, ap, subst, ◌∙◌}
+use Rattle.std.specs.{FinMap.get, Prelude.IfOk, Prelude.is_none, Prelude.option_map}
 use Rattle.draft_core.specs.Transaction.{Draft, TimingSide}
-use Rattle.office_desk.specs.StandFor.{StandForSound}
-use Rattle.office_machine.specs.{Office.Office, Office.Intersection, Step.draft_shown, Step.shown, Step.timing_shown}
-use Rattle.office_machine.specs.declared.reply.Reply.TheVariants as reply
-use Rattle.office_tables_shelf.specs.Content.{Content}
-use Rattle.signal_office_commands.proofs.{AskingLemmas.was_run, RevisingLemmas.held_base, RevisingLemmas.revised_draft, RevisingLemmas.revised_set}
+use Rattle.office_desk.specs.{Running.MakesTables, StandFor.StandForSound}
 use Rattle.office_files.specs.Changes.{changes_of}
-use Rattle.signal_office_commands.specs.{Asking.RanCommands, Committing.Goes, Committing.commit_commands, Committing.commit_told, Committing.is_due}
-use Rattle.signal_office_commands.specs.Replacing.{LeavesPlan, LeftPlan, TellsNoChange, base_at, draft_set, plan_wanted}
-use Rattle.signal_office_commands.specs.Revising.{Drafts, EndsRevision, Finishes, Revises, Stays, WouldBe, outcome_of}
+use Rattle.office_machine.specs.{Office.Office, Office.Intersection, Step.draft_shown, Step.shown, Step.timing_shown, declared.reply.Reply.Reply}
+use Rattle.office_machine.specs.declared.reply.Reply.TheVariants as reply
+use Rattle.office_tables_shelf.specs.{Content.Content, declared.shelf.Shelf.Ghosts}
+use Rattle.signal_office_commands.proofs.RevisingLemmas.{Edits, Stands, drafted_set, held_base, settled_set, stands_by}
+use Rattle.signal_office_commands.specs.InTurn.{Makes, Runs}
+use Rattle.signal_office_commands.specs.Replacing.{LeavesPlan, LeftPlan, TellsNoChange, base_at, draft_set, is_same, plan_left, plan_wanted}
+use Rattle.signal_office_commands.specs.Revising.{Commits, Ends, RevisesSo, Wants, WouldBe, commands_due, committing, drafted, drafting, is_idle, outcome_of}
 use Rattle.signal_office_commands.specs.Standing.{AreWanted, ShowsStanding, base_from, base_of, standing_of, standing_seen}
-use Rattle.signal_office_commands.specs.declared.revising.{Outcome.TheVariants.Open, Outcome.TheVariants.Same, Outcome.TheVariants.Committed, Revised.Revised}
+use Rattle.signal_office_commands.specs.declared.revising.{Outcome.Outcome, Outcome.TheVariants.Open, Outcome.TheVariants.Same, Outcome.TheVariants.Committed, Revised.Revised}
 use Rattle.signal_office_commands.specs.declared.standing.StandingPlan.{StandingPlan}
-use Rattle.signal_office_line.specs.declared.job.Edit.{Edit}
 use Rattle.signal_office_faults.specs.declared.fault.Fault.{Fault}
-use Rattle.signal_office_reports.specs.Reports.{open_draft_in}
+use Rattle.signal_office_line.specs.declared.job.Edit.{Edit}
+use Rattle.signal_office_reports.specs.Reports.{◌>>=◌, open_draft_in}
 use Rattle.signal_office_reports.specs.declared.seen.Seen.TheVariants as seen
-use Rattle.signal_office_faults.specs.declared.fault.Fault.TheVariants as told
 use Rattle.signal_records.specs.TimingSet.{Rows, after_changes}
 use Rattle.signal_records.specs.declared.record.Change.{Change}
 use Rattle.signal_rules.specs.declared.violation.Violation.{Violation}
 
 -- ---- what stands, of the office
 
-drafted : (draft : Option Draft) → open_draft_in (seen.Reply (draft_shown draft)) ≡ Ok (option_map (λ (d : Draft). d.set) draft)
-drafted None = refl
-drafted (Some d) = refl
+shown_draft : (draft : Option Draft) → open_draft_in (seen.Reply (draft_shown draft)) ≡ Ok (option_map (λ (d : Draft). d.set) draft)
+shown_draft None = refl
+shown_draft (Some d) = refl
 
 standing_found : (found : Option Intersection) (standing : StandingPlan)
     → Ok standing ≡ standing_of (seen.Reply (shown found (λ i. reply.Timing (timing_shown i)))) (seen.Reply (shown found (λ i. draft_shown i.timing.draft)))
     → (i : Intersection) × (found ≡ Some i) × (standing ≡ record { committed = i.timing.committed; draft = draft_set i.timing })
 standing_found None standing e = absurd cc
-standing_found (Some i) standing e = let is = rw (drafted i.timing.draft) at e in (i, refl, cc)
+standing_found (Some i) standing e = let is = rw (shown_draft i.timing.draft) at e in (i, refl, cc)
 
 -- it is what the office shows
 standing_on : (tables : Content) (office : Office) (id : ℕ) (standing : StandingPlan) → ShowsStanding tables id standing → StandForSound tables office
@@ -51,163 +50,130 @@ made_plan false base asked wanted is = ap (after_changes base) is
 
 -- ---- what was done
 
-not_same : (commit : Bool) (standing : StandingPlan) (changes : List Change) (committed wanted : Rows)
-    → standing.committed ≡ committed → after_changes (base_of standing) changes ≡ wanted
-    → WouldBe commit standing changes false → TellsNoChange commit committed wanted false
-not_same false standing changes committed wanted was is would = refl
-not_same true standing changes committed wanted was is would = λ same. would (was ∙ same ∙ sym is)
+-- where the draft would be the committed set, a commit was asked for; that nothing changes is told then, and then alone
+tells : (commit same : Bool) (standing : StandingPlan) (changes : List Change) (committed wanted : Rows)
+    → standing.committed ≡ committed → after_changes (base_of standing) changes ≡ wanted → WouldBe commit standing changes same → TellsNoChange commit committed wanted same
+tells false same standing changes committed wanted was is would = would
+tells true true standing changes committed wanted was is would = sym was ∙ would ∙ is
+tells true false standing changes committed wanted was is would = λ none. would (was ∙ none ∙ sym is)
 
--- where the draft would be the committed set, a commit was asked for
-is_asked : (commit : Bool) (standing : StandingPlan) (changes : List Change) → WouldBe commit standing changes true
-    → (commit ≡ true) × (standing.committed ≡ after_changes (base_of standing) changes)
-is_asked false standing changes would = absurd cc
-is_asked true standing changes would = (refl, would)
-
-tells_same : (commit : Bool) (committed wanted : Rows) → commit ≡ true → committed ≡ wanted → TellsNoChange commit committed wanted true
-tells_same true committed wanted asked is = is
-tells_same false committed wanted asked is = cc
-
--- such a draft is not due
-never : (commit : Bool) (violations : List Violation) → is_due (commit && not true) violations ≡ false
-never true violations = refl
-never false violations = refl
+equal_where : (commit : Bool) (committed wanted : Rows) → TellsNoChange commit committed wanted true → committed ≡ wanted
+equal_where true committed wanted told = told
+equal_where false committed wanted told = absurd cc
 
 apart : {A E : Type 0} (x : A) (e : E) → Ok x ≡ Err e → ⊥
 apart x e same = cc
 
-module _ (bytes : List ℕ) (id : ℕ) (clerk : List ℕ) (edit : Edit) (old new : Content) (asked : List Change) (spelled : changes_of bytes ≡ Ok asked)
-    (standing : StandingPlan) (changes : List Change) (before : Office) (stands : StandForSound old before) (i : Intersection) (there : get before.intersections id ≡ Some i)
+bound : {A B : Type 0} (first : Result A Fault) (rest : A → Result B Fault) (y : B) → Ok y ≡ (first >>= rest) → (x : A) × (first ≡ Ok x) × (Ok y ≡ rest x)
+bound (Ok x) rest y e = (x, refl, e)
+bound (Err why) rest y e = cc
+
+module _ (bytes : List ℕ) (id : ℕ) (clerk : List ℕ) (edit : Edit) (old new : Content) (asked : List Change) (spelled : changes_of bytes ≡ Ok asked) (standing : StandingPlan) (changes : List Change)
+    (before : Office) (stands : StandForSound old before) (i : Intersection) (there : get before.intersections id ≡ Some i)
     (was : standing.committed ≡ i.timing.committed) (base : base_of standing ≡ base_at i.timing)
     (is : after_changes (base_of standing) changes ≡ plan_wanted edit.replace (base_at i.timing) asked) where
   abbrev wanted : Rows
   wanted = plan_wanted edit.replace (base_at i.timing) asked
 
-  -- of the intersection as it is after the edit
-  record After (middle : Content) : Type 0 where
-    office : Office
-    stand : StandForSound middle office
-    it : Intersection
-    found : get office.intersections id ≡ Some it
-    draft : Draft
-    held : it.timing.draft ≡ Some draft
-    set : draft.set ≡ wanted
-    committed : it.timing.committed ≡ i.timing.committed
-
-  after_edit : (commit same : Bool) (violations : List Violation) (outcome : Result Unit Fault) (drafts : Drafts commit same id clerk changes old new violations outcome) → After drafts.middle
-  after_edit commit same violations outcome drafts =
-      let run = drafts.edit.run before stands in
-      let made = revised_draft before run.last id clerk changes drafts.edit.replies violations i there run.run drafts.edit.made_is in
-      record {
-        office = run.last;
-        stand = run.stand;
-        it = made.0;
-        found = made.1;
-        draft = made.2.draft;
-        held = made.2.held;
-        set = made.2.set ∙ ap (λ set. after_changes set changes) (sym base) ∙ is;
-        committed = made.2.committed;
-      }
-
-  -- the draft stays open
-  opened : (middle : Content) → After middle → new ≡ middle → TellsNoChange edit.commit i.timing.committed wanted false → LeftPlan bytes id edit before new Open
-  opened middle after same told = record {
+  -- the plan that is left is the one that is wanted
+  left_so : (outcome : Outcome) (tables : Content) → new ≡ tables → Stands tables id (λ side. plan_left outcome side ≡ Some wanted)
+      → TellsNoChange edit.commit i.timing.committed wanted (is_same outcome) → LeftPlan bytes id edit before new outcome
+  left_so outcome tables same after told = record {
     asked = asked;
     spelled = spelled;
     was = i;
     there = there;
     after = after.office;
-    stands = subst (λ tables. StandForSound tables after.office) (sym same) after.stand;
+    stands = subst (λ t. StandForSound t after.office) (sym same) after.stand;
     is = after.it;
-    still = after.found;
-    left = ap (option_map (λ (d : Draft). d.set)) after.held ∙ ap Some after.set;
+    still = after.there;
+    left = after.holds;
     told = told;
   }
 
+  made : (side : TimingSide) → Edits i.timing side changes → (draft : Draft) × (side.draft ≡ Some draft) × (draft.set ≡ wanted)
+  made side edits = (edits.draft, edits.held, edits.set ∙ ap (λ set. after_changes set changes) (sym base) ∙ is)
+
+  -- the draft stays open
+  opened : (middle : Content) → new ≡ middle → Stands middle id (λ side. Edits i.timing side changes) → TellsNoChange edit.commit i.timing.committed wanted false
+      → LeftPlan bytes id edit before new Open
+  opened middle same after = left_so Open middle same (stands_by _ _ _ _ (λ side edits.
+      let m = made side edits in
+      ap (option_map (λ (d : Draft). d.set)) m.1 ∙ ap Some m.2) after)
+
   -- it is the committed set
-  kept_same : (middle : Content) → After middle → new ≡ middle → edit.commit ≡ true → standing.committed ≡ after_changes (base_of standing) changes → LeftPlan bytes id edit before new Same
-  kept_same middle after same commit would = record {
-    asked = asked;
-    spelled = spelled;
-    was = i;
-    there = there;
-    after = after.office;
-    stands = subst (λ tables. StandForSound tables after.office) (sym same) after.stand;
-    is = after.it;
-    still = after.found;
-    left = ap Some (after.committed ∙ sym was ∙ would ∙ is);
-    told = tells_same edit.commit i.timing.committed wanted commit (sym was ∙ would ∙ is);
-  }
+  unchanged : (middle : Content) → new ≡ middle → Stands middle id (λ side. Edits i.timing side changes) → i.timing.committed ≡ wanted
+      → TellsNoChange edit.commit i.timing.committed wanted true → LeftPlan bytes id edit before new Same
+  unchanged middle same after equal = left_so Same middle same (stands_by _ _ _ _ (λ side edits. ap Some (edits.committed ∙ equal)) after)
 
   -- it was committed
-  settled : (middle : Content) → After middle → RanCommands commit_told middle (commit_commands id clerk) new (Ok tt) → TellsNoChange edit.commit i.timing.committed wanted false
-      → LeftPlan bytes id edit before new Committed
-  settled middle after ran told =
-      let run = ran.run after.office after.stand in
-      let made = revised_set after.office run.last id clerk ran.replies tt after.it after.found run.run ran.made_is in
-      record {
-        asked = asked;
-        spelled = spelled;
-        was = i;
-        there = there;
-        after = run.last;
-        stands = run.stand;
-        is = made.0;
-        still = made.1;
-        left = ap Some (made.2 ∙ held_base after.it.timing after.draft after.held ∙ after.set);
-        told = told;
-      }
+  settled : (middle : Content) (last : Reply) → Runs reply.Same (committing true false id clerk) middle new (Ok last) → Stands middle id (λ side. Edits i.timing side changes)
+      → TellsNoChange edit.commit i.timing.committed wanted false → LeftPlan bytes id edit before new Committed
+  settled middle last runs after = left_so Committed new refl (stands_by _ _ _ _ (λ side set. ap Some set)
+      (settled_set middle new id clerk last wanted (stands_by _ _ _ _ (λ side edits. let m = made side edits in held_base side m.0 m.1 ∙ m.2) after) runs))
 
-  -- nothing was done
-  stayed : new ≡ old → edit.commit ≡ true → standing.committed ≡ after_changes (base_of standing) changes → LeftPlan bytes id edit before new Same
-  stayed same commit would = record {
-    asked = asked;
-    spelled = spelled;
-    was = i;
-    there = there;
-    after = before;
-    stands = subst (λ tables. StandForSound tables before) (sym same) stands;
-    is = i;
-    still = there;
-    left = ap Some (sym was ∙ would ∙ is);
-    told = tells_same edit.commit i.timing.committed wanted commit (sym was ∙ would ∙ is);
-  }
+  finished : (commit same wrote : Bool) (violations : List Violation) (last : Reply) (middle : Content) (outcome : Outcome)
+      → TellsNoChange edit.commit i.timing.committed wanted same → (same ≡ true → i.timing.committed ≡ wanted) → Stands middle id (λ side. Edits i.timing side changes)
+      → Runs reply.Same (commands_due violations (committing commit same id clerk)) middle new (Ok last)
+      → outcome_of same wrote (commands_due violations (committing commit same id clerk)) ≡ Ok outcome → LeftPlan bytes id edit before new outcome
+  finished true true wrote [] last middle outcome told equal after runs is =
+      let o : Same ≡ outcome = cc in subst (LeftPlan bytes id edit before new) o (unchanged middle runs.0 after (equal refl) told)
+  finished true true wrote (v ∷ vs) last middle outcome told equal after runs is =
+      let o : Same ≡ outcome = cc in subst (LeftPlan bytes id edit before new) o (unchanged middle runs.0 after (equal refl) told)
+  finished false true wrote [] last middle outcome told equal after runs is =
+      let o : Same ≡ outcome = cc in subst (LeftPlan bytes id edit before new) o (unchanged middle runs.0 after (equal refl) told)
+  finished false true wrote (v ∷ vs) last middle outcome told equal after runs is =
+      let o : Same ≡ outcome = cc in subst (LeftPlan bytes id edit before new) o (unchanged middle runs.0 after (equal refl) told)
+  finished false false wrote [] last middle outcome told equal after runs is =
+      let o : Open ≡ outcome = cc in subst (LeftPlan bytes id edit before new) o (opened middle runs.0 after told)
+  finished false false wrote (v ∷ vs) last middle outcome told equal after runs is =
+      let o : Open ≡ outcome = cc in subst (LeftPlan bytes id edit before new) o (opened middle runs.0 after told)
+  finished true false wrote (v ∷ vs) last middle outcome told equal after runs is =
+      let o : Open ≡ outcome = cc in subst (LeftPlan bytes id edit before new) o (opened middle runs.0 after told)
+  finished true false true [] last middle outcome told equal after runs is =
+      let o : Committed ≡ outcome = cc in subst (LeftPlan bytes id edit before new) o (settled middle last runs after told)
+  finished true false false [] last middle outcome told equal after runs is = absurd cc
 
-  by_due : (middle : Content) → After middle → (due : Bool) → Goes due id clerk middle new (Ok tt) → TellsNoChange edit.commit i.timing.committed wanted false
-      → LeftPlan bytes id edit before new (outcome_of false due)
-  by_due middle after true goes says = settled middle after (was_run tt told.Memory goes) says
-  by_due middle after false goes says = opened middle after goes.1 says
+  here : Stands old id (λ side. side ≡ i.timing)
+  here = record { office = before; stand = stands; it = i; there = there; holds = refl }
 
-  finished : (same : Bool) (done : Revised) → WouldBe edit.commit standing changes same → Finishes edit.commit same id clerk changes old new (Ok done)
-      → LeftPlan bytes id edit before new done.outcome
-  finished true done would finishes =
-      let commit = is_asked edit.commit standing changes would in
-      let after = after_edit edit.commit true done.violations (Ok tt) finishes.0 in
-      let idle : Goes false id clerk finishes.0.middle new (Ok tt) = subst (λ due. Goes due id clerk finishes.0.middle new (Ok tt)) (never edit.commit done.violations) finishes.0.goes in
-      subst (LeftPlan bytes id edit before new) (sym finishes.1) (kept_same finishes.0.middle after idle.1 commit.0 commit.1)
-  finished false done would finishes =
-      subst (LeftPlan bytes id edit before new) (sym finishes.1)
-      (by_due finishes.0.middle (after_edit edit.commit false done.violations (Ok tt) finishes.0) (is_due (edit.commit && not false) done.violations) finishes.0.goes
-      (not_same edit.commit standing changes i.timing.committed wanted was is would))
-
-  by_idle : (idle same : Bool) (done : Revised) → idle ≡ (same && is_none standing.draft) → WouldBe edit.commit standing changes same
-      → Stays idle edit.commit same id clerk changes old new (Ok done) → LeftPlan bytes id edit before new done.outcome
-  by_idle true true done e would stays =
-      let outcome : Same ≡ done.outcome = let is = stays.0 in cc in
-      let commit = is_asked edit.commit standing changes would in
-      subst (LeftPlan bytes id edit before new) outcome (stayed stays.1 commit.0 commit.1)
-  by_idle true false done e would stays = absurd cc
-  by_idle false same done e would stays = finished same done would stays
+  by_ends : (wrote : Bool) (done : Revised) (idle same : Bool) → (same && is_none standing.draft) ≡ idle → TellsNoChange edit.commit i.timing.committed wanted same
+      → Ends idle same wrote (drafting id clerk changes) (committing edit.commit same id clerk) old new (Ok done) → LeftPlan bytes id edit before new done.outcome
+  by_ends wrote done true true e told (is_done, unmoved) =
+      let outcome : Same ≡ done.outcome = cc in
+      subst (LeftPlan bytes id edit before new) outcome
+      (left_so Same old unmoved (stands_by _ _ _ _ (λ side at. ap Some (ap (λ (t : TimingSide). t.committed) at ∙ equal_where edit.commit _ _ told)) here) told)
+  by_ends wrote done true false e told ends = absurd cc
+  by_ends wrote done false same e told (middle, found, makes, commits) = by_found found makes commits where
+    by_found : (found : Result (List Violation) Fault) → Makes drafted (drafting id clerk changes) old middle found
+        → Commits same wrote (committing edit.commit same id clerk) found middle new (Ok done) → LeftPlan bytes id edit before new done.outcome
+    by_found (Err why) makes commits = absurd (apart done why commits.1)
+    by_found (Ok violations) (last, runs, shown) (ended, more, result) =
+        let first = bound last drafted violations shown in
+        let second = bound ended _ done result in
+        let third = bound (outcome_of same wrote (commands_due violations (committing edit.commit same id clerk))) _ done second.2 in
+        let outcome : third.0 ≡ done.outcome = let is = third.2 in cc in
+        subst (LeftPlan bytes id edit before new) outcome (finished edit.commit same wrote violations second.0 middle third.0 told
+        (λ same_is. equal_where edit.commit _ _ (subst (TellsNoChange edit.commit i.timing.committed wanted) same_is told))
+        (drafted_set old middle id clerk changes first.0 i.timing here (subst (Runs reply.Same (drafting id clerk changes) old middle) first.1 runs))
+        (subst (Runs reply.Same (commands_due violations (committing edit.commit same id clerk)) middle new) second.1 more) third.1)
 
 -- the plan that is left is the one that was asked for
-pub leaves : (bytes : List ℕ) (id : ℕ) (clerk : List ℕ) (edit : Edit) (old new : Content) (done : Revised)
-    → Revises bytes id clerk edit old new (Ok done) → LeavesPlan bytes id edit done.outcome old new
-leaves bytes id clerk edit old new done r before stands = by_ends r.ends where
-  by_ends : EndsRevision edit.commit r.standing id clerk r.changes old new (Ok done) → LeftPlan bytes id edit before new done.outcome
-  by_ends (inl memory) = absurd (apart done told.Memory memory.0)
-  by_ends (inr (same, would, stays)) =
-      let on = standing_on old before id r.standing r.shows stands in
-      let committed = ap (λ (s : StandingPlan). s.committed) on.2 in
-      let base = same_base r.standing on.0.timing committed (ap (λ (s : StandingPlan). s.draft) on.2) in
-      by_idle bytes id clerk edit old new r.asked r.spelled r.standing r.changes before stands on.0 on.1 committed base
-      (made_plan edit.replace (base_of r.standing) r.asked r.changes r.wanted ∙ ap (λ set. plan_wanted edit.replace set r.asked) base)
-      (same && is_none r.standing.draft) same done refl would stays
+leaves : (wrote : Bool) (bytes : List ℕ) (id : ℕ) (clerk : List ℕ) (edit : Edit) (old new : Content) (done : Revised) → RevisesSo wrote bytes id clerk edit old new (Ok done)
+    → LeavesPlan bytes id edit done.outcome old new
+leaves wrote bytes id clerk edit old new done (inl (it, ends)) before stands =
+    let on = standing_on old before id it.standing it.shows stands in
+    let committed = ap (λ (s : StandingPlan). s.committed) on.2 in
+    let base = same_base it.standing on.0.timing committed (ap (λ (s : StandingPlan). s.draft) on.2) in
+    let is = made_plan edit.replace (base_of it.standing) it.asked it.changes it.wanted ∙ ap (λ set. plan_wanted edit.replace set it.asked) base in
+    by_ends bytes id clerk edit old new it.asked it.spelled it.standing it.changes before stands on.0 on.1 committed base is wrote done (is_idle it.same it.standing) it.same refl
+    (tells edit.commit it.same it.standing it.changes _ _ committed is it.would_be) ends
+leaves wrote bytes id clerk edit old new done (inr (why, is, none, how)) before stands = absurd (apart done why is)
+
+pub plan_left_by : {S : Type 0} (g : Ghosts S) (old new : S) (wrote : Bool) (bytes : List ℕ) (id : ℕ) (clerk : List ℕ) (edit : Edit) (result : Result Revised Fault)
+    → MakesTables g old new (λ before after. RevisesSo wrote bytes id clerk edit before after result)
+    → IfOk result (λ done. MakesTables g old new (λ before after. LeavesPlan bytes id edit done.outcome before after))
+plan_left_by g old new wrote bytes id clerk edit (Err why) makes = tt
+plan_left_by g old new wrote bytes id clerk edit (Ok done) makes = λ clean tables held.
+    let made = makes clean tables held in
+    (made.0, leaves wrote bytes id clerk edit tables made.0 done made.1, made.2)

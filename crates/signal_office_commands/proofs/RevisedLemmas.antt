@@ -1,71 +1,114 @@
 -- A revision that was made, and one that was not.
-use Rattle.std.proofs.Common.{◌≡◌, ◌⊎◌, ◌&&◌, not, true, ℕ, Bool, List, Result, Ok, Err, inl, inr, subst, sym, ap, ◌∙◌}
-use Rattle.std.specs.{Prelude.IfOk, Prelude.is_none, Result.IsErrAnd}
-use Rattle.office_desk.specs.Running.{MakesTables}
-use Rattle.office_tables_shelf.specs.{Content.Content, declared.shelf.Shelf.Ghosts}
-use Rattle.signal_office_commands.proofs.{AskingLemmas.was_run, ReplacingLemmas.leaves, StopLemmas.stop_by, StopLemmas.stop_then}
-use Rattle.signal_office_commands.specs.{Committing.Does, Committing.Goes, Committing.commit_commands, Committing.is_due, Replacing.LeavesPlan}
-use Rattle.signal_office_commands.specs.Revising.{Drafts, EndsRevision, Finishes, RevisesAs, Stays, WouldBe, revise_commands, revise_told}
-use Rattle.signal_office_commands.specs.Stopping.{AfterDrafting, AfterOneOf, StopLeaves}
-use Rattle.signal_office_commands.specs.declared.revising.Revised.{Revised}
-use Rattle.signal_office_line.specs.declared.job.Edit.{Edit}
-use Rattle.signal_office_commands.specs.declared.standing.StandingPlan.{StandingPlan}
+use Rattle.std.proofs.Common.{◌≡◌, ◌⊎◌, inl, inr, ℕ, Bool, true, false, List, Option, Some, None, Result, Ok, Err, refl, sym, ap, subst, ◌∙◌}
+use Rattle.office_desk.specs.Running.{MakesTables, TellsTables}
+use Rattle.office_machine.specs.declared.{command.Command.Command, reply.Reply.Reply}
+use Rattle.office_machine.specs.declared.reply.Reply.TheVariants as reply
+use Rattle.office_tables_shelf.specs.{Content.Content, Keeps.KeepsShelf, declared.shelf.Shelf.Ghosts}
+use Rattle.signal_office_commands.proofs.InTurnLemmas.{stop_by, stop_then}
+use Rattle.signal_office_commands.specs.InTurn.{Runs}
+use Rattle.signal_office_commands.specs.Revising.{ComesTo, Drafts, Ends, Revises, RevisesAs, RevisesSo, as_it_stands, commands_due, committing, drafted, drafting, outcome_of, revised, wrote_timing}
+use Rattle.signal_office_commands.specs.Stopping.{AfterEither, AfterOneOf, AfterRevising, StopLeaves}
+use Rattle.signal_office_commands.specs.declared.revising.{Revised.Revised, Revision.Revision}
 use Rattle.signal_office_faults.specs.declared.fault.Fault.{Fault}
-use Rattle.signal_office_faults.specs.declared.fault.Fault.TheVariants as told
+use Rattle.signal_office_line.specs.declared.job.Edit.{Edit}
+use Rattle.signal_office_reports.proofs.SeenLemmas.{still_held}
+use Rattle.signal_office_reports.specs.Reports.{◌>>=◌}
 use Rattle.signal_records.specs.declared.record.Change.{Change}
 use Rattle.signal_rules.specs.declared.violation.Violation.{Violation}
 
-pub err_is : {A : Type 0} (result : Result A Fault) (fault : Fault) → IsErrAnd result (λ why. why ≡ fault) → result ≡ Err fault
-err_is (Ok x) fault is = absurd is
-err_is (Err why) fault is = ap Err is
+-- ---- the draft is changed, and committed where that is due
 
-module _ (commit same : Bool) (id : ℕ) (clerk : List ℕ) (changes : List Change) (old new : Content) where
-  pub drafts : (middle : Content) (violations : List Violation) (may due : Bool) (outcome : Result Unit Fault)
-      → Does revise_told old (revise_commands id clerk changes) middle (Ok violations) → may ≡ (commit && not same) → due ≡ is_due may violations
-      → Goes due id clerk middle new outcome → Drafts commit same id clerk changes old new violations outcome
-  drafts middle violations may due outcome does may_is due_is goes = record {
-    middle = middle;
-    edit = was_run violations told.Memory does;
-    goes = subst (λ (d : Bool). Goes d id clerk middle new outcome) (due_is ∙ ap (λ m. is_due m violations) may_is) goes;
-  }
+module _ {S : Type 0} (g : Ghosts S) (same wrote : Bool) (first more : List Command) (result : Result Revised Fault) where
+  pub drafts_not : (old new : S) (last : Result Reply Fault) (why : Fault) → MakesTables g old new (λ tables made. Runs reply.Same first tables made last) → Err why ≡ (last >>= drafted)
+      → result ≡ Err why → MakesTables g old new (λ tables made. Drafts same wrote first more tables made result)
+  drafts_not old new last why runs found is clean tables held =
+      let ran = runs clean tables held in
+      (ran.0, (ran.0, Err why, (last, ran.1, found), (refl, is)), ran.2)
 
-  pub finishes_not : (result : Result Revised Fault) (fault : Fault) → IsErrAnd result (λ why. why ≡ fault)
-      → Does revise_told old (revise_commands id clerk changes) new (Err fault)
-      ⊎ ((violations : List Violation) × Drafts commit same id clerk changes old new violations (Err fault))
-      → Finishes commit same id clerk changes old new result
-  finishes_not (Ok done) fault is fails = absurd is
-  finishes_not (Err why) fault is fails =
-      subst (λ (w : Fault). Finishes commit same id clerk changes old new (Err w)) (sym is) fails
+  pub drafts_then : (old middle new : S) (last ended : Result Reply Fault) (violations : List Violation) (due : List Command) → (g.is_clean new → g.is_clean middle)
+      → MakesTables g old middle (λ tables made. Runs reply.Same first tables made last) → Ok violations ≡ (last >>= drafted) → due ≡ commands_due violations more
+      → MakesTables g middle new (λ tables made. Runs reply.Same due tables made ended)
+      → result ≡ (ended >>= λ _. outcome_of same wrote due >>= λ outcome. Ok (revised violations outcome))
+      → MakesTables g old new (λ tables made. Drafts same wrote first more tables made result)
+  drafts_then old middle new last ended violations due was_clean runs found due_is runs_more is clean tables held =
+      let ran = runs (was_clean clean) tables held in
+      let rest = runs_more clean ran.0 ran.2 in (
+        rest.0,
+        (
+          ran.0,
+          Ok violations,
+          (last, ran.1, found),
+          subst (λ (d : List Command). (e : Result Reply Fault) × Runs reply.Same d ran.0 rest.0 e
+              × (result ≡ (e >>= λ _. outcome_of same wrote d >>= λ outcome. Ok (revised violations outcome)))) due_is (ended, rest.1, is),
+        ),
+        rest.2,
+      )
 
-pub ends_so : (commit : Bool) (standing : StandingPlan) (id : ℕ) (clerk : List ℕ) (changes : List Change) (old new : Content) (result : Result Revised Fault) (same idle : Bool)
-    → WouldBe commit standing changes same → idle ≡ (same && is_none standing.draft) → Stays idle commit same id clerk changes old new result
-    → EndsRevision commit standing id clerk changes old new result
-ends_so commit standing id clerk changes old new result same idle would is stays =
-    inr (same, would, subst (λ (b : Bool). Stays b commit same id clerk changes old new result) is stays)
+  pub either_stops : (old middle new : S) (last : Result Reply Fault) (violations : List Violation) (due : List Command) → (g.is_clean new → g.is_clean middle)
+      → MakesTables g old middle (λ tables made. Runs reply.Same first tables made last) → Ok violations ≡ (last >>= drafted) → due ≡ commands_due violations more
+      → StopLeaves g old middle (AfterOneOf first) → StopLeaves g middle new (AfterOneOf due) → StopLeaves g old new (AfterEither first more)
+  either_stops old middle new last violations due was_clean runs found due_is stop stop_more =
+      stop_by g old new _ _ (λ tables left after. elim after [
+        | inl early ↦ inl early
+        | inr late ↦ inr (late.0, violations, (last, late.1, found), subst (λ (d : List Command). AfterOneOf d late.0 left) due_is late.2)
+      ]) (stop_then g old middle new _ _ _ was_clean runs stop stop_more)
 
-apart : {A E : Type 0} (x : A) (e : E) → Ok x ≡ Err e → ⊥
-apart x e same = cc
+-- ---- an edit
 
-pub plan_left_by : {S : Type 0} (g : Ghosts S) (old new : S) (bytes : List ℕ) (id : ℕ) (clerk : List ℕ) (edit : Edit) (result : Result Revised Fault)
-    → MakesTables g old new (λ before after. RevisesAs bytes id clerk edit before after result)
-    → IfOk result (λ done. MakesTables g old new (λ before after. LeavesPlan bytes id edit done.outcome before after))
-plan_left_by g old new bytes id clerk edit (Err why) makes = tt
-plan_left_by g old new bytes id clerk edit (Ok done) makes = λ clean tables held.
+ends_by : (idle same wrote : Bool) (edit : Edit) (changes : List Change) (it : Revision) (old new : Content) (result : Result Revised Fault) → Revises idle same edit changes (Some it)
+    → Drafts it.same wrote it.first.items it.more.items old new result
+    → Ends idle same wrote (drafting edit.id edit.clerk changes) (committing edit.commit same edit.id edit.clerk) old new result
+ends_by true same wrote edit changes it old new result (busy, first, more, is_same) drafts = absurd cc
+ends_by false same wrote edit changes it old new result (busy, first, more, is_same) drafts =
+    subst (λ (f : List Command). Drafts same wrote f (committing edit.commit same edit.id edit.clerk) old new result) first
+    (subst (λ (m : List Command). Drafts same wrote it.first.items m old new result) more (subst (λ (s : Bool). Drafts s wrote it.first.items it.more.items old new result) is_same drafts))
+
+ends_idly : (idle same wrote : Bool) (first more : List Command) (old : Content) (result : Result Revised Fault) → idle ≡ true → result ≡ Ok as_it_stands → Ends idle same wrote first more old old result
+ends_idly true same wrote first more old result idle is = (is, refl)
+ends_idly false same wrote first more old result idle is = absurd cc
+
+module _ {S : Type 0} (g : Ghosts S) (bytes : List ℕ) (edit : Edit) (old middle : S) (kept : KeepsShelf g old middle) (found : Result (Option Revision) Fault)
+    (comes : TellsTables g old middle (λ tables. ComesTo bytes edit tables found)) where
+  abbrev Makes : S → Result Revised Fault → Type 0
+  Makes new result = MakesTables g old new (λ before after. RevisesSo (wrote_timing (g.written old) (g.written new)) bytes edit.id edit.clerk edit before after result)
+
+  pub revises_by : (new : S) (it : Revision) (result : Result Revised Fault) → found ≡ Ok (Some it) → (g.is_clean new → g.is_clean middle)
+      → MakesTables g middle new (λ before after. Drafts it.same (wrote_timing (g.written middle) (g.written new)) it.first.items it.more.items before after result) → Makes new result
+  revises_by new it result is was_clean drafts clean tables held =
+      let wants = subst (ComesTo bytes edit tables) is (comes (was_clean clean) tables held) in
+      let done = drafts clean tables (still_held g old middle tables kept held) in (
+        done.0,
+        inl (
+          wants.0,
+          subst (λ w. Ends _ _ (wrote_timing w (g.written new)) _ _ tables done.0 result) kept.same_counts
+              (ends_by _ wants.0.same (wrote_timing (g.written middle) (g.written new)) edit wants.0.changes it tables done.0 result wants.1 done.1),
+        ),
+        done.2,
+      )
+
+  pub revises_idly : (result : Result Revised Fault) → found ≡ Ok None → result ≡ Ok as_it_stands → Makes middle result
+  revises_idly result is told clean tables held =
+      let wants = subst (ComesTo bytes edit tables) is (comes clean tables held) in
+      (tables, inl (wants.0, ends_idly _ wants.0.same _ _ _ tables result wants.1 told), still_held g old middle tables kept held)
+
+  pub revises_not : (why : Fault) → found ≡ Err why → Makes middle (Err why)
+  revises_not why is clean tables held = (tables, inr (why, refl, refl, subst (ComesTo bytes edit tables) is (comes clean tables held)), still_held g old middle tables kept held)
+
+  pub revising_stops : (new : S) (it : Revision) → found ≡ Ok (Some it) → (g.is_clean new → g.is_clean middle) → StopLeaves g middle new (AfterEither it.first.items it.more.items)
+      → StopLeaves g old new (AfterRevising bytes edit.id edit.clerk edit)
+  revising_stops new it is was_clean stop clean tables held left may =
+      let wants = subst (ComesTo bytes edit tables) is (comes (was_clean clean) tables held) in
+      elim (stop clean tables (still_held g old middle tables kept held) left may) [
+        | inl was ↦ inl (kept.same_outcomes left was)
+        | inr after ↦ inr (wants.0, subst (λ (f : List Command). AfterEither f _ tables left) wants.1.1 (subst (λ (m : List Command). AfterEither it.first.items m tables left) wants.1.2.0 after))
+      ]
+
+  pub looking_stops : StopLeaves g old middle (AfterRevising bytes edit.id edit.clerk edit)
+  looking_stops clean tables held left may = inl (kept.same_outcomes left may)
+
+-- whichever rows were written
+pub revises_as : {S : Type 0} (g : Ghosts S) (old new : S) (wrote : Bool) (bytes : List ℕ) (id : ℕ) (clerk : List ℕ) (edit : Edit) (result : Result Revised Fault)
+    → MakesTables g old new (λ before after. RevisesSo wrote bytes id clerk edit before after result) → MakesTables g old new (λ before after. RevisesAs bytes id clerk edit before after result)
+revises_as g old new wrote bytes id clerk edit result makes clean tables held =
     let made = makes clean tables held in
-    (made.0, by_made made.0 tables made.1, made.2) where
-      by_made : (after before : Content) → RevisesAs bytes id clerk edit before after (Ok done) → LeavesPlan bytes id edit done.outcome before after
-      by_made after before (inl revises) = leaves bytes id clerk edit before after done revises
-      by_made after before (inr (why, is, none, how)) = absurd (apart done why is)
-
--- what a stop leaves of a draft that was changed, and committed where it is due
-pub drafting_stops : {S : Type 0} (g : Ghosts S) (old middle new : S) (may : Bool) (id : ℕ) (clerk : List ℕ) (changes : List Change) (violations : List Violation) (due : Bool)
-    → due ≡ is_due may violations → (g.is_clean new → g.is_clean middle)
-    → MakesTables g old middle (λ tables made. Does revise_told tables (revise_commands id clerk changes) made (Ok violations))
-    → StopLeaves g old middle (AfterOneOf (revise_commands id clerk changes))
-    → StopLeaves g middle new (λ tables found. (due ≡ true) × AfterOneOf (commit_commands id clerk) tables found)
-    → StopLeaves g old new (AfterDrafting may id clerk changes)
-drafting_stops g old middle new may id clerk changes violations due is clean does first second =
-    stop_by g old new _ _ (λ tables found after. elim after [
-      | inl draft ↦ inl draft
-      | inr commits ↦ inr (commits.0, violations, was_run violations told.Memory commits.1, sym is ∙ commits.2.0, commits.2.1)
-    ]) (stop_then g old middle new _ _ _ clean does first second)
+    (made.0, (wrote, made.1), made.2)

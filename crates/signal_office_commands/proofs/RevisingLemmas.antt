@@ -1,24 +1,25 @@
 -- The plan that a revision leaves, from the steps of its commands.
-use Rattle.std.proofs.Common.{◌≡◌, inl, inr, ℕ, ◌+◌, Bool, true, false, cond, not, if◌then◌else◌, List, [], ◌∷◌, Option, Some, None, Result, Ok, Err, refl, sym, ap, subst, ◌∙◌}
+use Rattle.std.proofs.Common.{◌≡◌, ◌≢◌, inl, inr, ℕ, ◌+◌, Bool, true, false, cond, not, if◌then◌else◌, List, [], ◌∷◌, MatchResult, Option, Some, None, Result, Ok, Err, refl, sym, ap, subst, ◌∙◌}
 use Rattle.std.specs.{Cmp.nat_cmp_is, Cmp.nat_cmp_total, Ordering.is_eq, declared.cmp.Ordering.TheVariants.Equal, FinMap.get, FinMap.get-insert}
 use Rattle.draft_core.specs.Transaction.{Draft, TimingSide, holder_of, owned, with_draft, begun_from, committed_with, is_stage, table_line}
 use Rattle.draft_core.specs.declared.step.Step.TheVariants as step
 use Rattle.std.specs.Str.{bytes_eq}
 use Rattle.draft_core.specs.declared.refusal.DraftRefusal.{DraftRefusal}
 use Rattle.draft_core.specs.declared.refusal.DraftRefusal.TheVariants.{NotOwner, RevisionFull}
+use Rattle.office_desk.specs.StandFor.{StandForSound}
 use Rattle.signal_records.specs.declared.state.Stage.{Stage}
 use Rattle.signal_records.specs.declared.state.Stage.TheVariants.{Transaction, Done}
-use Rattle.office_machine.specs.{Office.Office, Office.Intersection, Step.Run, Step.Step, Step.answered, Step.transacted, Step.with_intersection, declared.command.Command.Command, declared.reply.Reply.Reply}
+use Rattle.office_machine.specs.{Office.Office, Office.Intersection, Step.Step, Step.answered, Step.transacted, Step.with_intersection, declared.command.Command.Command, declared.refusal.Refusal.Refusal, declared.reply.Reply.Reply}
 use Rattle.office_machine.specs.Step.{moved as moved_by, refusal_of_draft}
 use Rattle.office_machine.specs.declared.command.Command.TheVariants as command
-use Rattle.office_machine.specs.declared.refusal.Refusal.TheVariants as refusal
 use Rattle.office_machine.specs.declared.reply.Reply.TheVariants as reply
-use Rattle.signal_office_commands.specs.Committing.{commit_commands, commit_told, move_outcome}
-use Rattle.signal_office_commands.specs.Revising.{drafted, revise_commands, revise_told, taken_up}
+use Rattle.office_machine.specs.declared.refusal.Refusal.TheVariants as refusal
+use Rattle.office_tables_shelf.specs.Content.{Content}
+use Rattle.signal_office_commands.specs.InTurn.{Answered, Runs, passed}
+use Rattle.signal_office_commands.specs.Revising.{drafting, committing}
 use Rattle.signal_office_commands.specs.{Replacing.base_at}
 use Rattle.signal_office_faults.specs.declared.fault.Fault.{Fault}
-use Rattle.signal_office_reports.specs.Reports.{◌>>=◌}
-use Rattle.signal_records.specs.TimingSet.{after_changes}
+use Rattle.signal_records.specs.TimingSet.{Rows, after_changes}
 use Rattle.signal_records.specs.declared.record.Change.{Change}
 use Rattle.signal_rules.specs.declared.violation.Violation.{Violation}
 
@@ -101,57 +102,40 @@ after_kept one two three changes first second = record {
 
 -- ---- steps of an office
 
--- the intersection is there, with another timing side
+-- the intersection is there, with a timing side of which this holds
 record Has (office : Office) (id : ℕ) (P : TimingSide → Type 0) : Type 0 where
   it : Intersection
   there : get office.intersections id ≡ Some it
   holds : P it.timing
 
-placed : (office : Office) (id : ℕ) (i : Intersection) → get (with_intersection office id i).intersections id ≡ Some i
-placed office id i = get-insert nat_cmp_total office.intersections id i id ∙ ap (λ o. cond (is_eq o) (Some i) (get office.intersections id)) (sym (nat_cmp_is id id Equal refl))
+placed : (office : Office) (id : ℕ) (i : Intersection) (P : TimingSide → Type 0) → P i.timing → Has (with_intersection office id i) id P
+placed office id i P holds = record {
+  it = i;
+  there = get-insert nat_cmp_total office.intersections id i id ∙ ap (λ o. cond (is_eq o) (Some i) (get office.intersections id)) (sym (nat_cmp_is id id Equal refl));
+  holds = holds;
+}
 
--- a line of the table that was taken or not
+-- a line of the table that was taken, or refused as it may be
 line_taken : (office mid : Office) (id : ℕ) (i : Intersection) (line : Result TimingSide DraftRefusal) (got : Reply) (P : TimingSide → Type 0)
-    → get office.intersections id ≡ Some i → moved_by office id i line ≡ (got, mid)
-    → ((next : TimingSide) → line ≡ Ok next → P next) → P i.timing → Has mid id P
-line_taken office mid id i (Ok next) got P there e taken kept =
+    → moved_by office id i line ≡ (got, mid)
+    → ((next : TimingSide) → line ≡ Ok next → P next) → ((why : DraftRefusal) → got ≡ reply.Refused (refusal_of_draft why) → Has office id P) → Has mid id P
+line_taken office mid id i (Ok next) got P e taken kept =
     let is : with_intersection office id (record i { timing = next }) ≡ mid = ap (λ (p : Reply × Office). p.1) e in
-    subst (λ (o : Office). Has o id P) is (record { it = record i { timing = next }; there = placed office id (record i { timing = next }); holds = taken next refl })
-line_taken office mid id i (Err why) got P there e taken kept =
+    subst (λ (o : Office). Has o id P) is (placed office id (record i { timing = next }) P (taken next refl))
+line_taken office mid id i (Err why) got P e taken kept =
     let is : office ≡ mid = ap (λ (p : Reply × Office). p.1) e in
-    subst (λ (o : Office). Has o id P) is (record { it = i; there = there; holds = kept })
+    subst (λ (o : Office). Has o id P) is (kept why (sym (ap (λ (p : Reply × Office). p.0) e)))
 
--- a line that was told as taken
-line_made : (office mid : Office) (id : ℕ) (i : Intersection) (line : Result TimingSide DraftRefusal) (got : Reply) (done : Unit) (P : TimingSide → Type 0)
-    → move_outcome got ≡ Ok done → moved_by office id i line ≡ (got, mid)
-    → ((next : TimingSide) → line ≡ Ok next → P next) → Has mid id P
-line_made office mid id i (Ok next) got done P told e taken =
-    let is : with_intersection office id (record i { timing = next }) ≡ mid = ap (λ (p : Reply × Office). p.1) e in
-    subst (λ (o : Office). Has o id P) is (record { it = record i { timing = next }; there = placed office id (record i { timing = next }); holds = taken next refl })
-line_made office mid id i (Err why) got done P told e taken =
-    let is : reply.Refused (refusal_of_draft why) ≡ got = ap (λ (p : Reply × Office). p.0) e in
-    let refused : move_outcome (reply.Refused (refusal_of_draft why)) ≡ Ok done = ap move_outcome is ∙ told in
-    absurd cc
+stepped : (office mid : Office) (id : ℕ) (asked : Command) (got : Reply) (line : TimingSide → Result TimingSide DraftRefusal) (i : Intersection)
+    → answered office asked ≡ transacted office id line (get office.intersections id) → get office.intersections id ≡ Some i → Step office asked got mid → (P : TimingSide → Type 0)
+    → ((next : TimingSide) → line i.timing ≡ Ok next → P next) → ((why : Refusal) → got ≡ reply.Refused why → P i.timing) → Has mid id P
+stepped office mid id asked got line i is_line there step P taken kept = by_step step where
+  here : (why : Refusal) → got ≡ reply.Refused why → Has office id P
+  here why refused = record { it = i; there = there; holds = kept why refused }
 
-module _ (office mid : Office) (id : ℕ) (asked : Command) (got : Reply) (line : TimingSide → Result TimingSide DraftRefusal) (i : Intersection)
-    (is_line : answered office asked ≡ transacted office id line (get office.intersections id)) (there : get office.intersections id ≡ Some i)
-    (step : Step office asked got mid) where
-  moves_to : answered office asked ≡ (got, mid) → moved_by office id i (line i.timing) ≡ (got, mid)
-  moves_to e = sym (ap (transacted office id line) there) ∙ sym is_line ∙ e
-
-  stepped : (P : TimingSide → Type 0) → ((next : TimingSide) → line i.timing ≡ Ok next → P next) → P i.timing → Has mid id P
-  stepped P taken kept = by_step step where
-    by_step : Step office asked got mid → Has mid id P
-    by_step (inl h) = subst (λ (o : Office). Has o id P) (sym h.1) (record { it = i; there = there; holds = kept })
-    by_step (inr h) = line_taken office mid id i (line i.timing) got P there (moves_to h) taken kept
-
-  made : (done : Unit) (P : TimingSide → Type 0) → move_outcome got ≡ Ok done → ((next : TimingSide) → line i.timing ≡ Ok next → P next) → Has mid id P
-  made done P told taken = by_step step where
-    by_step : Step office asked got mid → Has mid id P
-    by_step (inl h) =
-        let refused : move_outcome (reply.Refused refusal.Unavailable) ≡ Ok done = ap move_outcome (sym h.0) ∙ told in
-        absurd cc
-    by_step (inr h) = line_made office mid id i (line i.timing) got done P told (moves_to h) taken
+  by_step : Step office asked got mid → Has mid id P
+  by_step (inl h) = subst (λ (o : Office). Has o id P) (sym h.1) (here refusal.Unavailable h.0)
+  by_step (inr h) = line_taken office mid id i (line i.timing) got P (sym (ap (transacted office id line) there) ∙ sym is_line ∙ h) taken (λ why. here (refusal_of_draft why))
 
 -- a query leaves the office
 looks : (office next : Office) (id : ℕ) (got : Reply) → Step office (command.Draft id) got next → next ≡ office
@@ -160,53 +144,82 @@ looks office next id got (inr h) = sym (ap (λ (p : Reply × Office). p.1) h)
 
 -- ---- runs
 
-bound : {A B : Type 0} (first : Result A Fault) (rest : A → Result B Fault) (y : B) → Ok y ≡ (first >>= rest) → (x : A) × (first ≡ Ok x) × (Ok y ≡ rest x)
-bound (Ok x) rest y e = (x, refl, e)
-bound (Err why) rest y e = cc
+-- the tables stand for a sound office that has the intersection, with such a timing side
+pub record Stands (tables : Content) (id : ℕ) (P : TimingSide → Type 0) : Type 0 where
+  pub office : Office
+  pub stand : StandForSound tables office
+  pub it : Intersection
+  pub there : get office.intersections id ≡ Some it
+  pub holds : P it.timing
+
+pub stands_by : (tables : Content) (id : ℕ) (P Q : TimingSide → Type 0) → ((side : TimingSide) → P side → Q side) → Stands tables id P → Stands tables id Q
+stands_by tables id P Q weaker s = record { office = s.office; stand = s.stand; it = s.it; there = s.there; holds = weaker s.it.timing s.holds }
+
+-- the first command of a run that came to its end
+record Taken (asked : Command) (more : List Command) (old new : Content) (last : Reply) : Type 0 where
+  given : Reply
+  middle : Content
+  answered : Answered old asked given middle
+  passes : passed asked given ≡ Ok tt
+  rest : Runs given more middle new (Ok last)
+
+taken : (before : Reply) (asked : Command) (more : List Command) (old new : Content) (last : Reply) → Runs before (asked ∷ more) old new (Ok last) → Taken asked more old new last
+taken before asked more old new last (given, middle, answered, rest) = by_pass (passed asked given) refl rest where
+  by_pass : (p : Result Unit Fault) → passed asked given ≡ p → MatchResult p (λ _. Runs given more middle new (Ok last)) (λ why. (new ≡ middle) × (Ok last ≡ Err why))
+      → Taken asked more old new last
+  by_pass (Ok done) e rest = record { given = given; middle = middle; answered = answered; passes = e; rest = rest }
+  by_pass (Err why) e rest = let none : Ok last ≡ Err why = rest.1 in absurd cc
+
+module _ (id : ℕ) (asked : Command) (more : List Command) (old new : Content) (last : Reply) (t : Taken asked more old new last) (line : TimingSide → Result TimingSide DraftRefusal)
+    (is_line : (office : Office) → answered office asked ≡ transacted office id line (get office.intersections id)) (P Q : TimingSide → Type 0) (s : Stands old id P)
+    (takes : (side next : TimingSide) → P side → line side ≡ Ok next → Q next) where
+  next_by : ((why : Refusal) → t.given ≡ reply.Refused why → Q s.it.timing) → Stands t.middle id Q
+  next_by kept =
+      let step = t.answered.step s.office s.stand in
+      let has = stepped s.office step.next id asked t.given line s.it (is_line s.office) s.there step.step Q (λ next. takes s.it.timing next s.holds) kept in
+      record { office = step.next; stand = step.stand; it = has.it; there = has.there; holds = has.holds }
+
+  -- a step that may be refused
+  tried : ((side : TimingSide) → P side → Q side) → Stands t.middle id Q
+  tried keeps = next_by (λ why refused. keeps s.it.timing s.holds)
+
+  -- a step that has to be taken
+  made : ((why : Refusal) → passed asked (reply.Refused why) ≢ Ok tt) → Stands t.middle id Q
+  made ends = next_by (λ why refused. absurd (ends why (sym (ap (passed asked) refused) ∙ t.passes)))
 
 -- the draft of a revision is what its changes make of what stood
-pub revised_draft : (office last : Office) (id : ℕ) (clerk : List ℕ) (changes : List Change) (replies : List Reply) (violations : List Violation) (i : Intersection)
-    → get office.intersections id ≡ Some i → Run office (revise_commands id clerk changes) replies last → Ok violations ≡ revise_told replies
-    → (j : Intersection) × (get last.intersections id ≡ Some j) × Edits i.timing j.timing changes
-revised_draft office last id clerk changes [] violations i there run told = absurd cc
-revised_draft office last id clerk changes (a ∷ []) violations i there run told = absurd cc
-revised_draft office last id clerk changes (a ∷ b ∷ []) violations i there run told = absurd cc
-revised_draft office last id clerk changes (a ∷ b ∷ c ∷ []) violations i there run told = absurd cc
-revised_draft office last id clerk changes (a ∷ b ∷ c ∷ d ∷ []) violations i there run told = absurd cc
-revised_draft office last id clerk changes (a ∷ b ∷ c ∷ d ∷ e ∷ f ∷ more) violations i there run told = absurd cc
-revised_draft office last id clerk changes (a ∷ b ∷ c ∷ d ∷ e ∷ []) violations i there run told =
-    let r1 = run.2 in
-    let r2 = r1.2 in
-    let r3 = r2.2 in
-    let r4 = r3.2 in
-    let up = bound (taken_up a b c) (λ x. move_outcome d >>= λ y. drafted e) violations told in
-    let edit = bound (move_outcome d) (λ y. drafted e) violations up.2 in
-    let one = stepped office run.0 id (command.Begin id clerk) a _ i refl there run.1 (Keeps i.timing) (λ next taken. begin_keeps i.timing next clerk i.timing.draft refl taken) (kept i.timing) in
-    let two = stepped run.0 r1.0 id (command.Check id clerk) b _ one.it refl one.there r1.1 (Keeps i.timing)
-    (λ next taken. then_kept _ _ next one.holds (stage_keeps one.it.timing next _ _ _ clerk taken)) one.holds in
-    let three = stepped r1.0 r2.0 id (command.Reopen id clerk) c _ two.it refl two.there r2.1 (Keeps i.timing)
-    (λ next taken. then_kept _ _ next two.holds (stage_keeps two.it.timing next _ _ _ clerk taken)) two.holds in
-    let four = made r2.0 r3.0 id (command.Edit id clerk changes) d _ three.it refl three.there r3.1 edit.0 (λ side. Edits i.timing side changes) edit.1
-    (λ next taken. after_kept i.timing three.it.timing next changes three.holds (edit_makes three.it.timing next clerk changes taken)) in
-    let same : last ≡ r3.0 = r4.2 ∙ looks r3.0 r4.0 id e r4.1 in
-    (four.it, ap (λ (o : Office). get o.intersections id) same ∙ four.there, four.holds)
+pub drafted_set : (old new : Content) (id : ℕ) (clerk : List ℕ) (changes : List Change) (last : Reply) (was : TimingSide)
+    → Stands old id (λ side. side ≡ was) → Runs reply.Same (drafting id clerk changes) old new (Ok last) → Stands new id (λ side. Edits was side changes)
+drafted_set old new id clerk changes last was s runs =
+    let r1 = taken _ _ _ _ _ _ runs in
+    let r2 = taken _ _ _ _ _ _ r1.rest in
+    let r3 = taken _ _ _ _ _ _ r2.rest in
+    let r4 = taken _ _ _ _ _ _ r3.rest in
+    let r5 = taken _ _ _ _ _ _ r4.rest in
+    let start = stands_by old id _ (Keeps was) (λ side same. subst (Keeps was) (sym same) (kept was)) s in
+    let one = tried id _ _ _ _ _ r1 _ (λ office. refl) (Keeps was) (Keeps was) start (λ side next holds e. then_kept _ _ _ holds (begin_keeps side next clerk side.draft refl e)) (λ side holds. holds) in
+    let two = tried id _ _ _ _ _ r2 _ (λ office. refl) (Keeps was) (Keeps was) one (λ side next holds e. then_kept _ _ _ holds (stage_keeps side next _ _ _ clerk e)) (λ side holds. holds) in
+    let three = tried id _ _ _ _ _ r3 _ (λ office. refl) (Keeps was) (Keeps was) two (λ side next holds e. then_kept _ _ _ holds (stage_keeps side next _ _ _ clerk e)) (λ side holds. holds) in
+    let four = made id _ _ _ _ _ r4 _ (λ office. refl) (Keeps was) (λ side. Edits was side changes) three
+    (λ side next holds e. after_kept was side next changes holds (edit_makes side next clerk changes e)) (λ why e. cc) in
+    let shown = r5.answered.step four.office four.stand in
+    let same = looks four.office shown.next id r5.given shown.step in
+    record {
+      office = four.office;
+      stand = subst (λ tables. StandForSound tables four.office) (sym r5.rest.0) (subst (StandForSound r5.middle) same shown.stand);
+      it = four.it;
+      there = four.there;
+      holds = four.holds;
+    }
 
 -- the committed set is what a commit was made of
-pub revised_set : (office last : Office) (id : ℕ) (clerk : List ℕ) (replies : List Reply) (done : Unit) (i : Intersection)
-    → get office.intersections id ≡ Some i → Run office (commit_commands id clerk) replies last → Ok done ≡ commit_told replies
-    → (j : Intersection) × (get last.intersections id ≡ Some j) × (j.timing.committed ≡ base_at i.timing)
-revised_set office last id clerk [] done i there run told = absurd cc
-revised_set office last id clerk (a ∷ []) done i there run told = absurd cc
-revised_set office last id clerk (a ∷ b ∷ []) done i there run told = absurd cc
-revised_set office last id clerk (a ∷ b ∷ c ∷ d ∷ more) done i there run told = absurd cc
-revised_set office last id clerk (a ∷ b ∷ c ∷ []) done i there run told =
-    let r1 = run.2 in
-    let r2 = r1.2 in
-    let first = bound (move_outcome a) (λ x. move_outcome b >>= λ y. move_outcome c) done told in
-    let second = bound (move_outcome b) (λ x. move_outcome c) done first.2 in
-    let one = stepped office run.0 id (command.Verify id clerk) a _ i refl there run.1 (Keeps i.timing) (λ next taken. stage_keeps i.timing next _ _ _ clerk taken) (kept i.timing) in
-    let two = stepped run.0 r1.0 id (command.Check id clerk) b _ one.it refl one.there r1.1 (Keeps i.timing)
-    (λ next taken. then_kept _ _ next one.holds (stage_keeps one.it.timing next _ _ _ clerk taken)) one.holds in
-    let three = made r1.0 r2.0 id (command.Commit id clerk) c _ two.it refl two.there r2.1 done (λ (side : TimingSide). side.committed ≡ base_at i.timing) (sym second.2)
-    (λ next taken. commit_makes two.it.timing next clerk taken ∙ two.holds.base) in
-    (three.it, ap (λ (o : Office). get o.intersections id) r2.2 ∙ three.there, three.holds)
+pub settled_set : (old new : Content) (id : ℕ) (clerk : List ℕ) (last : Reply) (set : Rows)
+    → Stands old id (λ side. base_at side ≡ set) → Runs reply.Same (committing true false id clerk) old new (Ok last) → Stands new id (λ side. side.committed ≡ set)
+settled_set old new id clerk last set s runs =
+    let r1 = taken _ _ _ _ _ _ runs in
+    let r2 = taken _ _ _ _ _ _ r1.rest in
+    let r3 = taken _ _ _ _ _ _ r2.rest in
+    let one = tried id _ _ _ _ _ r1 _ (λ office. refl) _ (λ side. base_at side ≡ set) s (λ side next holds e. (stage_keeps side next _ _ _ clerk e).base ∙ holds) (λ side holds. holds) in
+    let two = tried id _ _ _ _ _ r2 _ (λ office. refl) _ (λ side. base_at side ≡ set) one (λ side next holds e. (stage_keeps side next _ _ _ clerk e).base ∙ holds) (λ side holds. holds) in
+    let three = made id _ _ _ _ _ r3 _ (λ office. refl) _ (λ side. side.committed ≡ set) two (λ side next holds e. commit_makes side next clerk e ∙ holds) (λ why e. cc) in
+    subst (λ tables. Stands tables id (λ side. side.committed ≡ set)) (sym r3.rest.0) three

@@ -1,29 +1,37 @@
 -- One command of the office: an intersection is added, a draft is dropped.
-use Rattle.std.specs.Prelude.{◌⊎◌, ℕ, List, Result, Ok, Err}
-use Rattle.office_tables_shelf.specs.Content.{Content}
+use Rattle.std.specs.Prelude.{◌≡◌, ◌⊎◌, ℕ, List, Result, Ok, Err}
+use Rattle.office_files.specs.declared.fault.CsvFault.{CsvFault}
+use Rattle.office_files.specs.declared.fault.CsvFault.TheVariants as file
 use Rattle.office_machine.specs.declared.command.Command.TheVariants as command
 use Rattle.office_machine.specs.declared.reply.Reply.{Reply}
 use Rattle.office_machine.specs.declared.reply.Reply.TheVariants as reply
-use Rattle.signal_office_commands.specs.Asking.{Answered, IsWant}
-use Rattle.signal_office_reports.specs.Refused.{fault_of}
-use Rattle.signal_office_faults.specs.declared.fault.Fault.{Fault}
-use Rattle.signal_office_faults.specs.declared.fault.Fault.TheVariants as told
+use Rattle.office_tables_shelf.specs.Content.{Content}
+use Rattle.signal_office_commands.specs.InTurn.{Changes}
 use Rattle.signal_office_commands.specs.declared.adding.Entered.{Entered}
 use Rattle.signal_office_commands.specs.declared.adding.Entered.TheVariants as entered
-use Rattle.signal_office_commands.specs.Committing.{move_outcome}
+use Rattle.signal_office_faults.specs.declared.fault.Fault.{Fault}
+use Rattle.signal_office_faults.specs.declared.fault.Fault.TheVariants as told
 
 -- what is told of the reply to an intersection that is to be added
 abbrev pub entered_told : Reply → Result Entered Fault
 entered_told reply.Added = Ok entered.Added
 entered_told reply.Same = Ok entered.Same
-entered_told (reply.Refused why) = Err (fault_of why)
 entered_told other = Err told.Store
 
--- the office answered the command, or memory was refused before it
-abbrev pub AddsIntersection : (id interval : ℕ) → (name : List ℕ) → Content → Content → Result Entered Fault → Type 0
-AddsIntersection id interval name old new result =
-    Answered entered_told old (command.AddIntersection id interval name) new result ⊎ IsWant old new result
+-- a step of the transaction was made
+abbrev pub moved : Reply → Result Unit Fault
+moved (reply.Moved revision state verdict) = Ok tt
+moved other = Err told.Store
 
+-- the first record of the file that spells nothing is told, or want of memory, as it was read
+abbrev pub IsUnread : {A : Type 0} → Result A CsvFault → Fault → Type 0
+IsUnread read fault =
+    (why : CsvFault) × (fault ≡ told.Csv why) × ((why ≡ file.NoMemory) ⊎ (read ≡ Err why))
+
+-- an intersection is added
+abbrev pub AddsIntersection : (id interval : ℕ) → (name : List ℕ) → Content → Content → Result Entered Fault → Type 0
+AddsIntersection id interval name old new result = Changes entered_told (command.AddIntersection id interval name) old new result
+
+-- a draft is dropped
 abbrev pub Abandons : (id : ℕ) → (clerk : List ℕ) → Content → Content → Result Unit Fault → Type 0
-Abandons id clerk old new result =
-    Answered move_outcome old (command.Abandon id clerk) new result ⊎ IsWant old new result
+Abandons id clerk old new result = Changes moved (command.Abandon id clerk) old new result

@@ -11,7 +11,7 @@ use Rattle.office_files.specs.declared.fault.CsvFault.TheVariants as file
 use Rattle.office_tables_shelf.specs.Content.{Content}
 use Rattle.signal_office_faults.specs.declared.fault.Fault.{Fault}
 use Rattle.signal_office_faults.specs.declared.fault.Fault.TheVariants as told
-use Rattle.signal_office_commands.specs.Asking.{IsUnread}
+use Rattle.signal_office_commands.specs.Commands.{IsUnread}
 use Rattle.office_machine.specs.declared.reply.RunningTiming.{RunningTiming}
 use Rattle.signal_office_reports.specs.Reports.{IsTextOf, first_seen, plans_in, timing_in}
 use Rattle.signal_office_reports.specs.Seen.{IsMadeOfAnswers}
@@ -48,5 +48,6 @@ IsCompared bytes (Ok timing) (Err why) = (why ≡ told.Memory) ⊎ IsUnread (cha
 IsCompared bytes (Err cause) (Ok found) = ⊥
 IsCompared bytes (Err cause) (Err why) = (why ≡ told.Memory) ⊎ (why ≡ cause)
 
+-- what the plan of a file differs in from the committed timing set of an intersection, or why there is no comparison
 abbrev pub ComparesRunning : Content → ℕ → (bytes : List ℕ) → Result (List Difference) Fault → Type 0
 ComparesRunning tables id bytes result = IsMadeOfAnswers (query.Timing id ∷ []) (λ seen. IsCompared bytes (timing_in (first_seen seen))) tables result

@@ -38,7 +38,7 @@ AreUntil until csv (Err why) =
     ((records : List RecordCommand) × (at : ℕ) × (commands_of csv ≡ Ok records) × (first_late until records ≡ Some at) × (why ≡ fault.Late at))
     ⊎ IsUnreadRecord csv why
 
--- the same where a day is given; else nothing is looked at
+-- no record of the file is of a later day than one that is given, or the first that is, is told; without a day nothing is looked at
 abbrev pub AreInTime : Option ℕ → (csv : List ℕ) → Result ⊤ Fault → Type 0
 AreInTime None csv result = result ≡ Ok tt
 AreInTime (Some until) csv result = AreUntil until csv result

@@ -2,7 +2,7 @@
 use Rattle.std.specs.Prelude.{◌⊎◌, ℕ, List}
 use Rattle.office_files.specs.Changes.{changes_of}
 use Rattle.office_files.specs.Plan.{IsPlan}
-use Rattle.signal_office_commands.specs.Asking.{IsUnread}
+use Rattle.signal_office_commands.specs.Commands.{IsUnread}
 use Rattle.signal_office_faults.specs.declared.fault.Fault.{Fault}
 use Rattle.signal_office_reports.specs.Drawing.{Draws, LacksPattern}
 use Rattle.signal_records.specs.TimingSet.{Rows}

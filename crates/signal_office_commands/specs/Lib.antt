@@ -1,6 +1,5 @@
-pub mod Asking
+pub mod InTurn
 pub mod Commands
-pub mod Committing
 pub mod Comparing
 pub mod Drawing
 pub mod Importing

@@ -32,6 +32,7 @@ plan_left Open side = draft_set side
 plan_left Same side = Some side.committed
 plan_left Committed side = Some side.committed
 
+-- the draft would be the committed set
 abbrev pub is_same : Outcome → Bool
 is_same Same = true
 is_same other = false

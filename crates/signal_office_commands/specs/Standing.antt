@@ -18,16 +18,19 @@ standing_of timing draft = do
   drafted ← open_draft_in draft
   Ok (record { committed = runs.rows; draft = drafted })
 
+-- what stands of a plan, by what a look at its committed set and at its draft saw
 abbrev pub standing_seen : List Seen → Result StandingPlan Fault
 standing_seen found = standing_of (first_seen found) (first_seen (rest_of found))
 
--- both are what the office shows; or one of the two queries is refused
+-- what stands of a plan is what the office shows; or the fault is told of the query that is refused
 abbrev pub StandsAs : Content → ℕ → Result StandingPlan Fault → Type 0
 StandsAs tables id result = IsMadeOfAnswers (query.Timing id ∷ query.Draft id ∷ []) (λ found it. it ≡ standing_seen found) tables result
 
+-- this is what the office shows of a plan
 abbrev pub ShowsStanding : Content → ℕ → StandingPlan → Type 0
 ShowsStanding tables id standing = StandsAs tables id (Ok standing)
 
+-- this is why the office shows no plan
 abbrev pub IsNotStanding : Content → ℕ → Fault → Type 0
 IsNotStanding tables id why = StandsAs tables id (Err why)
 
@@ -36,6 +39,7 @@ abbrev pub base_from : Rows → Option Rows → Rows
 base_from committed None = committed
 base_from committed (Some draft) = draft
 
+-- what a transaction goes on with, by what stands
 abbrev pub base_of : StandingPlan → Rows
 base_of standing = base_from standing.committed standing.draft
 

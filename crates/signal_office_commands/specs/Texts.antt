@@ -23,6 +23,7 @@ abbrev pub closed_text : Option Closing → List ℕ
 closed_text None = []
 closed_text (Some closing) = codes ", closed " ++ day_text closing.day ++ codes " " ++ closing.closer
 
+-- `2026-03-01 Ana Fan is loud, closed 2026-05-02 Bo`
 abbrev pub order_text : Order → List ℕ
 order_text order = by_text order.opened order.clerk order.text ++ closed_text order.closing
 
@@ -56,19 +57,22 @@ checked_lines index lines [] = []
 checked_lines index lines (it ∷ all) =
     checked_line (index + 1) (line_of_record lines (index + 1)) it ++ checked_lines (index + 1) lines all
 
--- how many are of each kind
+-- the record would be added
 abbrev pub is_added : Checked → Bool
 is_added checked.Added = true
 is_added _ = false
 
+-- an equal record is there
 abbrev pub stands_already : Checked → Bool
 stands_already checked.Same = true
 stands_already _ = false
 
+-- the record would be refused
 abbrev pub is_refused : Checked → Bool
 is_refused (checked.Refused why it) = true
 is_refused _ = false
 
+-- how many records are of each kind
 abbrev pub counts_of : List Checked → Counts
 counts_of all = record {
   added = length (filter is_added all);
@@ -82,5 +86,6 @@ counts_line n =
     codes "would add " ++ decimal n.added ++ codes ", same " ++ decimal n.same
     ++ codes ", refused " ++ decimal n.refused ++ codes "\n"
 
+-- what is told of records that are tried: the lines of those that would be refused, then the counts
 abbrev pub checks_text : (lines : List ℕ) → List Checked → Counts → List ℕ
 checks_text lines all counts = checked_lines 0 lines all ++ counts_line counts

@@ -1,17 +1,30 @@
 //! A draft that is dropped.
 
-ghost use Rattle.signal_office_commands.specs.Commands.{Abandons};
+ghost use Rattle.std.specs.Prelude.{◌≡◌};
 ghost use Rattle.office_desk.specs.Running.{MakesTables};
+ghost use Rattle.signal_office_commands.specs.Commands.{Abandons, moved};
 ghost use Rattle.signal_office_commands.specs.Stopping.{AfterAbandoning, StopLeaves};
+ghost use Rattle.signal_office_reports.specs.Reports.{◌>>=◌};
 
-use crate::committing::moved;
+use crate::in_turn::run_one;
 use office_desk::office::Office;
 use office_machine::command::Command;
+use office_machine::reply::Reply;
 use office_tables_shelf::shelf::Shelf;
 use signal_office_faults::Fault;
 use signal_office_line::Name;
 use signal_records::InterId;
 use std::alloc::Global;
+
+/// A step of the transaction was made, or why not.
+fn moved(reply: Result<Reply, Fault>) -> Result<(), Fault>
+    ensures { result ≡ (reply >>= moved) }
+{
+    match &reply? {
+        Reply::Moved { .. } => Ok(()),
+        _ => Err(Fault::Store),
+    }
+}
 
 /// Drops the draft of an intersection, whoever holds it; the clerk is who asks.
 pub fn abandon_draft<S: Shelf>(
@@ -27,6 +40,5 @@ pub fn abandon_draft<S: Shelf>(
     ensures stop { StopLeaves S.Shelf office.old office.new (AfterAbandoning id clerk.now) }
 {
     let clerk = clerk.to_words(alloc)?;
-    let reply = office.run(alloc, &Command::Abandon { id, clerk });
-    moved(&reply)
+    moved(run_one(alloc, office, Command::Abandon { id, clerk }))
 }

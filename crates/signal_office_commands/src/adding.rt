@@ -1,17 +1,18 @@
 //! An intersection that is added.
 
 ghost use Rattle.std.specs.Prelude.{◌≡◌};
-ghost use Rattle.signal_office_commands.specs.Commands.{AddsIntersection, entered_told};
 ghost use Rattle.office_desk.specs.Running.{MakesTables};
+ghost use Rattle.signal_office_commands.specs.Commands.{AddsIntersection, entered_told};
 ghost use Rattle.signal_office_commands.specs.Stopping.{AfterAdding, StopLeaves};
+ghost use Rattle.signal_office_reports.specs.Reports.{◌>>=◌};
 
+use crate::in_turn::run_one;
 use office_desk::office::Office;
 use office_machine::command::Command;
 use office_machine::reply::Reply;
 use office_tables_shelf::shelf::Shelf;
 use signal_office_faults::Fault;
 use signal_office_line::Name;
-use signal_office_reports::fault_of;
 use signal_records::{InterId, Interval};
 use std::alloc::Global;
 
@@ -25,13 +26,12 @@ pub enum Entered {
 }
 
 /// What is told of the reply.
-fn entered_told(reply: &Reply) -> Result<Entered, Fault>
-    ensures { result ≡ entered_told reply.now }
+fn entered_told(reply: Result<Reply, Fault>) -> Result<Entered, Fault>
+    ensures { result ≡ (reply >>= entered_told) }
 {
-    match *reply {
+    match &reply? {
         Reply::Added => Ok(Entered::Added),
         Reply::Same => Ok(Entered::Same),
-        Reply::Refused(refusal) => Err(fault_of(refusal)),
         _ => Err(Fault::Store),
     }
 }
@@ -52,6 +52,6 @@ pub fn add_intersection<S: Shelf>(
     ensures stop { StopLeaves S.Shelf office.old office.new (AfterAdding id interval name.now) }
 {
     let name = name.to_words(alloc)?;
-    let reply = office.run(alloc, &Command::AddIntersection { id, interval, name });
-    entered_told(&reply)
+    let command = Command::AddIntersection { id, interval, name };
+    entered_told(run_one(alloc, office, command))
 }

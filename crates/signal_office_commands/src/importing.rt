@@ -1,10 +1,12 @@
 //! Records that are imported from a CSV file.
 
-ghost use Rattle.signal_office_commands.specs.Importing.{Imports, import_told};
 ghost use Rattle.std.specs.Prelude.{◌≡◌};
 ghost use Rattle.office_desk.specs.Running.{MakesTables};
+ghost use Rattle.signal_office_commands.specs.Importing.{Imports, import_told};
 ghost use Rattle.signal_office_commands.specs.Stopping.{AfterImporting, StopLeaves};
+ghost use Rattle.signal_office_reports.specs.Reports.{◌>>=◌};
 
+use crate::in_turn::run_one;
 use office_desk::office::Office;
 use office_files::read_records_csv;
 use office_machine::command::Command;
@@ -12,7 +14,6 @@ use office_machine::records::Records;
 use office_machine::reply::Reply;
 use office_tables_shelf::shelf::Shelf;
 use signal_office_faults::Fault;
-use signal_office_reports::fault_of;
 use std::alloc::Global;
 
 /// What an import made of its records.
@@ -25,12 +26,14 @@ pub struct Imported {
 }
 
 /// What is told of the reply to an import.
-fn import_told(reply: &Reply) -> Result<Imported, Fault>
-    ensures { result ≡ import_told reply.now }
+fn import_told(reply: Result<Reply, Fault>) -> Result<Imported, Fault>
+    ensures { result ≡ (reply >>= import_told) }
 {
-    match *reply {
-        Reply::Imported { added, same } => Ok(Imported { added, same }),
-        Reply::Refused(refusal) => Err(fault_of(refusal)),
+    match &reply? {
+        Reply::Imported { added, same } => Ok(Imported {
+            added: *added,
+            same: *same,
+        }),
         _ => Err(Fault::Store),
     }
 }
@@ -50,6 +53,5 @@ pub fn import_csv<S: Shelf>(
     ensures stop { StopLeaves S.Shelf office.old office.new (AfterImporting bytes.now) }
 {
     let records = Records::new(read_records_csv(alloc, bytes)?);
-    let reply = office.run(alloc, &Command::Import { records });
-    import_told(&reply)
+    import_told(run_one(alloc, office, Command::Import { records }))
 }

@@ -2,7 +2,7 @@
 use Rattle.std.proofs.Common.{◌≡◌, ℕ, ◌+◌, ◌<◌, Bool, false, ◌||◌, List, [], ◌∷◌, ◌++◌, map, take, get_or, length, refl, sym, ap, ap₂, subst, ◌∙◌}
 use Rattle.std.proofs.lemmas.List.{map-append, take_more}
 use Rattle.clap.specs.{declared.builder.command.Command.Command, declared.builder.arg.Arg.Arg, Walk.Rule, Walk.rule_of, Simple.App, Simple.with_rule, Simple.with_subcommand, Built.AddsArg, Built.AddsSubcommand}
-use Rattle.signal_office_line.specs.{Arguments.app_for, Arguments.rule_for, CommandLine.ParsesAs, CommandLine.with_rules, CommandLine.with_subcommands, declared.arguments.Argument.Argument, declared.arguments.Usage.Usage}
+use Rattle.signal_office_line.specs.{CommandLine.app_for, CommandLine.rule_for, CommandLine.ParsesAs, CommandLine.with_rules, CommandLine.with_subcommands, declared.arguments.Argument.Argument, declared.arguments.Usage.Usage}
 
 neither : (x y z : Bool) → x ≡ (y || z) → y ≡ false → z ≡ false → x ≡ false
 neither x y z e f g = rw (f, g) at e

@@ -57,23 +57,18 @@ abbrev pub number_from : (least most : ℕ) → Text → List Row → Option ℕ
 number_from least most id rows =
     option_and_then (λ (word : Text). number_of least most (without_leading_plus word)) (first_of id rows)
 
-abbrev pub number_at : ℕ → Text → List Row → Option ℕ
-number_at most id rows = number_from 1 most id rows
-
--- the number of an argument that may be left out, where its word spells one from least to most
+-- the number that a word spells which may be left out, where it is one from least to most
 abbrev pub choice_of : (least most : ℕ) → Option Text → Option (Option ℕ)
 choice_of least most None = Some None
 choice_of least most (Some word) = option_map Some (number_of least most (without_leading_plus word))
 
+-- the number of an argument that may be left out, by its word
 abbrev pub choice_from : (least most : ℕ) → Text → List Row → Option (Option ℕ)
 choice_from least most id rows = choice_of least most (first_of id rows)
 
-abbrev pub choice_at : ℕ → Text → List Row → Option (Option ℕ)
-choice_at most id rows = choice_from 1 most id rows
-
 -- the number of an intersection
 abbrev pub intersection_at : List Row → Stated ℕ
-intersection_at rows = needed (number_at 9_999 (codes "ID") rows)
+intersection_at rows = needed (number_from 1 9_999 (codes "ID") rows)
 
 -- whether a flag is given
 abbrev pub flag_at : Text → List Row → Bool
@@ -124,6 +119,7 @@ any_db_of (Some path) wait rows = do
   db ← db_at rows
   Ok (Some db)
 
+-- the file of an office, where one is given
 abbrev pub any_db_at : List Row → Stated (Option OfficeFile)
 any_db_at rows = any_db_of (first_of (codes "db") rows) (first_of (codes "wait") rows) rows
 
@@ -134,14 +130,14 @@ any_db_at rows = any_db_of (first_of (codes "db") rows) (first_of (codes "wait")
 -- `overdue --db FILE [--first N] [--csv] DAY`; without a number all are listed
 abbrev pub overdue_at : List Row → Stated Request
 overdue_at rows = do
-  first ← needed (choice_at 9_999 (codes "first") rows)
+  first ← needed (choice_from 1 9_999 (codes "first") rows)
   day ← day_at (codes "DAY") rows
   Ok (request.Show (shown.Overdue day (unwrap_or first 9_999) (flag_at (codes "csv") rows)))
 
 -- `orders --db FILE [--csv] [ID]`
 abbrev pub orders_at : List Row → Stated Request
 orders_at rows = do
-  id ← needed (choice_at 9_999 (codes "ID") rows)
+  id ← needed (choice_from 1 9_999 (codes "ID") rows)
   Ok (request.Show (shown.Orders id (flag_at (codes "csv") rows)))
 
 -- `used --db FILE [--csv] [PART]`
@@ -154,7 +150,7 @@ used_at rows = do
 abbrev pub add_at : List Row → Stated Request
 add_at rows = do
   id ← intersection_at rows
-  interval ← needed (number_at 3_650 (codes "INTERVAL") rows)
+  interval ← needed (number_from 1 3_650 (codes "INTERVAL") rows)
   name ← name_at wrong.Name 120 (codes "NAME") rows
   Ok (request.Add id interval name)
 
@@ -184,6 +180,7 @@ export_of false draft cabinet rows = do
   view ← needed (view_of draft cabinet)
   Ok (request.Show (shown.Export id view))
 
+-- what is exported, by the flags that are given
 abbrev pub export_at : List Row → Stated Request
 export_at rows = export_of (flag_at (codes "all") rows) (flag_at (codes "draft") rows) (flag_at (codes "cabinet") rows) rows
 
@@ -247,6 +244,7 @@ requests =
     ∷ (codes "add", add_at) ∷ (codes "import", import_at) ∷ (codes "export", export_at)
     ∷ (codes "pages", pages_at) ∷ (codes "edit", edit_at) ∷ (codes "abandon", abandon_at) ∷ []
 
+-- what the command of a name asks of the office of a file
 abbrev pub request_at : Text → List Row → Stated Request
 request_at name rows = option_map_or (λ what. what rows) (under name requests) (Err Unstated)
 
@@ -268,8 +266,8 @@ batch_at rows = do
 -- `serve --port N [--count K] [--db FILE]`; without a count the most connections are served
 abbrev pub serve_at : List Row → Stated Job
 serve_at rows = do
-  port ← needed (number_at 65_535 (codes "port") rows)
-  count ← needed (choice_at 1_000_000 (codes "count") rows)
+  port ← needed (number_from 1 65_535 (codes "port") rows)
+  count ← needed (choice_from 1 1_000_000 (codes "count") rows)
   db ← any_db_at rows
   Ok (job.Serve port (unwrap_or count 1_000_000) db)
 
@@ -298,13 +296,14 @@ comparison_of None (Some other) rows = do
   plan ← needed (csv_at (codes "PLAN") rows)
   Ok (job.CompareFiles plan other (flag_at (codes "csv") rows))
 comparison_of (Some db) None rows = do
-  id ← needed (number_at 9_999 (codes "PLAN") rows)
+  id ← needed (number_from 1 9_999 (codes "PLAN") rows)
   Ok (job.Office db (request.CompareDraft id (flag_at (codes "csv") rows)))
 comparison_of (Some db) (Some other) rows = do
-  id ← needed (number_at 9_999 (codes "PLAN") rows)
+  id ← needed (number_from 1 9_999 (codes "PLAN") rows)
   Ok (job.Office db (request.CompareRunning id other (flag_at (codes "csv") rows)))
 comparison_of None None rows = Err Unstated
 
+-- a comparison, by whether an office and another file are given
 abbrev pub compare_at : List Row → Stated Job
 compare_at rows = do
   db ← any_db_at rows
@@ -314,13 +313,14 @@ compare_at rows = do
 abbrev pub drawing_of : Option OfficeFile → Option CsvFile → Option Text → List Row → Stated Job
 drawing_of (Some db) None (Some word) rows = do
   id ← intersection_at rows
-  pattern ← needed (number_at 48 (codes "PATTERN") rows)
+  pattern ← needed (number_from 1 48 (codes "PATTERN") rows)
   Ok (job.Office db (request.Show (shown.Diagram id pattern)))
 drawing_of None (Some file) None rows = do
-  pattern ← needed (number_at 48 (codes "ID") rows)
+  pattern ← needed (number_from 1 48 (codes "ID") rows)
   Ok (job.ShowPlan file (plan.Diagram pattern))
 drawing_of _ _ _ rows = Err Unstated
 
+-- a picture, by whether an office, a file and a pattern are given
 abbrev pub diagram_at : List Row → Stated Job
 diagram_at rows = do
   db ← any_db_at rows
@@ -334,6 +334,7 @@ showing_of (Some db) None (Some word) rows = do
 showing_of None (Some file) None rows = Ok (job.ShowPlan file plan.Page)
 showing_of _ _ _ rows = Err Unstated
 
+-- a page, by whether an office, a file and an intersection are given
 abbrev pub page_at : List Row → Stated Job
 page_at rows = do
   db ← any_db_at rows

@@ -1,5 +1,5 @@
 -- Why a command line states no job.
-use Rattle.std.specs.Prelude.{◌≡◌, ◌≢◌, ◌⊎◌, ⊤, true, List, [], ◌∷◌, Some, None, Result, Ok, Err}
+use Rattle.std.specs.Prelude.{ℕ, ◌≡◌, ◌≢◌, ◌⊎◌, ⊤, true, List, [], ◌∷◌, Some, None, Result, Ok, Err}
 use Rattle.std.specs.declared.alloc.AllocError.{AllocError}
 use Rattle.clap.specs.Faults.{fault_of}
 use Rattle.clap.specs.Kinds.{IsAmong, Kinds, or_else}
@@ -16,7 +16,6 @@ use Rattle.signal_office_line.specs.declared.job.JobFault.TheVariants as fault
 use Rattle.signal_office_line.specs.declared.job.NoJob.TheVariants.{Unstated, Bad}
 use Rattle.signal_office_line.specs.CommandLine.{signal_app}
 use Rattle.signal_office_line.specs.Job.{Stated, job_in, number_from}
-use Rattle.signal_office_line.specs.declared.refusals.NumberArgument.{NumberArgument}
 
 -- the kinds of refusal that `clap` answers to the words, help that they ask for among them; words
 -- that it takes have none
@@ -52,10 +51,9 @@ IsToldAs error told =
     ((kind_of error ≡ kind.OutOfMemory) × (told ≡ fault.NoMemory))
     ⊎ ((kind_of error ≢ kind.OutOfMemory) × (told ≡ fault.Refused error))
 
--- a word of the argument is given, and is no number of its range
-abbrev pub IsWrongNumber : NumberArgument → (word : Text) → List Row → Type 0
-IsWrongNumber argument word rows =
-    (first_of argument.id.now rows ≡ Some word) × (number_from argument.least argument.most argument.id.now rows ≡ None)
+-- the word of an argument is given, and is no number of its range
+abbrev pub IsWrongNumber : (id : Text) → (least most : ℕ) → (word : Text) → List Row → Type 0
+IsWrongNumber id least most word rows = (first_of id rows ≡ Some word) × (number_from least most id rows ≡ None)
 
 -- a refusal that `clap` was asked for is told as it is, or that it was out of memory
 abbrev pub IsRefusalTold : Result Error AllocError → JobFault → Type 0

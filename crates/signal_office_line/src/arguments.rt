@@ -3,8 +3,7 @@
 ghost use Rattle.std.specs.Prelude.{◌≡◌, IfOk, false, map};
 ghost use Rattle.clap.specs.Simple.{App, with_subcommand};
 ghost use Rattle.clap.specs.Walk.{rule_of};
-ghost use Rattle.signal_office_line.specs.CommandLine.{ParsesAs, with_subcommands};
-ghost use Rattle.signal_office_line.specs.Arguments.{app_for, rule_for};
+ghost use Rattle.signal_office_line.specs.CommandLine.{ParsesAs, app_for, rule_for, with_subcommands};
 
 use crate::help::{about_of, ending_of, help_of};
 use clap::{Arg, ArgAction, Command};
@@ -25,9 +24,10 @@ pub(crate) enum Form<'a> {
     Choice(&'a str),
 }
 
-/// An argument of a command: its name, and how it is given.
+/// An argument of a command: its name, how it is given, and from which number to which it is, where
+/// it is to be one.
 #[derive(Clone, Copy)]
-pub(crate) struct Argument<'a>(pub &'a str, pub Form<'a>);
+pub(crate) struct Argument<'a>(pub &'a str, pub Form<'a>, pub Option<(u32, u32)>);
 
 /// A command: its name, and its arguments in their order.
 #[derive(Clone, Copy)]
@@ -38,7 +38,7 @@ fn arg_of<'a>(alloc: Global, command: &str, argument: &Argument<'a>) -> Arg<'a>
     ensures rule { rule_of result ≡ rule_for argument.now }
     ensures local { result.global ≡ false }
 {
-    let Argument(name, form) = *argument;
+    let Argument(name, form, ..) = *argument;
     let arg = Arg::new(alloc, name).help(help_of(command, name));
     match form {
         Form::Word => arg.required(true),

@@ -1,8 +1,7 @@
 //! The words that the program takes.
 
 ghost use Rattle.std.specs.Prelude.{◌≡◌, IfOk, map};
-ghost use Rattle.signal_office_line.specs.Arguments.{app_for};
-ghost use Rattle.signal_office_line.specs.CommandLine.{ParsesAs, commands, signal_app};
+ghost use Rattle.signal_office_line.specs.CommandLine.{ParsesAs, app_for, commands, signal_app};
 
 use crate::arguments::{Argument, Form, Usage, command_of, with_commands};
 use clap::Command;
@@ -11,71 +10,75 @@ use std::alloc::{AllocError, Global};
 /// The program's version, as the newest heading of CHANGELOG.md has it, and that of its tables.
 const VERSION: &str = "2026-11-28, tables of version 2";
 
-const DB: Argument<'static> = Argument("db", Form::Needed("FILE"));
+const DB: Argument<'static> = Argument("db", Form::Needed("FILE"), None);
 
-const ANY_DB: Argument<'static> = Argument("db", Form::Choice("FILE"));
+const ANY_DB: Argument<'static> = Argument("db", Form::Choice("FILE"), None);
 
-const WAIT: Argument<'static> = Argument("wait", Form::Choice("SECONDS"));
+pub(crate) const WAIT: Argument<'static> = Argument(
+    "wait",
+    Form::Choice("SECONDS"),
+    Some((0, 3_600)),
+);
 
-const PORT: Argument<'static> = Argument("port", Form::Needed("N"));
+const PORT: Argument<'static> = Argument("port", Form::Needed("N"), Some((1, 65_535)));
 
-const COUNT: Argument<'static> = Argument("count", Form::Choice("N"));
+const COUNT: Argument<'static> = Argument("count", Form::Choice("N"), Some((1, 1_000_000)));
 
-const FIRST: Argument<'static> = Argument("first", Form::Choice("N"));
+const FIRST: Argument<'static> = Argument("first", Form::Choice("N"), Some((1, 9_999)));
 
-const ON_DAY: Argument<'static> = Argument("day", Form::Choice("DAY"));
+const ON_DAY: Argument<'static> = Argument("day", Form::Choice("DAY"), None);
 
-const UNTIL: Argument<'static> = Argument("until", Form::Choice("DAY"));
+const UNTIL: Argument<'static> = Argument("until", Form::Choice("DAY"), None);
 
-const CLERK: Argument<'static> = Argument("clerk", Form::Needed("NAME"));
+const CLERK: Argument<'static> = Argument("clerk", Form::Needed("NAME"), None);
 
-const FILE: Argument<'static> = Argument("file", Form::Choice("FILE"));
+const FILE: Argument<'static> = Argument("file", Form::Choice("FILE"), None);
 
-const CSV: Argument<'static> = Argument("csv", Form::Flag);
+const CSV: Argument<'static> = Argument("csv", Form::Flag, None);
 
-const EXPLAIN: Argument<'static> = Argument("explain", Form::Flag);
+const EXPLAIN: Argument<'static> = Argument("explain", Form::Flag, None);
 
-const PADDED: Argument<'static> = Argument("padded", Form::Flag);
+const PADDED: Argument<'static> = Argument("padded", Form::Flag, None);
 
-const FORCE: Argument<'static> = Argument("force", Form::Flag);
+const FORCE: Argument<'static> = Argument("force", Form::Flag, None);
 
-const CHECK: Argument<'static> = Argument("check", Form::Flag);
+const CHECK: Argument<'static> = Argument("check", Form::Flag, None);
 
-const DRAFT: Argument<'static> = Argument("draft", Form::Flag);
+const DRAFT: Argument<'static> = Argument("draft", Form::Flag, None);
 
-const CABINET: Argument<'static> = Argument("cabinet", Form::Flag);
+const CABINET: Argument<'static> = Argument("cabinet", Form::Flag, None);
 
-const ALL: Argument<'static> = Argument("all", Form::Flag);
+const ALL: Argument<'static> = Argument("all", Form::Flag, None);
 
-const REPLACE: Argument<'static> = Argument("replace", Form::Flag);
+const REPLACE: Argument<'static> = Argument("replace", Form::Flag, None);
 
-const COMMIT: Argument<'static> = Argument("commit", Form::Flag);
+const COMMIT: Argument<'static> = Argument("commit", Form::Flag, None);
 
-const ID: Argument<'static> = Argument("ID", Form::Word);
+pub(crate) const ID: Argument<'static> = Argument("ID", Form::Word, Some((1, 9_999)));
 
-const ANY_ID: Argument<'static> = Argument("ID", Form::SecondWord);
+const ANY_ID: Argument<'static> = Argument("ID", Form::SecondWord, Some((1, 9_999)));
 
-const DAY: Argument<'static> = Argument("DAY", Form::Word);
+const DAY: Argument<'static> = Argument("DAY", Form::Word, None);
 
-const INTERVAL: Argument<'static> = Argument("INTERVAL", Form::Word);
+const INTERVAL: Argument<'static> = Argument("INTERVAL", Form::Word, Some((1, 3_650)));
 
-const NAME: Argument<'static> = Argument("NAME", Form::Word);
+const NAME: Argument<'static> = Argument("NAME", Form::Word, None);
 
-const PART: Argument<'static> = Argument("PART", Form::SecondWord);
+const PART: Argument<'static> = Argument("PART", Form::SecondWord, None);
 
-const DIR: Argument<'static> = Argument("DIR", Form::Word);
+pub(crate) const DIR: Argument<'static> = Argument("DIR", Form::Word, None);
 
-const TO: Argument<'static> = Argument("TO", Form::Word);
+const TO: Argument<'static> = Argument("TO", Form::Word, None);
 
-const RECORDS: Argument<'static> = Argument("CSV", Form::Word);
+const RECORDS: Argument<'static> = Argument("CSV", Form::Word, None);
 
-const ANY_RECORDS: Argument<'static> = Argument("CSV", Form::SecondWord);
+const ANY_RECORDS: Argument<'static> = Argument("CSV", Form::SecondWord, None);
 
-const PLAN: Argument<'static> = Argument("PLAN", Form::Word);
+const PLAN: Argument<'static> = Argument("PLAN", Form::Word, None);
 
-const OTHER: Argument<'static> = Argument("OTHER", Form::SecondWord);
+const OTHER: Argument<'static> = Argument("OTHER", Form::SecondWord, None);
 
-const PATTERN: Argument<'static> = Argument("PATTERN", Form::SecondWord);
+pub(crate) const PATTERN: Argument<'static> = Argument("PATTERN", Form::SecondWord, Some((1, 48)));
 
 /// The commands with their arguments, in the order of the help. What the help says of them stands
 /// in `help.rt`.

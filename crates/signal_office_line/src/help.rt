@@ -54,211 +54,121 @@ pub(crate) fn ending_of(command: &str) -> &'static str {
     }
 }
 
-/// What the help says of a command.
-pub(crate) fn about_of(command: &str) -> &'static str {
-    match command {
-        "batch" => {
-            "Reads HTTP requests from standard input, at most 1,000,000, and writes the answers to \
-             standard output"
-        }
-        "serve" => "Listens on 127.0.0.1 and answers HTTP requests, one connection at a time",
-        "sheet" => {
-            "Prints the timing sheet of an intersection's committed plan; times in seconds, \
-             distances in feet"
-        }
-        "overdue" => {
-            "Prints the intersections that were never inspected, or whose inspection was due \
-             before a day, and how many they are"
-        }
-        "add" => {
-            "Adds an intersection; says whether it is new, or is there already with the same values"
-        }
-        "list" => {
-            "Prints all intersections: the days between inspections, the revision, the state and \
-             owner of the draft, and how many rows are committed"
-        }
-        "stock" => {
-            "Prints how many of each part are on hand, of all parts that were ever delivered"
-        }
-        "orders" => "Prints the open work orders of an intersection, or of all intersections",
-        "used" => {
-            "Prints what was used of all parts, or of one: with the intersection and the work \
-             order, open or closed"
-        }
-        "cabinet" => {
-            "Prints the records of an intersection's cabinet: when its next inspection is due, its \
-             inspections, and its work orders with their used parts and closings"
-        }
-        "pages" => {
-            "Writes the pages of all intersections, and an index of them with the open orders and \
-             the stock, into a folder that a browser shows"
-        }
-        "verify-file" => {
-            "Checks the timing plan in a CSV file against the fourteen rules; ends with status 3 \
-             if it breaks one"
-        }
-        "migrate" => {
-            "Brings a file of an older version to today's; says how many rows were rewritten"
-        }
-        "backup" => {
-            "Copies an office into another file, which is whole without a log; the office's own \
-             log is copied into its file before"
-        }
-        "import" => {
-            "Takes the cabinet records of a CSV file in turn, all of them or none; says how many \
-             are new"
-        }
-        "export" => {
-            "Prints the committed timing plan of an intersection as CSV, or its draft, or its \
-             cabinet; or writes the lists, all plans and all cabinets into a folder"
-        }
-        "edit" => {
-            "Changes a timing plan by a CSV file, in a draft that stays open; prints the rules \
-             that the draft breaks"
-        }
-        "abandon" => "Drops the draft of an intersection, whoever holds it",
-        "compare" => {
-            "Prints the differences between two timing plans, or what a draft changes; ends with \
-             status 4 if there are any"
-        }
-        "diagram" => {
-            "Draws a pattern as SVG: the phases of each ring over the seconds of the cycle"
-        }
-        _ => {
-            "Prints an intersection as one HTML page: its plan with pictures of all patterns, its \
-             draft and its cabinet; or the plan of a file"
-        }
-    }
-}
-
-/// What the help says of `--db FILE`.
-fn file_help(command: &str) -> &'static str {
-    match command {
-        "batch" | "serve" => {
-            "The SQLite file of the tables; it is made if there is none. Without --db the tables \
-             are in memory and are gone at the end"
-        }
-        "add" => "The SQLite file of the tables; it is made if there is none",
-        "compare" => {
-            "The SQLite file of the tables: compares the committed plan of an intersection with \
-             its draft, or with the plan of OTHER"
-        }
-        "diagram" => {
-            "The SQLite file of the tables: draws a pattern of a committed plan, with ID and \
-             PATTERN"
-        }
-        "page" => "The SQLite file of the tables: shows an intersection, with ID",
-        _ => "The SQLite file of the tables; it must be there",
-    }
-}
-
-/// What the help says of the first word of a command that may name an intersection.
-fn intersection_help(command: &str) -> &'static str {
-    match command {
-        "orders" => "The intersection's number, 1 to 9999; without it all are printed",
-        "export" => {
-            "The intersection's number, 1 to 9999; with --all the folder, which is made if there \
-             is none"
-        }
-        "diagram" => "The intersection's number, 1 to 9999; with --file the pattern's",
-        "page" => "The intersection's number, 1 to 9999; not with --file",
-        _ => "The intersection's number, 1 to 9999",
-    }
-}
-
-/// What the help says of the file of records that a command reads.
-fn records_help(command: &str) -> &'static str {
-    match command {
-        "verify-file" => "The CSV file: one record for each phase, sequence, split and pattern",
-        "import" => {
-            "The CSV file: one record for each inspection, order, used part, closing, delivery"
-        }
-        _ => {
-            "The CSV file: one record for each row to put or remove. With --commit it may be left \
-             out; the clerk's draft is then committed as it is"
-        }
-    }
-}
-
-/// What the help says of another word of a command.
-fn word_help(argument: &str) -> &'static str {
-    match argument {
-        "DAY" => "The day, as YYYY-MM-DD, from 1970-01-01 to 2199-12-31",
-        "INTERVAL" => "Days from one inspection of its cabinet to the next, 1 to 3650",
-        "NAME" => "Its name, 1 to 120 bytes without control characters",
-        "PART" => { "The part's code, 1 to 20 of A to Z, 0 to 9 and -; without it all are printed" }
-        "DIR" => "The folder, which is made if there is none",
-        "TO" => "The file of the copy; none with this name, or with a log, may be there",
-        "PLAN" => "The CSV file of a plan; with --db the intersection's number, 1 to 9999",
-        "OTHER" => "The CSV file of the other plan; with --db it may be left out",
-        _ => "The pattern's number, 1 to 48; not with --file",
-    }
-}
-
-/// What the help says of an option with a value, or of a flag.
-fn option_help(command: &str, argument: &str) -> &'static str {
-    match argument {
-        "wait" => { "How long to wait where another run has FILE open, 0 to 3600 (default 10)" }
-        "port" => "The TCP port, 1 to 65535",
-        "count" => {
-            "How many connections to serve before the program ends, 1 to 1000000 (default \
-             1000000); each may send at most 10,000 requests"
-        }
-        "first" => {
-            "List at most N intersections, 1 to 9999, those with the lowest numbers; without it \
-             all are listed"
-        }
-        "day" => {
-            "Mark the intersections that are overdue for inspection on this day, YYYY-MM-DD, and \
-             put them first"
-        }
-        "until" => "Take none where one is of a later day, as YYYY-MM-DD; a used part has no day",
-        "clerk" if command == "abandon" => "Who drops it, 1 to 40 bytes",
-        "clerk" => "Who edits, 1 to 40 bytes; the draft of another clerk is not touched",
-        "file" if command == "page" => "The CSV file of a plan, to show that alone",
-        "file" => "The CSV file of a plan, with the pattern's number alone",
-        _ => flag_help(command, argument),
-    }
-}
-
-/// What the help says of a flag.
-fn flag_help(command: &str, argument: &str) -> &'static str {
-    match argument {
-        "csv" if command == "compare" => "Print the changes as CSV, as `edit` takes them",
-        "csv" => "Print as CSV, without heading or count",
-        "explain" => "Also print, for each broken rule, the numbers that break it",
-        "padded" => "Drop the empty fields with which spreadsheets pad the records of CSV",
-        "force" => "Replace the file TO",
-        "check" => {
-            "Take nothing; print each record that would be refused, with its line and what is \
-             there. Status 1 if there is one"
-        }
-        "draft" => "Print the draft",
-        "cabinet" => "Print the cabinet",
-        "all" => {
-            "Write intersections.csv, stock.csv and, for each ID, ID-plan.csv and ID-cabinet.csv \
-             into a folder"
-        }
-        "replace" => {
-            "Make the draft exactly the plan of CSV: remove the rows that CSV does not have. \
-             Without it they stay"
-        }
-        _ => {
-            "Commit the draft if it breaks no rule; ends with status 3 if it breaks one. A plan \
-             that would not change is not committed"
-        }
-    }
-}
+/// What the help says of the commands and of their arguments: a line for each, `COMMAND itself: TEXT`
+/// or `COMMAND ARGUMENT: TEXT`; what is said of an argument of `any` command holds where it has no
+/// line of its own.
+const HELP: &str = "\
+batch itself: Reads HTTP requests from standard input, at most 1,000,000, and writes the answers \
+to standard output
+serve itself: Listens on 127.0.0.1 and answers HTTP requests, one connection at a time
+sheet itself: Prints the timing sheet of an intersection's committed plan; times in seconds, \
+distances in feet
+overdue itself: Prints the intersections that were never inspected, or whose inspection was due \
+before a day, and how many they are
+add itself: Adds an intersection; says whether it is new, or is there already with the same \
+values
+list itself: Prints all intersections: the days between inspections, the revision, the state and \
+owner of the draft, and how many rows are committed
+stock itself: Prints how many of each part are on hand, of all parts that were ever delivered
+orders itself: Prints the open work orders of an intersection, or of all intersections
+used itself: Prints what was used of all parts, or of one: with the intersection and the work \
+order, open or closed
+cabinet itself: Prints the records of an intersection's cabinet: when its next inspection is due, \
+its inspections, and its work orders with their used parts and closings
+pages itself: Writes the pages of all intersections, and an index of them with the open orders \
+and the stock, into a folder that a browser shows
+verify-file itself: Checks the timing plan in a CSV file against the fourteen rules; ends with \
+status 3 if it breaks one
+migrate itself: Brings a file of an older version to today's; says how many rows were rewritten
+backup itself: Copies an office into another file, which is whole without a log; the office's own \
+log is copied into its file before
+import itself: Takes the cabinet records of a CSV file in turn, all of them or none; says how \
+many are new
+export itself: Prints the committed timing plan of an intersection as CSV, or its draft, or its \
+cabinet; or writes the lists, all plans and all cabinets into a folder
+edit itself: Changes a timing plan by a CSV file, in a draft that stays open; prints the rules \
+that the draft breaks
+abandon itself: Drops the draft of an intersection, whoever holds it
+compare itself: Prints the differences between two timing plans, or what a draft changes; ends \
+with status 4 if there are any
+diagram itself: Draws a pattern as SVG: the phases of each ring over the seconds of the cycle
+page itself: Prints an intersection as one HTML page: its plan with pictures of all patterns, its \
+draft and its cabinet; or the plan of a file
+batch db: The SQLite file of the tables; it is made if there is none. Without --db the tables are \
+in memory and are gone at the end
+serve db: The SQLite file of the tables; it is made if there is none. Without --db the tables are \
+in memory and are gone at the end
+add db: The SQLite file of the tables; it is made if there is none
+compare db: The SQLite file of the tables: compares the committed plan of an intersection with \
+its draft, or with the plan of OTHER
+diagram db: The SQLite file of the tables: draws a pattern of a committed plan, with ID and \
+PATTERN
+page db: The SQLite file of the tables: shows an intersection, with ID
+any db: The SQLite file of the tables; it must be there
+orders ID: The intersection's number, 1 to 9999; without it all are printed
+export ID: The intersection's number, 1 to 9999; with --all the folder, which is made if there is \
+none
+diagram ID: The intersection's number, 1 to 9999; with --file the pattern's
+page ID: The intersection's number, 1 to 9999; not with --file
+any ID: The intersection's number, 1 to 9999
+verify-file CSV: The CSV file: one record for each phase, sequence, split and pattern
+import CSV: The CSV file: one record for each inspection, order, used part, closing, delivery
+any CSV: The CSV file: one record for each row to put or remove. With --commit it may be left \
+out; the clerk's draft is then committed as it is
+any DAY: The day, as YYYY-MM-DD, from 1970-01-01 to 2199-12-31
+any INTERVAL: Days from one inspection of its cabinet to the next, 1 to 3650
+any NAME: Its name, 1 to 120 bytes without control characters
+any PART: The part's code, 1 to 20 of A to Z, 0 to 9 and -; without it all are printed
+any DIR: The folder, which is made if there is none
+any TO: The file of the copy; none with this name, or with a log, may be there
+any PLAN: The CSV file of a plan; with --db the intersection's number, 1 to 9999
+any OTHER: The CSV file of the other plan; with --db it may be left out
+any PATTERN: The pattern's number, 1 to 48; not with --file
+any wait: How long to wait where another run has FILE open, 0 to 3600 (default 10)
+any port: The TCP port, 1 to 65535
+any count: How many connections to serve before the program ends, 1 to 1000000 (default 1000000); \
+each may send at most 10,000 requests
+any first: List at most N intersections, 1 to 9999, those with the lowest numbers; without it all \
+are listed
+any day: Mark the intersections that are overdue for inspection on this day, YYYY-MM-DD, and put \
+them first
+any until: Take none where one is of a later day, as YYYY-MM-DD; a used part has no day
+abandon clerk: Who drops it, 1 to 40 bytes
+any clerk: Who edits, 1 to 40 bytes; the draft of another clerk is not touched
+page file: The CSV file of a plan, to show that alone
+any file: The CSV file of a plan, with the pattern's number alone
+compare csv: Print the changes as CSV, as `edit` takes them
+any csv: Print as CSV, without heading or count
+any explain: Also print, for each broken rule, the numbers that break it
+any padded: Drop the empty fields with which spreadsheets pad the records of CSV
+any force: Replace the file TO
+any check: Take nothing; print each record that would be refused, with its line and what is \
+there. Status 1 if there is one
+any draft: Print the draft
+any cabinet: Print the cabinet
+any all: Write intersections.csv, stock.csv and, for each ID, ID-plan.csv and ID-cabinet.csv into \
+a folder
+any replace: Make the draft exactly the plan of CSV: remove the rows that CSV does not have. \
+Without it they stay
+any commit: Commit the draft if it breaks no rule; ends with status 3 if it breaks one. A plan \
+that would not change is not committed
+";
 
 /// What the help says of an argument of a command.
 pub(crate) fn help_of(command: &str, argument: &str) -> &'static str {
-    match argument {
-        "db" => file_help(command),
-        "ID" => intersection_help(command),
-        "CSV" => records_help(command),
-        "DAY" | "INTERVAL" | "NAME" | "PART" | "DIR" | "TO" | "PLAN" | "OTHER" | "PATTERN" => {
-            word_help(argument)
+    for line in HELP.lines() {
+        if let Some((subject, text)) = line.split_once(": ") {
+            if let Some((own, of)) = subject.split_once(" ") {
+                if *of == *argument && (*own == *command || *own == *"any") {
+                    return text;
+                }
+            }
         }
-        _ => option_help(command, argument),
     }
+    ""
+}
+
+/// What the help says of a command.
+pub(crate) fn about_of(command: &str) -> &'static str {
+    help_of(command, "itself")
 }

@@ -3,13 +3,13 @@
 ghost use Rattle.std.specs.Prelude.{◌≡◌};
 ghost use Rattle.clap.specs.Matches.{found_of};
 ghost use Rattle.clap.specs.Walk.{rows_of};
-ghost use Rattle.signal_office_line.specs.Job.{abandon_at, add_at, backup_at, batch_at, choice_at, compare_at, diagram_at, edit_at, edited_file, export_at, import_at, job_at, migrate_at, number_at, office_of, orders_at, overdue_at, page_at, pages_at, request_at, serve_at, used_at, verify_file_at, view_of};
+ghost use Rattle.signal_office_line.specs.Job.{abandon_at, add_at, backup_at, batch_at, choice_from, compare_at, diagram_at, edit_at, edited_file, export_at, import_at, job_at, migrate_at, number_from, office_of, orders_at, overdue_at, page_at, pages_at, request_at, serve_at, used_at, verify_file_at, view_of};
 
 use crate::job::{BadWord, CsvFile, Edit, Folder, Job, NoJob, Request};
 use crate::shows::{PlanShown, Shown, View};
 use crate::values::{
-    any_day, any_intersection, any_office_file, any_part, choice, csv_file, day, flag,
-    intersection, name, number, office_file, path, word,
+    any_day, any_intersection, any_office_file, any_part, choice_from, csv_file, day, flag,
+    intersection, name, number_from, office_file, path, word,
 };
 use clap::ArgMatches;
 use signal_values::{InterId, Interval, PatternNo};
@@ -22,21 +22,21 @@ const ALL_INTERSECTIONS: u32 = 9_999;
 
 /// The number of a pattern.
 fn pattern(matches: &ArgMatches<'_>, id: &str) -> Option<PatternNo>
-    ensures { result ≡ number_at 48 id.now (rows_of (found_of matches.now)) }
+    ensures { result ≡ number_from 1 48 id.now (rows_of (found_of matches.now)) }
 {
-    PatternNo::new(number(matches, id, 48)?)
+    PatternNo::new(number_from(matches, id, 1, 48)?)
 }
 
 /// The days from one inspection to the next.
 fn interval(matches: &ArgMatches<'_>, id: &str) -> Option<Interval>
-    ensures { result ≡ number_at 3_650 id.now (rows_of (found_of matches.now)) }
+    ensures { result ≡ number_from 1 3_650 id.now (rows_of (found_of matches.now)) }
 {
-    Interval::new(number(matches, id, 3_650)?)
+    Interval::new(number_from(matches, id, 1, 3_650)?)
 }
 
 /// The number of an intersection, where it was given. None where its word is none.
 fn chosen_intersection(matches: &ArgMatches<'_>, id: &str) -> Option<Option<InterId>>
-    ensures { result ≡ choice_at 9_999 id.now (rows_of (found_of matches.now)) }
+    ensures { result ≡ choice_from 1 9_999 id.now (rows_of (found_of matches.now)) }
 {
     match word(matches, id) {
         None => Some(None),
@@ -51,7 +51,7 @@ fn chosen_intersection(matches: &ArgMatches<'_>, id: &str) -> Option<Option<Inte
 fn overdue<'a>(matches: &ArgMatches<'a>) -> Result<Request<'a>, NoJob>
     ensures { result ≡ overdue_at (rows_of (found_of matches.now)) }
 {
-    let first = choice(matches, "first", ALL_INTERSECTIONS).ok_or(NoJob::Unstated)?;
+    let first = choice_from(matches, "first", 1, ALL_INTERSECTIONS).ok_or(NoJob::Unstated)?;
     let day = day(matches, "DAY")?;
     let most = first.unwrap_or(ALL_INTERSECTIONS) as usize;
     let csv = flag(matches, "csv");
@@ -235,8 +235,8 @@ fn batch<'a>(matches: &ArgMatches<'a>) -> Result<Job<'a>, NoJob>
 fn serve<'a>(matches: &ArgMatches<'a>) -> Result<Job<'a>, NoJob>
     ensures { result ≡ serve_at (rows_of (found_of matches.now)) }
 {
-    let port = number(matches, "port", 65_535).ok_or(NoJob::Unstated)? as u16;
-    let count = choice(matches, "count", MOST_CONNECTIONS).ok_or(NoJob::Unstated)?;
+    let port = number_from(matches, "port", 1, 65_535).ok_or(NoJob::Unstated)? as u16;
+    let count = choice_from(matches, "count", 1, MOST_CONNECTIONS).ok_or(NoJob::Unstated)?;
     let count = count.unwrap_or(MOST_CONNECTIONS);
     let db = any_office_file(matches)?;
     Ok(Job::Serve { port, count, db })

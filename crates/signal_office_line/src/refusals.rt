@@ -6,51 +6,30 @@ ghost use Rattle.clap.specs.Values.{kind_of};
 ghost use Rattle.clap.specs.Walk.{rows_of};
 ghost use Rattle.signal_office_line.specs.Refusals.{IsWrongNumber};
 
-use crate::arguments::{Argument, Usage};
-use crate::command_line::{command_line, command_named, usage_of};
+use crate::arguments::{Argument, Form, Usage};
+use crate::command_line::{DIR, ID, PATTERN, WAIT, command_line, command_named, usage_of};
 use crate::values::{flag, number_from, word};
 use clap::error::ErrorKind;
 use clap::{ArgMatches, Error};
 use std::alloc::{AllocError, Global};
 
-/// A word that is to be a number from `least` to `most`, and how the help shows the name of its
-/// argument.
-#[derive(Clone, Copy)]
-struct NumberArgument<'a> {
-    id: &'a str,
-    shown: &'a str,
-    least: u32,
-    most: u32,
-}
-
-/// The number that a command's argument is to be, if it is to be one, by what else is given.
-fn number_of(
+/// What a command's argument is to be, by what else is given.
+fn taken_as(
     command: &str,
-    id: &'static str,
+    argument: &Argument<'static>,
     matches: &ArgMatches<'_>,
-) -> Option<NumberArgument<'static>> {
+) -> Argument<'static> {
     let draws_file = command == "diagram" && word(matches, "file").is_some();
-    let (shown, least, most) = match id {
-        "wait" => ("--wait", 0, 3_600),
-        "port" => ("--port", 1, 65_535),
-        "count" => ("--count", 1, 1_000_000),
-        "first" => ("--first", 1, 9_999),
-        "INTERVAL" => ("INTERVAL", 1, 3_650),
-        "PATTERN" if !draws_file => ("PATTERN", 1, 48),
+    match argument.0 {
         // `diagram --file` takes a pattern alone.
-        "ID" if draws_file => ("PATTERN", 1, 48),
+        "ID" if draws_file => PATTERN,
+        "PATTERN" if draws_file => DIR,
         // `export --all` takes a folder.
-        "ID" if !flag(matches, "all") => ("ID", 1, 9_999),
+        "ID" if flag(matches, "all") => DIR,
         // `compare --db` takes an intersection in place of its first file.
-        "PLAN" if word(matches, "db").is_some() => ("ID", 1, 9_999),
-        _ => return None,
-    };
-    Some(NumberArgument {
-        id,
-        shown,
-        least,
-        most,
-    })
+        "PLAN" if word(matches, "db").is_some() => ID,
+        _ => *argument,
+    }
 }
 
 /// What a command takes, where each of its numbers is one.
@@ -68,55 +47,58 @@ fn forms_of(name: &str, matches: &ArgMatches<'_>) -> &'static str {
     }
 }
 
-/// The word of a command's argument, with what it is to be, where it is given, is to be a number,
-/// and is none of its range.
+/// The word of an argument, where it is given, is to be a number, and is none of its range.
 fn wrong_word<'a>(
-    command: &str,
-    id: &'static str,
+    id: &str,
+    range: Option<(u32, u32)>,
     matches: &ArgMatches<'a>,
-) -> Option<(NumberArgument<'static>, &'a str)>
+) -> Option<(&'a str, u32, u32)>
     ensures { IfSome result (λ found.
-        IsWrongNumber found.0 found.1.now (rows_of (found_of matches.entry.now))) }
+        IsWrongNumber id.now found.1 found.2 found.0.now (rows_of (found_of matches.entry.now))) }
 {
-    let argument = number_of(command, id, matches)?;
-    let word = word(matches, argument.id)?;
-    match number_from(matches, argument.id, argument.least, argument.most) {
-        None => Some((argument, word)),
+    let (least, most) = range?;
+    let word = word(matches, id)?;
+    match number_from(matches, id, least, most) {
+        None => Some((word, least, most)),
         Some(_) => None,
     }
 }
 
-/// The first word of a command that is to be a number and is none of its range, with what it is to
-/// be; that of `--wait` comes last.
-fn wrong_number<'a>(
-    command: &str,
-    matches: &ArgMatches<'a>,
-) -> Option<(NumberArgument<'static>, &'a str)> {
-    let Usage(_, arguments) = usage_of(command)?;
-    for argument in arguments {
-        let Argument(id, _) = *argument;
-        if id != "wait" {
-            if let Some(found) = wrong_word(command, id, matches) {
-                return Some(found);
+/// Why the word of an argument is no number of its range, where it is to be one.
+fn number_reason(
+    alloc: Global,
+    id: &str,
+    argument: Argument<'static>,
+    matches: &ArgMatches<'_>,
+) -> Result<Option<String>, AllocError> {
+    let Argument(name, form, range) = argument;
+    let Some((word, least, most)) = wrong_word(id, range, matches) else {
+        return Ok(None);
+    };
+    let dashes = match form {
+        Form::Needed(_) | Form::Choice(_) => "--",
+        _ => "",
+    };
+    let text = format!(in alloc; "{dashes}{name} {word}: a number from {least} to {most}")?;
+    Ok(Some(text))
+}
+
+/// Why the words of a command state no job: the first word that is no number of its range, and that
+/// of `--wait` last, or what the command takes.
+fn reason(alloc: Global, command: &str, matches: &ArgMatches<'_>) -> Result<String, AllocError> {
+    if let Some(Usage(_, arguments)) = usage_of(command) {
+        for argument in arguments {
+            let Argument(id, ..) = *argument;
+            if id != "wait" {
+                let argument = taken_as(command, argument, matches);
+                if let Some(text) = number_reason(alloc, id, argument, matches)? {
+                    return Ok(text);
+                }
             }
         }
     }
-    wrong_word(command, "wait", matches)
-}
-
-/// Why the words of a command state no job: the word that is no number, with what it may be, or
-/// what the command takes.
-fn reason(alloc: Global, command: &str, matches: &ArgMatches<'_>) -> Result<String, AllocError> {
-    match wrong_number(command, matches) {
-        Some((argument, word)) => {
-            let NumberArgument {
-                shown,
-                least,
-                most,
-                ..
-            } = argument;
-            format!(in alloc; "{shown} {word}: a number from {least} to {most}")
-        }
+    match number_reason(alloc, "wait", WAIT, matches)? {
+        Some(text) => Ok(text),
         None => String::from_str(alloc, forms_of(command, matches)),
     }
 }

@@ -3,7 +3,7 @@
 ghost use Rattle.std.specs.Prelude.{◌≡◌, option_map};
 ghost use Rattle.clap.specs.Matches.{found_of};
 ghost use Rattle.clap.specs.Walk.{first_of, rows_of};
-ghost use Rattle.signal_office_line.specs.Job.{any_db_at, any_of, choice_at, choice_from, csv_at, day_at, db_at, flag_at, intersection_at, name_at, number_at, number_from, word_at};
+ghost use Rattle.signal_office_line.specs.Job.{any_db_at, any_of, choice_from, csv_at, day_at, db_at, flag_at, intersection_at, name_at, number_from, word_at};
 ghost use Rattle.office_files.specs.RecordReading.{day_of, part_of};
 
 use crate::job::{BadWord, CsvFile, NoJob, OfficeFile};
@@ -37,18 +37,11 @@ pub(crate) fn number_from(matches: &ArgMatches<'_>, id: &str, least: u32, most: 
     Some(number)
 }
 
-/// The number that an argument's word spells, where it is one from 1 to `most`.
-pub(crate) fn number(matches: &ArgMatches<'_>, id: &str, most: u32) -> Option<u32>
-    ensures { result ≡ number_at most id.now (rows_of (found_of matches.now)) }
-{
-    number_from(matches, id, 1, most)
-}
-
 /// The number of an intersection, where the argument's word spells one.
 pub(crate) fn any_intersection(matches: &ArgMatches<'_>, id: &str) -> Option<InterId>
-    ensures { result ≡ number_at 9_999 id.now (rows_of (found_of matches.now)) }
+    ensures { result ≡ number_from 1 9_999 id.now (rows_of (found_of matches.now)) }
 {
-    InterId::new(number(matches, id, 9_999)?)
+    InterId::new(number_from(matches, id, 1, 9_999)?)
 }
 
 /// The number of the intersection of a command.
@@ -75,14 +68,6 @@ pub(crate) fn choice_from(
             Some(Some(number))
         }
     }
-}
-
-/// The number of an argument, where it was given. None where its word spells no number from 1 to
-/// `most`.
-pub(crate) fn choice(matches: &ArgMatches<'_>, id: &str, most: u32) -> Option<Option<u32>>
-    ensures { result ≡ choice_at most id.now (rows_of (found_of matches.now)) }
-{
-    choice_from(matches, id, 1, most)
 }
 
 /// Whether a flag was given.

@@ -1,29 +1,14 @@
-use Rattle.std.proofs.Common.{inr, refl, subst}
-use Rattle.office_desk.specs.Running.{MakesTables}
-use Rattle.signal_office_commands.proofs.RevisedLemmas.{err_is, plan_left_by}
-use Rattle.signal_office_commands.proofs.StopLemmas.{stop_none}
+use Rattle.std.proofs.Common.{Ok, Err, Some, None, ap}
+use Rattle.signal_office_commands.proofs.ReplacingLemmas.{plan_left_by}
+use Rattle.signal_office_commands.proofs.RevisedLemmas.{looking_stops, revises_as, revises_by, revises_idly, revises_not, revising_stops}
 use Rattle.signal_office_commands.proofs.revising.revise_plan.Goals as goal
-use Rattle.signal_office_commands.specs.Revising.{RevisesAs}
-use Rattle.signal_office_commands.specs.Stopping.{AfterRevising, StopLeaves}
-use Rattle.signal_office_faults.specs.declared.fault.Fault.TheVariants as told
 
-pub returns-clause-revises : goal.returns-clause-revises
-returns-clause-revises g c =
-    let edit = c.args.edit.now in
-    subst (λ clerk. MakesTables g.S.Shelf c.args.office.now c.revise_by.new.office (λ old new. RevisesAs c.args.bytes.now edit.id clerk edit old new c.revise_by.result))
-    c.in_ok-clerk.ensures c.revise_by.ensures.revises
+pub returns-in-Some-clause-writes : goal.returns-in-Some-clause-writes
+returns-in-Some-clause-writes g c =
+    let look = c.in_ok-revision_in in
+    revises_by g.S.Shelf c.args.bytes.now c.args.edit.now c.args.office.now _ look.ensures.kept (Ok look.field-0) look.ensures.comes _ c.in-Some.revision c.run_revision.result (ap Ok c.in-Some.is) c.run_revision.ensures.clean c.run_revision.ensures.drafts
 
-pub returns-clause-stop : goal.returns-clause-stop
-returns-clause-stop g c =
-    let edit = c.args.edit.now in
-    subst (λ clerk. StopLeaves g.S.Shelf c.args.office.now c.revise_by.new.office (AfterRevising c.args.bytes.now edit.id clerk edit)) c.in_ok-clerk.ensures c.revise_by.ensures.stop
-
-pub returns-clause-plan : goal.returns-clause-plan
-returns-clause-plan g c =
-    plan_left_by g.S.Shelf c.args.office.now c.revise_by.new.office c.args.bytes.now c.args.edit.now.id c.in_ok-clerk.clerk c.args.edit.now c.revise_by.result c.revise_by.ensures.revises
-
-pub returns-in_err-clerk-clause-revises : goal.returns-in_err-clerk-clause-revises
-returns-in_err-clerk-clause-revises g c = λ clean tables held. (tables, inr (told.Memory, err_is _ told.Memory c.from_residual.ensures.1, refl, inr (inr refl)), held)
-
-pub returns-in_err-clerk-clause-stop : goal.returns-in_err-clerk-clause-stop
-returns-in_err-clerk-clause-stop g c = stop_none g.S.Shelf _ _
+pub returns-in-None-clause-writes : goal.returns-in-None-clause-writes
+returns-in-None-clause-writes g c =
+    let look = c.in_ok-revision_in in
+    revises_idly g.S.Shelf c.args.bytes.now c.args.edit.now c.args.office.now _ look.ensures.kept (Ok look.field-0) look.ensures.comes _ (ap Ok c.in-None.is) (ap Ok c.as_it_stands.ensures)

@@ -2,7 +2,7 @@ use Rattle.std.proofs.Common.{List, map, ap, subst, ◌∙◌}
 use Rattle.std.proofs.lemmas.List.{take_all}
 use Rattle.clap.specs.{declared.builder.command.Command.Command, declared.builder.command.Command.TheOpen.Command-F, Simple.app_of_fields}
 use Rattle.clap.specs.Simple.{new_app}
-use Rattle.signal_office_line.specs.{Arguments.rule_for, CommandLine.ParsesAs, CommandLine.with_rules, declared.arguments.Argument.Argument}
+use Rattle.signal_office_line.specs.{CommandLine.rule_for, CommandLine.ParsesAs, CommandLine.with_rules, declared.arguments.Argument.Argument}
 use Rattle.signal_office_line.proofs.CommandLemmas.{ParsesAs-arg, ParsesAs-more}
 use Rattle.signal_office_line.proofs.arguments.command_of.Goals as goal
 

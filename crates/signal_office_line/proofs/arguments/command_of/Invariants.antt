@@ -1,6 +1,6 @@
 use Rattle.std.proofs.Common.{map, take}
 use Rattle.clap.specs.Simple.{new_app}
-use Rattle.signal_office_line.specs.{Arguments.rule_for, CommandLine.ParsesAs, CommandLine.with_rules}
+use Rattle.signal_office_line.specs.{CommandLine.rule_for, CommandLine.ParsesAs, CommandLine.with_rules}
 use Rattle.signal_office_line.proofs.arguments.command_of.Given as goal
 
 -- the command has the arguments that came so far

@@ -1,6 +1,6 @@
 use Rattle.std.proofs.Common.{List, map, subst}
 use Rattle.std.proofs.lemmas.List.{take_all}
-use Rattle.signal_office_line.specs.{Arguments.app_for, CommandLine.ParsesAs, CommandLine.with_subcommands, declared.arguments.Usage.Usage}
+use Rattle.signal_office_line.specs.{CommandLine.app_for, CommandLine.ParsesAs, CommandLine.with_subcommands, declared.arguments.Usage.Usage}
 use Rattle.signal_office_line.proofs.CommandLemmas.{ParsesAs-next}
 use Rattle.signal_office_line.proofs.arguments.with_commands.Goals as goal
 

@@ -1,6 +1,6 @@
 use Rattle.std.proofs.Common.{map, take}
 use Rattle.clap.specs.Simple.{App}
-use Rattle.signal_office_line.specs.{Arguments.app_for, CommandLine.ParsesAs, CommandLine.with_subcommands}
+use Rattle.signal_office_line.specs.{CommandLine.app_for, CommandLine.ParsesAs, CommandLine.with_subcommands}
 use Rattle.signal_office_line.proofs.arguments.with_commands.Given as goal
 
 -- the program has the commands that came so far

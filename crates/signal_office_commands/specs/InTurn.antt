@@ -1,0 +1,54 @@
+-- Commands that an office runs in turn, each over the tables that the one before it left, up to the first that is refused.
+use Rattle.std.specs.Prelude.{◌≡◌, ◌⊎◌, Bool, true, false, if◌then◌else◌, List, [], ◌∷◌, MatchResult, Result, Ok, Err}
+use Rattle.draft_core.specs.declared.refusal.DraftRefusal.TheVariants.{NotNormal, NotVerify, NotDone}
+use Rattle.office_desk.specs.Answers.{AnswersAny}
+use Rattle.office_desk.specs.Damage.{IsTurnedAway, MeetsDamage}
+use Rattle.office_machine.specs.declared.command.Command.{Command}
+use Rattle.office_machine.specs.declared.command.Command.TheVariants as command
+use Rattle.office_machine.specs.declared.refusal.Refusal.{Refusal}
+use Rattle.office_machine.specs.declared.refusal.Refusal.TheVariants as refusal
+use Rattle.office_machine.specs.declared.reply.Reply.{Reply}
+use Rattle.office_machine.specs.declared.reply.Reply.TheVariants as reply
+use Rattle.office_tables_shelf.specs.Content.{Content}
+use Rattle.signal_office_faults.specs.declared.fault.Fault.{Fault}
+use Rattle.signal_office_faults.specs.declared.fault.Fault.TheVariants as told
+use Rattle.signal_office_reports.specs.Refused.{fault_of}
+use Rattle.signal_office_reports.specs.Reports.{◌>>=◌}
+
+-- The office answered one command. A row that the command reads and that is no record was told, and none was passed over.
+pub record Answered (old : Content) (asked : Command) (given : Reply) (new : Content) : Type 0 where
+  pub step : AnswersAny old asked given new
+  pub damaged : given ≡ reply.Refused refusal.Damaged → MeetsDamage old asked
+  pub turned_away : MeetsDamage old asked → IsTurnedAway asked given
+
+-- the refusal says that a step of the transaction is not due: one is under way, or its draft was not handed over, or not checked
+abbrev pub is_not_due : Command → Refusal → Bool
+is_not_due (command.Begin id clerk) (refusal.Draft NotNormal) = true
+is_not_due (command.Check id clerk) (refusal.Draft NotVerify) = true
+is_not_due (command.Reopen id clerk) (refusal.Draft NotDone) = true
+is_not_due asked why = false
+
+-- a refusal ends a run of commands, but for one that says that the step is not due
+abbrev pub passed : Command → Reply → Result Unit Fault
+passed asked (reply.Refused why) = if is_not_due asked why then Ok tt else Err (fault_of why)
+passed asked other = Ok tt
+
+-- A RUN: each command was answered over the tables that the one before it left. The last reply comes of it, where there is no command the one that was there before; or the
+-- fault of the first command that was refused, after which none was run.
+abbrev pub Runs : (last : Reply) → List Command → Content → Content → Result Reply Fault → Type 0
+Runs last [] old new result = (new ≡ old) × (result ≡ Ok last)
+Runs last (asked ∷ more) old new result =
+    (given : Reply) × (middle : Content) × Answered old asked given middle
+    × MatchResult (passed asked given) (λ _. Runs given more middle new result) (λ why. (new ≡ middle) × (result ≡ Err why))
+
+-- commands were run, and this is made of the last reply, or why they ended
+abbrev pub Makes : {A : Type 0} → (made : Reply → Result A Fault) → List Command → Content → Content → Result A Fault → Type 0
+Makes made commands old new result = (last : Result Reply Fault) × Runs reply.Same commands old new last × (result ≡ (last >>= made))
+
+-- memory was refused before the first command, and nothing was changed
+abbrev pub IsWant : {A : Type 0} → Content → Content → Result A Fault → Type 0
+IsWant old new result = (result ≡ Err told.Memory) × (new ≡ old)
+
+-- A CHANGE of one command: what is told of its reply; out of memory is told only where nothing was changed
+abbrev pub Changes : {A : Type 0} → (made : Reply → Result A Fault) → Command → Content → Content → Result A Fault → Type 0
+Changes made asked old new result = Makes made (asked ∷ []) old new result ⊎ IsWant old new result

@@ -1,0 +1,82 @@
+//! Commands that an office runs in turn, up to the first that is refused.
+
+ghost use Rattle.std.specs.Prelude.{◌≡◌, [], ◌∷◌};
+ghost use Rattle.office_desk.specs.Answers.{StandsAfterStep};
+ghost use Rattle.office_desk.specs.Running.{MakesTables};
+ghost use Rattle.signal_office_commands.specs.InTurn.{Runs, is_not_due, passed};
+ghost use Rattle.signal_office_commands.specs.Stopping.{AfterOneOf, StopLeaves};
+
+use draft_core::refusal::DraftRefusal;
+use office_desk::office::Office;
+use office_machine::command::Command;
+use office_machine::refusal::Refusal;
+use office_machine::reply::Reply;
+use office_tables_shelf::shelf::Shelf;
+use signal_office_faults::Fault;
+use signal_office_reports::fault_of;
+use std::alloc::Global;
+
+/// Whether a refusal says that a step of the transaction is not due: one is under way, or its draft
+/// was not handed over, or not checked.
+fn is_not_due(command: &Command, refusal: Refusal) -> bool
+    ensures { result ≡ is_not_due command.now refusal }
+{
+    let Refusal::Draft(refusal) = refusal else {
+        return false;
+    };
+    match command {
+        Command::Begin { .. } => matches!(refusal, DraftRefusal::NotNormal),
+        Command::Check { .. } => matches!(refusal, DraftRefusal::NotVerify),
+        Command::Reopen { .. } => matches!(refusal, DraftRefusal::NotDone),
+        _ => false,
+    }
+}
+
+/// Whether the next command may be run after a reply, or why not.
+fn passed(command: &Command, reply: &Reply) -> Result<(), Fault>
+    ensures { result ≡ passed command.now reply.now }
+{
+    match reply {
+        Reply::Refused(refusal) if is_not_due(command, *refusal) => Ok(()),
+        Reply::Refused(refusal) => Err(fault_of(*refusal)),
+        _ => Ok(()),
+    }
+}
+
+/// Runs commands in turn, up to the first that is refused, and gives the reply to the last one; where
+/// there is none, the one that is handed in.
+pub(crate) fn run_in_turn<S: Shelf>(
+    alloc: Global,
+    office: &mut Office<S>,
+    commands: &[Command],
+    last: Reply,
+) -> Result<Reply, Fault>
+    ensures clean { S.is_clean office.new → S.is_clean office.old }
+    ensures honest { S.is_honest office.new → S.is_honest office.old }
+    ensures runs { MakesTables S.Shelf office.old office.new
+        (λ old new. Runs last commands.now old new result) }
+    ensures stop { StopLeaves S.Shelf office.old office.new (AfterOneOf commands.now) }
+{
+    let Some((command, rest)) = commands.split_first() else {
+        return Ok(last);
+    };
+    let reply = office.run(alloc, command);
+    passed(command, &reply)?;
+    run_in_turn(alloc, office, rest, reply)
+}
+
+/// Runs one command.
+pub(crate) fn run_one<S: Shelf>(
+    alloc: Global,
+    office: &mut Office<S>,
+    command: Command,
+) -> Result<Reply, Fault>
+    ensures clean { S.is_clean office.new → S.is_clean office.old }
+    ensures honest { S.is_honest office.new → S.is_honest office.old }
+    ensures runs { MakesTables S.Shelf office.old office.new
+        (λ old new. Runs Reply.Same (command ∷ []) old new result) }
+    ensures stop { StopLeaves S.Shelf office.old office.new
+        (λ old found. StandsAfterStep old command found) }
+{
+    run_in_turn(alloc, office, &[command], Reply::Same)
+}
