@@ -6,7 +6,8 @@ what the other commands print.
 
 - Each file is, byte for byte, what `list --csv`, `stock --csv`, `export ID` or `export --cabinet
   ID` prints, and there is no other; a file of another name stays.
-- A second run writes no file whose text is as it stands, and each whose text is another.
+- A second run writes no file whose text is as it stands, and each whose text is another, also one
+  of equal length.
 - A folder that is a file, may not be written, or is on a full disk ends with status 1 and
   `fault: write`; the files that are there are whole. (A full disk needs root, for a small tmpfs.)
 - A run that is killed at any of its calls that make, write, sync or rename a file or a folder, or
@@ -176,6 +177,11 @@ def writes_whole(office):
     before = moments(office, "city")
     assert office.export("city") == (0, b"", b"")
     assert moments(office, "city") == before, "a file was written again"
+    stock = office.folder / "city" / "stock.csv"
+    stock.write_bytes(bytes(it ^ 1 for it in stock.read_bytes()))
+    assert office.export("city") == (0, b"", b"")
+    assert stock.read_bytes() == office.wanted()["stock.csv"], "a file of equal length was kept"
+    before = moments(office, "city")
     office.printed("add", "--db", office.db, "9999", "30", "Last")
     assert office.export("city") == (0, b"", b"")
     after = moments(office, "city")

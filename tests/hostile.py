@@ -1,8 +1,9 @@
 #!/usr/bin/env python3
 """Runs the program on what must not break it, with real files: files that are not its own, that
 another process has open, that can't be written; a full disk, an output without a reader, random
-bytes. Each run must end by itself within 30 seconds with its status and its line on standard error,
-never by a signal. What it refused must stay byte for byte.
+bytes. Also holds copies of an office against its file, and the numbers of logs against each other.
+Each run must end by itself within 30 seconds with its status and its line on standard error, never
+by a signal. What it refused must stay byte for byte.
 
     tests/hostile.py [PROGRAM]      by default the program that ./office built
 
@@ -298,6 +299,39 @@ def inputs(folder):
         case("a plan that can't be read", run(["verify-file", path]), (1, b"", b"fault: file\n"))
 
 
+def copies(folder):
+    """A copy may be read by those who may read its office. One that can't be put in its place is
+    not told as copied, and leaves nothing."""
+    path = office(folder, "copied.db")
+    for mode in (0o600, 0o640):
+        os.chmod(path, mode)
+        to = os.path.join(folder, f"copy-{mode:o}.db")
+        came = run(["backup", "--db", path, to])
+        case(f"a copy of a file of mode {mode:o}", came, (0, b"copied\n", b""))
+        case("its mode", os.stat(to).st_mode & 0o777, mode)
+    place = os.path.join(folder, "place.db")
+    os.mkdir(place)
+    came = run(["backup", "--db", path, place, "--force"])
+    case("a folder where a copy is to be put", came, (1, b"", b"fault: write\n"))
+    case("what it leaves", (os.listdir(place), os.path.exists(place + ".part")), ([], False))
+
+
+def log_numbers(folder):
+    """Each log has numbers of its own, drawn at random: a file's salts, while it is open."""
+    salts = set()
+    for name in ("one.db", "two.db", "three.db"):
+        path = os.path.join(folder, name)
+        how = {"stdin": subprocess.PIPE, "stdout": subprocess.PIPE}
+        with subprocess.Popen([PROGRAM, "batch", "--db", path], **how) as ran:
+            ran.stdin.write(ADD)
+            ran.stdin.flush()
+            ran.stdout.readline()
+            salts.add((held(path + "-wal") or b"")[16:24])
+            ran.stdin.close()
+            ran.stdout.read()
+    case("the numbers of three logs", (len(salts), b"" in salts), (3, False))
+
+
 def keep_to(limit):
     """Called in a child: it may take so many bytes of memory."""
     resource.setrlimit(resource.RLIMIT_AS, (limit, limit))
@@ -380,7 +414,7 @@ def little_memory_to_migrate(folder):
 
 PARTS = (
     little_memory, little_memory_to_migrate, other_files, versions, another_process, inputs,
-    largest_file,
+    copies, log_numbers, largest_file,
 )
 with tempfile.TemporaryDirectory() as folder:
     for part in PARTS:

@@ -24,7 +24,16 @@ fn run(rt: &HostRuntime) -> Result<u8, Fault> {
     let mut source = FromRead::new(rt.stdin());
     let mut out = ToWrite::new(rt.stdout());
     let mut err = ToWrite::new(rt.stderr());
-    Ok(run_words::<TablesInFile, _, _, _>(rt, alloc, &words, &mut source, &mut out, &mut err))
+    let mut files = TablesInFile::new(alloc);
+    Ok(run_words(
+        &mut files,
+        rt,
+        alloc,
+        &words,
+        &mut source,
+        &mut out,
+        &mut err,
+    ))
 }
 
 fn main(rt: HostRuntime) -> ExitCode {

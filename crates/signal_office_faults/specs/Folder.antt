@@ -7,7 +7,7 @@ use Rattle.signal_office_faults.specs.declared.fault.Fault.TheVariants as fault
 abbrev pub NamedText : Type 0
 NamedText = List ℕ × List ℕ
 
--- those that were put, the last one last, where they are known
+-- the files that were put into a folder, the last one last, where they are known
 abbrev pub KnownFiles : Type 0
 KnownFiles = Option (List NamedText)
 

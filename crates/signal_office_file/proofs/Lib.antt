@@ -5,3 +5,4 @@ mod MigratingLemmas
 mod InFileLemmas
 pub mod ServingLemmas
 mod HeldLemmas
+mod CallsLemmas

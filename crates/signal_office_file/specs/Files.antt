@@ -51,12 +51,12 @@ module _ {D : Type 0} (g : Disk D) (files : Files D) where
   abbrev pub IsImageOf : Image → Type 0
   IsImageOf image = (image ≡ image_of g files) ⊎ outcomes g files.log files.db image
 
-  -- They hold these trees and no others, now and after a stop: the tables of the office, with today's version.
+  -- The files hold these trees and no others, now and after a stop: the tables of the office, with today's version.
   pub record HoldToday (trees : Trees) : Type 0 where
     pub alone : (image : Image) → IsImageOf image → HoldsAlone image trees
     pub today : AreToday trees
 
-  -- and that is what these tables hold
+  -- the files hold these tables and no others, now and after a stop, with today's version
   pub record KeepTables (tables : Content) : Type 0 where
     pub trees : Trees
     pub held : HoldToday trees

@@ -14,7 +14,7 @@ use Rattle.signal_office_in_file.specs.declared.Ended.{Ended}
 use Rattle.signal_office_in_file.specs.declared.Ended.TheVariants.{Closed, Unclosed}
 use Rattle.signal_office_file.specs.Files.{AreNew, HoldAlone, HoldIn, KeepTables}
 use Rattle.signal_office_file.specs.Left.{IsCleanFile, IsRefusedIn, LeavesDatabases, LeavesToday, MayLeaveOf}
-use Rattle.signal_office_file.specs.Migrating.{ClosedMigrated}
+use Rattle.signal_office_file.specs.Migrating.{ClosedMigrated, FailedToClose}
 use Rattle.signal_office_file.specs.Told.{told_of}
 use Rattle.signal_office_file.specs.declared.left.FileLeft.{FileLeft}
 use Rattle.signal_office_file.specs.declared.left.FileLeft.TheVariants as left
@@ -30,17 +30,17 @@ module _ {D : Type 0} {g : Disk D} where
   IsKept (left.Closed back) tables = KeepTables g back tables
   IsKept _ tables = ⊥
 
-  -- they are closed, and hold what became of their tables, of which so many rows were written anew
+  -- the files are closed, and hold what became of their tables, of which so many rows were written anew
   abbrev pub IsMigrated : Files D → FileLeft D g → ℕ → Type 0
   IsMigrated files (left.Closed back) rows = (count : Migrated) × (rows ≡ count.timing + count.draft) × ClosedMigrated g files (Ok count) back
   IsMigrated files _ rows = ⊥
 
-  -- they are closed, and hold their tables, which were not migrated for this
+  -- the files are closed, and hold their tables, which were not migrated for this fault
   abbrev pub IsNotMigrated : Files D → Fault → FileLeft D g → Type 0
   IsNotMigrated files why (left.Closed back) = (cause : OpenFault) × (why ≡ told_of cause) × (AreClean g back.log back.db → ClosedMigrated g files (Err cause) back)
   IsNotMigrated files why _ = ⊥
 
-  -- They are not closed: whatever a stop leaves of them is a database with today's version, and its tables are such.
+  -- The files are not closed: whatever a stop leaves of them is a database with today's version, and its tables are such.
   abbrev pub LeavesTables : FileLeft D g → (Content → Type 0) → Type 0
   LeavesTables back Holds = LeavesDatabases back × LeavesToday back × ((found : Content) → MayLeaveOf back found → Holds found)
 
@@ -58,6 +58,7 @@ files_view g files = record {
   refused = λ back why. IsRefusedFor files why back;
   leaves = LeavesTables;
   migrated = λ back rows. IsMigrated files back rows;
+  unclosed = λ back why. FailedToClose files why back;
 }
 
 -- Work over two files ended, and they were closed after it, on a disk that returned what was written: so before it.
@@ -65,7 +66,7 @@ abbrev pub WasClean : {D : Type 0} (g : Disk D) {T : Type 0} → Files D → End
 WasClean g files (Closed done back) = IsCleanFile back → AreClean g files.log files.db
 WasClean g files _ = Unit {0}
 
--- They could not be closed: a stop leaves of them the tables that they held, or what one leaves of the work.
+-- The files could not be closed: a stop leaves of them the tables that they held, or what one leaves of the work.
 abbrev pub IsUnclosed : {D : Type 0} (g : Disk D) {T : Type 0} → Files D → (leaves : Content → Content → Type 0) → Ended T (FileLeft D g) → Type 0
 IsUnclosed g files leaves (Unclosed why back) =
     IsCleanFile back → LeavesDatabases back × ((tables : Content) → ∥ MayLeaveOf back tables ∥₁
@@ -82,4 +83,5 @@ view_at {D} g image = record {
   refused = λ back why. (files : Files D) × AreNew g files image × IsRefusedFor files why back;
   leaves = LeavesTables;
   migrated = λ back rows. (files : Files D) × AreNew g files image × IsMigrated files back rows;
+  unclosed = λ back why. (files : Files D) × AreNew g files image × FailedToClose files why back;
 }

@@ -42,6 +42,7 @@ module _ {D : Type 0} {g : Disk D} where
     pub cause : IsCleanLeft back → FailsToOpenFiles files back error
     pub unharmed : IsCleanLeft back → LeavesFiles files back
 
+  -- why no database was opened in the files: a sync of them failed before, or this opening did
   abbrev pub IsUnopened : Files D → Fault → Leftover D g → Type 0
   IsUnopened files told back = AreSpent files told back ⊎ FailedToOpen files told back
 
@@ -97,6 +98,7 @@ module _ {D : Type 0} {g : Disk D} where
     pub crash : (trees : Trees) → over_files.recovers (store_left over_files back) trees → (file_state conn).may_leave trees
     pub sound : IsCleanStore over_files (store_left over_files back) → AreDatabases (over_files.recovers (store_left over_files back))
 
+  -- what is left is the database, which was not closed
   abbrev pub IsUnclosed : Held (FileStore D g) → Fault → FileLeft D g → Type 0
   IsUnclosed conn told (left.Closed back) = ⊥
   IsUnclosed conn told (left.Unopened back) = ⊥
@@ -108,7 +110,7 @@ module _ {D : Type 0} {g : Disk D} where
       IsCleanStore over_files (store_left over_files back) → (trees : Trees) → over_files.recovers (store_left over_files back) trees → AreToday trees
   LeavesToday _ = Unit {0}
 
-  -- and a schema that it obeys
+  -- whatever a stop leaves of the database that is not closed obeys its schema
   abbrev pub LeavesDatabases : FileLeft D g → Type 0
   LeavesDatabases (left.Database back) = AreDatabases (over_files.recovers (store_left over_files back))
   LeavesDatabases _ = ⊥

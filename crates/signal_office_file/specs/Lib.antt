@@ -5,3 +5,4 @@ pub mod Serving
 pub mod Migrating
 pub mod InFile
 pub mod Copying
+pub mod Calls

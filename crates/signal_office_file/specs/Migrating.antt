@@ -61,7 +61,7 @@ abbrev pub told_of_outcome : Result Migrated OpenFault → Result Migrated Fault
 told_of_outcome (Ok count) = Ok count
 told_of_outcome (Err cause) = Err (told_of cause)
 
--- the same where the files could not be closed
+-- the fault that is told where the files could not be closed: that of the migration, or else that of closing
 abbrev pub told_unclosed : Fault → Result Migrated OpenFault → Fault
 told_unclosed closing (Ok count) = closing
 told_unclosed closing (Err cause) = told_of cause
@@ -87,7 +87,7 @@ module _ {D : Type 0} (g : Disk D) where
     pub told : TellsOfFiles files outcome
 
 module _ {D : Type 0} {g : Disk D} where
-  -- the same of a connection that found its tables in files
+  -- a connection found its tables in the files, and they were migrated on disk
   pub record MigratesIn
       (files : Files D) (outcome : Result Migrated OpenFault)
       (conn : Held (FileStore D g)) : Type 0 where
@@ -96,7 +96,7 @@ module _ {D : Type 0} {g : Disk D} where
     pub clean : HasCleanDisk (file_state conn) → HasCleanDisk (file_state found)
     pub migrates : MigratesOnDisk over_files outcome found conn
 
-  -- They could not be closed. A fault from before comes first.
+  -- The files could not be closed after a migration was tried. A fault from before comes first.
   pub record FailedToClose (files : Files D) (told : Fault) (back : FileLeft D g) : Type 0 where
     pub outcome : Result Migrated OpenFault
     pub conn : Held (FileStore D g)
@@ -105,7 +105,7 @@ module _ {D : Type 0} {g : Disk D} where
     pub unclosed : IsUnclosed conn closing back
     pub told_is : told ≡ told_unclosed closing outcome
 
-  -- They are closed, and hold what became of their tables.
+  -- The files are closed after a migration, and hold what became of their tables.
   abbrev pub IsClosedMigrated : Files D → Result Migrated Fault → FileLeft D g → Type 0
   IsClosedMigrated files told (left.Closed back) =
       (outcome : Result Migrated OpenFault) × (told ≡ told_of_outcome outcome) × AreUsable g back
@@ -119,7 +119,7 @@ module _ {D : Type 0} {g : Disk D} where
   EndsMigration files (Closed told back) = IsClosedMigrated files told back
   EndsMigration files (Unclosed told back) = FailedToClose files told back
 
-  -- So tables that stood formerly for an office stand for it today.
+  -- Tables that stood formerly for an office stand for it today, in the closed files.
   abbrev pub StandAnewIn : Files D → FileLeft D g → Type 0
   StandAnewIn files (left.Closed back) =
       AreClean g back.log back.db → (before : Office)
@@ -127,6 +127,7 @@ module _ {D : Type 0} {g : Disk D} where
       × StandAnew (content_of trees) before
   StandAnewIn files _ = ⊥
 
+  -- a migration that was done brought the tables in the files to today's version
   abbrev pub BringsToday : Files D → Ended (Result Migrated Fault) (FileLeft D g) → Type 0
   BringsToday files (Closed (Ok count) back) = StandAnewIn files back
   BringsToday files _ = Unit {0}

@@ -84,12 +84,12 @@ module _ {S : Type 0} (state_of : Held S → State) where
       (before : Office) → StandForSound old before → (after : Office)
       × Did office_protocol (RunsToAStop old before after found) limit start end outcome
 
-  -- the same, however that ended
+  -- a stream was served to a stop that leaves these tables, however the stream ended
   abbrev pub IsCutShort : ℕ → Ends → Ends → Content → Content → Type 0
   IsCutShort limit start end old found =
       (outcome : Result Served ServeFault) × IsServedToAStop limit start end old outcome found
 
--- the same over files
+-- a stream over files was served to a stop that leaves these tables, however the stream ended
 abbrev pub IsCutShortIn : {D : Type 0} (g : Disk D) → ℕ → Ends → Ends → Content → Content → Type 0
 IsCutShortIn {D} g limit start end old found =
     IsCutShort (file_state {D = D} {g = g}) limit start end old found

@@ -1,11 +1,13 @@
 //! The office of a file, for the jobs of the program: opened, used and closed again.
 
-ghost use Rattle.std.specs.Prelude.{◌≡◌};
+ghost use Rattle.std.specs.Prelude.{◌≡◌, [], MatchResult};
 ghost use Rattle.office_http_framing.specs.Serve.{ends_of};
 ghost use Rattle.signal_office_in_file.specs.Ended.{EndsOver, IsCounted, stream_work, task_work};
+ghost use Rattle.signal_office_file.specs.Calls.{calls_of};
 ghost use Rattle.signal_office_file.specs.InFile.{IsUnclosed, WasClean, files_view, rows_counted};
 ghost use Rattle.signal_office_file.specs.Serving.{IsCutShortIn};
 
+use crate::calls::Call;
 use crate::closing::close_office;
 use crate::copying::copied_in;
 use crate::left::FileLeft;
@@ -17,7 +19,7 @@ use crate::serving::serve_file;
 use office_http::{ServeFault, Served, Sink, Source};
 use office_tables::Migrated;
 use signal_office_faults::Fault;
-use signal_office_in_file::{Ended, OfficeInFile, OfficeTask};
+use signal_office_in_file::{Ended, Kind, OfficeInFile, OfficeTask};
 use sqlite::{FileFrom, Options, Start, Wary};
 use sqlite_disk::{Disk, Files};
 use std::alloc::Global;
@@ -26,6 +28,8 @@ use std::alloc::Global;
 fn first_fault<T: Drop, E>(done: Result<T, E>, closing: Fault) -> Fault
 where
     Fault: From<E>,
+    ensures { MatchResult done (λ _. result ≡ closing)
+        (λ cause. ⟦<Fault as From<E>>⟧.from_gives cause result) }
 {
     match done {
         Ok(_) => closing,
@@ -125,19 +129,37 @@ fn noted<T, L>(rt: &HostRuntime, path: &str, ended: Ended<T, L>) -> Ended<T, L>
     ended
 }
 
-/// The tables of a database in a file of the system. What it held as it was opened is `Wary`'s: no
-/// clause ties that to the path.
-pub struct TablesInFile;
+/// The tables of databases in files of the system, and the calls that were made. What a file held as
+/// it was opened is `Wary`'s: no clause ties that to the path.
+#[derive(Drop)]
+pub struct TablesInFile {
+    calls: Vec<Call>,
+}
+
+impl TablesInFile {
+    /// No call was made.
+    pub fn new(alloc: Global) -> TablesInFile
+        ensures { calls_of result.calls.items ≡ [] }
+    {
+        TablesInFile {
+            calls: Vec::new(alloc),
+        }
+    }
+}
 
 impl OfficeInFile for TablesInFile {
     ghost use Rattle.sqlite.specs.WalFiles.{image_at};
+    ghost use Rattle.signal_office_file.specs.Calls.{calls_of};
     ghost use Rattle.signal_office_file.specs.InFile.{view_at};
 
     type Left = FileLeft<FileFrom<Wary>>;
 
     ghost known = { view_at ⟦<FileFrom<Wary> as Disk>⟧ (image_at ⟦<Wary as Start>⟧) };
 
+    ghost calls = { λ it. calls_of it.calls.items };
+
     fn do_task<Done: Drop, T: OfficeTask<Done>, W: Sink>(
+        &mut self,
         rt: &HostRuntime,
         alloc: Global,
         path: &str,
@@ -145,7 +167,7 @@ impl OfficeInFile for TablesInFile {
         task: &T,
         out: &mut W,
     ) -> Ended<Result<Done, Fault>, FileLeft<FileFrom<Wary>>> {
-        match files_at::<Wary>(rt, path, wait) {
+        match files_at::<Wary>(rt, alloc, &mut self.calls, path, wait, task.call_kind()) {
             Ok((files, options)) => {
                 noted(rt, path, done_in(rt, alloc, files, options, task, out))
             }
@@ -154,6 +176,7 @@ impl OfficeInFile for TablesInFile {
     }
 
     fn answer<R: Source, W: Sink>(
+        &mut self,
         rt: &HostRuntime,
         alloc: Global,
         path: &str,
@@ -162,7 +185,7 @@ impl OfficeInFile for TablesInFile {
         out: &mut W,
         max_requests: u32,
     ) -> Ended<Result<Served, ServeFault>, FileLeft<FileFrom<Wary>>> {
-        match files_at::<Wary>(rt, path, wait) {
+        match files_at::<Wary>(rt, alloc, &mut self.calls, path, wait, Kind::Requests) {
             Ok((files, options)) => {
                 let ended = answered_in(alloc, files, options, source, out, max_requests);
                 noted(rt, path, ended)
@@ -172,25 +195,27 @@ impl OfficeInFile for TablesInFile {
     }
 
     fn migrate(
+        &mut self,
         rt: &HostRuntime,
         alloc: Global,
         path: &str,
         wait: u32,
     ) -> Ended<Result<u128, Fault>, FileLeft<FileFrom<Wary>>> {
-        match files_at::<Wary>(rt, path, wait) {
+        match files_at::<Wary>(rt, alloc, &mut self.calls, path, wait, Kind::Migration) {
             Ok((files, options)) => noted(rt, path, migrated_in(alloc, files, options)),
             Err(fault) => Ended::Unopened(fault),
         }
     }
 
     fn copy<W: Sink>(
+        &mut self,
         rt: &HostRuntime,
         alloc: Global,
         path: &str,
         wait: u32,
         out: &mut W,
     ) -> Ended<Result<(), Fault>, FileLeft<FileFrom<Wary>>> {
-        match files_at::<Wary>(rt, path, wait) {
+        match files_at::<Wary>(rt, alloc, &mut self.calls, path, wait, Kind::Copy) {
             Ok((files, options)) => noted(rt, path, copied_in(alloc, files, options, out)),
             Err(fault) => Ended::Unopened(fault),
         }

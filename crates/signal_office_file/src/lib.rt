@@ -3,6 +3,7 @@
 #![tactic(auto)]
 
 mod blocks;
+mod calls;
 mod closing;
 mod copying;
 mod fault;
@@ -22,6 +23,5 @@ pub use in_file::{TablesInFile, answered_in, done_in};
 pub use left::{FileLeft, Refused};
 pub use migrating::migrate_file;
 pub use opening::{FileOffice, open_file};
-pub use paths::files_at;
 pub use serving::{ServedOffice, serve_file};
 pub use waiting::Begin;

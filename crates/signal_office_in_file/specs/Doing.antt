@@ -1,10 +1,13 @@
 -- A task that was done by an office.
-use Rattle.std.specs.Prelude.{Result}
+use Rattle.std.specs.Prelude.{◌≡◌, Result}
 use Rattle.office_http_framing.specs.Ends.{Told}
+use Rattle.office_tables_shelf.specs.Content.{Content}
 use Rattle.office_tables_shelf.specs.declared.shelf.Shelf.{Ghosts}
 use Rattle.signal_office_faults.specs.declared.fault.Fault.{Fault}
 use Rattle.signal_office_in_file.specs.Ended.{Effect}
 use Rattle.signal_office_in_file.specs.Stopping.{StopsWithin}
+use Rattle.signal_office_in_file.specs.declared.Kind.{Kind}
+use Rattle.signal_office_in_file.specs.declared.Kind.TheVariants as kind
 
 -- A task was done by an office: nothing makes a disk clean again, or an office honest; on an honest office it did what it does; a stop leaves what it may
 -- leave; and its output took what it says.
@@ -14,3 +17,12 @@ pub record DoesTask {S T : Type 0} (g : Ghosts S) (old new : S) (effect : Effect
   pub does : g.is_clean new → g.is_honest new → effect.does (g.content old) result (g.content new) start end
   pub stop : StopsWithin g old new effect.leaves
   pub said : effect.says start end
+
+-- a task of this kind looks at the tables
+abbrev pub IsLook : Kind → Type 0
+IsLook kind.Look = Unit {0}
+IsLook other = ⊥
+
+-- a task of this effect leaves the tables as they were
+abbrev pub KeepsTables : {T : Type 0} → Effect T → Type 0
+KeepsTables {T} effect = (old : Content) (done : Result T Fault) (new : Content) (start end : Told) → effect.does old done new start end → new ≡ old

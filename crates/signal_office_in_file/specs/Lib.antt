@@ -1,3 +1,4 @@
 pub mod Ended
 pub mod Stopping
 pub mod Doing
+pub mod Calls

@@ -31,7 +31,7 @@ abbrev pub AfterStepOf : Office → PlainRequest → Content → Type 0
 AfterStepOf before request found =
     (answer : List ℕ) × (after : Office) × office_protocol.step before request answer after × StandForSound found after
 
--- the same of one of the requests, whether or not it was answered so; those before it were answered in turn
+-- the tables stand for the office after one of the requests, whether or not that was answered so; the requests before it were answered in turn
 abbrev pub AfterRequest : Office → List PlainRequest → List (List ℕ) → Content → Type 0
 AfterRequest before (request ∷ requests) (answer ∷ answers) found =
     AfterStepOf before request found
@@ -39,8 +39,8 @@ AfterRequest before (request ∷ requests) (answer ∷ answers) found =
 AfterRequest before _ _ found = ⊥
 
 -- A stream was served from whichever office the tables stood for. What is left of it are those tables, or those after one of its requests.
-abbrev pub AnswersToAStop : ℕ → Ends → Ends → Content → (leaves : (Content → Type 0) → Type 0) → Type 0
-AnswersToAStop limit start end old leaves =
-    (before : Office) → StandForSound old before → (after : Office) × (outcome : Result Served ServeFault)
+abbrev pub AnswersToAStop : ℕ → Ends → Ends → Content → Result Served ServeFault → (leaves : (Content → Type 0) → Type 0) → Type 0
+AnswersToAStop limit start end old outcome leaves =
+    (before : Office) → StandForSound old before → (after : Office)
     × Did office_protocol (λ requests answers. KeepsLaws before requests answers after
     × leaves (λ found. (found ≡ old) ⊎ AfterRequest before requests answers found)) limit start end outcome

@@ -40,13 +40,37 @@ impl<T, L: Drop> Ended<T, L> {
     }
 }
 
+/// What is done over a file.
+#[derive(Clone, Copy)]
+pub enum Kind {
+    /// A task that leaves its tables as they were.
+    Look,
+    /// A task that may change them.
+    Change,
+    /// Requests that are answered.
+    Requests,
+    /// They are brought to today's version.
+    Migration,
+    /// Its bytes are copied.
+    Copy,
+}
+
 /// What an office over any tables does, and gives.
 pub trait OfficeTask<Done> {
+    ghost use Rattle.std.specs.Prelude.{◌≡◌};
     ghost use Rattle.signal_office_in_file.specs.Ended.{Effect};
-    ghost use Rattle.signal_office_in_file.specs.Doing.{DoesTask};
+    ghost use Rattle.signal_office_in_file.specs.Doing.{DoesTask, IsLook, KeepsTables};
+    ghost use Rattle.signal_office_in_file.specs.declared.Kind.{Kind};
 
     // What it does to the tables of an office and to its output.
     ghost effect: { Self → Effect Done };
+
+    // Whether it looks at them, or changes them.
+    ghost kind: { Self → Kind };
+
+    /// Whether it looks at the tables, or changes them.
+    fn call_kind(&self) -> Kind
+        ensures { result ≡ kind self.now };
 
     /// Does it by an office, which is given back.
     fn done_with<S: Shelf, W: Sink>(
@@ -58,14 +82,20 @@ pub trait OfficeTask<Done> {
     ) -> (Office<S>, Result<Done, Fault>)
         ensures { DoesTask S.Shelf office result.0 (effect self.now) result.1
             (W.told out.old) (W.told out.new) };
+
+    // What only looks leaves the tables as they were.
+    ghost keeps: { (it : Self) → IsLook (kind it) → KeepsTables (effect it) };
 }
 
-/// How the office of a file is opened, used and closed again. The jobs know no database. Where
-/// another run has the file open, each call tries again to open it for `wait` seconds.
+/// The opener of the offices of files: how each is opened, used and closed again. The jobs know no
+/// database. Each call is noted before the file is opened; where memory for that is refused, it is
+/// not made. Where another run has the file open, each tries again to open it for `wait` seconds.
 pub trait OfficeInFile {
-    ghost use Rattle.std.specs.Prelude.{◌≡◌};
+    ghost use Rattle.std.specs.Prelude.{◌≡◌, List, Err};
     ghost use Rattle.office_http_framing.specs.Serve.{ends_of};
+    ghost use Rattle.signal_office_in_file.specs.Calls.{FileCall, IsCalled, called, unmade};
     ghost use Rattle.signal_office_in_file.specs.Ended.{EndsOver, FileView, IsCounted, copy_work, stream_work, task_work};
+    ghost use Rattle.signal_office_in_file.specs.declared.Kind.TheVariants as kind;
 
     /// What is left of the file.
     type Left: Drop;
@@ -73,8 +103,12 @@ pub trait OfficeInFile {
     // What is known of the file, and of what is left of it.
     ghost known: { FileView Self.Left };
 
+    // The calls that were made, in their order.
+    ghost calls: { Self → List FileCall };
+
     /// Does a task over the tables of a file, which are made where there are none.
     fn do_task<Done: Drop, T: OfficeTask<Done>, W: Sink>(
+        &mut self,
         rt: &HostRuntime,
         alloc: Global,
         path: &str,
@@ -82,11 +116,14 @@ pub trait OfficeInFile {
         task: &T,
         out: &mut W,
     ) -> Ended<Result<Done, Fault>, Self::Left>
-        ensures { EndsOver known (task_work (T.effect task.now) (W.told out.old) (W.told out.new)
-            (out.new ≡ out.old)) result };
+        ensures ends { EndsOver known (task_work (T.effect task.now) (W.told out.old)
+            (W.told out.new) (out.new ≡ out.old)) result }
+        ensures noted { IsCalled (calls self.old) (calls self.new)
+            (called path.now wait (T.kind task.now)) (result ≡ unmade) };
 
     /// Answers the requests of the source over the tables of a file.
     fn answer<R: Source, W: Sink>(
+        &mut self,
         rt: &HostRuntime,
         alloc: Global,
         path: &str,
@@ -95,28 +132,36 @@ pub trait OfficeInFile {
         out: &mut W,
         max_requests: u32,
     ) -> Ended<Result<Served, ServeFault>, Self::Left>
-        ensures { EndsOver known (stream_work max_requests
+        ensures ends { EndsOver known (stream_work max_requests
             (ends_of (R.told source.old) (W.told out.old))
             (ends_of (R.told source.new) (W.told out.new))
-            ((source.new ≡ source.old) × (out.new ≡ out.old))) result };
+            ((source.new ≡ source.old) × (out.new ≡ out.old))) result }
+        ensures noted { IsCalled (calls self.old) (calls self.new)
+            (called path.now wait kind.Requests) (result ≡ unmade) };
 
     /// Brings the tables of a file to today's version, and gives how many rows were written anew.
     fn migrate(
+        &mut self,
         rt: &HostRuntime,
         alloc: Global,
         path: &str,
         wait: u32,
     ) -> Ended<Result<u128, Fault>, Self::Left>
-        ensures { IsCounted known result };
+        ensures counted { IsCounted known result }
+        ensures noted { IsCalled (calls self.old) (calls self.new)
+            (called path.now wait kind.Migration) (result ≡ unmade) };
 
     /// Copies the log of a file into it, and then the file's bytes into the output.
     fn copy<W: Sink>(
+        &mut self,
         rt: &HostRuntime,
         alloc: Global,
         path: &str,
         wait: u32,
         out: &mut W,
     ) -> Ended<Result<(), Fault>, Self::Left>
-        ensures { EndsOver known
-            (copy_work known.alone (W.told out.old) (W.told out.new)) result };
+        ensures ends { EndsOver known
+            (copy_work known.alone (W.told out.old) (W.told out.new)) result }
+        ensures noted { IsCalled (calls self.old) (calls self.new)
+            (called path.now wait kind.Copy) (result ≡ unmade) };
 }

@@ -7,3 +7,4 @@ pub mod RevisedLemmas
 pub mod RunLemmas
 pub mod ServingLemmas
 pub mod StopLemmas
+pub mod CallsLemmas

@@ -3,20 +3,20 @@ use Rattle.std.proofs.Common.{◌≡◌, ◌≢◌, ℕ, Bool, true, List, Ok, E
 use Rattle.std.specs.Prelude.{IsErrAnd, Result}
 use Rattle.office_tables_shelf.specs.Content.{Content}
 use Rattle.signal_office_commands.specs.{Comparing.ComparesRunning, Explaining.ExplainsDraft, Revising.RevisesAs}
-use Rattle.signal_office_commands.specs.declared.revising.{Outcome.TheVariants.Open, Revised.Revised}
+use Rattle.signal_office_commands.specs.declared.revising.Revised.{Revised}
 use Rattle.signal_office_line.specs.declared.job.Edit.{Edit}
 use Rattle.signal_office_faults.specs.declared.fault.Fault.{Fault}
 use Rattle.signal_office_faults.specs.declared.fault.Fault.TheVariants as told
-use Rattle.signal_office_jobs.specs.Requests.{ComparesWith, EditsBy, TellsEdit}
+use Rattle.signal_office_jobs.specs.Requests.{ComparesWith, EditsBy, TellsEdit, TellsOpen}
 use Rattle.signal_office_jobs.specs.declared.done.Done.{Done}
+use Rattle.signal_rules.specs.declared.violation.Violation.{Violation}
 
-pub not_explained : (csv lines : List ℕ) (commit explain : Bool) (id : ℕ) (tables : Content) (revised : Revised) (result : Result Done Fault) (fault : Fault)
-    → IsErrAnd result (λ why. why ≡ fault)
-    → (fault ≢ told.Memory → (explain ≡ true) × (revised.outcome ≡ Open) × ExplainsDraft tables id (Err fault))
-    → TellsEdit csv lines commit explain id tables (Ok revised) result
-not_explained csv lines commit explain id tables revised (Ok done) fault is says = absurd is
-not_explained csv lines commit explain id tables revised (Err why) fault is says =
-    subst (λ (w : Fault). TellsEdit csv lines commit explain id tables (Ok revised) (Err w)) (sym is) says
+pub not_explained : (commit explain : Bool) (id : ℕ) (tables : Content) (violations : List Violation) (result : Result Done Fault) (fault : Fault)
+    → IsErrAnd result (λ why. why ≡ fault) → (fault ≢ told.Memory → (explain ≡ true) × ExplainsDraft tables id (Err fault))
+    → TellsOpen commit explain id tables violations result
+not_explained commit explain id tables violations (Ok done) fault is says = absurd is
+not_explained commit explain id tables violations (Err why) fault is says =
+    subst (λ (w : Fault). TellsOpen commit explain id tables violations (Err w)) (sym is) says
 
 -- an edit, and then a look at the tables that it left
 pub edits_so : (csv lines : List ℕ) (edit : Edit) (old middle new : Content) (revised : Result Revised Fault) (result : Result Done Fault) → new ≡ middle

@@ -19,7 +19,7 @@ use Rattle.signal_office_jobs.specs.Serving.{InTurn, ServesAs, ServesPort}
 use Rattle.signal_office_jobs.specs.declared.done.Done.{Done}
 
 -- a fault that is passed on
-pub told_on : (why : Fault) (result : Result Done Fault) → IsErrAnd result (λ fault. fault ≡ why) → TellsOutcome {A = ⊤} (λ _. []) (λ _. 0) (Err why) result
+pub told_on : (why : Fault) (result : Result Done Fault) → IsErrAnd result (λ fault. fault ≡ why) → TellsOutcome {A = ⊤} (λ _. []) (Err why) result
 told_on why (Ok done) is = absurd is
 told_on why (Err fault) is = ap Err is
 
@@ -45,7 +45,7 @@ module _ {S : Type 0} (g : Ghosts S) where
   )
 
   pub serves : (port count : ℕ) (old new : S) (start end : Told) (counts : Option ListenCounts) (outcome : Result ⊤ Fault) (result : Result Done Fault)
-      → TellsOutcome (λ _. []) (λ _. 0) outcome result → (served : List Connected) × ServesPort port count start end counts served outcome
+      → TellsOutcome (λ _. []) outcome result → (served : List Connected) × ServesPort port count start end counts served outcome
       → ((before : Office) (tables : Content) → KeepsState storage old tables before
       → (served : List Connected) × Listens storage old tables before new served × ServesPort port count start end counts served outcome)
       → g.is_honest new → ServesAs port count (g.content old) result (g.content new) start end

@@ -34,7 +34,7 @@ module _ {Left : Type 0} (view : FileView Left) where
     pub over : EndsOver view (copy_work view.alone start end) ended
     pub put : IsPut (joined (told_by ended)) result
 
-  -- the same; or there was no output, or no memory for its name
+  -- the office of the file was copied; or there was no output, or no memory for its name
   abbrev pub CopiesTo : Result ⊤ Fault → Type 0
   CopiesTo result = CopiesOffice result ⊎ ((result ≡ Err fault.Write) ⊎ (result ≡ Err fault.Memory))
 
@@ -44,10 +44,10 @@ module _ {Left : Type 0} (view : FileView Left) where
     pub copied : Result ⊤ Fault
     pub copies : CopiesTo copied
     pub done : Result Done Fault
-    pub tells : TellsOutcome (λ _. copied_line) (λ _. 0) copied done
+    pub tells : TellsOutcome (λ _. copied_line) copied done
     pub prints : PrintsDone done start end result
 
-  -- the same; or the file is not there, or the place is not free, and that is told
+  -- a copy was made, and what came of it is printed; or the file is not there, or the place is not free, and that is told
   abbrev pub BacksUpFile : Bool → Output
   BacksUpFile force start end result =
       BacksUp force start end result

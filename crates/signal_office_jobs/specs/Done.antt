@@ -6,33 +6,40 @@ use Rattle.signal_compare.specs.Text.{comparison_text}
 use Rattle.office_files.specs.Timing.{changes_csv_text}
 use Rattle.signal_rules.specs.declared.reason.Explained.{Explained}
 use Rattle.signal_rules.specs.declared.violation.Violation.{Violation}
-use Rattle.signal_office_commands.specs.declared.revising.Outcome.{Outcome}
-use Rattle.signal_office_commands.specs.declared.revising.Outcome.TheVariants.{Open, Same, Committed}
 use Rattle.signal_office_faults.specs.declared.fault.Fault.{Fault}
 use Rattle.signal_office_faults.specs.declared.fault.Fault.TheVariants as fault
 use Rattle.signal_office_jobs.specs.declared.done.Done.{Done}
+use Rattle.signal_office_jobs.specs.declared.done.Done.TheVariants as done
 
 -- the status with which the command ends
 abbrev pub status_of : Done → ℕ
-status_of done = done.status
+status_of (done.Text text status) = status
+status_of other = 0
 
 -- what the command prints on standard output
 abbrev pub text_of : Done → List ℕ
-text_of done = done.text.items
+text_of (done.Text text status) = text.items
+text_of (done.Fixed line) = line.now
+text_of (done.Line line) = line.bytes
 
 -- this text is told, with this status, or memory for it was refused
 abbrev pub TellsAs : (text : List ℕ) → (status : ℕ) → Result Done Fault → Type 0
 TellsAs text status (Ok done) = (text_of done ≡ text) × (status_of done ≡ status)
 TellsAs text status (Err why) = why ≡ fault.Memory
 
--- The result tells of what was done: its fault; or, where it was done, this text and status, or that memory for the text was refused.
-abbrev pub TellsOutcome : {A : Type 0} → (text : A → List ℕ) → (status : A → ℕ) → Result A Fault → Result Done Fault → Type 0
-TellsOutcome text status (Ok done) result = TellsAs (text done) (status done) result
-TellsOutcome text status (Err why) result = result ≡ Err why
+-- this line is told, with status 0, whatever memory there is
+abbrev pub TellsLine : (line : List ℕ) → Result Done Fault → Type 0
+TellsLine line (Ok done) = (text_of done ≡ line) × (status_of done ≡ 0)
+TellsLine line (Err why) = ⊥
+
+-- The result tells of what was done: its fault; or, where it was done, this line.
+abbrev pub TellsOutcome : {A : Type 0} → (line : A → List ℕ) → Result A Fault → Result Done Fault → Type 0
+TellsOutcome line (Ok done) result = TellsLine (line done) result
+TellsOutcome line (Err why) result = result ≡ Err why
 
 -- something came of work, and the result tells it
-abbrev pub TellsOf : {A : Type 0} → (came : Result A Fault → Type 0) → (text : A → List ℕ) → (status : A → ℕ) → Result Done Fault → Type 0
-TellsOf {A} came text status result = (outcome : Result A Fault) × came outcome × TellsOutcome text status outcome result
+abbrev pub TellsOf : {A : Type 0} → (came : Result A Fault → Type 0) → (line : A → List ℕ) → Result Done Fault → Type 0
+TellsOf {A} came line result = (outcome : Result A Fault) × came outcome × TellsOutcome line outcome result
 
 -- the status of records that were tried: 1 where one would be refused
 abbrev pub refused_status : (refused : ℕ) → ℕ
@@ -42,26 +49,22 @@ refused_status refused = if refused == 0 then 0 else 1
 abbrev pub checked_status : List Violation → ℕ
 checked_status violations = if length violations == 0 then 0 else 3
 
--- the same of a plan whose reasons are told
+-- the status of a plan whose reasons are told: 3 where it breaks a rule
 abbrev pub explained_status : List Explained → ℕ
 explained_status found = if length found == 0 then 0 else 3
 
--- the status of an edited draft: 3 where it was to be committed, and breaks a rule
-abbrev pub edited_status : Bool → Outcome → List Violation → ℕ
-edited_status commit Same violations = 0
-edited_status commit Open violations = if commit then checked_status violations else 0
-edited_status commit Committed violations = if commit then checked_status violations else 0
+-- the status of a draft that stays open: 3 where it was to be committed, and breaks a rule
+abbrev pub open_status : (commit : Bool) → List Violation → ℕ
+open_status commit violations = if commit then checked_status violations else 0
 
 -- the status of a comparison: 4 where the plans differ
 abbrev pub compared_status : List Difference → ℕ
 compared_status differences = if length differences == 0 then 0 else 4
 
--- what became of an edited draft; that one which was to be committed was not is told
-abbrev pub outcome_line : (commit : Bool) → Outcome → List ℕ
-outcome_line commit Same = codes "no changes\n"
-outcome_line commit Committed = codes "committed\n"
-outcome_line true Open = codes "not committed: the draft stays open; go on with edit, or drop it with abandon\n"
-outcome_line false Open = []
+-- what is told of a draft that stays open: that it was to be committed and was not
+abbrev pub open_line : (commit : Bool) → List ℕ
+open_line true = codes "not committed: the draft stays open; go on with edit, or drop it with abandon\n"
+open_line false = []
 
 -- what plans differ in, as a text or as CSV
 abbrev pub compared_text : (csv : Bool) → List Difference → List ℕ

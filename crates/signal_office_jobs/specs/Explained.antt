@@ -18,6 +18,7 @@ use Rattle.signal_office_reports.specs.declared.seen.Seen.{Seen}
 
 -- ---- the record of a plan's CSV file that spells nothing
 
+-- a bad record on a line, with the hint on it, if there is one
 abbrev pub with_hint : BadRow → (line : ℕ) → Option Hint → Fault
 with_hint bad line (Some hint) = fault.Explained bad line hint
 with_hint bad line None = fault.Csv (file.Row bad)
@@ -27,19 +28,22 @@ abbrev pub explained_file : (csv lines : List ℕ) → Fault → Fault
 explained_file csv lines (fault.Csv (file.Row bad)) = with_hint bad (line_of_record lines bad.at) (hint_of csv bad)
 explained_file csv lines why = why
 
--- the same, unless memory for it is refused
+-- a fault of a file is explained, unless memory for that is refused
 abbrev pub IsFileExplained : (csv lines : List ℕ) → (why told : Fault) → Type 0
 IsFileExplained csv lines why told = (told ≡ explained_file csv lines why) ⊎ (told ≡ fault.Memory)
 
 -- ---- who owns a draft
 
+-- the fault of a clerk who does not own the draft
 abbrev pub not_owner : Fault
 not_owner = fault.Refused (refusal.Draft draft.NotOwner)
 
+-- the owner of a draft is told, or that it is another clerk where the office shows none
 abbrev pub TellsOwner : (owner : Option (List ℕ)) → Fault → Type 0
 TellsOwner (Some owner) told = (clerk : ArrayString 40) × (clerk.bytes ≡ owner) × (told ≡ fault.HeldBy clerk)
 TellsOwner None told = told ≡ not_owner
 
+-- the owner of the draft of a shown intersection is told, or why it is not shown
 abbrev pub TellsOwnerIn : Result IntersectionState Fault → Fault → Type 0
 TellsOwnerIn (Ok state) told = TellsOwner state.owner told
 TellsOwnerIn (Err why) told = told ≡ why
@@ -52,11 +56,12 @@ IsOwnerTold tables id told =
 
 -- ---- an edit that is refused
 
+-- the fault of an edit is explained: another owner by name, a bad record with its line and what is wrong there
 abbrev pub IsEditExplained : (csv lines : List ℕ) → (id : ℕ) → Content → (why told : Fault) → Type 0
 IsEditExplained csv lines id tables (fault.Refused (refusal.Draft draft.NotOwner)) told = IsOwnerTold tables id told
 IsEditExplained csv lines id tables why told = IsFileExplained csv lines why told
 
--- it is told with more where that is asked
+-- a refused edit is told, with its explanation where that is asked
 abbrev pub IsEditRefused : (explain : Bool) → (csv lines : List ℕ) → (id : ℕ) → Content → (why told : Fault) → Type 0
 IsEditRefused true csv lines id tables why told = IsEditExplained csv lines id tables why told
 IsEditRefused false csv lines id tables why told = told ≡ why

@@ -27,7 +27,7 @@ file_shown (file.Cabinet id) = shown.Export id view.Cabinet
 file_shown (file.Index day) = shown.Index day
 file_shown (file.Page id) = shown.Page id true
 
--- those of an intersection
+-- the files of an intersection in a folder of a kind
 abbrev pub files_on : Folder → (id : ℕ) → List FileOf
 files_on folder.Records id = file.Plan id ∷ file.Cabinet id ∷ []
 files_on (folder.Pages day) id = file.Page id ∷ []

@@ -33,9 +33,10 @@ pub record TellsMigration {Left : Type 0} (view : FileView Left) (start end : To
   pub ended : Ended (Result ℕ Fault) Left
   pub counted : IsCounted view ended
   pub done : Result Done Fault
-  pub tells : TellsOutcome migrated_line (λ _. 0) (joined (told_by ended)) done
+  pub tells : TellsOutcome migrated_line (joined (told_by ended)) done
   pub prints : PrintsDone done start end result
 
+-- a file was migrated, and that is told; or it is not there, or empty without a log, which is told as another version
 abbrev pub MigratesFile : {Left : Type 0} → FileView Left → Output
 MigratesFile view start end result =
     TellsMigration view start end result ⊎ ((why : Fault) × IsMissing fault.Version why × TellsNothing why start end result)

@@ -11,3 +11,5 @@ pub mod Backup
 pub mod Memory
 pub mod Jobs
 pub mod Runs
+pub mod Calls
+pub mod Looks

@@ -62,7 +62,7 @@ abbrev pub IsPlanRead : (other : Bool) → CsvFile → CsvText → (start end er
 IsPlanRead other file csv start end err said =
     IsCsvRead file csv.text.items csv.lines.items start end × SaysNotes (notes_in other csv.text.items) err said
 
--- it was not, and nothing was said
+-- the plan in a CSV file was not read, and nothing was said
 abbrev pub IsPlanUnread : CsvFile → Fault → (start end err said : Told) → Type 0
 IsPlanUnread file why start end err said = GivesNoFile (is_input file) why start end × (said ≡ err)
 
@@ -88,6 +88,7 @@ abbrev pub IsAnyPlanRead : Option CsvFile → CsvText → (start end err said : 
 IsAnyPlanRead (Some file) csv start end err said = IsPlanRead false file csv start end err said
 IsAnyPlanRead None csv start end err said = IsLeft csv start end err said
 
+-- why a plan whose file may be left out is not read: without a file there is no reason
 abbrev pub IsAnyPlanUnread : Option CsvFile → Fault → (start end err said : Told) → Type 0
 IsAnyPlanUnread (Some file) why start end err said = IsPlanUnread file why start end err said
 IsAnyPlanUnread None why start end err said = ⊥
@@ -96,7 +97,7 @@ IsAnyPlanUnread None why start end err said = ⊥
 abbrev pub AreRecordsRead : CsvFile → (until : Option ℕ) → CsvText → (start end : Told) → Type 0
 AreRecordsRead file until csv start end = IsCsvRead file csv.text.items csv.lines.items start end × AreInTime until csv.text.items (Ok tt)
 
--- they were not, or one is, or they are not looked at
+-- why records are not taken: they were not read, or one is of a later day, or their days are not looked at
 abbrev pub AreRecordsUnread : CsvFile → (until : Option ℕ) → Fault → (start end : Told) → Type 0
 AreRecordsUnread file until why start end =
     GivesNoFile (is_input file) why start end
@@ -109,7 +110,7 @@ IsReadFor (request.Edit edit) csv start end err said = IsAnyPlanRead edit.csv cs
 IsReadFor (request.CompareRunning id plan as_csv) csv start end err said = IsPlanRead false plan csv start end err said
 IsReadFor other csv start end err said = IsLeft csv start end err said
 
--- or why it is not
+-- why nothing is read for a request that reads a CSV file
 abbrev pub IsUnreadFor : Request → Fault → (start end err said : Told) → Type 0
 IsUnreadFor (request.Import file until check) why start end err said = AreRecordsUnread file until why start end × (said ≡ err)
 IsUnreadFor (request.Edit edit) why start end err said = IsAnyPlanUnread edit.csv why start end err said

@@ -22,7 +22,7 @@ use Rattle.signal_office_faults.specs.declared.fault.Fault.{Fault}
 use Rattle.signal_office_faults.specs.declared.fault.Fault.TheVariants as fault
 use Rattle.signal_office_in_file.specs.Ended.{Effect}
 use Rattle.signal_office_in_file.specs.Stopping.{SameOr}
-use Rattle.signal_office_jobs.specs.Done.{TellsOf, compared_status, compared_text, edited_status, outcome_line, refused_status, status_of, text_of}
+use Rattle.signal_office_jobs.specs.Done.{TellsLine, TellsOf, compared_status, compared_text, open_line, open_status, refused_status, status_of, text_of}
 use Rattle.signal_office_jobs.specs.Explained.{IsEditRefused}
 use Rattle.signal_office_jobs.specs.Filled.{AreFilesOfAll, IsBeginning, IsUnfilled}
 use Rattle.signal_office_jobs.specs.declared.done.Done.{Done}
@@ -62,15 +62,17 @@ abbrev pub ShowsAs : Shown → Content → Result Done Fault → Type 0
 ShowsAs it tables (Ok done) = IsShown it tables (Ok (text_of done)) × (status_of done ≡ 0)
 ShowsAs it tables (Err why) = IsShown it tables (Err why)
 
--- one command was done, and the result tells what came of it
+-- an intersection was added, and the result tells what came of it
 abbrev pub AddsAs : (id interval : ℕ) → (name : List ℕ) → Content → Result Done Fault → Content → Type 0
-AddsAs id interval name old result new = TellsOf (AddsIntersection id interval name old new) entered_line (λ _. 0) result
+AddsAs id interval name old result new = TellsOf (AddsIntersection id interval name old new) entered_line result
 
+-- the records of a file were imported, and the result tells what came of it
 abbrev pub ImportsAs : (csv : List ℕ) → Content → Result Done Fault → Content → Type 0
-ImportsAs csv old result new = TellsOf (Imports csv old new) imported_line (λ _. 0) result
+ImportsAs csv old result new = TellsOf (Imports csv old new) imported_line result
 
+-- a draft was dropped, and the result tells what came of it
 abbrev pub AbandonsAs : (id : ℕ) → (clerk : List ℕ) → Content → Result Done Fault → Content → Type 0
-AbandonsAs id clerk old result new = TellsOf (Abandons id clerk old new) (λ _. codes "abandoned\n") (λ _. 0) result
+AbandonsAs id clerk old result new = TellsOf (Abandons id clerk old new) (λ _. codes "abandoned\n") result
 
 -- the records of the file were tried, and those that would be refused are told, with the status whether there are any; or a fault is
 abbrev pub ChecksAs : (csv lines : List ℕ) → Content → Result Done Fault → Type 0
@@ -78,24 +80,30 @@ ChecksAs csv lines old (Ok done) =
     (report : Report) × ChecksFile csv lines old (Ok report) × (text_of done ≡ report.text.items) × (status_of done ≡ refused_status report.refused)
 ChecksAs csv lines old (Err why) = ChecksFile csv lines old (Err why)
 
--- The rules that an edited draft breaks, as they are printed. With `explain`, a draft that stays open has each rule with a reason, by the draft in the
--- tables. Nothing is printed of a draft that would be the committed set.
-abbrev pub IsBroken : (explain : Bool) → Outcome → (id : ℕ) → Content → List Violation → (text : List ℕ) → Type 0
-IsBroken explain Same id tables violations text = text ≡ []
-IsBroken true Open id tables violations text = (found : List Explained) × ExplainsDraft tables id (Ok found) × (text ≡ explained_text_of found)
-IsBroken false Open id tables violations text = text ≡ violations_text violations
-IsBroken explain Committed id tables violations text = text ≡ violations_text violations
+-- the rules that a draft breaks which stays open, as they are printed: with `explain`, each with a reason, by the draft in the tables
+abbrev pub IsBroken : (explain : Bool) → (id : ℕ) → Content → List Violation → (text : List ℕ) → Type 0
+IsBroken true id tables violations text = (found : List Explained) × ExplainsDraft tables id (Ok found) × (text ≡ explained_text_of found)
+IsBroken false id tables violations text = text ≡ violations_text violations
 
--- The edit is told: its fault, explained where that is asked; or what the draft breaks, and what became of it. A fault after the edit is why a draft with reasons is not shown, or
--- that memory was refused.
+-- A draft that was made is told: what it breaks, where it stays open. A fault is why one with reasons is not shown, or that memory was refused.
+abbrev pub TellsOpen : (commit explain : Bool) → (id : ℕ) → Content → List Violation → Result Done Fault → Type 0
+TellsOpen commit explain id tables violations (Ok done) =
+    (broken : List ℕ) × IsBroken explain id tables violations broken
+    × (text_of done ≡ broken ++ open_line commit) × (status_of done ≡ open_status commit violations)
+TellsOpen commit explain id tables violations (Err why) = why ≢ fault.Memory → (explain ≡ true) × ExplainsDraft tables id (Err why)
+
+-- What became of a draft is told; that it was committed, or is as it stands, whatever memory there is.
+abbrev pub TellsRevised : (commit explain : Bool) → (id : ℕ) → Content → List Violation → Outcome → Result Done Fault → Type 0
+TellsRevised commit explain id tables violations Same = TellsLine (codes "no changes\n")
+TellsRevised commit explain id tables violations Committed = TellsLine (codes "committed\n")
+TellsRevised commit explain id tables violations Open = TellsOpen commit explain id tables violations
+
+-- The edit is told: what became of it, or its fault, explained where that is asked.
 abbrev pub TellsEdit : (csv lines : List ℕ) → (commit explain : Bool) → (id : ℕ) → Content → Result Revised Fault → Result Done Fault → Type 0
-TellsEdit csv lines commit explain id tables (Ok revised) (Ok done) =
-    (broken : List ℕ) × IsBroken explain revised.outcome id tables revised.violations broken
-    × (text_of done ≡ broken ++ outcome_line commit revised.outcome) × (status_of done ≡ edited_status commit revised.outcome revised.violations)
-TellsEdit csv lines commit explain id tables (Ok revised) (Err why) =
-    why ≢ fault.Memory → (explain ≡ true) × (revised.outcome ≡ Open) × ExplainsDraft tables id (Err why)
-TellsEdit csv lines commit explain id tables (Err why) result = (told : Fault) × (result ≡ Err told) × IsEditRefused explain csv lines id tables why told
+TellsEdit csv lines commit explain id tables (Ok revised) = TellsRevised commit explain id tables revised.violations revised.outcome
+TellsEdit csv lines commit explain id tables (Err why) = λ result. (told : Fault) × (result ≡ Err told) × IsEditRefused explain csv lines id tables why told
 
+-- The draft was edited from the tables, and what became of it is told, by the tables after that.
 abbrev pub EditsBy : (csv lines : List ℕ) → Edit → Content → Result Done Fault → Content → Type 0
 EditsBy csv lines edit old result new =
     (revised : Result Revised Fault) × RevisesAs csv edit.id edit.clerk edit old new revised × TellsEdit csv lines edit.commit edit.explain edit.id new revised result

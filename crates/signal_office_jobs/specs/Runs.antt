@@ -11,6 +11,7 @@ use Rattle.signal_office_commands.specs.Telling.{SaysFault}
 use Rattle.signal_office_faults.specs.Lines.{status_of}
 use Rattle.signal_office_faults.specs.declared.fault.Fault.{Fault}
 use Rattle.signal_office_faults.specs.declared.fault.Fault.TheVariants as fault
+use Rattle.signal_office_in_file.specs.Calls.{AreCalled, FileCall}
 use Rattle.signal_office_in_file.specs.Ended.{FileView}
 use Rattle.signal_office_line.specs.Refusals.{IsFoundInWords}
 use Rattle.signal_office_line.specs.declared.job.Job.{Job}
@@ -18,6 +19,7 @@ use Rattle.signal_office_line.specs.declared.job.JobFault.{JobFault}
 use Rattle.signal_office_line.specs.declared.job.JobFault.TheVariants.{Refused, Bad, NoMemory}
 use Rattle.signal_office_line.specs.declared.job.BadWord.{BadWord}
 use Rattle.signal_office_line.specs.declared.job.BadWord.TheVariants as word
+use Rattle.signal_office_jobs.specs.Calls.{calls_found}
 use Rattle.signal_office_jobs.specs.Jobs.{Course, JobDoes}
 use Rattle.signal_office_jobs.specs.Output.{Prints}
 
@@ -60,11 +62,12 @@ abbrev pub EndsWith : Result ℕ Fault → (said ended : Told) → (status : ℕ
 EndsWith (Ok given) said ended status = (ended ≡ said) × (status ≡ given)
 EndsWith (Err why) said ended status = SaysFault why said ended × (status ≡ status_of why)
 
--- A RUN OF THE PROGRAM, by its words: what they ask for is done, and its status is that of the run.
-pub record RunsWords {Left : Type 0} (files : FileView Left) (words : List Text) (start end : Ends) (err ended : Told) (status : ℕ) : Type 0 where
+-- A RUN OF THE PROGRAM, by its words: what they ask for is done, by the calls of it, and its status is that of the run.
+pub record RunsWords {Left : Type 0} (files : FileView Left) (words : List Text) (old new : List FileCall) (start end : Ends) (err ended : Told) (status : ℕ) : Type 0 where
   pub found : Result Job JobFault
   pub is_found : IsFoundInWords words found
   pub result : Result ℕ Fault
   pub said : Told
   pub does : DoesFound files found start end err said result
+  pub calls : AreCalled old new (calls_found found) result
   pub ends : EndsWith result said ended status

@@ -75,7 +75,7 @@ InTurn before (connection ∷ connections) after =
 pub record ServesAs (port count : ℕ) (old : Content) (result : Result Done Fault) (new : Content) (start end : Told) : Type 0 where
   pub counts : Option ListenCounts
   pub outcome : Result ⊤ Fault
-  pub tells : TellsOutcome (λ _. []) (λ _. 0) outcome result
+  pub tells : TellsOutcome (λ _. []) outcome result
   pub ended : (served : List Connected) × ServesPort port count start end counts served outcome
   pub served : (before : Office) → StandForSound old before → (connections : List Connected) × ServesPort port count start end counts connections outcome
       × (after : Office) × InTurn before connections after × StandForSound new after
@@ -98,7 +98,7 @@ abbrev pub AfterServing : Content → Content → Type 0
 AfterServing old found =
     (before : Office) → StandForSound old before → (connections : List Connected) × SameOr (λ _. AfterConnection before connections) old found
 
--- it says that it listens
+-- a port that is served says that it listens
 abbrev pub SaysPort : (port count : ℕ) → (start end : Told) → Type 0
 SaysPort port count start end =
     (counts : Option ListenCounts) × (outcome : Result ⊤ Fault) × (served : List Connected) × ServesPort port count start end counts served outcome

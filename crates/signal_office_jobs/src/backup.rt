@@ -1,6 +1,8 @@
 //! The office of a file, copied into another.
 
-ghost use Rattle.std.specs.Prelude.{◌≡◌};
+ghost use Rattle.std.specs.Prelude.{◌≡◌, ◌∷◌, []};
+ghost use Rattle.signal_office_in_file.specs.Calls.{AreCalled, called};
+ghost use Rattle.signal_office_in_file.specs.declared.Kind.TheVariants as kind;
 ghost use Rattle.signal_office_jobs.specs.Backup.{BacksUpFile, CopiesTo, FindsRoom, IsPut, leaves_room};
 
 use crate::done::{copied, joined, print_done};
@@ -103,25 +105,29 @@ fn put(
 
 /// Copies the office of a file into a new one beside another, and puts that in its place.
 fn copied_to<F: OfficeInFile>(
+    files: &mut F,
     rt: &HostRuntime,
     alloc: Global,
     db: &OfficeFile<'_>,
     to: &str,
 ) -> Result<(), Fault>
-    ensures { CopiesTo F.known result }
+    ensures copies { CopiesTo F.known result }
+    ensures calls { AreCalled (F.calls files.old) (F.calls files.new)
+        (called db.now.path db.now.wait kind.Copy ∷ []) result }
 {
     let part = format!(in alloc; "{to}.part")?;
     let Ok(file) = made_like(rt, db.path.as_str(), part.as_str()) else {
         return Err(Fault::Write);
     };
     let mut sink = ToWrite::new(file);
-    let ended = F::copy(rt, alloc, db.path.as_str(), db.wait, &mut sink);
+    let ended = files.copy(rt, alloc, db.path.as_str(), db.wait, &mut sink);
     put(rt, &sink.writer, joined(ended.told()), part.as_str(), to)
 }
 
 /// Copies the office of a file into another, where that is free or is to be replaced, and prints
 /// that. The file has to be there.
 pub(crate) fn backup<F: OfficeInFile, W: Sink>(
+    files: &mut F,
     rt: &HostRuntime,
     alloc: Global,
     db: &OfficeFile<'_>,
@@ -129,15 +135,16 @@ pub(crate) fn backup<F: OfficeInFile, W: Sink>(
     force: bool,
     out: &mut W,
 ) -> Result<u8, Fault>
-    ensures { BacksUpFile F.known force
-        (W.told out.old) (W.told out.new) result }
+    ensures does { BacksUpFile F.known force (W.told out.old) (W.told out.new) result }
+    ensures calls { AreCalled (F.calls files.old) (F.calls files.new)
+        (called db.now.path db.now.wait kind.Copy ∷ []) result }
 {
     if is_missing(rt, alloc, db.path.as_str())? {
         return Err(Fault::File);
     }
     let to = to.as_str();
     match room_at(rt, alloc, to, force) {
-        Ok(()) => print_done(copied(alloc, copied_to::<F>(rt, alloc, db, to)), out),
+        Ok(()) => print_done(copied(copied_to::<F>(files, rt, alloc, db, to)), out),
         Err(fault) => Err(fault),
     }
 }

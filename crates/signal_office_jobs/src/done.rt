@@ -1,17 +1,19 @@
 //! What a command prints, and the status with which it ends.
 
-ghost use Rattle.std.specs.Prelude.{◌≡◌, ◌++◌, IfOk};
+ghost use Rattle.std.specs.Prelude.{◌≡◌, ◌≤◌, ◌+◌, ◌++◌, Ok};
+ghost use Rattle.arrayvec.specs.ArrayString.{array_string_len};
 ghost use Rattle.office_files.specs.Violations.{violations_text, explained_text_of};
-ghost use Rattle.signal_office_jobs.specs.Done.{copied_line, TellsAs, TellsOutcome, checked_status, compared_status, compared_text, edited_status, explained_status, outcome_line, refused_status, status_of, text_of, migrated_line};
+ghost use Rattle.signal_office_jobs.specs.Done.{TellsAs, TellsLine, TellsOutcome, checked_status, compared_status, compared_text, copied_line, explained_status, migrated_line, open_line, open_status, refused_status, status_of, text_of};
 ghost use Rattle.signal_office_jobs.specs.Output.{Prints, PrintsDone, joined};
 ghost use Rattle.signal_office_jobs.specs.Requests.{entered_line, imported_line};
 
+use arrayvec::ArrayString;
+use itoa::{Buffer, Integer};
 use office_files::{changes_csv, explained_text, violation_text};
 use office_http::{Sink, write_all};
 use signal_compare::{Difference, changes, comparison_text};
-use signal_office_commands::{Entered, Imported, Outcome, Report, Revised};
+use signal_office_commands::{Entered, Imported, Report};
 use signal_office_faults::Fault;
-use signal_records::NoMemory;
 use signal_rules::{Explained, Violation};
 use std::alloc::Global;
 
@@ -28,30 +30,22 @@ const DIFFERS: u8 = 4;
 const NOT_COMMITTED: &[u8] =
     b"not committed: the draft stays open; go on with edit, or drop it with abandon\n";
 
-/// The line that tells what became of an edited draft.
-fn outcome_line(commit: bool, outcome: Outcome) -> &'static [u8]
-    ensures { result.now ≡ outcome_line commit outcome }
+/// The bytes of the longest line that needs no memory, and more.
+const ROOM: usize = 96;
+
+/// Writes a number behind the line.
+fn push_number<N: Integer>(line: &mut ArrayString<ROOM>, number: N)
+    requires { array_string_len line.old ≤ 56 }
+    ensures bytes { line.new.bytes ≡ line.old.bytes ++ N.text number }
+    ensures len { array_string_len line.new ≤ array_string_len line.old + 40 }
 {
-    match outcome {
-        Outcome::Same => b"no changes\n",
-        Outcome::Committed => b"committed\n",
-        Outcome::Open if commit => NOT_COMMITTED,
-        Outcome::Open => b"",
-    }
+    let mut digits = Buffer::new();
+    line.push_str(digits.format(number));
 }
 
-/// The rules that an edited draft breaks, with that line.
-fn with_outcome(broken: Vec<u8>, outcome: Outcome, commit: bool) -> Result<Vec<u8>, NoMemory>
-    ensures { IfOk result (λ text. text.items ≡ broken.items ++ outcome_line commit outcome) }
-{
-    let mut text = broken;
-    text.extend_from_slice(outcome_line(commit, outcome))?;
-    Ok(text)
-}
-
-/// The status of a draft that was to be committed or not.
-fn commit_status(commit: bool, violations: &[Violation]) -> u8
-    ensures { result ≡ edited_status commit Outcome.Open violations.now }
+/// The status of a draft that stays open, and was to be committed or not.
+fn open_status(commit: bool, violations: &[Violation]) -> u8
+    ensures { result ≡ open_status commit violations.now }
 {
     if commit && !violations.is_empty() {
         HAS_VIOLATIONS
@@ -60,22 +54,16 @@ fn commit_status(commit: bool, violations: &[Violation]) -> u8
     }
 }
 
-/// The status of an edited draft.
-fn edited_status(revised: &Revised, commit: bool) -> u8
-    ensures { result ≡ edited_status commit revised.now.outcome revised.now.violations }
-{
-    match revised.outcome {
-        Outcome::Same => 0,
-        Outcome::Open => commit_status(commit, revised.violations.as_slice()),
-        Outcome::Committed => commit_status(commit, revised.violations.as_slice()),
-    }
-}
-
-/// What a command prints on standard output, and its status.
+/// What a command prints on standard output, and its status. What is told of a change is a line that
+/// needs no memory, so that no change that was made is told as a fault.
 #[derive(Drop)]
-pub struct Done {
-    text: Vec<u8>,
-    status: u8,
+pub enum Done {
+    /// A text, and the status.
+    Text { text: Vec<u8>, status: u8 },
+    /// A fixed line, with status 0.
+    Fixed(&'static str),
+    /// A line with numbers, with status 0.
+    Line(ArrayString<ROOM>),
 }
 
 impl Done {
@@ -84,25 +72,23 @@ impl Done {
         ensures text { text_of result ≡ text.items }
         ensures status { status_of result ≡ 0 }
     {
-        Done { text, status: 0 }
+        Done::Text { text, status: 0 }
     }
 
     /// A fixed line.
-    pub fn telling(alloc: Global, line: &[u8]) -> Result<Done, Fault>
-        ensures { TellsAs line.now 0 result }
+    pub fn telling(line: &'static str) -> Done
+        ensures { TellsLine line.now (Ok result) }
     {
-        let mut text = Vec::new(alloc);
-        text.extend_from_slice(line)?;
-        Ok(Done::with(text))
+        Done::Fixed(line)
     }
 
     /// Whether an intersection was new, or there.
-    pub fn adding(alloc: Global, entered: Entered) -> Result<Done, Fault>
-        ensures { TellsAs (entered_line entered) 0 result }
+    pub fn adding(entered: Entered) -> Done
+        ensures { TellsLine (entered_line entered) (Ok result) }
     {
         match entered {
-            Entered::Added => Done::telling(alloc, b"added\n"),
-            Entered::Same => Done::telling(alloc, b"same\n"),
+            Entered::Added => Done::telling("added\n"),
+            Entered::Same => Done::telling("same\n"),
         }
     }
 
@@ -112,7 +98,7 @@ impl Done {
     {
         let text = violation_text(alloc, found)?;
         let status = if found.is_empty() { 0 } else { HAS_VIOLATIONS };
-        Ok(Done { text, status })
+        Ok(Done::Text { text, status })
     }
 
     /// The same, each with its reason.
@@ -121,16 +107,21 @@ impl Done {
     {
         let text = explained_text(alloc, found)?;
         let status = if found.is_empty() { 0 } else { HAS_VIOLATIONS };
-        Ok(Done { text, status })
+        Ok(Done::Text { text, status })
     }
 
     /// How many records of an import were new, and how many were there.
-    pub fn importing(alloc: Global, imported: Imported) -> Result<Done, Fault>
-        ensures { TellsAs (imported_line imported) 0 result }
+    pub fn importing(imported: Imported) -> Done
+        ensures { TellsLine (imported_line imported) (Ok result) }
     {
         let Imported { added, same } = imported;
-        let line = format!(in alloc; "added {added}, same {same}\n")?;
-        Ok(Done::with(line.into_bytes()))
+        let mut line = ArrayString::new();
+        line.push_str("added ");
+        push_number(&mut line, added);
+        line.push_str(", same ");
+        push_number(&mut line, same);
+        line.push_str("\n");
+        Done::Line(line)
     }
 
     /// The records of a file that would be refused. That there are any is told by the status.
@@ -140,18 +131,21 @@ impl Done {
     {
         let Report { text, refused } = report;
         let status = if refused == 0 { 0 } else { HAS_REFUSED };
-        Done { text, status }
+        Done::Text { text, status }
     }
 
-    /// The rules that an edited draft breaks, which are told already, and what became of it. A
-    /// commit that was asked for and not made is told, and by the status.
-    pub fn editing(broken: Vec<u8>, revised: &Revised, commit: bool) -> Result<Done, Fault>
-        ensures { TellsAs (broken.items ++ outcome_line commit revised.now.outcome)
-            (edited_status commit revised.now.outcome revised.now.violations) result }
+    /// The rules that a draft breaks which stays open. A commit that was asked for and not made is
+    /// told, and by the status.
+    pub fn left_open(broken: Vec<u8>, violations: &[Violation], commit: bool) -> Result<Done, Fault>
+        ensures { TellsAs (broken.items ++ open_line commit) (open_status commit violations.now)
+            result }
     {
-        let text = with_outcome(broken, revised.outcome, commit)?;
-        let status = edited_status(revised, commit);
-        Ok(Done { text, status })
+        let mut text = broken;
+        if commit {
+            text.extend_from_slice(NOT_COMMITTED)?;
+        }
+        let status = open_status(commit, violations);
+        Ok(Done::Text { text, status })
     }
 
     /// What two plans differ in, or that as CSV.
@@ -165,15 +159,18 @@ impl Done {
             comparison_text(alloc, differences)?
         };
         let status = if differences.is_empty() { 0 } else { DIFFERS };
-        Ok(Done { text, status })
+        Ok(Done::Text { text, status })
     }
 
     /// How many rows a migration wrote anew.
-    pub fn migrating(alloc: Global, rows: u128) -> Result<Done, Fault>
-        ensures { TellsAs (migrated_line rows) 0 result }
+    pub fn migrating(rows: u128) -> Done
+        ensures { TellsLine (migrated_line rows) (Ok result) }
     {
-        let line = format!(in alloc; "migrated {rows} rows\n")?;
-        Ok(Done::with(line.into_bytes()))
+        let mut line = ArrayString::new();
+        line.push_str("migrated ");
+        push_number(&mut line, rows);
+        line.push_str(" rows\n");
+        Done::Line(line)
     }
 
     /// Prints it, and gives the status.
@@ -181,29 +178,40 @@ impl Done {
         ensures { Prints (text_of self.now) (status_of self.now) (W.told out.old) (W.told out.new)
             result }
     {
-        match write_all(out, &self.text) {
-            Ok(()) => Ok(self.status),
-            Err(_) => Err(Fault::Write),
+        match self {
+            Done::Text { text, status } => print_text(text, *status, out),
+            Done::Fixed(line) => print_text(line.as_bytes(), 0, out),
+            Done::Line(line) => print_text(line.as_str().as_bytes(), 0, out),
         }
     }
 }
 
+/// Prints a text as a whole, and gives the status.
+pub(crate) fn print_text<W: Sink>(text: &[u8], status: u8, out: &mut W) -> Result<u8, Fault>
+    ensures { Prints text.now status (W.told out.old) (W.told out.new) result }
+{
+    match write_all(out, text) {
+        Ok(()) => Ok(status),
+        Err(_) => Err(Fault::Write),
+    }
+}
+
 /// Tells how many rows a migration wrote anew, or its fault.
-pub fn migrated(alloc: Global, outcome: Result<u128, Fault>) -> Result<Done, Fault>
-    ensures { TellsOutcome migrated_line (λ _. 0) outcome result }
+pub fn migrated(outcome: Result<u128, Fault>) -> Result<Done, Fault>
+    ensures { TellsOutcome migrated_line outcome result }
 {
     match outcome {
-        Ok(rows) => Done::migrating(alloc, rows),
+        Ok(rows) => Ok(Done::migrating(rows)),
         Err(fault) => Err(fault),
     }
 }
 
 /// Tells that an office was copied, or its fault.
-pub fn copied(alloc: Global, outcome: Result<(), Fault>) -> Result<Done, Fault>
-    ensures { TellsOutcome (λ _. copied_line) (λ _. 0) outcome result }
+pub fn copied(outcome: Result<(), Fault>) -> Result<Done, Fault>
+    ensures { TellsOutcome (λ _. copied_line) outcome result }
 {
     match outcome {
-        Ok(()) => Done::telling(alloc, b"copied\n"),
+        Ok(()) => Ok(Done::telling("copied\n")),
         Err(fault) => Err(fault),
     }
 }

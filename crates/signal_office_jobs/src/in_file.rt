@@ -1,7 +1,10 @@
 //! Jobs over the office of a file.
 
-ghost use Rattle.std.specs.Prelude.{◌≡◌};
+ghost use Rattle.std.specs.Prelude.{[], ◌∷◌};
 ghost use Rattle.office_http_framing.specs.Serve.{ends_of};
+ghost use Rattle.signal_office_in_file.specs.Calls.{AreCalled, called};
+ghost use Rattle.signal_office_in_file.specs.declared.Kind.TheVariants as kind;
+ghost use Rattle.signal_office_jobs.specs.Calls.{kind_of};
 ghost use Rattle.signal_office_jobs.specs.InFile.{InFile, MigratesFile};
 ghost use Rattle.signal_office_jobs.specs.Jobs.{ReadFirst};
 ghost use Rattle.signal_office_jobs.specs.Reading.{IsReadFor, IsUnreadFor};
@@ -19,6 +22,7 @@ use std::alloc::Global;
 /// Does a task over the office of a file, and prints what it gives. A file that is not there, or is
 /// empty with no log beside it, is made only where that is asked.
 pub(crate) fn in_file<F: OfficeInFile, T: OfficeTask<Done>, W: Sink>(
+    files: &mut F,
     rt: &HostRuntime,
     alloc: Global,
     db: &OfficeFile<'_>,
@@ -26,18 +30,22 @@ pub(crate) fn in_file<F: OfficeInFile, T: OfficeTask<Done>, W: Sink>(
     task: &T,
     out: &mut W,
 ) -> Result<u8, Fault>
-    ensures { InFile F.known makes (T.effect task.now) (W.told out.old) (W.told out.new) result }
+    ensures does { InFile F.known makes (T.effect task.now) (W.told out.old) (W.told out.new)
+        result }
+    ensures calls { AreCalled (F.calls files.old) (F.calls files.new)
+        (called db.now.path db.now.wait (T.kind task.now) ∷ []) result }
 {
     let path = db.path.as_str();
     if !makes && is_missing(rt, alloc, path)? {
         return Err(Fault::File);
     }
-    let ended = F::do_task::<Done, T, W>(rt, alloc, path, db.wait, task, out);
+    let ended = files.do_task::<Done, T, W>(rt, alloc, path, db.wait, task, out);
     print_done(joined(ended.told()), out)
 }
 
 /// Does what is asked of the office of a file, with the CSV file that was read for it.
 fn ask<F: OfficeInFile, W: Sink>(
+    files: &mut F,
     rt: &HostRuntime,
     alloc: Global,
     db: &OfficeFile<'_>,
@@ -45,9 +53,11 @@ fn ask<F: OfficeInFile, W: Sink>(
     csv: &CsvText,
     out: &mut W,
 ) -> Result<u8, Fault>
-    ensures { InFile F.known (makes_file request.now)
+    ensures does { InFile F.known (makes_file request.now)
         (effect_of request.now csv.now.text.items csv.now.lines.items)
         (W.told out.old) (W.told out.new) result }
+    ensures calls { AreCalled (F.calls files.old) (F.calls files.new)
+        (called db.now.path db.now.wait (kind_of request.now) ∷ []) result }
 {
     let (text, lines) = (csv.text.as_slice(), csv.lines.as_slice());
     let asked = Asked {
@@ -55,12 +65,13 @@ fn ask<F: OfficeInFile, W: Sink>(
         text,
         lines,
     };
-    in_file::<F, Asked<'_>, W>(rt, alloc, db, makes_file(request), &asked, out)
+    in_file::<F, Asked<'_>, W>(files, rt, alloc, db, makes_file(request), &asked, out)
 }
 
 /// Does what is asked of the office of a file, and prints what comes of it. The CSV file of the
 /// request is read before the office's file is opened.
 pub(crate) fn ask_office<F: OfficeInFile, R: Source, W: Sink, E: Sink>(
+    files: &mut F,
     rt: &HostRuntime,
     alloc: Global,
     db: &OfficeFile<'_>,
@@ -69,30 +80,35 @@ pub(crate) fn ask_office<F: OfficeInFile, R: Source, W: Sink, E: Sink>(
     out: &mut W,
     err: &mut E,
 ) -> Result<u8, Fault>
-    ensures { ReadFirst (IsReadFor request.now) (IsUnreadFor request.now)
+    ensures does { ReadFirst (IsReadFor request.now) (IsUnreadFor request.now)
         (λ csv. InFile F.known (makes_file request.now)
         (effect_of request.now csv.text.items csv.lines.items))
         (ends_of (R.told source.old) (W.told out.old))
         (ends_of (R.told source.new) (W.told out.new)) (E.told err.old) (E.told err.new) result }
+    ensures calls { AreCalled (F.calls files.old) (F.calls files.new)
+        (called db.now.path db.now.wait (kind_of request.now) ∷ []) result }
 {
     let csv = read_for(rt, alloc, request, source, err)?;
-    ask::<F, W>(rt, alloc, db, request, &csv, out)
+    ask::<F, W>(files, rt, alloc, db, request, &csv, out)
 }
 
 /// Brings the tables of a file to today's version, and prints how many rows were written anew. A
 /// file that is not there, or is empty with no log beside it, has no version and is not made.
 pub(crate) fn migrate<F: OfficeInFile, W: Sink>(
+    files: &mut F,
     rt: &HostRuntime,
     alloc: Global,
     db: &OfficeFile<'_>,
     out: &mut W,
 ) -> Result<u8, Fault>
-    ensures { MigratesFile F.known (W.told out.old) (W.told out.new) result }
+    ensures does { MigratesFile F.known (W.told out.old) (W.told out.new) result }
+    ensures calls { AreCalled (F.calls files.old) (F.calls files.new)
+        (called db.now.path db.now.wait kind.Migration ∷ []) result }
 {
     let path = db.path.as_str();
     if is_missing(rt, alloc, path)? {
         return Err(Fault::Version);
     }
-    let ended = F::migrate(rt, alloc, path, db.wait);
-    print_done(migrated(alloc, joined(ended.told())), out)
+    let ended = files.migrate(rt, alloc, path, db.wait);
+    print_done(migrated(joined(ended.told())), out)
 }

@@ -1,6 +1,6 @@
 //! What is done for a request over the office of a file.
 
-ghost use Rattle.std.specs.Prelude.{◌≡◌, ◌≢◌, ℕ, true, List, Ok, Err, IfErr, IfOk};
+ghost use Rattle.std.specs.Prelude.{◌≡◌, ◌≢◌, true, Err, IfErr, IfOk};
 ghost use Rattle.office_http_framing.specs.Ends.{Told};
 ghost use Rattle.office_tables_shelf.specs.Keeps.{KeepsShelf};
 ghost use Rattle.signal_office_reports.specs.Reports.{IsShown, IsUsedShown};
@@ -8,7 +8,8 @@ ghost use Rattle.signal_office_reports.specs.Seen.{Gives};
 ghost use Rattle.signal_office_commands.specs.Explaining.{ExplainsDraft};
 ghost use Rattle.signal_office_commands.specs.Stopping.{AfterAbandoning, AfterAdding, AfterImporting, AfterRevising, StopLeaves};
 ghost use Rattle.signal_office_in_file.specs.Doing.{DoesTask};
-ghost use Rattle.signal_office_jobs.specs.Requests.{AbandonsAs, AddsAs, ChecksAs, ComparesAs, ComparesWith, EditsBy, FillsAs, ImportsAs, IsBroken, ShowsAs, TellsEdit, TellsUsed, effect_of, makes_file, taking};
+ghost use Rattle.signal_office_jobs.specs.Calls.{kind_of};
+ghost use Rattle.signal_office_jobs.specs.Requests.{AbandonsAs, AddsAs, ChecksAs, ComparesAs, ComparesWith, EditsBy, FillsAs, ImportsAs, IsBroken, ShowsAs, TellsOpen, TellsRevised, TellsUsed, effect_of, makes_file, taking};
 
 use crate::done::Done;
 use crate::explained::refused_edit;
@@ -23,7 +24,7 @@ use signal_office_commands::{
     import_csv, revise_plan, running_differences,
 };
 use signal_office_faults::{Fault, SystemFolder};
-use signal_office_in_file::OfficeTask;
+use signal_office_in_file::{Kind, OfficeTask};
 use signal_office_line::{Edit, Folder as FolderKind, Name, Part, Request, Shown};
 use signal_office_reports::{report, used};
 use signal_records::{InterId, Interval, NoMemory};
@@ -36,6 +37,24 @@ pub(crate) fn makes_file(request: &Request<'_>) -> bool
     ensures { result ≡ makes_file request.now }
 {
     matches!(request, Request::Add { .. })
+}
+
+/// Whether a request looks at the tables, or changes them.
+fn kind_of(request: &Request<'_>) -> Kind
+    ensures { result ≡ kind_of request.now }
+{
+    match request {
+        Request::Show(_) => Kind::Look,
+        Request::Fill { .. } => Kind::Look,
+        Request::Used { .. } => Kind::Look,
+        Request::Add { .. } => Kind::Change,
+        Request::Import { check: true, .. } => Kind::Look,
+        Request::Import { .. } => Kind::Change,
+        Request::Edit(_) => Kind::Change,
+        Request::Abandon { .. } => Kind::Change,
+        Request::CompareDraft { .. } => Kind::Look,
+        Request::CompareRunning { .. } => Kind::Look,
+    }
 }
 
 /// What is printed of an office.
@@ -136,7 +155,7 @@ fn add<S: Shelf>(
         AddsAs id interval name.now (S.content office.old) result (S.content office.new) }
 {
     let entered = add_intersection(alloc, office, id, interval, name)?;
-    Done::adding(alloc, entered)
+    Ok(Done::adding(entered))
 }
 
 /// Imports the records of a CSV file, and tells how many were new.
@@ -148,7 +167,7 @@ fn import<S: Shelf>(alloc: Global, office: &mut Office<S>, csv: &[u8]) -> Result
         ImportsAs csv.now (S.content office.old) result (S.content office.new) }
 {
     let imported = import_csv(alloc, office, csv)?;
-    Done::importing(alloc, imported)
+    Ok(Done::importing(imported))
 }
 
 /// Tries the records of a CSV file, and tells those that would be refused.
@@ -186,7 +205,7 @@ fn take<S: Shelf>(
 }
 
 /// The rules that a draft breaks which stays open, with their reasons where that is asked.
-fn open_rules<S: Shelf>(
+fn broken_by<S: Shelf>(
     alloc: Global,
     office: &mut Office<S>,
     id: InterId,
@@ -195,8 +214,8 @@ fn open_rules<S: Shelf>(
 ) -> Result<Vec<u8>, Fault>
     ensures kept { KeepsShelf S.Shelf office.old office.new }
     ensures clean { S.is_clean office.new → S.is_clean office.old }
-    ensures told { IfOk result (λ text. S.is_honest office.new → IsBroken explain
-        Outcome.Open id (S.content office.old) violations.now text.items) }
+    ensures told { IfOk result (λ text. S.is_honest office.new →
+        IsBroken explain id (S.content office.old) violations.now text.items) }
     ensures fault { IfErr result (λ why. why ≢ Fault.Memory → S.is_honest office.new →
         (explain ≡ true) × ExplainsDraft (S.content office.old) id (Err why)) }
 {
@@ -207,28 +226,22 @@ fn open_rules<S: Shelf>(
     }
 }
 
-/// The rules that an edited draft breaks, with their reasons where that is asked. One that is
-/// committed breaks none, and of one that would be the committed set nothing is told.
-fn broken_by<S: Shelf>(
+/// Tells of a draft that stays open.
+fn tell_open<S: Shelf>(
     alloc: Global,
     office: &mut Office<S>,
     id: InterId,
-    revised: &Revised,
+    violations: &[Violation],
+    commit: bool,
     explain: bool,
-) -> Result<Vec<u8>, Fault>
+) -> Result<Done, Fault>
     ensures kept { KeepsShelf S.Shelf office.old office.new }
     ensures clean { S.is_clean office.new → S.is_clean office.old }
-    ensures told { IfOk result (λ text. S.is_honest office.new → IsBroken explain
-        revised.now.outcome id (S.content office.old) revised.now.violations text.items) }
-    ensures fault { IfErr result (λ why. why ≢ Fault.Memory → S.is_honest office.new →
-        (explain ≡ true) × (revised.now.outcome ≡ Outcome.Open)
-        × ExplainsDraft (S.content office.old) id (Err why)) }
+    ensures told { S.is_honest office.new →
+        TellsOpen commit explain id (S.content office.old) violations.now result }
 {
-    match revised.outcome {
-        Outcome::Same => Ok(Vec::new(alloc)),
-        Outcome::Committed => Ok(violation_text(alloc, revised.violations.as_slice())?),
-        Outcome::Open => open_rules(alloc, office, id, revised.violations.as_slice(), explain),
-    }
+    let broken = broken_by(alloc, office, id, violations, explain)?;
+    Done::left_open(broken, violations, commit)
 }
 
 /// Tells what became of a draft that was edited.
@@ -242,11 +255,23 @@ fn tell_edit<S: Shelf>(
 ) -> Result<Done, Fault>
     ensures kept { KeepsShelf S.Shelf office.old office.new }
     ensures clean { S.is_clean office.new → S.is_clean office.old }
-    ensures told { S.is_honest office.new → (csv lines : List ℕ) →
-        TellsEdit csv lines commit explain id (S.content office.old) (Ok revised.now) result }
+    ensures told { S.is_honest office.new → TellsRevised commit explain id
+        (S.content office.old) revised.now.violations revised.now.outcome result }
 {
-    let broken = broken_by(alloc, office, id, revised, explain)?;
-    Done::editing(broken, revised, commit)
+    match revised.outcome {
+        Outcome::Same => Ok(Done::telling("no changes\n")),
+        Outcome::Committed => Ok(Done::telling("committed\n")),
+        Outcome::Open => {
+            tell_open(
+                alloc,
+                office,
+                id,
+                revised.violations.as_slice(),
+                commit,
+                explain,
+            )
+        }
+    }
 }
 
 /// Edits a draft by a plan's CSV file, and tells what became of it.
@@ -284,7 +309,7 @@ fn abandon<S: Shelf>(
         AbandonsAs id clerk.now (S.content office.old) result (S.content office.new) }
 {
     abandon_draft(alloc, office, id, clerk)?;
-    Done::telling(alloc, b"abandoned\n")
+    Ok(Done::telling("abandoned\n"))
 }
 
 /// Tells what a draft changes.
@@ -354,9 +379,17 @@ pub(crate) struct Asked<'a> {
 }
 
 impl OfficeTask<Done> for Asked<'_> {
+    ghost use Rattle.signal_office_jobs.specs.Calls.{kind_of};
+    ghost use Rattle.signal_office_jobs.specs.Looks.{looks_keep};
     ghost use Rattle.signal_office_jobs.specs.Requests.{effect_of};
 
     ghost effect = { λ asked. effect_of asked.request.now asked.text.now asked.lines.now };
+
+    ghost kind = { λ asked. kind_of asked.request.now };
+
+    fn call_kind(&self) -> Kind {
+        kind_of(self.request)
+    }
 
     fn done_with<S: Shelf, W: Sink>(
         &self,
@@ -368,4 +401,6 @@ impl OfficeTask<Done> for Asked<'_> {
         let outcome = answer(rt, alloc, &mut office, self.request, self.text, self.lines);
         (office, outcome)
     }
+
+    ghost keeps = { λ asked. looks_keep asked.request.now asked.text.now asked.lines.now };
 }

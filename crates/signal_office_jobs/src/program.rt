@@ -2,17 +2,19 @@
 
 ghost use Rattle.std.specs.Prelude.{◌≡◌, map};
 ghost use Rattle.office_http_framing.specs.Serve.{ends_of};
+ghost use Rattle.signal_office_in_file.specs.Calls.{AreCalled};
+ghost use Rattle.signal_office_in_file.specs.declared.Kind.TheVariants as kind;
+ghost use Rattle.signal_office_jobs.specs.Calls.{calls_found, calls_of, calls_over};
 ghost use Rattle.signal_office_jobs.specs.Jobs.{Batches, JobDoes, ServesNew, ServesOn, status_over, stream_status};
-ghost use Rattle.signal_office_jobs.specs.Output.{Prints};
 ghost use Rattle.signal_office_jobs.specs.Runs.{DoesFound, EndsWith, RunsWords, ShowsRefusal, fault_of_word};
 
 use crate::backup::backup;
-use crate::done::print_done;
+use crate::done::{print_done, print_text};
 use crate::in_file::{ask_office, in_file, migrate};
 use crate::memory::{open_in_memory, serve_new_office};
 use crate::plans::{compare_plans, show_plan};
 use crate::serving::{Serving, serve as serve_office};
-use office_http::{ServeFault, Served, Sink, Source, write_all};
+use office_http::{ServeFault, Served, Sink, Source};
 use signal_office_commands::report;
 use signal_office_faults::Fault;
 use signal_office_in_file::OfficeInFile;
@@ -47,28 +49,23 @@ fn status_over(outcome: Result<Result<Served, ServeFault>, Fault>) -> Result<u8,
 
 /// Answers the requests of the source over tables in memory, or in a file where one is given.
 fn batch<F: OfficeInFile, R: Source, W: Sink>(
+    files: &mut F,
     rt: &HostRuntime,
     alloc: Global,
     db: &Option<OfficeFile<'_>>,
     source: &mut R,
     out: &mut W,
 ) -> Result<u8, Fault>
-    ensures { Batches F.known db.now
-        (ends_of (R.told source.old) (W.told out.old))
+    ensures does { Batches F.known db.now (ends_of (R.told source.old) (W.told out.old))
         (ends_of (R.told source.new) (W.told out.new)) result }
+    ensures calls { AreCalled (F.calls files.old) (F.calls files.new)
+        (calls_over kind.Requests db.now) result }
 {
     match db {
         None => stream_status(serve_new_office(alloc, source, out, BATCH_LIMIT)),
         Some(db) => {
-            let ended = F::answer(
-                rt,
-                alloc,
-                db.path.as_str(),
-                db.wait,
-                source,
-                out,
-                BATCH_LIMIT,
-            );
+            let path = db.path.as_str();
+            let ended = files.answer(rt, alloc, path, db.wait, source, out, BATCH_LIMIT);
             status_over(ended.told())
         }
     }
@@ -92,6 +89,7 @@ fn serve_in_memory<W: Sink>(
 /// Serves connections on a port by an office over tables in memory, or in a file where one is
 /// given.
 fn serve<F: OfficeInFile, W: Sink>(
+    files: &mut F,
     rt: &HostRuntime,
     alloc: Global,
     port: u16,
@@ -99,19 +97,22 @@ fn serve<F: OfficeInFile, W: Sink>(
     db: &Option<OfficeFile<'_>>,
     out: &mut W,
 ) -> Result<u8, Fault>
-    ensures { ServesOn F.known port count db.now (W.told out.old) (W.told out.new) result }
+    ensures does { ServesOn F.known port count db.now (W.told out.old) (W.told out.new) result }
+    ensures calls { AreCalled (F.calls files.old) (F.calls files.new)
+        (calls_over kind.Change db.now) result }
 {
     match db {
         None => serve_in_memory(rt, alloc, port, count, out),
         Some(db) => {
             let task = Serving { port, count };
-            in_file::<F, Serving, W>(rt, alloc, db, true, &task, out)
+            in_file::<F, Serving, W>(files, rt, alloc, db, true, &task, out)
         }
     }
 }
 
 /// Does a job, and gives the status.
 fn run_job<F: OfficeInFile, R: Source, W: Sink, E: Sink>(
+    files: &mut F,
     rt: &HostRuntime,
     alloc: Global,
     job: &Job<'_>,
@@ -119,31 +120,23 @@ fn run_job<F: OfficeInFile, R: Source, W: Sink, E: Sink>(
     out: &mut W,
     err: &mut E,
 ) -> Result<u8, Fault>
-    ensures { JobDoes F.known job.now (ends_of (R.told source.old) (W.told out.old))
+    ensures does { JobDoes F.known job.now (ends_of (R.told source.old) (W.told out.old))
         (ends_of (R.told source.new) (W.told out.new)) (E.told err.old) (E.told err.new) result }
+    // The opener was called as the job has it, once; or not at all.
+    ensures calls { AreCalled (F.calls files.old) (F.calls files.new) (calls_of job.now) result }
 {
     match job {
-        Job::Batch { db } => batch::<F, R, W>(rt, alloc, db, source, out),
-        Job::Serve { port, count, db } => serve::<F, W>(rt, alloc, *port, *count, db, out),
+        Job::Batch { db } => batch::<F, R, W>(files, rt, alloc, db, source, out),
+        Job::Serve { port, count, db } => serve::<F, W>(files, rt, alloc, *port, *count, db, out),
         Job::Office { db, request } => {
-            ask_office::<F, R, W, E>(rt, alloc, db, request, source, out, err)
+            ask_office::<F, R, W, E>(files, rt, alloc, db, request, source, out, err)
         }
-        Job::Migrate { db } => migrate::<F, W>(rt, alloc, db, out),
-        Job::Backup { db, to, force } => backup::<F, W>(rt, alloc, db, to, *force, out),
+        Job::Migrate { db } => migrate::<F, W>(files, rt, alloc, db, out),
+        Job::Backup { db, to, force } => backup::<F, W>(files, rt, alloc, db, to, *force, out),
         Job::CompareFiles { first, second, csv } => {
             compare_plans(rt, alloc, first, second, *csv, source, out, err)
         }
         Job::ShowPlan { csv, shown } => show_plan(rt, alloc, csv, *shown, source, out, err),
-    }
-}
-
-/// Prints a text as a whole, and gives the status.
-fn print_text<W: Sink>(text: &str, status: u8, out: &mut W) -> Result<u8, Fault>
-    ensures { Prints text.now status (W.told out.old) (W.told out.new) result }
-{
-    match write_all(out, text.as_bytes()) {
-        Ok(()) => Ok(status),
-        Err(_) => Err(Fault::Write),
     }
 }
 
@@ -159,9 +152,9 @@ fn show<W: Sink, E: Sink>(
 {
     let text = error.to_string(alloc)?;
     if error.use_stderr() {
-        print_text(text.as_str(), WORDS_REFUSED, err)
+        print_text(text.as_str().as_bytes(), WORDS_REFUSED, err)
     } else {
-        print_text(text.as_str(), 0, out)
+        print_text(text.as_str().as_bytes(), 0, out)
     }
 }
 
@@ -179,6 +172,7 @@ fn fault_of_word(bad: BadWord) -> Fault
 
 /// Does what was found in the words, and gives the status.
 fn do_found<F: OfficeInFile, R: Source, W: Sink, E: Sink>(
+    files: &mut F,
     rt: &HostRuntime,
     alloc: Global,
     found: &Result<Job<'_>, JobFault>,
@@ -186,13 +180,15 @@ fn do_found<F: OfficeInFile, R: Source, W: Sink, E: Sink>(
     out: &mut W,
     err: &mut E,
 ) -> Result<u8, Fault>
-    ensures { DoesFound F.known found.now
+    ensures does { DoesFound F.known found.now
         (ends_of (R.told source.old) (W.told out.old))
         (ends_of (R.told source.new) (W.told out.new))
         (E.told err.old) (E.told err.new) result }
+    ensures calls { AreCalled (F.calls files.old) (F.calls files.new) (calls_found found.now)
+        result }
 {
     match found {
-        Ok(job) => run_job::<F, R, W, E>(rt, alloc, job, source, out, err),
+        Ok(job) => run_job::<F, R, W, E>(files, rt, alloc, job, source, out, err),
         Err(JobFault::Refused(error)) => show(alloc, error, out, err),
         Err(JobFault::Bad(bad)) => Err(fault_of_word(*bad)),
         Err(JobFault::NoMemory) => Err(Fault::Memory),
@@ -213,6 +209,7 @@ fn end_with<E: Sink>(done: Result<u8, Fault>, err: &mut E) -> u8
 /// 0 done, 1 a fault, 2 the words were refused, 3 a plan breaks a rule, 4 two plans differ. The
 /// first word is the name under which the program was called.
 pub fn run_words<F: OfficeInFile, R: Source, W: Sink, E: Sink>(
+    files: &mut F,
     rt: &HostRuntime,
     alloc: Global,
     words: &[&str],
@@ -220,15 +217,17 @@ pub fn run_words<F: OfficeInFile, R: Source, W: Sink, E: Sink>(
     out: &mut W,
     err: &mut E,
 ) -> u8
-    // What the words ask for is done, over the office of the file that it names: what is printed is
-    // the text of that, with its status, or a part of it where the output failed; a fault is said
-    // by its line, with status 1. Words that are refused, or ask for help, do nothing else.
+    // What the words ask for is done, over the office of the file that it names, which is opened
+    // once, for that alone: what is printed is the text of that, with its status, or a part of it
+    // where the output failed; a fault is said by its line, with status 1. Words that are refused,
+    // or ask for help, do nothing else.
     ensures { RunsWords F.known (map (λ word. word.now) words.now)
+        (F.calls files.old) (F.calls files.new)
         (ends_of (R.told source.old) (W.told out.old))
         (ends_of (R.told source.new) (W.told out.new))
         (E.told err.old) (E.told err.new) result }
 {
     let found = job_of(alloc, words);
-    let done = do_found::<F, R, W, E>(rt, alloc, &found, source, out, err);
+    let done = do_found::<F, R, W, E>(files, rt, alloc, &found, source, out, err);
     end_with(done, err)
 }

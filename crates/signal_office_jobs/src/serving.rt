@@ -14,7 +14,7 @@ use office_desk::office::Office;
 use office_http::{FromListener, ServeStop, Sink, serve_each, write_all};
 use office_tables_shelf::shelf::Shelf;
 use signal_office_faults::Fault;
-use signal_office_in_file::OfficeTask;
+use signal_office_in_file::{Kind, OfficeTask};
 use std::alloc::Global;
 use std::net::{Ipv4Addr, SocketAddr, TcpListener};
 
@@ -106,9 +106,16 @@ pub(crate) struct Serving {
 }
 
 impl OfficeTask<Done> for Serving {
+    ghost use Rattle.signal_office_in_file.specs.declared.Kind.TheVariants as kind;
     ghost use Rattle.signal_office_jobs.specs.Serving.{serving};
 
     ghost effect = { λ it. serving it.port it.count };
+
+    ghost kind = { λ _. kind.Change };
+
+    fn call_kind(&self) -> Kind {
+        Kind::Change
+    }
 
     fn done_with<S: Shelf, W: Sink>(
         &self,
@@ -120,4 +127,6 @@ impl OfficeTask<Done> for Serving {
         let outcome = serve(rt, alloc, &mut office, self.port, self.count, out);
         (office, outcome)
     }
+
+    ghost keeps = { λ _ none. absurd none };
 }

@@ -1,8 +1,9 @@
-use Rattle.std.proofs.Common.{refl}
+use Rattle.std.proofs.Common.{Ok, refl}
 use Rattle.sqlite.specs.Files.{file_state}
 use Rattle.office_tables.specs.{Stored.content_now}
 use Rattle.signal_office_file.proofs.CopyingLemmas.{poured_clean, poured_copy, poured_kept}
 use Rattle.signal_office_file.proofs.FilesLemmas.{unclosed_leaves}
+use Rattle.signal_office_file.proofs.InFileLemmas.{closing_told}
 use Rattle.signal_office_file.proofs.copying.copied_in.Goals as goal
 
 -- closed on a clean disk, the files hold what they held, and so do the bytes of the database file
@@ -26,11 +27,14 @@ returns-in-Ok-close_office g c = (
 
 -- a stop leaves no more of the database than of the connection, which holds what the files held
 pub returns-in-Err-close_office : goal.returns-in-Err-close_office
-returns-in-Err-close_office g c = (
-  tt,
-  λ clean.
-      let back = c.in-Err-close_office.ensures in
-      let left = unclosed_leaves c.in-Ok.office.conn c.in-Err-close_office.fault c.in-Err-close_office.left back.unclosed back.current clean in
-      let opened = c.in-Ok.ensures.opened left.1 in
-      (content_now (file_state c.in-Ok.office.conn), opened.held, (left.0, back.current, λ found may. opened.crash found (left.2 found may))),
-)
+returns-in-Err-close_office g c =
+    let back = c.in-Err-close_office.ensures in
+    let conn = c.in-Ok.office.conn in (
+      Ok tt,
+      tt,
+      closing_told conn c.in-Err-close_office.fault c.in-Err-close_office.left back.unclosed,
+      λ clean.
+          let left = unclosed_leaves conn c.in-Err-close_office.fault c.in-Err-close_office.left back.unclosed back.current clean in
+          let opened = c.in-Ok.ensures.opened left.1 in
+          (content_now (file_state conn), opened.held, (left.0, back.current, λ found may. opened.crash found (left.2 found may))),
+    )

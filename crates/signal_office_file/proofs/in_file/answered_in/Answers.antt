@@ -5,13 +5,15 @@ use Rattle.office_desk.specs.StandFor.{StandForSound}
 use Rattle.office_http.specs.Protocol.{office_protocol}
 use Rattle.office_http_framing.proofs.ServeLemmas.{Did-weaker}
 use Rattle.office_tables.specs.{Calls.IsHonest, Stored.content_now}
+use Rattle.signal_office_faults.specs.Lines.{fault_of_stream}
+use Rattle.signal_office_file.proofs.InFileLemmas.{closing_told, first_told}
 use Rattle.signal_office_file.proofs.{FilesLemmas.unclosed_leaves, ServingLemmas.served_leaves, ServingLemmas.served_to_a_stop}
 use Rattle.signal_office_file.proofs.in_file.answered_in.Goals as goal
 
 -- closed on a clean disk, the database was open to the end, and holds what was kept
 pub returns-in-Ok-close_office-clause-ends : goal.returns-in-Ok-close_office-clause-ends
 returns-in-Ok-close_office-clause-ends g c = (
-  tt,
+  c.in-Ok.ensures.fault,
   λ clean.
       let closed = c.in-Ok-close_office.ensures in
       let served = c.in-Ok.served in
@@ -37,24 +39,26 @@ pub returns-in-Ok-close_office-clause-clean : goal.returns-in-Ok-close_office-cl
 returns-in-Ok-close_office-clause-clean g c clean = c.in-Ok.ensures.clean (c.in-Ok-close_office.ensures.copied clean).was_clean
 
 pub returns-in-Err-close_office-clause-ends : goal.returns-in-Err-close_office-clause-ends
-returns-in-Err-close_office-clause-ends g c = (
-  tt,
-  λ clean.
-      let back = c.in-Err-close_office.ensures in
-      let served = c.in-Ok.served in
-      let left = unclosed_leaves served.0.conn c.in-Err-close_office.fault c.in-Err-close_office.left back.unclosed back.current clean in
-      let did = c.in-Ok.ensures.did left.1 in (
-        did.0,
-        did.1,
-        λ before stands.
-            let ran = did.2 before stands in (
-              ran.0,
-              served.1,
-              Did-weaker office_protocol _ _ c.args.max_requests _ _ served.1
-                  (λ requests answers it. (it.serves.laws, (left.0, back.current, λ found may. served_leaves file_state did.0 before served.0 ran.0 requests answers it found (left.2 found may)))) ran.1,
-            ),
-      ),
-)
+returns-in-Err-close_office-clause-ends g c =
+    let back = c.in-Err-close_office.ensures in
+    let served = c.in-Ok.served in (
+      served.1,
+      c.in-Ok.ensures.fault,
+      first_told fault_of_stream served.1 c.in-Err-close_office.fault c.first_fault.result
+          (closing_told served.0.conn c.in-Err-close_office.fault c.in-Err-close_office.left back.unclosed) c.first_fault.ensures,
+      λ clean.
+          let left = unclosed_leaves served.0.conn c.in-Err-close_office.fault c.in-Err-close_office.left back.unclosed back.current clean in
+          let did = c.in-Ok.ensures.did left.1 in (
+            did.0,
+            did.1,
+            λ before stands.
+                let ran = did.2 before stands in (
+                  ran.0,
+                  Did-weaker office_protocol _ _ c.args.max_requests _ _ served.1
+                      (λ requests answers it. (it.serves.laws, (left.0, back.current, λ found may. served_leaves file_state did.0 before served.0 ran.0 requests answers it found (left.2 found may)))) ran.1,
+                ),
+          ),
+    )
 
 pub returns-in-Err-close_office-clause-unclosed : goal.returns-in-Err-close_office-clause-unclosed
 returns-in-Err-close_office-clause-unclosed g c clean =

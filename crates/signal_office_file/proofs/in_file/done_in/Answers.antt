@@ -2,6 +2,7 @@ use Rattle.std.proofs.Common.{refl}
 use Rattle.sqlite.specs.Files.{file_state}
 use Rattle.office_tables.specs.{Calls.IsHonest, Stored.content_now}
 use Rattle.signal_office_file.proofs.FilesLemmas.{unclosed_leaves}
+use Rattle.signal_office_file.proofs.InFileLemmas.{closing_told, first_told}
 use Rattle.signal_office_file.proofs.in_file.done_in.Goals as goal
 
 -- closed on a clean disk, the database was open to the end
@@ -24,13 +25,17 @@ returns-in-Ok-close_office-clause-clean g c clean =
 
 -- a stop leaves no more of the database than of the connection, and of that what it leaves of the task
 pub returns-in-Err-close_office-clause-ends : goal.returns-in-Err-close_office-clause-ends
-returns-in-Err-close_office-clause-ends g c = (
-  c.done_with-office.ensures.said,
-  λ clean.
-      let back = c.in-Err-close_office.ensures in
-      let task = c.done_with-office.ensures in
-      let left = unclosed_leaves c.done_with-office.result.0.conn c.in-Err-close_office.fault c.in-Err-close_office.left back.unclosed back.current clean in
-      let old = content_now (file_state c.in-Ok.office.conn) in
-      let opened = c.in-Ok.ensures.opened (task.clean left.1) in
-      (old, opened.held, (left.0, back.current, λ found may. task.stop left.1 old (λ _. refl) opened.crash found (left.2 found may))),
-)
+returns-in-Err-close_office-clause-ends g c =
+    let back = c.in-Err-close_office.ensures in
+    let conn = c.done_with-office.result.0.conn in (
+      c.done_with-office.result.1,
+      c.done_with-office.ensures.said,
+      first_told (λ why. why) c.done_with-office.result.1 c.in-Err-close_office.fault c.first_fault.result
+          (closing_told conn c.in-Err-close_office.fault c.in-Err-close_office.left back.unclosed) c.first_fault.ensures,
+      λ clean.
+          let task = c.done_with-office.ensures in
+          let left = unclosed_leaves conn c.in-Err-close_office.fault c.in-Err-close_office.left back.unclosed back.current clean in
+          let old = content_now (file_state c.in-Ok.office.conn) in
+          let opened = c.in-Ok.ensures.opened (task.clean left.1) in
+          (old, opened.held, (left.0, back.current, λ found may. task.stop left.1 old (λ _. refl) opened.crash found (left.2 found may))),
+    )

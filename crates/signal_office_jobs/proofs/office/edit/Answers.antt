@@ -11,7 +11,7 @@ returns-in-Ok-clause-does g c = λ honest.
     let before = kept.honest_before honest in
     let revises = honest_makes g.S.Shelf g.met.S.Shelf.honest_is_clean _ _ (λ old new. RevisesAs c.args.csv.now c.args.edit.now.id c.args.edit.now.clerk c.args.edit.now old new c.revise_plan.result) c.revise_plan.ensures.revises before in
     edits_so c.args.csv.now c.args.lines.now c.args.edit.now _ _ _ (Ok c.in-Ok.revised) _ (kept.same_content honest)
-    (rw (c.in-Ok.is) at revises) (c.tell_edit.ensures.told honest c.args.csv.now c.args.lines.now)
+    (rw (c.in-Ok.is) at revises) (c.tell_edit.ensures.told honest)
 
 pub returns-in-Err-clause-does : goal.returns-in-Err-clause-does
 returns-in-Err-clause-does g c = λ honest.

@@ -1,7 +1,7 @@
-use Rattle.signal_office_jobs.proofs.RevisedLemmas.{not_explained}
+use Rattle.std.proofs.Common.{subst, sym}
 use Rattle.signal_office_jobs.proofs.office.tell_edit.Goals as goal
+use Rattle.signal_office_jobs.specs.Requests.{TellsRevised}
 
-pub returns-in_err-broken-clause-told : goal.returns-in_err-broken-clause-told
-returns-in_err-broken-clause-told g c = λ honest csv lines.
-    not_explained csv lines c.args.commit c.args.explain c.args.id _ c.args.revised.now _ c.in_err-broken.field-0.0 c.from_residual.ensures.1
-    (λ other. c.in_err-broken.ensures.fault other honest)
+pub returns-in-Open-clause-told : goal.returns-in-Open-clause-told
+returns-in-Open-clause-told g c = λ honest.
+    subst (λ outcome. TellsRevised c.args.commit c.args.explain c.args.id _ _ outcome c.tell_open.result) (sym c.in-Open.is) (c.tell_open.ensures.told honest)

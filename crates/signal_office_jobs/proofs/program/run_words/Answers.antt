@@ -6,6 +6,7 @@ returns g c = record {
   is_found = c.job_of-found.ensures;
   result = c.do_found-done.result;
   said = g.E.Sink.told c.do_found-done.new.err;
-  does = c.do_found-done.ensures;
+  does = c.do_found-done.ensures.does;
+  calls = c.do_found-done.ensures.calls;
   ends = c.end_with.ensures;
 }

@@ -1,8 +1,15 @@
 use Rattle.signal_office_in_file.specs.Ended.{stream_work}
 use Rattle.signal_office_file.proofs.InFileLemmas.{ends_noted}
+use Rattle.signal_office_file.proofs.CallsLemmas.{called_so}
 use Rattle.signal_office_file.proofs.in_file.TablesInFileOfficeInFile.answer.Goals as goal
 
-pub returns-in-Ok : goal.returns-in-Ok
-returns-in-Ok g c =
+pub returns-in-Ok-clause-ends : goal.returns-in-Ok-clause-ends
+returns-in-Ok-clause-ends g c =
     ends_noted _ _ c.in-Ok.files c.in-Ok.ensures.new (stream_work c.args.max_requests _ _ _)
     c.answered_in-ended.result c.noted.result c.noted.ensures c.answered_in-ended.ensures.ends
+
+pub returns-in-Ok-clause-noted : goal.returns-in-Ok-clause-noted
+returns-in-Ok-clause-noted g c = called_so _ _ _ (λ is. cc) c.in-Ok.ensures.noted
+
+pub returns-in-Err-clause-noted : goal.returns-in-Err-clause-noted
+returns-in-Err-clause-noted g c = called_so _ _ _ (λ is. cc) c.in-Err.ensures.noted

@@ -1,7 +1,7 @@
 use Rattle.std.proofs.Common.{Ok, Err, rules}
 use Rattle.signal_office_commands.specs.Explaining.{ExplainsDraft}
 use Rattle.signal_office_commands.proofs.HonestLemmas.{honest_tells}
-use Rattle.signal_office_jobs.proofs.office.open_rules.Goals as goal
+use Rattle.signal_office_jobs.proofs.office.broken_by.Goals as goal
 
 pub returns-in_err-draft_reasons-clause-fault : goal.returns-in_err-draft_reasons-clause-fault
 returns-in_err-draft_reasons-clause-fault g c =

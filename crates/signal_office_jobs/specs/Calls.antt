@@ -1,0 +1,39 @@
+-- Which calls a job makes of the opener of files.
+use Rattle.std.specs.Prelude.{List, [], ◌∷◌, true, Option, Some, None, Result, Ok, Err}
+use Rattle.signal_office_in_file.specs.Calls.{FileCall, called}
+use Rattle.signal_office_in_file.specs.declared.Kind.{Kind}
+use Rattle.signal_office_in_file.specs.declared.Kind.TheVariants as kind
+use Rattle.signal_office_line.specs.declared.job.Job.{Job}
+use Rattle.signal_office_line.specs.declared.job.Job.TheVariants as job
+use Rattle.signal_office_line.specs.declared.job.JobFault.{JobFault}
+use Rattle.signal_office_line.specs.declared.job.OfficeFile.{OfficeFile}
+use Rattle.signal_office_line.specs.declared.job.Request.{Request}
+use Rattle.signal_office_line.specs.declared.job.Request.TheVariants as request
+
+-- what changes the tables: an intersection, records and drafts; whatever else is asked looks at them
+abbrev pub kind_of : Request → Kind
+kind_of (request.Add id interval name) = kind.Change
+kind_of (request.Import csv until true) = kind.Look
+kind_of (request.Import csv until false) = kind.Change
+kind_of (request.Edit edit) = kind.Change
+kind_of (request.Abandon id clerk) = kind.Change
+kind_of _ = kind.Look
+
+-- one call of a kind, where a file is given
+abbrev pub calls_over : Kind → Option OfficeFile → List FileCall
+calls_over kind None = []
+calls_over kind (Some db) = called db.path db.wait kind ∷ []
+
+-- THE CALLS OF EACH JOB: one over the file that it names
+abbrev pub calls_of : Job → List FileCall
+calls_of (job.Batch db) = calls_over kind.Requests db
+calls_of (job.Serve port count db) = calls_over kind.Change db
+calls_of (job.Office db request) = calls_over (kind_of request) (Some db)
+calls_of (job.Migrate db) = calls_over kind.Migration (Some db)
+calls_of (job.Backup db to force) = calls_over kind.Copy (Some db)
+calls_of _ = []
+
+-- words that ask for no job make none
+abbrev pub calls_found : Result Job JobFault → List FileCall
+calls_found (Ok job) = calls_of job
+calls_found (Err why) = []
