@@ -15,8 +15,6 @@ use Rattle.office_desk.specs.declared.checking.Checked.{Checked}
 use Rattle.office_desk.specs.declared.checking.Checked.TheVariants as checked
 use Rattle.office_desk.specs.declared.importing.Taken.{Taken}
 use Rattle.office_desk.specs.declared.importing.Taken.TheVariants as taken
-use Rattle.office_desk.specs.declared.there.RegisterKey.{RegisterKey}
-use Rattle.office_desk.specs.declared.there.RegisterKey.TheVariants as key
 use Rattle.office_desk.specs.declared.there.There.{There}
 use Rattle.office_desk.specs.declared.there.There.TheVariants as there
 use Rattle.office_desk.specs.StandFor.{StandForSound}
@@ -45,14 +43,6 @@ place_told (asks.UsePart id asked) why = place.Order id asked.order
 place_told (asks.CloseOrder id number asked) why = place.Order id number
 place_told (asks.Receive asked) refusal.DeliveryDiffers = place.Delivery asked.part asked.number
 place_told (asks.Receive asked) why = place.Part asked.part
-
--- the place of a key
-abbrev pub place_of_key : RegisterKey → Place
-place_of_key (key.Inspection id n) = place.Inspection id n
-place_of_key (key.Order id n) = place.Order id n
-place_of_key (key.Line id order line) = place.Line id order line
-place_of_key (key.Part part) = place.Part part.now
-place_of_key (key.Delivery part n) = place.Delivery part.now n
 
 -- what a register has there
 abbrev pub held_in : Register → (at : Place) → Option (RecordAt at)

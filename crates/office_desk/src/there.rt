@@ -1,16 +1,17 @@
 //! What stands in the register where a record is refused.
-ghost use Rattle.std.specs.Prelude.{◌≡◌, IfOk, Err};
+ghost use Rattle.std.specs.Prelude.{◌≡◌, IfOk, IfSome, Err};
 ghost use Rattle.office_tables_shelf.specs.Keeps.{KeepsShelf};
 ghost use Rattle.office_tables_shelf.specs.Places as place;
-ghost use Rattle.office_tables_shelf.specs.Places.{DamagedAt};
-ghost use Rattle.office_desk.specs.Checking.{ReadsThere, place_of_key, place_told, told_there};
+ghost use Rattle.office_tables_shelf.specs.Places.{DamagedAt, IsRecordAt, found_at, place_of};
+ghost use Rattle.office_desk.specs.Checking.{ReadsThere, place_told, told_there};
 
 use cabinet_core::{
     CabinetRefusal, Delivery, Hand, Inspection, Order, PartCode, RecordCommand, UsedLine,
 };
-use office_desk_cabinet::{Pending, delivery_at, hand_at, inspection_at, line_at, order_at};
+use office_desk_cabinet::{Pending, record_at};
+use office_tables_shelf::register::{RegisterKey, RegisterRecord};
 use office_tables_shelf::shelf::{Shelf, ShelfFault};
-use signal_records::{InterId, LineNo, NoMemory, RecordNo};
+use signal_records::NoMemory;
 use std::alloc::Global;
 
 /// What stands where a record is refused.
@@ -25,67 +26,38 @@ pub enum There {
     OnHand(PartCode, u32),
 }
 
-/// Where a row of the register stands: its table, and its key there.
-#[derive(Drop)]
-enum RegisterKey<'a> {
-    Inspection(InterId, RecordNo),
-    Order(InterId, RecordNo),
-    Line(InterId, RecordNo, LineNo),
-    Part(&'a PartCode),
-    Delivery(&'a PartCode, RecordNo),
+/// How many of a part are on hand, as what stands there.
+fn on_hand(part: &PartCode, hand: Option<Hand>) -> Result<There, NoMemory>
+    ensures { IfOk result (λ there. there ≡ told_there (place.Part part.now) hand) }
+{
+    let code = part.clone()?;
+    match hand {
+        Some(hand) => Ok(There::OnHand(code, hand.get())),
+        None => Ok(There::OnHand(code, 0)),
+    }
 }
 
-impl There {
-    fn of_inspection(id: InterId, number: RecordNo, found: Option<Inspection>) -> There
-        ensures { result ≡ told_there (place.Inspection id number) found }
-    {
-        match found {
-            Some(inspection) => There::Inspection(inspection),
-            None => There::Nothing,
-        }
+/// What was found under a key: a record of its kind, or nothing.
+fn there_at(key: &RegisterKey<'_>, found: Option<RegisterRecord>) -> Result<There, NoMemory>
+    requires { IfSome found (IsRecordAt (place_of key.now)) }
+    ensures { IfOk result (λ there.
+        there ≡ told_there (place_of key.now) (found_at (place_of key.now) found)) }
+{
+    if let RegisterKey::Part(part) = key {
+        return on_hand(part, RegisterRecord::hand(found));
     }
-
-    fn of_order(id: InterId, number: RecordNo, found: Option<Order>) -> There
-        ensures { result ≡ told_there (place.Order id number) found }
-    {
-        match found {
-            Some(order) => There::Order(order),
-            None => There::Nothing,
-        }
-    }
-
-    fn of_line(id: InterId, order: RecordNo, line: LineNo, found: Option<UsedLine>) -> There
-        ensures { result ≡ told_there (place.Line id order line) found }
-    {
-        match found {
-            Some(line) => There::UsedLine(line),
-            None => There::Nothing,
-        }
-    }
-
-    fn of_delivery(part: &PartCode, number: RecordNo, found: Option<Delivery>) -> There
-        ensures { result ≡ told_there (place.Delivery part.now number) found }
-    {
-        match found {
-            Some(delivery) => There::Delivery(delivery),
-            None => There::Nothing,
-        }
-    }
-
-    fn of_hand(part: &PartCode, hand: Option<Hand>) -> Result<There, NoMemory>
-        ensures { IfOk result (λ there. there ≡ told_there (place.Part part.now) hand) }
-    {
-        let code = part.clone()?;
-        match hand {
-            Some(hand) => Ok(There::OnHand(code, hand.get())),
-            None => Ok(There::OnHand(code, 0)),
-        }
+    match found {
+        Some(RegisterRecord::Inspection(inspection)) => Ok(There::Inspection(inspection)),
+        Some(RegisterRecord::Order(order)) => Ok(There::Order(order)),
+        Some(RegisterRecord::Line(line)) => Ok(There::UsedLine(line)),
+        Some(RegisterRecord::Delivery(delivery)) => Ok(There::Delivery(delivery)),
+        _ => Ok(There::Nothing),
     }
 }
 
 /// Where that stands for which a record is refused.
 fn key_told<'a>(command: &'a RecordCommand, why: CabinetRefusal) -> RegisterKey<'a>
-    ensures { place_of_key result ≡ place_told command.now why }
+    ensures { place_of result ≡ place_told command.now why }
 {
     match command {
         RecordCommand::Inspect { id, inspection } => {
@@ -107,44 +79,6 @@ fn key_told<'a>(command: &'a RecordCommand, why: CabinetRefusal) -> RegisterKey<
     }
 }
 
-/// What stands there, once the pending rows are written.
-fn there_at<S: Shelf>(
-    shelf: &mut S,
-    alloc: Global,
-    pending: &Pending,
-    key: RegisterKey<'_>,
-) -> Result<There, ShelfFault>
-    ensures reads { IfOk result (λ there. S.is_honest shelf.new →
-        ReadsThere (S.content shelf.old) pending.now (place_of_key key.entry) there) }
-    ensures damaged { result ≡ Err ShelfFault.Damaged → S.is_honest shelf.new →
-        DamagedAt (S.content shelf.old) (place_of_key key.entry) }
-    ensures clean { S.is_clean shelf.new → S.is_clean shelf.old }
-    ensures kept { KeepsShelf S.Shelf shelf.old shelf.new }
-{
-    match key {
-        RegisterKey::Inspection(id, number) => {
-            let inspection = inspection_at(shelf, alloc, pending, id, number)?;
-            Ok(There::of_inspection(id, number, inspection))
-        }
-        RegisterKey::Order(id, number) => {
-            let order = order_at(shelf, alloc, pending, id, number)?;
-            Ok(There::of_order(id, number, order))
-        }
-        RegisterKey::Line(id, order, number) => {
-            let line = line_at(shelf, alloc, pending, id, order, number)?;
-            Ok(There::of_line(id, order, number, line))
-        }
-        RegisterKey::Part(part) => {
-            let hand = hand_at(shelf, alloc, pending, part)?;
-            Ok(There::of_hand(part, hand)?)
-        }
-        RegisterKey::Delivery(part, number) => {
-            let delivery = delivery_at(shelf, alloc, pending, part, number)?;
-            Ok(There::of_delivery(part, number, delivery))
-        }
-    }
-}
-
 /// What stands where a record is refused, once the pending rows are written.
 pub(crate) fn what_is_there<S: Shelf>(
     shelf: &mut S,
@@ -160,5 +94,7 @@ pub(crate) fn what_is_there<S: Shelf>(
     ensures clean { S.is_clean shelf.new → S.is_clean shelf.old }
     ensures kept { KeepsShelf S.Shelf shelf.old shelf.new }
 {
-    there_at(shelf, alloc, pending, key_told(command, why))
+    let key = key_told(command, why);
+    let found = record_at(shelf, alloc, pending, &key)?;
+    Ok(there_at(&key, found)?)
 }

@@ -6,7 +6,9 @@ use Rattle.office_tables_shelf.specs.CabinetRows.{inspection_key, inspection_col
 use Rattle.office_tables_shelf.specs.{Cells.Cell, Cells.TableRows, Cells.cells_cmp, Change.changed, Change.changed_by, Content.Content, Content.no_content}
 use Rattle.office_tables_shelf.specs.declared.rows.RowChange.TheVariants.{AddInspection, AddOrder, PutOrder, AddLine, PutPart, AddDelivery}
 use Rattle.office_tables_shelf.specs.declared.rows.RowChange.{RowChange}
-use Rattle.office_tables_shelf.specs.Places.{Place, Inspection, Order, Line, Part, Delivery, RecordAt, WithinAt, ReadsAt, columns_at}
+use Rattle.office_tables_shelf.specs.declared.register.RegisterRecord.{RegisterRecord}
+use Rattle.office_tables_shelf.specs.declared.register.RegisterRecord.TheVariants as kind
+use Rattle.office_tables_shelf.specs.Places.{Place, Inspection, Order, Line, Part, Delivery, RecordAt, IsRecordAt, WithinAt, ReadsAt, columns_at, found_at}
 use Rattle.office_desk_cabinet.specs.Puts.{Puts, StandsAt}
 use Rattle.office_desk_cabinet.proofs.Places.{cells_at, whole_at}
 use Rattle.office_desk_cabinet.proofs.KeyTies.{numbered_ties, used_ties, delivery_ties, part_ties}
@@ -111,26 +113,64 @@ pub put_seen : (place : Place) (put : Option (RecordAt place)) {tables : Content
 put_seen place put {changes = changes} viewed made reads = put_at changes place put
     (subst (λ (t : Content). ReadsAt t place put) (made ∙ ap (changed_by no_content) viewed) reads)
 
+-- ---- what is found, of the kind of its place
+
+-- a record of the kind of a place, as it is found there
+record FoundSome (place : Place) (it : RegisterRecord) : Type 0 where
+  pub found : RecordAt place
+  pub same : found_at place (Some it) ≡ Some found
+  pub within : WithinAt place found
+
+found_some : (place : Place) (it : RegisterRecord) → IsRecordAt place it → FoundSome place it
+found_some (Inspection id n) (kind.Inspection it) within = record { found = it; same = refl; within = within }
+found_some (Order id n) (kind.Order it) within = record { found = it; same = refl; within = within }
+found_some (Line id order line) (kind.Line it) within = record { found = it; same = refl; within = within }
+found_some (Part code) (kind.Part it) within = record { found = it; same = refl; within = within }
+found_some (Delivery code n) (kind.Delivery it) within = record { found = it; same = refl; within = within }
+found_some _ _ within = absurd within
+
+found_none : (place : Place) → found_at place None ≡ None
+found_none (Inspection id n) = refl
+found_none (Order id n) = refl
+found_none (Line id order line) = refl
+found_none (Part code) = refl
+found_none (Delivery code n) = refl
+
+found_within : (place : Place) (found : Option RegisterRecord) → IfSome found (IsRecordAt place)
+    → IfSome (found_at place found) (WithinAt place)
+found_within place None within = subst (λ o. IfSome o (WithinAt place)) (sym (found_none place)) tt
+found_within place (Some it) within =
+    let one = found_some place it within in
+    subst (λ o. IfSome o (WithinAt place)) (sym one.same) one.within
+
 -- ---- what stands at a place once rows are written
 
-module _ (place : Place) (changes : List RowChange) (put : Option (RecordAt place)) (puts : Puts place changes put) where
+module _ (place : Place) (changes : List RowChange) (put : Option RegisterRecord) (puts : Puts place changes (found_at place put)) where
   -- what they put, over whatever tables; and there are some
-  pub put_stands : (x : RecordAt place) → put ≡ Some x → IfSome put (WithinAt place)
-      → (tables : Content) → StandsAt (changed_by tables changes) place (Some x)
-  put_stands x is within tables =
-      let reads = subst (Puts place changes) is puts tables in
-      record { reads = reads; whole = whole_at _ place (Some x) reads (subst (λ o. IfSome o (WithinAt place)) is within) }
+  pub put_stands : (it : RegisterRecord) → put ≡ Some it → IfSome put (IsRecordAt place)
+      → (tables : Content) → StandsAt (changed_by tables changes) place (found_at place (Some it))
+  put_stands it is within tables =
+      let one = found_some place it (subst (λ o. IfSome o (IsRecordAt place)) is within) in
+      let reads = subst (Puts place changes) (ap (found_at place) is ∙ one.same) puts tables in
+      subst (StandsAt (changed_by tables changes) place) (sym one.same)
+      (record { reads = reads; whole = whole_at _ place (Some one.found) reads one.within })
 
-  pub some_put : (x : RecordAt place) → put ≡ Some x → changes ≢ []
-  some_put x is none =
-      let reads = subst (λ (rows : List RowChange). ReadsAt (changed_by no_content rows) place (Some x)) none
-      (subst (Puts place changes) is puts no_content) in
-      let never : None ≡ Some (columns_at place x) = sym (nothing_at place) ∙ reads.stored in cc
+  pub some_put : (it : RegisterRecord) → put ≡ Some it → IfSome put (IsRecordAt place) → changes ≢ []
+  some_put it is within none =
+      let one = found_some place it (subst (λ o. IfSome o (IsRecordAt place)) is within) in
+      let reads = subst (λ (rows : List RowChange). ReadsAt (changed_by no_content rows) place (Some one.found)) none
+      (subst (Puts place changes) (ap (found_at place) is ∙ one.same) puts no_content) in
+      let never : None ≡ Some (columns_at place one.found) = sym (nothing_at place) ∙ reads.stored in cc
 
   -- or what stood there
-  pub still_stands : put ≡ None → (tables : Content) (before : Option (RecordAt place))
-      → ReadsAt tables place before → IfSome before (WithinAt place)
-      → StandsAt (changed_by tables changes) place before
+  pub still_stands : put ≡ None → (tables : Content) (before : Option RegisterRecord)
+      → ReadsAt tables place (found_at place before) → IfSome before (IsRecordAt place)
+      → StandsAt (changed_by tables changes) place (found_at place before)
   still_stands is tables before there within =
-      let reads = subst (Puts place changes) is puts tables before there in
-      record { reads = reads; whole = whole_at _ place before reads within }
+      let reads = subst (Puts place changes) (ap (found_at place) is ∙ found_none place) puts tables (found_at place before) there in
+      record { reads = reads; whole = whole_at _ place (found_at place before) reads (found_within place before within) }
+
+-- what stands at a place is the record that was taken from what was found
+pub taken_stands : (tables : Content) (place : Place) (found there : Option (RecordAt place)) → there ≡ found
+    → StandsAt tables place found → StandsAt tables place there
+taken_stands tables place found there is = subst (StandsAt tables place) (sym is)

@@ -15,5 +15,5 @@ pub use deciding::decide_record;
 pub use pending::Pending;
 pub use registered::Registered;
 pub use showing::{cabinet_view, open_orders};
-pub use standing::{delivery_at, hand_at, inspection_at, line_at, order_at};
+pub use standing::record_at;
 pub use stocking::stock;

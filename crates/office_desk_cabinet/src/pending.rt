@@ -1,14 +1,12 @@
 //! Rows of the register that are to be written, and what they put under its keys.
 ghost use Rattle.std.specs.Prelude.{◌≡◌, ◌++◌, [], IfOk, IfSome};
-ghost use Rattle.cabinet_core.specs.Within.{IsInspectionWithin, IsOrderWithin, IsUsedLineWithin, IsDeliveryWithin};
-ghost use Rattle.office_tables_shelf.specs.CabinetReads.{IsHand};
-ghost use Rattle.office_tables_shelf.specs.Places as place;
+ghost use Rattle.office_tables_shelf.specs.Places.{IsRecordAt, found_at, place_of};
 ghost use Rattle.office_desk_cabinet.specs.Puts.{Puts};
 
-use cabinet_core::{Delivery, Hand, Inspection, Order, PartCode, UsedLine};
 use office_tables_maps::maps::Maps;
+use office_tables_shelf::register::{RegisterKey, RegisterRecord};
 use office_tables_shelf::rows::RowChange;
-use signal_records::{InterId, LineNo, NoMemory, RecordNo};
+use signal_records::NoMemory;
 use std::alloc::Global;
 use std::marker::Model;
 
@@ -68,60 +66,16 @@ impl Pending {
         changes
     }
 
-    /// The inspection that is put under a number of an intersection, if one is.
-    pub(crate) fn inspection(
+    /// The record that is put under a key of the register, if one is.
+    pub(crate) fn record_at(
         &self,
-        id: InterId,
-        number: RecordNo,
-    ) -> Result<Option<Inspection>, NoMemory>
-        ensures put { IfOk result (λ put. Puts (place.Inspection id number) self.now put) }
-        ensures within { IfOk result (λ put. IfSome put IsInspectionWithin) }
+        key: &RegisterKey<'_>,
+    ) -> Result<Option<RegisterRecord>, NoMemory>
+        ensures put { IfOk result (λ put.
+            Puts (place_of key.now) self.now (found_at (place_of key.now) put)) }
+        ensures within { IfOk result (λ put. IfSome put (IsRecordAt (place_of key.now))) }
     {
-        let put = self.puts.inspection_at(id, number)?;
+        let put = self.puts.record_at(key)?;
         Ok(put)
-    }
-
-    /// The order that is put under a number of an intersection, if one is.
-    pub(crate) fn order(&self, id: InterId, number: RecordNo) -> Result<Option<Order>, NoMemory>
-        ensures put { IfOk result (λ put. Puts (place.Order id number) self.now put) }
-        ensures within { IfOk result (λ put. IfSome put IsOrderWithin) }
-    {
-        let put = self.puts.order_at(id, number)?;
-        Ok(put)
-    }
-
-    /// The used part that is put under an order and a line of an intersection, if one is.
-    pub(crate) fn line(
-        &self,
-        id: InterId,
-        order: RecordNo,
-        line: LineNo,
-    ) -> Result<Option<UsedLine>, NoMemory>
-        ensures put { IfOk result (λ put. Puts (place.Line id order line) self.now put) }
-        ensures within { IfOk result (λ put. IfSome put IsUsedLineWithin) }
-    {
-        let put = self.puts.line_at(id, order, line)?;
-        Ok(put)
-    }
-
-    /// The delivery that is put under a part and a number, if one is.
-    pub(crate) fn delivery(
-        &self,
-        part: &PartCode,
-        number: RecordNo,
-    ) -> Result<Option<Delivery>, NoMemory>
-        ensures put { IfOk result (λ put. Puts (place.Delivery part.now number) self.now put) }
-        ensures within { IfOk result (λ put. IfSome put IsDeliveryWithin) }
-    {
-        let put = self.puts.delivery_at(part, number)?;
-        Ok(put)
-    }
-
-    /// How many of a part are put on hand, if the rows say so.
-    pub(crate) fn hand(&self, part: &PartCode) -> Option<Hand>
-        ensures put { Puts (place.Part part.now) self.now result }
-        ensures within { IfSome result IsHand }
-    {
-        self.puts.hand_of(part)
     }
 }

@@ -8,8 +8,9 @@ ghost use Rattle.office_desk_cabinet.specs.Decides.{DecidesRecord};
 use crate::pending::Pending;
 use crate::registered::Registered;
 use crate::rows::registered;
-use crate::standing::{inspection_at, order_at};
+use crate::standing::record_at;
 use cabinet_core::{Closing, Inspection, Opening, RecordCommand, close_order, inspect, open_order};
+use office_tables_shelf::register::{RegisterKey, RegisterRecord};
 use office_tables_shelf::shelf::{Shelf, ShelfFault};
 use signal_records::{InterId, RecordNo};
 use std::alloc::Global;
@@ -28,7 +29,9 @@ pub(crate) fn decide_inspect<S: Shelf>(
     ensures open { DatabaseStaysOpen S.is_clean S.is_honest (pending.now ≡ [])
         result shelf.old shelf.new }
 {
-    let there = inspection_at(shelf, alloc, pending, id, inspection.number)?;
+    let key = RegisterKey::Inspection(id, inspection.number);
+    let found = record_at(shelf, alloc, pending, &key)?;
+    let there = RegisterRecord::inspection(found);
     let decision = inspect(alloc, &there, inspection);
     registered(alloc, id, decision)
 }
@@ -47,7 +50,9 @@ pub(crate) fn decide_open_order<S: Shelf>(
     ensures open { DatabaseStaysOpen S.is_clean S.is_honest (pending.now ≡ [])
         result shelf.old shelf.new }
 {
-    let there = order_at(shelf, alloc, pending, id, opening.number)?;
+    let key = RegisterKey::Order(id, opening.number);
+    let found = record_at(shelf, alloc, pending, &key)?;
+    let there = RegisterRecord::order(found);
     let decision = open_order(alloc, &there, opening);
     registered(alloc, id, decision)
 }
@@ -67,7 +72,9 @@ pub(crate) fn decide_close_order<S: Shelf>(
     ensures open { DatabaseStaysOpen S.is_clean S.is_honest (pending.now ≡ [])
         result shelf.old shelf.new }
 {
-    let there = order_at(shelf, alloc, pending, id, order)?;
+    let key = RegisterKey::Order(id, order);
+    let found = record_at(shelf, alloc, pending, &key)?;
+    let there = RegisterRecord::order(found);
     let decision = close_order(alloc, &there, closing);
     registered(alloc, id, decision)
 }

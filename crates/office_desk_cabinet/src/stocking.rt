@@ -15,11 +15,12 @@ use crate::listing::parts_of;
 use crate::pending::Pending;
 use crate::registered::Registered;
 use crate::rows::registered;
-use crate::standing::{delivery_at, hand_at, line_at, order_at};
+use crate::standing::record_at;
 use cabinet_core::{
     CabinetChange, CabinetRefusal, Delivery, Hand, PartCode, RecordCommand, Recorded, UsedLine,
     receive, use_part,
 };
+use office_tables_shelf::register::{RegisterKey, RegisterRecord};
 use office_tables_shelf::rows::RowChange;
 use office_tables_shelf::shelf::{Shelf, ShelfFault};
 use signal_records::{InterId, NoMemory};
@@ -39,9 +40,12 @@ pub(crate) fn decide_use_part<S: Shelf>(
     ensures open { DatabaseStaysOpen S.is_clean S.is_honest (pending.now ≡ [])
         result shelf.old shelf.new }
 {
-    let hand = hand_at(shelf, alloc, pending, &line.part)?;
-    let there = line_at(shelf, alloc, pending, id, line.order, line.line)?;
-    let order = order_at(shelf, alloc, pending, id, line.order)?;
+    let found = record_at(shelf, alloc, pending, &RegisterKey::Part(&line.part))?;
+    let hand = RegisterRecord::hand(found);
+    let key = RegisterKey::Line(id, line.order, line.line);
+    let there = RegisterRecord::line(record_at(shelf, alloc, pending, &key)?);
+    let key = RegisterKey::Order(id, line.order);
+    let order = RegisterRecord::order(record_at(shelf, alloc, pending, &key)?);
     let decision = use_part(alloc, &there, &order, hand, line);
     registered(alloc, id, decision)
 }
@@ -103,8 +107,10 @@ pub(crate) fn decide_receive<S: Shelf>(
     ensures open { DatabaseStaysOpen S.is_clean S.is_honest (pending.now ≡ [])
         result shelf.old shelf.new }
 {
-    let hand = hand_at(shelf, alloc, pending, &delivery.part)?;
-    let there = delivery_at(shelf, alloc, pending, &delivery.part, delivery.number)?;
+    let found = record_at(shelf, alloc, pending, &RegisterKey::Part(&delivery.part))?;
+    let hand = RegisterRecord::hand(found);
+    let key = RegisterKey::Delivery(&delivery.part, delivery.number);
+    let there = RegisterRecord::delivery(record_at(shelf, alloc, pending, &key)?);
     let decision = receive(alloc, &there, hand, delivery);
     received(alloc, decision)
 }

@@ -11,17 +11,18 @@ ghost use Rattle.office_tables_open.specs.Opening.{HasOtherVersion, HasRowsAlone
 ghost use Rattle.office_tables_schema.specs.Schema.{office_schema};
 
 use crate::migrate::migrate;
-use cabinet_core::{Day, Delivery, Hand, Inspection, Order, PartCode, UsedLine};
+use cabinet_core::{Day, Hand, Inspection, Order, PartCode, UsedLine};
 use office_tables_changes::change;
 use office_tables_migration::puts::Migrated;
 use office_tables_open::found::{checked, has_only_ours};
 use office_tables_open::open::{Left, OpenFault, prepared};
 use office_tables_shelf::counts::WriteCounts;
+use office_tables_shelf::register::{RegisterKey, RegisterRecord};
 use office_tables_shelf::rows::{IntersectionRow, RowChange, Table};
 use office_tables_shelf::shelf::{Shelf, ShelfFault};
-use office_tables_sql::{each_row, inspection, intersection, order, part, stored_row, timing};
-use signal_records::{Change, InterId, LineNo, RecordNo, Row};
-use sqlite::{Alter, Connection, params};
+use office_tables_sql::{each_row, inspection, intersection, order, register, timing};
+use signal_records::{Change, InterId, Row};
+use sqlite::{Alter, Connection};
 use std::alloc::Global;
 use std::collections::BTreeMap;
 use std::marker::Model;
@@ -224,13 +225,12 @@ impl<S: Alter> Shelf for SqlShelf<S> {
         each_row::list(alloc, &mut self.conn, id)
     }
 
-    fn inspection(
+    fn record_at(
         &mut self,
         alloc: Global,
-        id: InterId,
-        number: RecordNo,
-    ) -> Result<Option<Inspection>, ShelfFault> {
-        stored_row::find(alloc, &mut self.conn, id, params![id.get(), number.get()])
+        key: &RegisterKey<'_>,
+    ) -> Result<Option<RegisterRecord>, ShelfFault> {
+        register::record_at(alloc, &mut self.conn, key)
     }
 
     fn inspections(&mut self, alloc: Global, id: InterId) -> Result<Vec<Inspection>, ShelfFault> {
@@ -241,15 +241,6 @@ impl<S: Alter> Shelf for SqlShelf<S> {
         inspection::last_days(alloc, &mut self.conn)
     }
 
-    fn order(
-        &mut self,
-        alloc: Global,
-        id: InterId,
-        number: RecordNo,
-    ) -> Result<Option<Order>, ShelfFault> {
-        stored_row::find(alloc, &mut self.conn, id, params![id.get(), number.get()])
-    }
-
     fn orders(&mut self, alloc: Global, id: InterId) -> Result<Vec<Order>, ShelfFault> {
         each_row::list(alloc, &mut self.conn, id)
     }
@@ -258,41 +249,8 @@ impl<S: Alter> Shelf for SqlShelf<S> {
         order::open_orders(alloc, &mut self.conn)
     }
 
-    fn used_line(
-        &mut self,
-        alloc: Global,
-        id: InterId,
-        order: RecordNo,
-        line: LineNo,
-    ) -> Result<Option<UsedLine>, ShelfFault> {
-        stored_row::find(
-            alloc,
-            &mut self.conn,
-            id,
-            params![id.get(), order.get(), line.get()],
-        )
-    }
-
     fn used_lines(&mut self, alloc: Global, id: InterId) -> Result<Vec<UsedLine>, ShelfFault> {
         each_row::list(alloc, &mut self.conn, id)
-    }
-
-    fn delivery(
-        &mut self,
-        alloc: Global,
-        part: &PartCode,
-        number: RecordNo,
-    ) -> Result<Option<Delivery>, ShelfFault> {
-        stored_row::find(
-            alloc,
-            &mut self.conn,
-            (),
-            params![part.as_str(), number.get()],
-        )
-    }
-
-    fn hand(&mut self, alloc: Global, part: &PartCode) -> Result<Option<Hand>, ShelfFault> {
-        part::hand(alloc, &mut self.conn, part)
     }
 
     fn parts(&mut self, alloc: Global) -> Result<Vec<(PartCode, Hand)>, ShelfFault> {

@@ -9,11 +9,12 @@ use crate::map_open_orders::open_orders_of;
 use crate::map_overdue::last_days;
 use crate::map_rows::{all_intersections, count_of, draft_of, timing_of};
 use crate::maps::Maps;
-use cabinet_core::{Day, Delivery, Hand, Inspection, Order, PartCode, UsedLine};
+use cabinet_core::{Day, Hand, Inspection, Order, PartCode, UsedLine};
 use office_tables_shelf::counts::WriteCounts;
+use office_tables_shelf::register::{RegisterKey, RegisterRecord};
 use office_tables_shelf::rows::{IntersectionRow, RowChange, Table};
 use office_tables_shelf::shelf::{Shelf, ShelfFault};
-use signal_records::{Change, InterId, LineNo, NoMemory, RecordNo, Row};
+use signal_records::{Change, InterId, NoMemory, Row};
 use std::alloc::Global;
 use std::collections::BTreeMap;
 use std::marker::Model;
@@ -71,14 +72,13 @@ impl MapShelf {
 impl Shelf for MapShelf {
     ghost use Rattle.std.specs.Prelude.{◌≡◌, ℕ, OnOk, OnErr, IfOk, IfSome};
     ghost use Rattle.std.specs.List.{AllByRecursion};
-    ghost use Rattle.cabinet_core.specs.Within.{IsInspectionWithin, IsOrderWithin, IsUsedLineWithin, IsDeliveryWithin};
+    ghost use Rattle.cabinet_core.specs.Within.{IsInspectionWithin, IsOrderWithin, IsUsedLineWithin};
     ghost use Rattle.signal_records.specs.Within.{IsRowWithin, current_limits};
     ghost use Rattle.office_tables_shelf.specs.Change.{changed_by};
     ghost use Rattle.office_tables_shelf.specs.Counts.{count_of, counts_after};
     ghost use Rattle.office_tables_shelf.specs.Rows.{IsIntersectionRow};
-    ghost use Rattle.office_tables_shelf.specs.CabinetReads.{ListsInspections, ListsOrders, ListsUsed, ListsParts, IsHand, IsPartWithin, HasAnyDamagedInspection, HasAnyDamagedOrder};
-    ghost use Rattle.office_tables_shelf.specs.Places as place;
-    ghost use Rattle.office_tables_shelf.specs.Places.{FindsAt};
+    ghost use Rattle.office_tables_shelf.specs.CabinetReads.{ListsInspections, ListsOrders, ListsUsed, ListsParts, IsPartWithin, HasAnyDamagedInspection, HasAnyDamagedOrder};
+    ghost use Rattle.office_tables_shelf.specs.Places.{FindsAt, IsRecordAt, place_of};
     ghost use Rattle.office_tables_shelf.specs.Shelf.{ReadsIntersection, ListsIntersections, ListsTiming, CountsTiming, ListsDraft, IsIntersectionWithin};
     ghost use Rattle.office_tables_shelf.specs.Overdue.{last_day_in, ReadsLast};
     ghost use Rattle.office_tables_shelf.specs.OpenOrders.{orders_in, ReadsOpen};
@@ -145,18 +145,17 @@ impl Shelf for MapShelf {
         Ok(draft_of(alloc, &self.now.draft, id)?)
     }
 
-    fn inspection(
+    fn record_at(
         &mut self,
         _alloc: Global,
-        id: InterId,
-        number: RecordNo,
-    ) -> Result<Option<Inspection>, ShelfFault>
-        ensures row { FindsAt self.old.tables (place.Inspection id number) result }
-        ensures within { IfOk result (λ found. IfSome found IsInspectionWithin) }
+        key: &RegisterKey<'_>,
+    ) -> Result<Option<RegisterRecord>, ShelfFault>
+        ensures row { FindsAt self.old.tables (place_of key.now) result }
+        ensures within { IfOk result (λ found. IfSome found (IsRecordAt (place_of key.now))) }
         ensures unchanged { self.new ≡ self.old }
         ensures sound { IsFreeOfStore result }
     {
-        Ok(self.now.inspection_at(id, number)?)
+        Ok(self.now.record_at(key)?)
     }
 
     fn inspections(&mut self, alloc: Global, id: InterId) -> Result<Vec<Inspection>, ShelfFault>
@@ -178,20 +177,6 @@ impl Shelf for MapShelf {
         Ok(last_days(alloc, &self.now.inspection)?)
     }
 
-    fn order(
-        &mut self,
-        _alloc: Global,
-        id: InterId,
-        number: RecordNo,
-    ) -> Result<Option<Order>, ShelfFault>
-        ensures row { FindsAt self.old.tables (place.Order id number) result }
-        ensures within { IfOk result (λ found. IfSome found IsOrderWithin) }
-        ensures unchanged { self.new ≡ self.old }
-        ensures sound { IsFreeOfStore result }
-    {
-        Ok(self.now.order_at(id, number)?)
-    }
-
     fn orders(&mut self, alloc: Global, id: InterId) -> Result<Vec<Order>, ShelfFault>
         ensures rows { IfOk result (λ found. ListsOrders self.old.tables id found.items) }
         ensures within { IfOk result (λ found. AllByRecursion IsOrderWithin found.items) }
@@ -211,21 +196,6 @@ impl Shelf for MapShelf {
         Ok(open_orders_of(alloc, &self.now.work_order)?)
     }
 
-    fn used_line(
-        &mut self,
-        _alloc: Global,
-        id: InterId,
-        order: RecordNo,
-        line: LineNo,
-    ) -> Result<Option<UsedLine>, ShelfFault>
-        ensures row { FindsAt self.old.tables (place.Line id order line) result }
-        ensures within { IfOk result (λ found. IfSome found IsUsedLineWithin) }
-        ensures unchanged { self.new ≡ self.old }
-        ensures sound { IsFreeOfStore result }
-    {
-        Ok(self.now.line_at(id, order, line)?)
-    }
-
     fn used_lines(&mut self, alloc: Global, id: InterId) -> Result<Vec<UsedLine>, ShelfFault>
         ensures rows { IfOk result (λ found. ListsUsed self.old.tables id found.items) }
         ensures within { IfOk result (λ found. AllByRecursion IsUsedLineWithin found.items) }
@@ -233,29 +203,6 @@ impl Shelf for MapShelf {
         ensures sound { IsFreeOfStore result }
     {
         Ok(lines_of(alloc, &self.now.used_part, id)?)
-    }
-
-    fn delivery(
-        &mut self,
-        _alloc: Global,
-        part: &PartCode,
-        number: RecordNo,
-    ) -> Result<Option<Delivery>, ShelfFault>
-        ensures row { FindsAt self.old.tables (place.Delivery part.now number) result }
-        ensures within { IfOk result (λ found. IfSome found IsDeliveryWithin) }
-        ensures unchanged { self.new ≡ self.old }
-        ensures sound { IsFreeOfStore result }
-    {
-        Ok(self.now.delivery_at(part, number)?)
-    }
-
-    fn hand(&mut self, _alloc: Global, part: &PartCode) -> Result<Option<Hand>, ShelfFault>
-        ensures row { FindsAt self.old.tables (place.Part part.now) result }
-        ensures within { IfOk result (λ found. IfSome found IsHand) }
-        ensures unchanged { self.new ≡ self.old }
-        ensures sound { IsFreeOfStore result }
-    {
-        Ok(self.now.hand_of(part))
     }
 
     fn parts(&mut self, alloc: Global) -> Result<Vec<(PartCode, Hand)>, ShelfFault>

@@ -8,8 +8,9 @@ use crate::map_rows::{
 };
 use crate::place::{DeliveryPlace, LinePlace, Place, RecordPlace};
 use cabinet_core::{Delivery, Hand, Inspection, Order, PartCode, UsedLine};
+use office_tables_shelf::register::{RegisterKey, RegisterRecord};
 use office_tables_shelf::rows::{IntersectionRow, RowChange};
-use signal_records::{InterId, LineNo, NoMemory, RecordNo, Row};
+use signal_records::{InterId, NoMemory, Row};
 use std::alloc::Global;
 use std::collections::BTreeMap;
 use std::marker::Model;
@@ -44,10 +45,7 @@ impl Model for Maps {
 }
 
 impl Maps {
-    ghost use Rattle.cabinet_core.specs.Within.{IsInspectionWithin, IsOrderWithin, IsUsedLineWithin, IsDeliveryWithin};
-    ghost use Rattle.office_tables_shelf.specs.CabinetReads.{IsHand};
-    ghost use Rattle.office_tables_shelf.specs.Places as place;
-    ghost use Rattle.office_tables_shelf.specs.Places.{FindsAt, ReadsAt};
+    ghost use Rattle.office_tables_shelf.specs.Places.{FindsAt, IsRecordAt, place_of};
     ghost use Rattle.office_tables_shelf.specs.Content.{no_content};
     ghost use Rattle.office_tables_shelf.specs.Change.{changed, changed_by};
 
@@ -123,61 +121,37 @@ impl Maps {
         Ok(self)
     }
 
-    /// The inspection of an intersection with a number, if there is one.
-    pub fn inspection_at(
-        &self,
-        id: InterId,
-        number: RecordNo,
-    ) -> Result<Option<Inspection>, NoMemory>
-        ensures row { FindsAt self.now (place.Inspection id number) result }
-        ensures within { IfOk result (λ found. IfSome found IsInspectionWithin) }
+    /// The record under a key of the register, if there is one.
+    pub fn record_at(&self, key: &RegisterKey<'_>) -> Result<Option<RegisterRecord>, NoMemory>
+        ensures row { FindsAt self.now (place_of key.now) result }
+        ensures within { IfOk result (λ found. IfSome found (IsRecordAt (place_of key.now))) }
     {
-        let inter = id;
-        find(&self.inspection, &RecordPlace { inter, number })
-    }
-
-    /// The order on an intersection with a number, if there is one.
-    pub fn order_at(&self, id: InterId, number: RecordNo) -> Result<Option<Order>, NoMemory>
-        ensures row { FindsAt self.now (place.Order id number) result }
-        ensures within { IfOk result (λ found. IfSome found IsOrderWithin) }
-    {
-        let inter = id;
-        find(&self.work_order, &RecordPlace { inter, number })
-    }
-
-    /// The part used for an order on an intersection in a line, if there is one.
-    pub fn line_at(
-        &self,
-        id: InterId,
-        order: RecordNo,
-        line: LineNo,
-    ) -> Result<Option<UsedLine>, NoMemory>
-        ensures row { FindsAt self.now (place.Line id order line) result }
-        ensures within { IfOk result (λ found. IfSome found IsUsedLineWithin) }
-    {
-        let inter = id;
-        find(&self.used_part, &LinePlace { inter, order, line })
-    }
-
-    /// The delivery of a part with a number, if there is one.
-    pub fn delivery_at(
-        &self,
-        part: &PartCode,
-        number: RecordNo,
-    ) -> Result<Option<Delivery>, NoMemory>
-        ensures row { FindsAt self.now (place.Delivery part.now number) result }
-        ensures within { IfOk result (λ found. IfSome found IsDeliveryWithin) }
-    {
-        let part = part.clone()?;
-        find(&self.delivery, &DeliveryPlace { part, number })
-    }
-
-    /// How many of a part are on hand, if there ever was a delivery of it.
-    pub fn hand_of(&self, part: &PartCode) -> Option<Hand>
-        ensures row { ReadsAt self.now (place.Part part.now) result }
-        ensures within { IfSome result IsHand }
-    {
-        hand_of(&self.part, part)
+        match key {
+            RegisterKey::Inspection(inter, number) => {
+                let (inter, number) = (*inter, *number);
+                let found = find(&self.inspection, &RecordPlace { inter, number })?;
+                Ok(found.map(RegisterRecord::Inspection))
+            }
+            RegisterKey::Order(inter, number) => {
+                let (inter, number) = (*inter, *number);
+                let found = find(&self.work_order, &RecordPlace { inter, number })?;
+                Ok(found.map(RegisterRecord::Order))
+            }
+            RegisterKey::Line(inter, order, line) => {
+                let (inter, order, line) = (*inter, *order, *line);
+                let found = find(&self.used_part, &LinePlace { inter, order, line })?;
+                Ok(found.map(RegisterRecord::Line))
+            }
+            RegisterKey::Part(part) => {
+                let found = hand_of(&self.part, part);
+                Ok(found.map(RegisterRecord::Part))
+            }
+            RegisterKey::Delivery(part, number) => {
+                let (part, number) = (PartCode::clone(part)?, *number);
+                let found = find(&self.delivery, &DeliveryPlace { part, number })?;
+                Ok(found.map(RegisterRecord::Delivery))
+            }
+        }
     }
 
     /// These tables with the changes made, in their order.

@@ -1,5 +1,5 @@
 -- The places where a row of the register stands, and what is read there, of whichever kind it is.
-use Rattle.std.specs.Prelude.{◌≡◌, ℕ, List, Option, Result, Err, IfOk}
+use Rattle.std.specs.Prelude.{◌≡◌, ℕ, List, Option, Some, None, Result, Err, IfOk}
 use Rattle.cabinet_core.specs.Within.{IsInspectionWithin, IsOrderWithin, IsUsedLineWithin, IsDeliveryWithin}
 use Rattle.cabinet_core.specs.declared.record.Inspection.{Inspection as InspectionRecord}
 use Rattle.cabinet_core.specs.declared.record.Order.{Order as OrderRecord}
@@ -10,6 +10,10 @@ use Rattle.office_tables_shelf.specs.CabinetRows.{part_key, part_columns, delive
 use Rattle.office_tables_shelf.specs.Cells.{Cell}
 use Rattle.office_tables_shelf.specs.Content.{Content}
 use Rattle.office_tables_shelf.specs.Reads.{ReadsRow, HasDamagedUnder}
+use Rattle.office_tables_shelf.specs.declared.register.RegisterKey.{RegisterKey}
+use Rattle.office_tables_shelf.specs.declared.register.RegisterKey.TheVariants as key
+use Rattle.office_tables_shelf.specs.declared.register.RegisterRecord.{RegisterRecord}
+use Rattle.office_tables_shelf.specs.declared.register.RegisterRecord.TheVariants as kind
 use Rattle.office_tables_shelf.specs.declared.rows.Table.{Table}
 use Rattle.office_tables_shelf.specs.declared.shelf.ShelfFault.{ShelfFault}
 use Rattle.office_tables_shelf.specs.declared.shelf.ShelfFault.TheVariants.{Damaged}
@@ -79,18 +83,70 @@ ReadsAt tables place = ReadsRow (table_at place) (own_key place) (columns_at pla
 abbrev pub DamagedAt : Content → Place → Type 0
 DamagedAt tables place = HasDamagedUnder (table_at place) (WithinAt place) (own_key place) (columns_at place) tables (key_cells place)
 
+-- ---- keys and records in code
+
+-- the place that a key names
+abbrev pub place_of : RegisterKey → Place
+place_of (key.Inspection id n) = Inspection id n
+place_of (key.Order id n) = Order id n
+place_of (key.Line id order line) = Line id order line
+place_of (key.Part code) = Part code.now
+place_of (key.Delivery code n) = Delivery code.now n
+
+-- the inspection that was found, if one was
+abbrev pub inspection_of : Option RegisterRecord → Option InspectionRecord
+inspection_of (Some (kind.Inspection inspection)) = Some inspection
+inspection_of _ = None
+
+-- the order that was found, if one was
+abbrev pub order_of : Option RegisterRecord → Option OrderRecord
+order_of (Some (kind.Order order)) = Some order
+order_of _ = None
+
+-- the used part that was found, if one was
+abbrev pub line_of : Option RegisterRecord → Option UsedLine
+line_of (Some (kind.Line used)) = Some used
+line_of _ = None
+
+-- how many of a part were found on hand, if so many were found
+abbrev pub hand_of : Option RegisterRecord → Option ℕ
+hand_of (Some (kind.Part hand)) = Some hand
+hand_of _ = None
+
+-- the delivery that was found, if one was
+abbrev pub delivery_of : Option RegisterRecord → Option DeliveryRecord
+delivery_of (Some (kind.Delivery delivery)) = Some delivery
+delivery_of _ = None
+
+-- what was found, where it is of the kind of a place
+abbrev pub found_at : (place : Place) → Option RegisterRecord → Option (RecordAt place)
+found_at (Inspection id n) = inspection_of
+found_at (Order id n) = order_of
+found_at (Line id order line) = line_of
+found_at (Part code) = hand_of
+found_at (Delivery code n) = delivery_of
+
+-- a record of the kind of a place, within its limits
+abbrev pub IsRecordAt : Place → RegisterRecord → Type 0
+IsRecordAt (Inspection id n) (kind.Inspection inspection) = IsInspectionWithin inspection
+IsRecordAt (Order id n) (kind.Order order) = IsOrderWithin order
+IsRecordAt (Line id order line) (kind.Line used) = IsUsedLineWithin used
+IsRecordAt (Part code) (kind.Part hand) = IsHand hand
+IsRecordAt (Delivery code n) (kind.Delivery delivery) = IsDeliveryWithin delivery
+IsRecordAt _ _ = ⊥
+
 -- ---- what a call of a shelf answers of a place
 
--- it reads what stands there
-abbrev pub FindsAt : {E : Type 0} → Content → (place : Place) → Result (Option (RecordAt place)) E → Type 0
-FindsAt tables place result = IfOk result (λ found. ReadsAt tables place found)
+-- a call that answers a record read what stands at a place
+abbrev pub FindsAt : {E : Type 0} → Content → Place → Result (Option RegisterRecord) E → Type 0
+FindsAt tables place result = IfOk result (λ found. ReadsAt tables place (found_at place found))
 
--- where the database is open
-abbrev pub GivesAt : Type 0 → Content → (place : Place) → Result (Option (RecordAt place)) ShelfFault → Type 0
+-- a call that answers a record read what stands at a place, where the database is open
+abbrev pub GivesAt : Type 0 → Content → Place → Result (Option RegisterRecord) ShelfFault → Type 0
 GivesAt is_honest tables place result =
-    IfOk result (λ found. is_honest → ReadsAt tables place found)
+    IfOk result (λ found. is_honest → ReadsAt tables place (found_at place found))
 
--- it tells a damaged row where one stands there
+-- a call that reports a damaged row met one that stands at a place, where the database is open
 abbrev pub BlamesAt : {A : Type 0} → Type 0 → Content → Place → Result A ShelfFault → Type 0
 BlamesAt is_honest tables place result =
     result ≡ Err Damaged → is_honest → DamagedAt tables place

@@ -5,5 +5,6 @@ pub mod bounds;
 pub mod counts;
 pub mod open_orders;
 pub mod overdue;
+pub mod register;
 pub mod rows;
 pub mod shelf;

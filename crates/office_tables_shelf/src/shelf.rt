@@ -11,17 +11,18 @@ ghost use Rattle.office_tables_shelf.specs.Shelf.{AnswersOpen, IsKept, ReadsInte
 ghost use Rattle.office_tables_shelf.specs.Damage.{HasDamagedIntersection, HasAnyDamagedIntersection, HasDamagedTiming, HasDamagedDraft};
 ghost use Rattle.office_tables_shelf.specs.CabinetReads.{ListsInspections, HasDamagedInspection, ListsOrders, HasDamagedOrder, HasAnyDamagedInspection, HasAnyDamagedOrder, ListsUsed, HasDamagedUsed, IsHand, ListsParts, IsPartWithin, HasDamagedPart};
 ghost use Rattle.office_tables_shelf.specs.Places as place;
-ghost use Rattle.office_tables_shelf.specs.Places.{GivesAt, BlamesAt};
+ghost use Rattle.office_tables_shelf.specs.Places.{BlamesAt, GivesAt, IsRecordAt, ReadsAt, place_of};
 ghost use Rattle.office_tables_shelf.specs.Overdue.{last_day_in, ReadsLast, ListsOverdue, HasOverdueDamage};
 ghost use Rattle.office_tables_shelf.specs.OpenOrders.{orders_in, ReadsOpen};
 ghost use Rattle.office_tables_shelf.specs.declared.counts.WriteCounts.{WriteCounts};
 
 use crate::overdue::{add_overdue, overdue_among};
+use crate::register::{RegisterKey, RegisterRecord};
 use crate::rows::{IntersectionRow, RowChange, Table};
 use cabinet_core::{
     Day, Delivery, Hand, Inspection, Order, OverdueRow, PartCode, UsedLine, latest,
 };
-use signal_records::{Change, InterId, LineNo, NoMemory, RecordNo, Row};
+use signal_records::{Change, InterId, NoMemory, RecordNo, Row};
 use std::alloc::Global;
 use std::collections::BTreeMap;
 
@@ -125,18 +126,16 @@ pub trait Shelf {
         ensures kept { IsKept is_honest content written may_leave self.old self.new }
         ensures open { AnswersOpen is_clean is_honest result self.old self.new };
 
-    /// The inspection of an intersection's cabinet with a number, if there is one.
-    fn inspection(
+    /// The record under a key of the register, if there is one.
+    fn record_at(
         &mut self,
         alloc: Global,
-        id: InterId,
-        number: RecordNo,
-    ) -> Result<Option<Inspection>, ShelfFault>
-        ensures row { GivesAt (is_honest self.new) (content self.old)
-            (place.Inspection id number) result }
-        ensures within { IfOk result (λ found. IfSome found IsInspectionWithin) }
+        key: &RegisterKey<'_>,
+    ) -> Result<Option<RegisterRecord>, ShelfFault>
+        ensures row { GivesAt (is_honest self.new) (content self.old) (place_of key.now) result }
+        ensures within { IfOk result (λ found. IfSome found (IsRecordAt (place_of key.now))) }
         ensures damaged { BlamesAt (is_honest self.new) (content self.old)
-            (place.Inspection id number) result }
+            (place_of key.now) result }
         ensures kept { IsKept is_honest content written may_leave self.old self.new }
         ensures open { AnswersOpen is_clean is_honest result self.old self.new };
 
@@ -233,21 +232,6 @@ pub trait Shelf {
         Ok(found)
     }
 
-    /// The order on an intersection with a number, if there is one.
-    fn order(
-        &mut self,
-        alloc: Global,
-        id: InterId,
-        number: RecordNo,
-    ) -> Result<Option<Order>, ShelfFault>
-        ensures row { GivesAt (is_honest self.new) (content self.old)
-            (place.Order id number) result }
-        ensures within { IfOk result (λ found. IfSome found IsOrderWithin) }
-        ensures damaged { BlamesAt (is_honest self.new) (content self.old)
-            (place.Order id number) result }
-        ensures kept { IsKept is_honest content written may_leave self.old self.new }
-        ensures open { AnswersOpen is_clean is_honest result self.old self.new };
-
     /// The orders on an intersection, in the order of their numbers.
     fn orders(&mut self, alloc: Global, id: InterId) -> Result<Vec<Order>, ShelfFault>
         ensures rows { IfOk result (λ found. is_honest self.new →
@@ -271,22 +255,6 @@ pub trait Shelf {
         ensures kept { IsKept is_honest content written may_leave self.old self.new }
         ensures open { AnswersOpen is_clean is_honest result self.old self.new };
 
-    /// The part used for an order on an intersection in a line, if there is one.
-    fn used_line(
-        &mut self,
-        alloc: Global,
-        id: InterId,
-        order: RecordNo,
-        line: LineNo,
-    ) -> Result<Option<UsedLine>, ShelfFault>
-        ensures row { GivesAt (is_honest self.new) (content self.old)
-            (place.Line id order line) result }
-        ensures within { IfOk result (λ found. IfSome found IsUsedLineWithin) }
-        ensures damaged { BlamesAt (is_honest self.new) (content self.old)
-            (place.Line id order line) result }
-        ensures kept { IsKept is_honest content written may_leave self.old self.new }
-        ensures open { AnswersOpen is_clean is_honest result self.old self.new };
-
     /// The parts used for the orders on an intersection, in the order of orders and lines.
     fn used_lines(&mut self, alloc: Global, id: InterId) -> Result<Vec<UsedLine>, ShelfFault>
         ensures rows { IfOk result (λ found. is_honest self.new →
@@ -305,23 +273,31 @@ pub trait Shelf {
         part: &PartCode,
         number: RecordNo,
     ) -> Result<Option<Delivery>, ShelfFault>
-        ensures row { GivesAt (is_honest self.new) (content self.old)
-            (place.Delivery part.now number) result }
+        ensures row { IfOk result (λ found. is_honest self.new →
+            ReadsAt (content self.old) (place.Delivery part.now number) found) }
         ensures within { IfOk result (λ found. IfSome found IsDeliveryWithin) }
         ensures damaged { BlamesAt (is_honest self.new) (content self.old)
             (place.Delivery part.now number) result }
         ensures kept { IsKept is_honest content written may_leave self.old self.new }
-        ensures open { AnswersOpen is_clean is_honest result self.old self.new };
+        ensures open { AnswersOpen is_clean is_honest result self.old self.new }
+    {
+        let found = self.record_at(alloc, &RegisterKey::Delivery(part, number))?;
+        Ok(RegisterRecord::delivery(found))
+    }
 
     /// How many of a part are on hand, if there ever was a delivery of it.
     fn hand(&mut self, alloc: Global, part: &PartCode) -> Result<Option<Hand>, ShelfFault>
-        ensures row { GivesAt (is_honest self.new) (content self.old)
-            (place.Part part.now) result }
+        ensures row { IfOk result (λ found. is_honest self.new →
+            ReadsAt (content self.old) (place.Part part.now) found) }
         ensures within { IfOk result (λ found. IfSome found IsHand) }
         ensures damaged { BlamesAt (is_honest self.new) (content self.old)
             (place.Part part.now) result }
         ensures kept { IsKept is_honest content written may_leave self.old self.new }
-        ensures open { AnswersOpen is_clean is_honest result self.old self.new };
+        ensures open { AnswersOpen is_clean is_honest result self.old self.new }
+    {
+        let found = self.record_at(alloc, &RegisterKey::Part(part))?;
+        Ok(RegisterRecord::hand(found))
+    }
 
     /// The parts with how many are on hand, in the order of their codes.
     fn parts(&mut self, alloc: Global) -> Result<Vec<(PartCode, Hand)>, ShelfFault>

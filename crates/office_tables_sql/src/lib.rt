@@ -9,6 +9,7 @@ pub mod inspection;
 pub mod intersection;
 pub mod order;
 pub mod part;
+pub mod register;
 pub mod stored_row;
 pub mod timing;
 pub mod used;

@@ -7,7 +7,7 @@ ghost use Rattle.sqlite.specs.Held.{state};
 ghost use Rattle.office_tables_shelf.specs.CabinetReads.{IsHand};
 ghost use Rattle.office_tables_shelf.specs.CabinetRows.{part_key, part_columns};
 ghost use Rattle.office_tables_shelf.specs.Places as place;
-ghost use Rattle.office_tables_shelf.specs.Places.{GivesAt, BlamesAt};
+ghost use Rattle.office_tables_shelf.specs.Places.{BlamesAt, ReadsAt};
 ghost use Rattle.office_tables_statements.specs.Stored.{content_now};
 ghost use Rattle.office_tables_statements.specs.Calls.{IsHonest, IsOffice, Keeps, TurnsTo, StandsOn, TellsOpen};
 
@@ -83,14 +83,14 @@ impl StoredRow for (PartCode, Hand) {
 }
 
 /// How many of the part are on hand, if there is such a part.
-pub fn hand<S: Alter>(
+pub(crate) fn hand<S: Alter>(
     alloc: Global,
     conn: &mut Connection<S>,
     code: &PartCode,
 ) -> Result<Option<Hand>, ShelfFault>
     requires { IsOffice (state S.Store conn.old) }
-    ensures row { GivesAt (IsHonest (state S.Store conn.new))
-        (content_now (state S.Store conn.old)) (place.Part code.now) result }
+    ensures row { IfOk result (λ hand. IsHonest (state S.Store conn.new) →
+        ReadsAt (content_now (state S.Store conn.old)) (place.Part code.now) hand) }
     ensures within { IfOk result (λ hand. IfSome hand IsHand) }
     ensures damaged { BlamesAt (IsHonest (state S.Store conn.new))
         (content_now (state S.Store conn.old)) (place.Part code.now) result }

@@ -1,13 +1,14 @@
 use Rattle.cabinet_core.specs.declared.command.RecordCommand.TheVariants.{CloseOrder}
-use Rattle.office_desk_cabinet.proofs.Decided.{decided}
+use Rattle.office_tables_shelf.specs.Places as place
+use Rattle.office_desk_cabinet.proofs.{Decided.decided, PendingLemmas.taken_stands}
 use Rattle.office_desk_cabinet.proofs.records.decide_close_order.Goals as goal
 
 pub returns-clause-decides : goal.returns-clause-decides
 returns-clause-decides g c =
     let says = c.close_order-decision.ensures in
-    decided 0 _ _ _ (CloseOrder c.args.id c.args.order c.args.closing.now) c.in_ok-there.there
+    decided 0 _ _ _ (CloseOrder c.args.id c.args.order c.args.closing.now) c.order-there.result
     c.close_order-decision.result c.registered.result
-    (λ honest. let there = c.in_ok-there.ensures.stands honest in
+    (λ honest.
+    let there = taken_stands _ (place.Order c.args.id c.args.order) _ _ c.order-there.ensures (c.in_ok-found.ensures.stands honest) in
     record { reads = there.reads; whole = there.whole })
-    says.line (says.makes c.args.id c.args.order)
-    c.registered.ensures.tells c.registered.ensures.fault
+    says.line (says.makes c.args.id c.args.order) c.registered.ensures.tells c.registered.ensures.fault

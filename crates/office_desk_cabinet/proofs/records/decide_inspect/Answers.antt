@@ -1,12 +1,14 @@
 use Rattle.cabinet_core.specs.declared.command.RecordCommand.TheVariants.{Inspect}
-use Rattle.office_desk_cabinet.proofs.Decided.{decided}
+use Rattle.office_tables_shelf.specs.Places as place
+use Rattle.office_desk_cabinet.proofs.{Decided.decided, PendingLemmas.taken_stands}
 use Rattle.office_desk_cabinet.proofs.records.decide_inspect.Goals as goal
 
 pub returns-clause-decides : goal.returns-clause-decides
 returns-clause-decides g c =
     let says = c.inspect-decision.ensures in
-    decided 0 _ _ _ (Inspect c.args.id c.args.inspection.now) c.in_ok-there.there
+    decided 0 _ _ _ (Inspect c.args.id c.args.inspection.now) c.inspection-there.result
     c.inspect-decision.result c.registered.result
-    (λ honest. let there = c.in_ok-there.ensures.stands honest in
+    (λ honest.
+    let there = taken_stands _ (place.Inspection c.args.id c.args.inspection.now.number) _ _ c.inspection-there.ensures (c.in_ok-found.ensures.stands honest) in
     record { reads = there.reads; whole = there.whole })
     says.line (says.makes c.args.id) c.registered.ensures.tells c.registered.ensures.fault

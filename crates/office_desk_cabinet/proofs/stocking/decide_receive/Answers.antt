@@ -1,24 +1,24 @@
 use Rattle.std.proofs.Common.{⊎_elim, subst}
 use Rattle.cabinet_core.specs.{Cabinet.receive_line, declared.command.RecordCommand.TheVariants.Receive}
-use Rattle.office_tables_shelf.specs.{Change.changed_by, Places.Delivery}
+use Rattle.office_tables_shelf.specs.{Change.changed_by, Places.Delivery, Places.Part}
 use Rattle.office_desk_cabinet.specs.Puts.{StandsAt}
-use Rattle.office_desk_cabinet.proofs.{Decided.decided, Stocked.received_tells}
+use Rattle.office_desk_cabinet.proofs.{Decided.decided, PendingLemmas.taken_stands, Stocked.received_tells}
 use Rattle.office_desk_cabinet.proofs.stocking.decide_receive.Goals as goal
 
 pub returns-clause-decides : goal.returns-clause-decides
 returns-clause-decides g c =
     let asked = c.args.delivery.now in
-    let there = c.in_ok-there.there in
-    let hand = c.in_ok-hand.hand in
+    let there = c.delivery-there.result in
+    let hand = c.hand-hand.result in
     let pending = c.args.pending.now in
     let says = c.receive-decision.ensures in
     decided 0 _ _ _ (Receive asked) (there, hand) c.receive-decision.result c.received.result
     (λ honest.
-    let at_hand = c.delivery_at.ensures.kept.honest_before honest in
-    let first = c.hand_at.ensures.kept.same_content at_hand in
-    let came = subst (λ t. StandsAt (changed_by t pending) (Delivery asked.part asked.number) there)
-    first (c.in_ok-there.ensures.stands honest) in
-    let on = c.in_ok-hand.ensures.stands at_hand in
+    let at_hand = c.record_at-2.ensures.kept.honest_before honest in
+    let first = c.record_at.ensures.kept.same_content at_hand in
+    let came = subst (λ t. StandsAt (changed_by t pending) (Delivery asked.part asked.number) there) first
+    (taken_stands _ (Delivery asked.part asked.number) _ _ c.delivery-there.ensures (c.in_ok-record_at.ensures.stands honest)) in
+    let on = taken_stands _ (Part asked.part) _ _ c.hand-hand.ensures (c.in_ok-found.ensures.stands at_hand) in
     record { reads = (came.reads, on.reads); whole = ⊎_elim came.whole on.whole })
     says.line (says.makes 0)
     (received_tells 0 asked (receive_line there hand asked) hand c.receive-decision.result

@@ -1,30 +1,30 @@
 use Rattle.std.proofs.Common.{⊎_elim, subst, ◌∙◌}
 use Rattle.cabinet_core.specs.declared.command.RecordCommand.TheVariants.{UsePart}
-use Rattle.office_tables_shelf.specs.{Change.changed_by, Places.Line, Places.Order}
+use Rattle.office_tables_shelf.specs.{Change.changed_by, Places.Line, Places.Order, Places.Part}
 use Rattle.office_desk_cabinet.specs.Puts.{StandsAt}
-use Rattle.office_desk_cabinet.proofs.Decided.{decided}
+use Rattle.office_desk_cabinet.proofs.{Decided.decided, PendingLemmas.taken_stands}
 use Rattle.office_desk_cabinet.proofs.stocking.decide_use_part.Goals as goal
 
 pub returns-clause-decides : goal.returns-clause-decides
 returns-clause-decides g c =
     let id = c.args.id in
     let asked = c.args.line.now in
-    let there = c.in_ok-there.there in
-    let order = c.in_ok-order.order in
+    let there = c.line-there.result in
+    let order = c.order-order.result in
     let pending = c.args.pending.now in
     let says = c.use_part-decision.ensures in
-    decided 0 _ _ _ (UsePart id asked) (there, order, c.in_ok-hand.hand)
+    decided 0 _ _ _ (UsePart id asked) (there, order, c.hand-hand.result)
     c.use_part-decision.result c.registered.result
     (λ honest.
-    let at_line = c.order_at.ensures.kept.honest_before honest in
-    let at_hand = c.line_at.ensures.kept.honest_before at_line in
-    let first = c.hand_at.ensures.kept.same_content at_hand in
-    let second = c.line_at.ensures.kept.same_content at_line ∙ first in
-    let line = subst (λ t. StandsAt (changed_by t pending) (Line id asked.order asked.line) there)
-    first (c.in_ok-there.ensures.stands at_line) in
+    let at_line = c.record_at-3.ensures.kept.honest_before honest in
+    let at_hand = c.record_at-2.ensures.kept.honest_before at_line in
+    let first = c.record_at.ensures.kept.same_content at_hand in
+    let second = c.record_at-2.ensures.kept.same_content at_line ∙ first in
+    let line = subst (λ t. StandsAt (changed_by t pending) (Line id asked.order asked.line) there) first
+    (taken_stands _ (Line id asked.order asked.line) _ _ c.line-there.ensures (c.in_ok-record_at.ensures.stands at_line)) in
     let of = subst (λ t. StandsAt (changed_by t pending) (Order id asked.order) order) second
-    (c.in_ok-order.ensures.stands honest) in
-    let on = c.in_ok-hand.ensures.stands at_hand in
+    (taken_stands _ (Order id asked.order) _ _ c.order-order.ensures (c.in_ok-record_at-2.ensures.stands honest)) in
+    let on = taken_stands _ (Part asked.part) _ _ c.hand-hand.ensures (c.in_ok-found.ensures.stands at_hand) in
     record {
       reads = (line.reads, of.reads, on.reads);
       whole = ⊎_elim line.whole (⊎_elim of.whole on.whole);

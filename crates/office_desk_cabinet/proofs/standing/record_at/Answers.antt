@@ -1,17 +1,17 @@
-use Rattle.office_tables_shelf.specs.Places.{Part}
+use Rattle.office_tables_shelf.specs.Places.{place_of}
 use Rattle.office_desk_cabinet.proofs.{Opened.unread_stays, PendingLemmas.put_stands, PendingLemmas.some_put, PendingLemmas.still_stands}
-use Rattle.office_desk_cabinet.proofs.standing.hand_at.Goals as goal
+use Rattle.office_desk_cabinet.proofs.standing.record_at.Goals as goal
 
 pub returns-in-Some-clause-stands : goal.returns-in-Some-clause-stands
 returns-in-Some-clause-stands g c = λ honest.
-    put_stands (Part c.args.part.now) c.args.pending.now _ c.hand.ensures.put _
-    c.in-Some.is c.hand.ensures.within (g.S.Shelf.content c.args.shelf.now)
+    put_stands (place_of c.args.key.now) c.args.pending.now _ c.in_ok-put.ensures.put _
+    c.in-Some.is c.in_ok-put.ensures.within (g.S.Shelf.content c.args.shelf.now)
 
 pub returns-clause-stands : goal.returns-clause-stands
 returns-clause-stands g c = λ honest.
-    still_stands (Part c.args.part.now) c.args.pending.now _ c.hand.ensures.put
+    still_stands (place_of c.args.key.now) c.args.pending.now _ c.in_ok-put.ensures.put
     c.in_default.is _ _ (c.in_ok-before.ensures.row honest) c.in_ok-before.ensures.within
 
 pub returns-in-Some-clause-open : goal.returns-in-Some-clause-open
 returns-in-Some-clause-open g c = unread_stays _ _ _ _ _ (λ none told. absurd
-    (some_put (Part c.args.part.now) c.args.pending.now _ c.hand.ensures.put _ c.in-Some.is none))
+    (some_put (place_of c.args.key.now) c.args.pending.now _ c.in_ok-put.ensures.put _ c.in-Some.is c.in_ok-put.ensures.within none))

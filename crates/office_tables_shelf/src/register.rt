@@ -1,0 +1,85 @@
+//! Where the rows of the register stand, and the records that stand there.
+
+ghost use Rattle.std.specs.Prelude.{◌≡◌};
+ghost use Rattle.office_tables_shelf.specs.Places.{inspection_of, order_of, line_of, hand_of, delivery_of};
+
+use cabinet_core::{Delivery, Hand, Inspection, Order, PartCode, UsedLine};
+use signal_records::{InterId, LineNo, RecordNo};
+
+/// Where a row of the register stands: its table, and its key there.
+#[derive(Drop)]
+pub enum RegisterKey<'a> {
+    /// An intersection, and the number of an inspection of its cabinet.
+    Inspection(InterId, RecordNo),
+    /// An intersection, and the number of an order on it.
+    Order(InterId, RecordNo),
+    /// An intersection, the number of an order on it, and the line of a part used for that.
+    Line(InterId, RecordNo, LineNo),
+    /// A part, of which so many are on hand.
+    Part(&'a PartCode),
+    /// A part, and the number of a delivery of it.
+    Delivery(&'a PartCode, RecordNo),
+}
+
+/// A record of the register, of whichever kind.
+#[derive(Drop)]
+pub enum RegisterRecord {
+    Inspection(Inspection),
+    Order(Order),
+    Line(UsedLine),
+    /// How many of a part are on hand.
+    Part(Hand),
+    Delivery(Delivery),
+}
+
+impl RegisterRecord {
+    /// The inspection that was found, if one was.
+    pub fn inspection(found: Option<RegisterRecord>) -> Option<Inspection>
+        ensures { result ≡ inspection_of found }
+    {
+        match found {
+            Some(RegisterRecord::Inspection(inspection)) => Some(inspection),
+            _ => None,
+        }
+    }
+
+    /// The order that was found, if one was.
+    pub fn order(found: Option<RegisterRecord>) -> Option<Order>
+        ensures { result ≡ order_of found }
+    {
+        match found {
+            Some(RegisterRecord::Order(order)) => Some(order),
+            _ => None,
+        }
+    }
+
+    /// The used part that was found, if one was.
+    pub fn line(found: Option<RegisterRecord>) -> Option<UsedLine>
+        ensures { result ≡ line_of found }
+    {
+        match found {
+            Some(RegisterRecord::Line(line)) => Some(line),
+            _ => None,
+        }
+    }
+
+    /// How many of a part were found on hand, if there ever was a delivery of it.
+    pub fn hand(found: Option<RegisterRecord>) -> Option<Hand>
+        ensures { result ≡ hand_of found }
+    {
+        match &found {
+            Some(RegisterRecord::Part(hand)) => Some(*hand),
+            _ => None,
+        }
+    }
+
+    /// The delivery that was found, if one was.
+    pub fn delivery(found: Option<RegisterRecord>) -> Option<Delivery>
+        ensures { result ≡ delivery_of found }
+    {
+        match found {
+            Some(RegisterRecord::Delivery(delivery)) => Some(delivery),
+            _ => None,
+        }
+    }
+}
