@@ -8,3 +8,4 @@ pub mod Steps
 pub mod Writes
 pub mod Sound
 pub mod Refusal
+pub mod Touching

@@ -1,12 +1,16 @@
 //! A set with changes made to it, and the violations of that set.
 
-ghost use Rattle.std.specs.Prelude.{◌≡◌, [], map, IfOk};
+ghost use Rattle.std.specs.Prelude.{◌≡◌, [], length, map, IfOk};
+ghost use Rattle.std.specs.List.{flat_map};
 ghost use Rattle.signal_records.specs.TimingSet.{after_changes};
+ghost use Rattle.signal_rules.specs.Counts.{RisesAtMost, most_seconds_of};
+ghost use Rattle.signal_rules.specs.Touched.{IsRightOnTouched};
 ghost use Rattle.signal_rules.specs.Violations.{violations_of};
 ghost use Rattle.signal_records.specs.ChangedRows as rows;
+ghost use Rattle.draft_core.specs.Touching.{touched_after};
 
 use signal_records::{Change, Key, NoMemory, TimingSet, changed_key};
-use signal_rules::{Tally, Violation, violations_touched};
+use signal_rules::{Judge, Tally, Violation, violations_touched};
 use std::alloc::Global;
 
 /// The set with changes made to it, in their order.
@@ -41,6 +45,37 @@ fn changed_keys(alloc: Global, changes: &[Change]) -> Result<Vec<Key>, NoMemory>
     Ok(keys)
 }
 
+/// What a judge answers of the subjects that changes touch in a set, once they are made. No other
+/// subject is judged. The answers are the violations of that set, where the set before the changes
+/// has none and the judge answers these subjects by the rules.
+///
+/// A refusal may leave the judge's counts raised, within the same bounds.
+fn answers_after<J: Judge>(
+    alloc: Global,
+    committed: &TimingSet,
+    changes: &[Change],
+    judge: &mut J,
+) -> Result<Vec<Violation>, NoMemory>
+    ensures answers { IfOk result (λ found. found.items ≡
+        flat_map (J.answers (after_changes committed.now changes.now))
+        (touched_after committed.now changes.now)) }
+    ensures whole { violations_of committed.now ≡ [] →
+        IsRightOnTouched J.answers (after_changes committed.now changes.now)
+        (map rows.changed_key changes.now) →
+        IfOk result (λ found.
+        found.items ≡ violations_of (after_changes committed.now changes.now)) }
+    ensures calls { RisesAtMost (length (touched_after committed.now changes.now))
+        (J.calls judge.old) (J.calls judge.new) }
+    ensures seconds { RisesAtMost
+        (most_seconds_of (after_changes committed.now changes.now)
+        (touched_after committed.now changes.now))
+        (J.seconds judge.old) (J.seconds judge.new) }
+{
+    let draft = overlay(alloc, committed, changes)?;
+    let keys = changed_keys(alloc, changes)?;
+    violations_touched(alloc, committed, &draft, keys.as_slice(), judge)
+}
+
 /// The violations of a set after changes. Where the set itself has none, only the subjects that
 /// a change touches need to be judged.
 pub(crate) fn violations_after(
@@ -52,8 +87,6 @@ pub(crate) fn violations_after(
         IfOk result (λ found.
         found.items ≡ violations_of (after_changes committed.now changes.now)) }
 {
-    let draft = overlay(alloc, committed, changes)?;
-    let keys = changed_keys(alloc, changes)?;
     let mut tally = Tally::new();
-    violations_touched(alloc, committed, &draft, keys.as_slice(), &mut tally)
+    answers_after(alloc, committed, changes, &mut tally)
 }
