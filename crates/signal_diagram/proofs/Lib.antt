@@ -1,3 +1,3 @@
-pub mod Seconds
 pub mod Bars
 pub mod Charts
+pub mod Seconds

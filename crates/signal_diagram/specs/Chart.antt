@@ -1,42 +1,79 @@
 -- The chart of a pattern, which a reader takes from its picture: which phase each ring has from
--- which second to which, and the barriers.
-use Rattle.std.specs.Prelude.{◌≡◌, ◌+◌, ◌==◌, ◌&&◌, ◌||◌, ℕ, ⊤, nat_lt, nat_le, Bool, false, List}
-use Rattle.std.specs.Prelude.{[], ◌∷◌, All, map, filter, find, Option, option_map, slice_get}
+-- which second of the cycle to which, and where all rings change phase.
+use Rattle.std.specs.Prelude.{◌≡◌, ℕ, zero, suc, ◌+◌, ◌==◌, ◌&&◌, ◌||◌, max, nat_lt, nat_le, ⊤, Bool, List, [], ◌∷◌, ◌++◌, All, map, filter, find, length, Option, option_map, slice_get}
 use Rattle.std.specs.List.{list_any, list_all}
 use Rattle.signal_records.specs.declared.record.Pattern.{Pattern}
 use Rattle.signal_records.specs.TimingSet.{Rows}
-use Rattle.signal_rules.specs.Lookup.{is_in}
+use Rattle.signal_values.specs.Numbers.{numbers}
 use Rattle.signal_rules.specs.SequenceRule.{ring_row}
 use Rattle.signal_rules.specs.PatternRules.{lane, lanes_fill_cycle, used_rings}
 use Rattle.signal_rules.specs.Starts.{times}
+use Rattle.signal_diagram.specs.declared.chart.Bar.{Bar}
+use Rattle.signal_diagram.specs.Lane.{RingLane}
 
--- a phase, from the second of the cycle at which it begins to the one at which it ends
-pub record Bar : Type 0 where
-  pub phase : ℕ
-  pub from : ℕ
-  pub to : ℕ
+-- ---- the lanes
 
--- the phases of a ring
-pub record Lane : Type 0 where
-  pub ring : ℕ
-  pub bars : List Bar
+-- a phase of some seconds from a second on, if it has any
+abbrev pub bar_of : ℕ → ℕ → ℕ → List Bar
+bar_of zero from p = []
+bar_of (suc time) from p = record { phase = p; from = from; to = from + suc time } ∷ []
 
--- the rings, and the seconds at which there is a barrier
-pub record Chart : Type 0 where
-  pub lanes : List Lane
-  pub barriers : List ℕ
+-- the phases of a row, the first from a second on, each from where the one before ends
+abbrev pub bars_from : (ℕ → ℕ) → ℕ → List ℕ → List Bar
+bars_from time from [] = []
+bars_from time from (p ∷ ps) = bar_of (time p) from p ++ bars_from time (from + time p) ps
+
+-- the lane of a ring: its row of the pattern's sequence, with the times of the pattern's splits
+abbrev pub lane_of : Rows → Pattern → ℕ → RingLane
+lane_of set pattern ring =
+    record { ring = ring; bars = bars_from (times set pattern.split) 0 (ring_row set pattern.seq ring) }
+
+-- the lanes of the rings that are used
+abbrev pub lanes_of : Rows → Pattern → List RingLane
+lanes_of set pattern = map (lane_of set pattern) (used_rings set)
+
+-- the second at which the last phase ends
+abbrev pub end_of : ℕ → List Bar → ℕ
+end_of second [] = second
+end_of second (bar ∷ bars) = end_of bar.to bars
+
+-- the lanes end with the cycle
+abbrev pub lanes_end : ℕ → List RingLane → Bool
+lanes_end cycle lanes = list_all (λ shown. end_of 0 shown.bars == cycle) lanes
+
+-- the longest of some seconds and the lanes
+abbrev pub longest : ℕ → List RingLane → ℕ
+longest seconds [] = seconds
+longest seconds (shown ∷ more) = longest (max seconds (end_of 0 shown.bars)) more
+
+-- ---- where all rings change phase
+
+-- a ring changes phase: one of its phases ends at the second, and one begins
+abbrev pub changes : ℕ → RingLane → Bool
+changes second shown =
+    list_any (λ bar. bar.to == second) shown.bars
+    && list_any (λ bar. bar.from == second) shown.bars
+
+-- all rings change phase at a second; where there is no ring nothing changes
+abbrev pub all_change : ℕ → List RingLane → Bool
+all_change second lanes = nat_lt 0 (length lanes) && list_all (changes second) lanes
+
+-- a line stands at the end of the cycle, and before it where all rings change phase: none at
+-- second 0, where no phase ends
+abbrev pub has_line : ℕ → List RingLane → ℕ → Bool
+has_line cycle lanes second = second == cycle || all_change second lanes
+
+abbrev pub line_seconds : ℕ → List RingLane → List ℕ
+line_seconds cycle lanes = filter (has_line cycle lanes) (numbers cycle 1)
+
+-- ---- what holds of the lanes
 
 -- the first begins at this second, and each other one where the one before it ends
 abbrev pub Follow : ℕ → List Bar → Type 0
 Follow second [] = ⊤
 Follow second (bar ∷ bars) = (bar.from ≡ second) × Follow bar.to bars
 
--- the second at which the last one ends
-abbrev pub end_of : ℕ → List Bar → ℕ
-end_of second [] = second
-end_of second (bar ∷ bars) = end_of bar.to bars
-
--- it stands at a second
+-- a phase stands at a second
 abbrev pub covers : ℕ → Bar → Bool
 covers second bar = nat_le bar.from second && nat_lt second bar.to
 
@@ -46,7 +83,7 @@ phase_at_second bars second = option_map (λ bar. bar.phase) (find (covers secon
 
 -- The phases that have time, in the order of the sequence, stand one after the other from second 0
 -- on, each for the seconds of its split; so each second has the phase that V13 compares there.
-pub record IsLane (set : Rows) (pattern : Pattern) (shown : Lane) : Type 0 where
+pub record IsLane (set : Rows) (pattern : Pattern) (shown : RingLane) : Type 0 where
   pub order : map (λ bar. bar.phase) shown.bars
       ≡ filter (λ p. nat_lt 0 (times set pattern.split p)) (ring_row set pattern.seq shown.ring)
   pub follow : Follow 0 shown.bars
@@ -54,24 +91,9 @@ pub record IsLane (set : Rows) (pattern : Pattern) (shown : Lane) : Type 0 where
   pub seconds : (second : ℕ) → phase_at_second shown.bars second
       ≡ slice_get (lane set pattern.seq pattern.split shown.ring) second
 
--- a ring changes phase: one of its phases ends at the second, and one begins
-abbrev pub changes : ℕ → Lane → Bool
-changes second shown =
-    list_any (λ bar. bar.to == second) shown.bars
-    && list_any (λ bar. bar.from == second) shown.bars
-
--- all rings do; where there is no ring nothing changes
-abbrev pub all_change : ℕ → List Lane → Bool
-all_change second [] = false
-all_change second (shown ∷ more) = list_all (changes second) (shown ∷ more)
-
--- Each ring that is used has a lane; the lanes end together, with the cycle, exactly where the
--- pattern meets V12; a barrier stands at the end of the cycle and, before it, exactly where all
--- rings change phase. So there is none at second 0, where no phase ends.
-pub record IsChart (set : Rows) (pattern : Pattern) (chart : Chart) : Type 0 where
-  pub rings : map (λ shown. shown.ring) chart.lanes ≡ used_rings set
-  pub lanes : All (IsLane set pattern) chart.lanes
-  pub together : lanes_fill_cycle set pattern
-      ≡ list_all (λ shown. end_of 0 shown.bars == pattern.cycle) chart.lanes
-  pub barriers : (second : ℕ) → is_in second chart.barriers
-      ≡ (second == pattern.cycle || (nat_lt second pattern.cycle && all_change second chart.lanes))
+-- Each ring that is used has a lane; the lanes end with the cycle exactly where the pattern meets
+-- V12.
+pub record IsChart (set : Rows) (pattern : Pattern) (lanes : List RingLane) : Type 0 where
+  pub rings : map (λ shown. shown.ring) lanes ≡ used_rings set
+  pub each : All (IsLane set pattern) lanes
+  pub together : lanes_fill_cycle set pattern ≡ lanes_end pattern.cycle lanes

@@ -1,10 +1,6 @@
-pub mod Geometry
-pub mod Elements
-pub mod PhasePicture
-pub mod Lanes
-pub mod Barriers
-pub mod Scale
-pub mod Notes
-pub mod Diagram
+pub mod Lane
 pub mod Chart
-pub mod Drawing
+pub mod Shapes
+pub mod Svg
+pub mod Head
+pub mod Diagram

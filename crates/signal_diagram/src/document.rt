@@ -1,21 +1,18 @@
 //! The diagram of a pattern.
 
-ghost use Rattle.std.specs.Prelude.{◌≡◌, ◌++◌, ◌≤◌, ◌↔◌, OnOk, IfOk, IfSome, IsSome};
-ghost use Rattle.std.specs.Prelude.{length, string_bytes};
+ghost use Rattle.std.specs.Prelude.{◌≡◌, ◌++◌, ◌<◌, ◌≤◌, ◌^◌, ◌↔◌, OnOk, IfOk, IfSome, IsSome, length, string_bytes};
 ghost use Rattle.signal_rules.specs.Lookup.{pattern_at};
-ghost use Rattle.signal_diagram.specs.Geometry.{shown_seconds};
-ghost use Rattle.signal_diagram.specs.Diagram.{sheet_opening, figure_words, figure_opening};
-ghost use Rattle.signal_diagram.specs.Diagram.{opening, body, picture, picture_of};
-ghost use Rattle.signal_diagram.specs.Diagram.{diagram_text, figure_text};
-ghost use Rattle.signal_diagram.specs.Drawing.{DrawsChart};
+ghost use Rattle.signal_diagram.specs.Chart.{lanes_of};
+ghost use Rattle.signal_diagram.specs.Shapes.{shapes_of};
+ghost use Rattle.signal_diagram.specs.Diagram.{sheet_opening, figure_words, figure_opening, opening, picture, picture_of, diagram_text, figure_text, DrawsChart};
 
-use crate::barriers::push_barriers;
-use crate::geometry::{height_of, top_of, width_of};
-use crate::lanes::push_lanes;
-use crate::notes::push_head;
-use crate::rows::longest_of;
-use crate::scale::push_scale;
-use signal_records::{NoMemory, Pattern, PatternNo, RingNo, TimingSet};
+use crate::chart::{Lane, lanes_of, longest};
+use crate::head::push_head;
+use crate::lines::{add_lines, add_scale};
+use crate::phases::add_lanes;
+use crate::shapes::Shape;
+use crate::svg::{height_of, push_shapes, width_of};
+use signal_records::{NoMemory, Pattern, PatternNo, TimingSet};
 use signal_rules::{pattern_at, used_rings};
 use std::alloc::{AllocError, Global};
 use std::fmt::Write;
@@ -30,7 +27,7 @@ pub(crate) enum Sizing {
 }
 
 /// Appends the opening of a picture on a sheet, and its white ground.
-fn push_sheet_opening(text: &mut String, width: u32, height: u32) -> Result<(), AllocError>
+fn push_sheet_opening(text: &mut String, width: u32, height: u64) -> Result<(), AllocError>
     ensures { OnOk result (string_bytes text.new
         ≡ string_bytes text.old ++ sheet_opening width height) }
 {
@@ -60,8 +57,9 @@ fn push_figure_opening(
     text: &mut String,
     n: PatternNo,
     width: u32,
-    height: u32,
+    height: u64,
 ) -> Result<(), AllocError>
+    requires { width < 2 ^ 20 }
     ensures { OnOk result (string_bytes text.new
         ≡ string_bytes text.old ++ figure_opening n width height) }
 {
@@ -82,8 +80,9 @@ fn push_opening(
     sizing: Sizing,
     n: PatternNo,
     width: u32,
-    height: u32,
+    height: u64,
 ) -> Result<(), AllocError>
+    requires { width < 2 ^ 20 }
     ensures { OnOk result (string_bytes text.new
         ≡ string_bytes text.old ++ opening sizing n width height) }
 {
@@ -93,24 +92,26 @@ fn push_opening(
     }
 }
 
-/// Appends the lanes of the rings with their barriers and the scale.
-#[tactic(auto, unfolding(crate::specs::Diagram::body))]
-fn push_body(
-    text: &mut String,
+/// The shapes of a pattern.
+fn shapes_of(
+    alloc: Global,
     set: &TimingSet,
     pattern: &Pattern,
-    rings: &[RingNo],
-    seconds: u32,
-) -> Result<(), AllocError>
-    requires few { length rings.now ≤ 8 }
-    requires shown { seconds ≡ shown_seconds set.now pattern.now }
-    requires small { seconds ≤ 9000 }
-    ensures { OnOk result (string_bytes text.new
-        ≡ string_bytes text.old ++ body set.now pattern.now rings.now) }
+    lanes: &[Lane],
+) -> Result<Vec<Shape>, NoMemory>
+    requires few { length lanes.now ≤ 8 }
+    ensures { IfOk result (λ shapes. shapes.items ≡ shapes_of set.now pattern.now lanes.now) }
 {
-    push_lanes(text, set, pattern, rings)?;
-    push_barriers(text, set, pattern, rings)?;
-    push_scale(text, top_of(rings.len() as u32), seconds)
+    let cycle = pattern.cycle.get();
+    let mut shapes = Vec::new(alloc);
+    add_lanes(&mut shapes, set, pattern, lanes)?;
+    add_lines(&mut shapes, cycle, lanes)?;
+    add_scale(
+        &mut shapes,
+        longest(cycle as u16, lanes),
+        lanes.len() as u32,
+    )?;
+    Ok(shapes)
 }
 
 /// The picture of a pattern.
@@ -124,13 +125,14 @@ fn picture(
     ensures { IfOk result (λ text. string_bytes text ≡ picture sizing set.now n pattern.now) }
 {
     let rings = used_rings(alloc, set)?;
-    let seconds = longest_of(set, pattern, &rings);
+    let lanes = lanes_of(alloc, set, pattern, &rings)?;
+    let shapes = shapes_of(alloc, set, pattern, &lanes)?;
+    let width = width_of(longest(pattern.cycle.get() as u16, &lanes));
+    let height = height_of(lanes.len() as u32);
     let mut text = String::new(alloc);
-    let width = width_of(seconds);
-    let height = height_of(rings.len() as u32);
     push_opening(&mut text, sizing, n, width, height)?;
-    push_head(&mut text, set, n, pattern, &rings)?;
-    push_body(&mut text, set, pattern, &rings, seconds)?;
+    push_head(&mut text, set, n, pattern, &lanes)?;
+    push_shapes(&mut text, &shapes)?;
     text.push_str("</svg>\n")?;
     Ok(text)
 }

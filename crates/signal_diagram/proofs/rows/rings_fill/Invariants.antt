@@ -1,7 +1,0 @@
-use Rattle.std.proofs.Common.{◌≡◌, drop}
-use Rattle.signal_rules.specs.Starts.{rings_fill}
-use Rattle.signal_diagram.proofs.rows.rings_fill.Given as goal
-
-abbrev pub invariant-loop-ring : goal.invariant-loop-ring
-invariant-loop-ring l =
-    rings_fill l.set l.pattern (drop l.ring-index l.rings) ≡ rings_fill l.set l.pattern l.rings

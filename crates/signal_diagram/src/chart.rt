@@ -1,0 +1,119 @@
+//! The chart of a pattern: which phase each ring has from which second of the cycle to which.
+
+ghost use Rattle.std.specs.Prelude.{◌≡◌, ◌≤◌, IfOk, length, map};
+ghost use Rattle.signal_rules.specs.SequenceRule.{ring_row};
+ghost use Rattle.signal_rules.specs.Starts.{times};
+ghost use Rattle.signal_diagram.specs.Chart.{bars_from, end_of, lane_of, lanes_end, longest};
+
+use signal_records::{NoMemory, Pattern, PhaseNo, RingNo, TimingSet};
+use signal_rules::{ring_row, split_at, time_of};
+use std::alloc::Global;
+use std::marker::Model;
+
+/// A phase, from the second of the cycle at which it begins to the one at which it ends.
+#[derive(Clone, Copy)]
+pub(crate) struct Bar {
+    pub phase: PhaseNo,
+    pub from: u16,
+    pub to: u16,
+}
+
+/// A ring with its phases, in the order in which they time.
+#[derive(Drop)]
+pub(crate) struct Lane {
+    pub ring: RingNo,
+    pub bars: Vec<Bar>,
+}
+
+impl Model for Lane {
+    ghost use Rattle.signal_diagram.specs.Lane.{RingLane};
+
+    ghost Value = { RingLane };
+
+    ghost view = { λ lane. record { ring = lane.ring; bars = lane.bars.items } };
+}
+
+/// The phases of the row of a ring that have time, the first from second 0 on, each from where the
+/// one before ends.
+fn bars_of(
+    alloc: Global,
+    set: &TimingSet,
+    pattern: &Pattern,
+    ring: RingNo,
+) -> Result<Vec<Bar>, NoMemory>
+    ensures { IfOk result (λ bars. bars.items ≡
+        bars_from (times set.now pattern.now.split) 0 (ring_row set.now pattern.now.seq ring)) }
+{
+    let mut bars = Vec::new(alloc);
+    let mut from: u16 = 0;
+    for p in ring_row(set, pattern.seq, ring) {
+        let time = time_of(split_at(set, pattern.split, *p)) as u16;
+        if time != 0 {
+            bars.push(Bar {
+                phase: *p,
+                from,
+                to: from + time,
+            })?;
+        }
+        from += time;
+    }
+    Ok(bars)
+}
+
+/// The lane of a ring.
+fn lane_of(
+    alloc: Global,
+    set: &TimingSet,
+    pattern: &Pattern,
+    ring: RingNo,
+) -> Result<Lane, NoMemory>
+    ensures { IfOk result (λ lane. lane ≡ lane_of set.now pattern.now ring) }
+{
+    let bars = bars_of(alloc, set, pattern, ring)?;
+    Ok(Lane { ring, bars })
+}
+
+/// The lanes of some rings.
+pub(crate) fn lanes_of(
+    alloc: Global,
+    set: &TimingSet,
+    pattern: &Pattern,
+    rings: &[RingNo],
+) -> Result<Vec<Lane>, NoMemory>
+    ensures { IfOk result (λ lanes. lanes.items ≡ map (lane_of set.now pattern.now) rings.now) }
+{
+    let mut lanes = Vec::new(alloc);
+    for ring in rings {
+        lanes.push(lane_of(alloc, set, pattern, *ring)?)?;
+    }
+    Ok(lanes)
+}
+
+/// The second at which the last phase of a lane ends.
+fn end_of(lane: &Lane) -> u16
+    ensures { result ≡ end_of 0 lane.now.bars }
+{
+    let mut second: u16 = 0;
+    for bar in &lane.bars {
+        second = bar.to;
+    }
+    second
+}
+
+/// Whether the lanes end with the cycle.
+pub(crate) fn lanes_end(cycle: u32, lanes: &[Lane]) -> bool
+    ensures { result ≡ lanes_end cycle lanes.now }
+{
+    lanes.iter().all(|lane| u32::from(end_of(lane)) == cycle)
+}
+
+/// The longest of some seconds and the lanes.
+pub(crate) fn longest(seconds: u16, lanes: &[Lane]) -> u16
+    ensures { result ≡ longest seconds lanes.now }
+{
+    let mut most = seconds;
+    for lane in lanes {
+        most = most.max(end_of(lane));
+    }
+    most
+}

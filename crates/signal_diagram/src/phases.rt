@@ -1,0 +1,230 @@
+//! The shapes of the phases of a lane.
+
+ghost use Rattle.std.specs.Prelude.{◌≡◌, ◌++◌, ◌≤◌, OnOk, length};
+ghost use Rattle.std.specs.Option.{option_copied};
+ghost use Rattle.signal_diagram.specs.Shapes.{calls_walk, tenth_after, tenth_before, interval, changes, cut, walking, walking_of, intervals, phase_shapes, lane_shapes, lanes_shapes};
+
+use crate::chart::{Bar, Lane};
+use crate::shapes::{Band, Shape};
+use signal_records::{Pattern, Ped, Phase, Split, SplitMode, TimingSet};
+use signal_rules::{is_coordinated, phase_at, split_at};
+use std::alloc::AllocError;
+
+/// Whether the split mode calls the walk of the phase: both pedestrian recalls do.
+fn calls_walk(split: Option<Split>) -> bool
+    ensures { result ≡ calls_walk split }
+{
+    let Some(split) = split else {
+        return false;
+    };
+    match split.mode {
+        SplitMode::PedestrianRecall | SplitMode::MaximumVehicleAndPedestrianRecall => true,
+        _ => false,
+    }
+}
+
+/// The tenth so many seconds after a phase begins, or the one at which it ends.
+fn tenth_after(bar: &Bar, seconds: u16) -> u32
+    ensures { result ≡ tenth_after bar.now seconds }
+{
+    let Bar { from, to, .. } = *bar;
+    let end = 10 * u32::from(to);
+    end.min(10 * (u32::from(from) + u32::from(seconds)))
+}
+
+/// The tenth so many tenths before a phase ends, or the one at which it begins.
+fn tenth_before(bar: &Bar, tenths: u16) -> u32
+    ensures { result ≡ tenth_before bar.now tenths }
+{
+    let Bar { from, to, .. } = *bar;
+    let begin = 10 * u32::from(from);
+    begin.max((10 * u32::from(to)).saturating_sub(u32::from(tenths)))
+}
+
+/// Adds an interval; an empty one is not drawn.
+fn add_interval(
+    shapes: &mut Vec<Shape>,
+    lane: u32,
+    band: Band,
+    comes: bool,
+    from: u32,
+    to: u32,
+) -> Result<(), AllocError>
+    ensures { OnOk result (shapes.new.items
+        ≡ shapes.old.items ++ interval lane band comes from to) }
+{
+    if from < to {
+        shapes.push(Shape::Interval {
+            lane,
+            band,
+            comes,
+            from,
+            to,
+        })?;
+    }
+    Ok(())
+}
+
+/// Adds yellow and red, the last tenths of a phase.
+fn add_changes(
+    shapes: &mut Vec<Shape>,
+    lane: u32,
+    bar: &Bar,
+    phase: &Phase,
+) -> Result<(), AllocError>
+    ensures { OnOk result (shapes.new.items ≡ shapes.old.items ++ changes lane bar.now phase.now) }
+{
+    let yellow_from = tenth_before(bar, u16::from(phase.yellow) + u16::from(phase.red));
+    let red_from = tenth_before(bar, u16::from(phase.red));
+    add_interval(shapes, lane, Band::Yellow, true, yellow_from, red_from)?;
+    add_interval(
+        shapes,
+        lane,
+        Band::Red,
+        true,
+        red_from,
+        10 * u32::from(bar.to),
+    )
+}
+
+/// Adds the mark at the end of a phase, if walk and clearance are not over there.
+fn add_cut(shapes: &mut Vec<Shape>, lane: u32, bar: &Bar, ped: Ped) -> Result<(), AllocError>
+    ensures { OnOk result (shapes.new.items ≡ shapes.old.items ++ cut lane bar.now ped) }
+{
+    let over = u32::from(bar.from) + u32::from(ped.walk) + u32::from(ped.clear);
+    if u32::from(bar.to) < over {
+        shapes.push(Shape::Cut {
+            lane,
+            at: 10 * u32::from(bar.to),
+        })?;
+    }
+    Ok(())
+}
+
+/// Adds lead, walk and clearance, by whether the split mode calls them.
+fn add_walking(
+    shapes: &mut Vec<Shape>,
+    lane: u32,
+    comes: bool,
+    bar: &Bar,
+    ped: Ped,
+) -> Result<(), AllocError>
+    ensures { OnOk result (shapes.new.items ≡ shapes.old.items ++ walking lane comes bar.now ped) }
+{
+    let begin = 10 * u32::from(bar.from);
+    let lead_to = tenth_after(bar, ped.lead.get() as u16);
+    let walk_to = tenth_after(bar, u16::from(ped.walk));
+    let clear_to = tenth_after(bar, u16::from(ped.walk) + u16::from(ped.clear));
+    add_interval(shapes, lane, Band::Lead, comes, begin, lead_to)?;
+    add_interval(shapes, lane, Band::Walk, comes, begin, walk_to)?;
+    add_interval(shapes, lane, Band::Clearance, comes, walk_to, clear_to)?;
+    add_cut(shapes, lane, bar, ped)
+}
+
+/// Adds what the pedestrian part of a phase shows.
+fn add_walking_of(
+    shapes: &mut Vec<Shape>,
+    lane: u32,
+    comes: bool,
+    bar: &Bar,
+    ped: Option<Ped>,
+) -> Result<(), AllocError>
+    ensures { OnOk result (shapes.new.items ≡ shapes.old.items ++ walking_of lane comes bar.now ped) }
+{
+    match ped {
+        Some(ped) => add_walking(shapes, lane, comes, bar, ped),
+        None => Ok(()),
+    }
+}
+
+/// Adds what the intervals of a phase show.
+fn add_intervals(
+    shapes: &mut Vec<Shape>,
+    lane: u32,
+    comes: bool,
+    bar: &Bar,
+    phase: Option<&Phase>,
+) -> Result<(), AllocError>
+    ensures { OnOk result (shapes.new.items
+        ≡ shapes.old.items ++ intervals lane comes bar.now (option_copied phase.entry)) }
+{
+    let Some(phase) = phase else {
+        return Ok(());
+    };
+    add_walking_of(shapes, lane, comes, bar, phase.ped)?;
+    add_changes(shapes, lane, bar, phase)
+}
+
+/// Adds a phase, as its split row has it.
+fn add_phase(
+    shapes: &mut Vec<Shape>,
+    set: &TimingSet,
+    pattern: &Pattern,
+    lane: u32,
+    bar: &Bar,
+) -> Result<(), AllocError>
+    ensures { OnOk result (shapes.new.items
+        ≡ shapes.old.items ++ phase_shapes set.now pattern.now lane bar.now) }
+{
+    let split = split_at(set, pattern.split, bar.phase);
+    let coordinated = is_coordinated(split);
+    let Bar { phase, from, to } = *bar;
+    let begin = 10 * u32::from(from);
+    let end = 10 * u32::from(to);
+    add_interval(shapes, lane, Band::Green, true, begin, end)?;
+    add_intervals(shapes, lane, calls_walk(split), bar, phase_at(set, phase))?;
+    shapes.push(Shape::Edge {
+        lane,
+        from: begin,
+        to: end,
+        coordinated,
+    })?;
+    shapes.push(Shape::Label {
+        lane,
+        from: begin,
+        phase,
+        seconds: to.saturating_sub(from),
+        coordinated,
+    })?;
+    Ok(())
+}
+
+/// Adds a lane: the name of its ring, and its phases.
+fn add_lane(
+    shapes: &mut Vec<Shape>,
+    set: &TimingSet,
+    pattern: &Pattern,
+    index: u32,
+    lane: &Lane,
+) -> Result<(), AllocError>
+    ensures { OnOk result (shapes.new.items
+        ≡ shapes.old.items ++ lane_shapes set.now pattern.now index lane.now) }
+{
+    shapes.push(Shape::Ring {
+        lane: index,
+        ring: lane.ring,
+    })?;
+    for bar in &lane.bars {
+        add_phase(shapes, set, pattern, index, bar)?;
+    }
+    Ok(())
+}
+
+/// Adds the lanes, from the top.
+pub(crate) fn add_lanes(
+    shapes: &mut Vec<Shape>,
+    set: &TimingSet,
+    pattern: &Pattern,
+    lanes: &[Lane],
+) -> Result<(), AllocError>
+    requires { length lanes.now ≤ 8 }
+    ensures { OnOk result (shapes.new.items
+        ≡ shapes.old.items ++ lanes_shapes set.now pattern.now 0 lanes.now) }
+{
+    let mut index: u32 = 0;
+    for lane in lanes {
+        add_lane(shapes, set, pattern, index, lane)?;
+        index += 1;
+    }
+    Ok(())
+}
