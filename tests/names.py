@@ -1,20 +1,37 @@
 #!/usr/bin/env python3
-"""Finds names that two crates define among their definitions: a name should have one meaning.
+"""Finds names that say too little: a name should have one meaning, and say what it is.
 
-    tests/names.py
+    tests/names.py              checks the names
+    tests/names.py --shorten    takes names that are gone off tests/standing_names.txt
 
-MEANT lists the names that crates share on purpose, with what each says. Fields of records are
-skipped, and so is what a crate re-exports.
+- A definition has the name of another in a second crate. MEANT lists the names that crates share on
+  purpose, with what each says. Fields of records are skipped, and so is what a crate re-exports.
+- A function or a definition has a bare participle for a name: `told`, not `told_to_the_clerk`.
+- A function has the name of others in more than three crates. Methods that a trait of others asks
+  for are skipped, and so is `new`.
 
-Builds nothing. Prints each other name that is in two crates, and ends with status 1 then. It also
-reports a listed name that is in one crate only.
+tests/standing_names.txt lists the names of the last two kinds that stand today. It only gets
+shorter: no name is added, and one that is gone is taken off.
+
+Builds nothing. Prints what is wrong, and ends with status 1 then.
 """
 import collections
 import pathlib
 import re
 import sys
+import textwrap
 
-CRATES = pathlib.Path(__file__).resolve().parent.parent / "crates"
+TESTS = pathlib.Path(__file__).resolve().parent
+CRATES, STANDING = TESTS.parent / "crates", TESTS / "standing_names.txt"
+MOST = 3  # crates that share the name of a function
+PARTICIPLE = re.compile(
+    r"[a-z]+(?:ed|ing)|(?:un|re|over|mis)?(?:begun|bought|bound|brought|built|chosen|cut|done|drawn"
+    r"|fallen|found|given|gone|held|hidden|kept|known|laid|left|lent|lost|made|meant|met|paid|read"
+    r"|seen|sent|shown|spent|spoken|taken|told|understood|won|written)"
+)
+NO_PARTICIPLES = set(
+    "cut read reread deed need ped drawing heading opening setting spelling string timing".split())
+FUNCTION = re.compile(r" *(?:pub(?:\([^)]*\))? )?(?:const )?fn (\w+)")
 DEFINED = re.compile(
     r"^(?:(?:abbrev|unfoldable|opaque|pub|record|data) )+(?!use |mod )([^\s:(]+)", re.MULTILINE
 )
@@ -46,16 +63,61 @@ def defined():
     return found
 
 
+def functions():
+    """Each name of a function or method with the crates that have one, without those that an impl
+    of a trait has."""
+    found = collections.defaultdict(set)
+    for file in sorted(CRATES.glob("*/src/**/*.rt")):
+        is_of_trait = False
+        for line in file.read_text().splitlines():
+            if line.startswith(("impl", "}")):
+                is_of_trait = " for " in line
+            if (function := FUNCTION.match(line)) and not is_of_trait:
+                found[function[1]].add(file.relative_to(CRATES).parts[0])
+    return found
+
+
+def too_short(definitions):
+    """The bare participles and the names of functions that more than MOST crates share."""
+    named = functions()
+    bare = {name for name in {*named, *definitions} if PARTICIPLE.fullmatch(name)}
+    often = {name for name, crates in named.items() if len(crates) > MOST}
+    return bare - NO_PARTICIPLES | often - {"new"}
+
+
+def standing():
+    """The names of the list."""
+    lines = STANDING.read_text().splitlines()
+    return {name for line in lines if not line.startswith("#") for name in line.split()}
+
+
+def shorten(short):
+    """Takes names that are gone off the list."""
+    lines = [line for line in STANDING.read_text().splitlines() if line.startswith("#")]
+    lines += textwrap.wrap(" ".join(sorted(standing() & short)), 100)
+    STANDING.write_text("\n".join(lines) + "\n")
+
+
 def main():
-    shared = {name: crates for name, crates in defined().items() if len(crates) > 1}
-    known = {name for names in MEANT.values() for name in names.split()}
+    definitions = defined()
+    short = too_short(definitions)
+    if sys.argv[1:] == ["--shorten"]:
+        shorten(short)
+    elif sys.argv[1:]:
+        sys.exit(__doc__)
+    shared = {name: crates for name, crates in definitions.items() if len(crates) > 1}
+    known, listed = {name for names in MEANT.values() for name in names.split()}, standing()
     told = [f"{name} stands in one crate alone: take it off the list"
             for name in sorted(known - shared.keys())]
+    told += [f"{name} is gone: take it off tests/standing_names.txt (tests/names.py --shorten)"
+             for name in sorted(listed - short)]
+    told += [f"{name} says too little: a bare participle, or in more than {MOST} crates"
+             for name in sorted(short - listed)]
     for name in sorted(shared.keys() - known):
         places = (f"{crate}/specs/{file}" for crate, files in shared[name].items() for file in files)
         told.append(f"{name} is defined in {', '.join(sorted(places))}")
     print("\n".join(told) if told else "ok")
-    sys.exit(bool(shared.keys() - known))
+    sys.exit(bool(told))
 
 
 if __name__ == "__main__":
