@@ -1,0 +1,65 @@
+//! What an engineer is warned of in the split row of a phase.
+
+ghost use Rattle.std.specs.Prelude.{◌≡◌, ◌≤◌, Some};
+ghost use Rattle.signal_warnings.specs.SplitWarnings.{calls_walk, waits_for_button, besides_green, split_warnings};
+
+use crate::warning::Advice;
+use signal_records::{Ped, Phase, Split, SplitMode};
+use signal_rules::need_if_called;
+
+/// What is so of the split row of a phase.
+pub(crate) fn split_cases(phase: &Phase, split: &Split) -> [(bool, Advice); 3]
+    ensures { result ≡ split_warnings (Some phase.now) split.now }
+{
+    let Split { time, mode, coord } = *split;
+    let need = need_if_called(phase);
+    let has_crossing = phase.ped.is_some();
+    let tenths = 10 * u32::from(time);
+    let besides = besides_green(phase, mode);
+    [
+        (
+            has_crossing && waits_for_button(mode) && tenths < need.tenths,
+            Advice::WalkIfCalled { time, need },
+        ),
+        (!has_crossing && calls_walk(mode), Advice::RecallWithoutWalk),
+        (
+            coord && tenths < besides + 10,
+            Advice::NoGreen { time, besides },
+        ),
+    ]
+}
+
+/// Whether a split mode calls the walk in each cycle.
+fn calls_walk(mode: SplitMode) -> bool
+    ensures { result ≡ calls_walk mode }
+{
+    match mode {
+        SplitMode::PedestrianRecall | SplitMode::MaximumVehicleAndPedestrianRecall => true,
+        _ => false,
+    }
+}
+
+/// Whether a split mode serves the phase and leaves the walk to a button.
+fn waits_for_button(mode: SplitMode) -> bool
+    ensures { result ≡ waits_for_button mode }
+{
+    match mode {
+        SplitMode::PedestrianRecall
+        | SplitMode::MaximumVehicleAndPedestrianRecall
+        | SplitMode::PhaseOmitted => false,
+        _ => true,
+    }
+}
+
+/// What a phase shows besides its green, in tenths of a second.
+fn besides_green(phase: &Phase, mode: SplitMode) -> u32
+    ensures exact { result ≡ besides_green phase.now mode }
+    ensures small { result ≤ 610 }
+{
+    let Phase { yellow, red, .. } = phase;
+    let clearance = u32::from(*yellow) + u32::from(*red);
+    match &phase.ped {
+        Some(Ped { lead, .. }) if calls_walk(mode) => 10 * lead.get() + clearance,
+        _ => clearance,
+    }
+}
