@@ -22,10 +22,14 @@ maximum_case phase =
 abbrev pub minimum_case : Phase → Bool × Advice
 minimum_case phase = (phase.min_green == 0, NoMinimumGreen)
 
--- no-concurrent-phase: phaseConcurrency is empty, in a plan of more than one ring
+-- phaseConcurrency is empty, in a plan of more than one ring
+abbrev pub is_alone : ℕ → Phase → Bool
+is_alone rings phase = length phase.mates == 0 && nat_lt 1 rings
+
+-- no-concurrent-phase: a phase may time with none in the other rings
 abbrev pub concurrency_case : Rows → Phase → Bool × Advice
 concurrency_case set phase =
-    (length phase.mates == 0 && nat_lt 1 (length (used_rings set)), NoConcurrentPhase (length (used_rings set)))
+    (is_alone (length (used_rings set)) phase, NoConcurrentPhase (length (used_rings set)))
 
 -- the one pattern of a number, if the set has it
 abbrev pub listed_pattern : Option Pattern → List Pattern
@@ -45,9 +49,13 @@ is_serving (Some split) = not (is_omitted split.mode)
 abbrev pub is_served : Rows → ℕ → Bool
 is_served set p = list_any (λ pattern. is_serving (split_at set pattern.split p)) (patterns set)
 
--- never-served: the plan has patterns, and none of them serves the phase
+-- the plan has patterns, and none of them serves the phase
+abbrev pub is_never_served : Rows → ℕ → Bool
+is_never_served set p = not (length (patterns set) == 0) && not (is_served set p)
+
+-- never-served: a phase that no pattern serves times in free operation alone
 abbrev pub service_case : Rows → ℕ → Bool × Advice
-service_case set p = (not (length (patterns set) == 0) && not (is_served set p), NeverServed)
+service_case set p = (is_never_served set p, NeverServed)
 
 -- what an engineer is warned of in a phase itself
 abbrev pub phase_cases : Rows → ℕ → Phase → Cases Advice

@@ -28,15 +28,22 @@ may_time_with_all set qs p = list_all (may_time set p) qs
 abbrev pub has_no_conflict : Rows → Bool
 has_no_conflict set = list_all (may_time_with_all set (phases set)) (phases set)
 
--- no-pattern: the plan has phases, and no pattern to run them by
+-- of so many phases and so many patterns, there are phases and no pattern
+abbrev pub lacks_pattern : ℕ → ℕ → Bool
+lacks_pattern phase_count pattern_count = not (phase_count == 0) && pattern_count == 0
+
+-- in a plan of so many rings, more than one, none keeps a phase of another one waiting
+abbrev pub lacks_conflict : Rows → ℕ → Bool
+lacks_conflict set rings = nat_lt 1 rings && has_no_conflict set
+
+-- no-pattern: the plan has phases, and no pattern (patternTable) to run them by
 abbrev pub pattern_case : Rows → Bool × Advice
 pattern_case set =
-    (not (length (phases set) == 0) && length (patterns set) == 0, NoPattern (length (phases set)))
+    (lacks_pattern (length (phases set)) (length (patterns set)), NoPattern (length (phases set)))
 
--- no-conflict: in a plan of more than one ring, each phase may time with every phase of the other rings, so that no barrier is left
+-- no-conflict: each phase may time with every phase of the other rings, so that the rings have no barrier
 abbrev pub conflict_case : Rows → Bool × Advice
-conflict_case set =
-    (nat_lt 1 (length (used_rings set)) && has_no_conflict set, NoConflict (length (used_rings set)))
+conflict_case set = (lacks_conflict set (length (used_rings set)), NoConflict (length (used_rings set)))
 
 -- what an engineer is warned of in a plan
 abbrev pub plan_cases : Rows → Cases Advice

@@ -1,18 +1,15 @@
 //! The warnings of a timing set, subject by subject.
 
-ghost use Rattle.std.specs.Prelude.{◌≡◌, ◌++◌, OnOk, IfOk};
+ghost use Rattle.std.specs.Prelude.{◌≡◌, ◌++◌, Some, OnOk, IfOk};
 ghost use Rattle.signal_warnings.specs.Parts.{AreParts};
-ghost use Rattle.signal_rules.specs.Lookup.{phase_at};
-ghost use Rattle.signal_rules.specs.declared.violation.Subject.TheVariants as Subject;
-ghost use Rattle.signal_warnings.specs.SplitWarnings.{split_warnings};
-ghost use Rattle.signal_warnings.specs.Warnings.{warned, told, warnings_at, warnings_of};
+ghost use Rattle.signal_warnings.specs.Warnings.{warned, told, phase_warnings, row_warnings, warnings_at, warnings_of};
 
 use crate::pattern::coordination_advice;
 use crate::phase::{crossing_cases, phase_cases};
 use crate::plan::{PlanParts, parts_of, plan_cases};
 use crate::split::split_cases;
 use crate::warning::{Advice, Scope, Warning};
-use signal_records::{NoMemory, PhaseNo, Split, TimingSet};
+use signal_records::{NoMemory, PatternNo, Phase, PhaseNo, Split, SplitNo, TimingSet};
 use signal_rules::{Subject, pattern_at, phase_at, split_at, subjects_of};
 use std::alloc::Global;
 
@@ -29,7 +26,7 @@ pub fn warnings(alloc: Global, set: &TimingSet) -> Result<Vec<Warning>, NoMemory
     for subject in &subjects_of(alloc, set)? {
         warn(alloc, set, &parts, *subject, &mut found)?;
     }
-    tell(Scope::Plan, &plan_cases(set, &parts), &mut found)?;
+    tell(&Scope::Plan, &plan_cases(set, &parts), &mut found)?;
     Ok(found)
 }
 
@@ -44,18 +41,20 @@ fn warn(
     requires { AreParts set.now parts.now }
     ensures { OnOk result (found.new.items ≡ found.old.items ++ warnings_at set.now subject) }
 {
-    let scope = Scope::Subject(subject);
     match subject {
-        Subject::Phase(p) => warn_phase(set, parts, p, found),
+        Subject::Phase(p) => match phase_at(set, p) {
+            Some(phase) => warn_phase(set, parts, p, phase, found),
+            None => Ok(()),
+        },
         Subject::Seq(_) => Ok(()),
         Subject::Split(n, p) => match split_at(set, n, p) {
-            Some(split) => warn_split(set, scope, p, &split, found),
+            Some(split) => warn_split(set, n, p, &split, found),
             None => Ok(()),
         },
         Subject::Pattern(n) => match pattern_at(set, n) {
             Some(pattern) => {
                 let advice = coordination_advice(alloc, set, &parts.phases, &pattern)?;
-                push_advice(scope, advice, found)
+                push_advice(n, advice, found)
             }
             None => Ok(()),
         },
@@ -67,19 +66,17 @@ fn warn_phase(
     set: &TimingSet,
     parts: &PlanParts,
     p: PhaseNo,
+    phase: &Phase,
     found: &mut Vec<Warning>,
 ) -> Result<(), NoMemory>
     requires { AreParts set.now parts.now }
-    ensures { OnOk result
-        (found.new.items ≡ found.old.items ++ warnings_at set.now (Subject.Phase p)) }
+    ensures { OnOk result (found.new.items ≡ found.old.items
+        ++ phase_warnings set.now p (Some phase.now)) }
 {
-    let Some(phase) = phase_at(set, p) else {
-        return Ok(());
-    };
     let scope = Scope::Subject(Subject::Phase(p));
-    tell(scope, &phase_cases(set, parts, p, phase), found)?;
+    tell(&scope, &phase_cases(set, parts, p, phase), found)?;
     match &phase.ped {
-        Some(ped) => tell(scope, &crossing_cases(ped), found),
+        Some(ped) => tell(&scope, &crossing_cases(ped), found),
         None => Ok(()),
     }
 }
@@ -87,31 +84,33 @@ fn warn_phase(
 /// Adds the warnings of the split row of a phase: none where the set does not have the phase.
 fn warn_split(
     set: &TimingSet,
-    scope: Scope,
+    n: SplitNo,
     p: PhaseNo,
     split: &Split,
     found: &mut Vec<Warning>,
 ) -> Result<(), NoMemory>
     ensures { OnOk result (found.new.items ≡ found.old.items
-        ++ told scope (split_warnings (phase_at set.now p) split.now)) }
+        ++ row_warnings set.now n p (Some split.now)) }
 {
-    match phase_at(set, p) {
-        Some(phase) => tell(scope, &split_cases(phase, split), found),
-        None => Ok(()),
-    }
+    let Some(phase) = phase_at(set, p) else {
+        return Ok(());
+    };
+    let scope = Scope::Subject(Subject::Split(n, p));
+    tell(&scope, &split_cases(phase, split), found)
 }
 
-/// Adds a piece of advice, if there is one.
+/// Adds a piece of advice on a pattern, if there is one.
 fn push_advice(
-    scope: Scope,
+    n: PatternNo,
     advice: Option<Advice>,
     found: &mut Vec<Warning>,
 ) -> Result<(), NoMemory>
-    ensures { OnOk result (found.new.items ≡ found.old.items ++ warned scope advice) }
+    ensures { OnOk result (found.new.items ≡ found.old.items
+        ++ warned (Scope.Subject (Subject.Pattern n)) advice) }
 {
     if let Some(advice) = advice {
         found.push(Warning {
-            subject: scope,
+            subject: Scope::Subject(Subject::Pattern(n)),
             advice,
         })?;
     }
@@ -119,13 +118,13 @@ fn push_advice(
 }
 
 /// Adds of some cases, in their order, those that are so.
-fn tell(scope: Scope, cases: &[(bool, Advice)], found: &mut Vec<Warning>) -> Result<(), NoMemory>
-    ensures { OnOk result (found.new.items ≡ found.old.items ++ told scope cases.now) }
+fn tell(scope: &Scope, cases: &[(bool, Advice)], found: &mut Vec<Warning>) -> Result<(), NoMemory>
+    ensures { OnOk result (found.new.items ≡ found.old.items ++ told scope.now cases.now) }
 {
     for (is_so, advice) in cases {
         if *is_so {
             found.push(Warning {
-                subject: scope,
+                subject: *scope,
                 advice: *advice,
             })?;
         }

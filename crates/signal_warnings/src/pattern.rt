@@ -58,7 +58,6 @@ fn coordinated_phases(
 }
 
 /// The first two of some phases that do not time together.
-#[tactic(auto, using(signal_rules::proofs::Cases::first_past, signal_rules::proofs::Cases::first_here))]
 fn apart_advice(set: &TimingSet, pattern: &Pattern, phases: &[PhaseNo]) -> Option<Advice>
     ensures { result ≡ first_true (apart_cases set.now pattern.now phases.now) }
 {

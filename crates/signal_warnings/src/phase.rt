@@ -1,10 +1,9 @@
 //! What an engineer is warned of in a phase.
 
 ghost use Rattle.std.specs.Prelude.{◌≡◌, Some};
-ghost use Rattle.std.specs.List.{list_any};
-ghost use Rattle.signal_rules.specs.Lookup.{split_at};
 ghost use Rattle.signal_warnings.specs.Parts.{AreParts};
-ghost use Rattle.signal_warnings.specs.PhaseWarnings.{phase_cases, crossing_warnings, is_serving, is_served};
+ghost use Rattle.signal_warnings.specs.PhaseWarnings as plan_has;
+ghost use Rattle.signal_warnings.specs.PhaseWarnings.{phase_cases, crossing_warnings, is_alone, is_never_served, is_serving, is_served};
 
 use crate::plan::PlanParts;
 use crate::warning::Advice;
@@ -27,22 +26,39 @@ pub(crate) fn phase_cases(
         ..
     } = *phase;
     let rings = parts.rings;
-    let is_alone = phase.mates.as_slice().is_empty() && 1 < rings;
-    let is_never_served = !parts.patterns.is_empty() && !is_served(set, &parts.patterns, p);
     [
         (
             maximum < minimum,
             Advice::MaximumBelowMinimum { maximum, minimum },
         ),
         (minimum == 0, Advice::NoMinimumGreen),
-        (is_alone, Advice::NoConcurrentPhase { rings }),
-        (is_never_served, Advice::NeverServed),
+        (is_alone(phase, rings), Advice::NoConcurrentPhase { rings }),
+        (
+            is_never_served(set, &parts.patterns, p),
+            Advice::NeverServed,
+        ),
     ]
+}
+
+/// Whether a phase may time with no other, in a plan of more than one ring.
+fn is_alone(phase: &Phase, rings: usize) -> bool
+    ensures { result ≡ is_alone rings phase.now }
+{
+    phase.mates.as_slice().is_empty() && 1 < rings
+}
+
+/// Whether there are patterns, which are those of the set, and none of them serves a phase.
+fn is_never_served(set: &TimingSet, patterns: &[Pattern], p: PhaseNo) -> bool
+    requires { patterns.now ≡ plan_has.patterns set.now }
+    ensures { result ≡ is_never_served set.now p }
+{
+    !patterns.is_empty() && !is_served(set, patterns, p)
 }
 
 /// Whether one of the patterns, which are those of the set, serves a phase.
 fn is_served(set: &TimingSet, patterns: &[Pattern], p: PhaseNo) -> bool
-    ensures { result ≡ list_any (λ pattern. is_serving (split_at set.now pattern.split p)) patterns.now }
+    requires { patterns.now ≡ plan_has.patterns set.now }
+    ensures { result ≡ is_served set.now p }
 {
     for pattern in patterns {
         if is_serving(split_at(set, pattern.split, p)) {

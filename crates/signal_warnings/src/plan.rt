@@ -1,12 +1,12 @@
 //! What an engineer is warned of in a plan as a whole, and what is looked up of it once.
 
-ghost use Rattle.std.specs.Prelude.{◌≡◌, IfOk};
+ghost use Rattle.std.specs.Prelude.{◌≡◌, length, IfOk};
 ghost use Rattle.std.specs.List.{list_all};
 ghost use Rattle.signal_rules.specs.Lookup as set_has;
 ghost use Rattle.signal_rules.specs.Lookup.{phase_at};
 ghost use Rattle.signal_warnings.specs.Parts.{AreParts};
 ghost use Rattle.signal_warnings.specs.PhaseWarnings.{patterns};
-ghost use Rattle.signal_warnings.specs.PlanWarnings.{share_ring, may_time, may_time_with_all, has_no_conflict, plan_cases};
+ghost use Rattle.signal_warnings.specs.PlanWarnings.{share_ring, may_time, may_time_with_all, has_no_conflict, lacks_pattern, lacks_conflict, plan_cases};
 
 use crate::warning::Advice;
 use signal_records::{NoMemory, Pattern, PatternNo, PhaseNo, TimingSet};
@@ -54,16 +54,36 @@ pub(crate) fn plan_cases(set: &TimingSet, parts: &PlanParts) -> [(bool, Advice);
     requires { AreParts set.now parts.now }
     ensures { result ≡ plan_cases set.now }
 {
-    let phases = parts.phases.len();
+    let phases = parts.phases.as_slice();
     let rings = parts.rings;
-    let has_no_conflict = 1 < rings && has_no_conflict(set, &parts.phases);
     [
         (
-            phases != 0 && parts.patterns.is_empty(),
-            Advice::NoPattern { phases },
+            lacks_pattern(phases, &parts.patterns),
+            Advice::NoPattern {
+                phases: phases.len(),
+            },
         ),
-        (has_no_conflict, Advice::NoConflict { rings }),
+        (
+            lacks_conflict(set, phases, rings),
+            Advice::NoConflict { rings },
+        ),
     ]
+}
+
+/// Whether there are phases, and no pattern.
+fn lacks_pattern(phases: &[PhaseNo], patterns: &[Pattern]) -> bool
+    ensures { result ≡ lacks_pattern (length phases.now) (length patterns.now) }
+{
+    !phases.is_empty() && patterns.is_empty()
+}
+
+/// Whether there is more than one ring, and none of the phases, which are those of the set,
+/// conflicts with one of another ring.
+fn lacks_conflict(set: &TimingSet, phases: &[PhaseNo], rings: usize) -> bool
+    requires { phases.now ≡ set_has.phases set.now }
+    ensures { result ≡ lacks_conflict set.now rings }
+{
+    1 < rings && has_no_conflict(set, phases)
 }
 
 /// Whether none of the phases, which are those of the set, conflicts with one of another ring.
