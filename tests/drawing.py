@@ -30,7 +30,7 @@ LAYERS = {
     "transaction": (0, 5, "draft, owner, commit", "rules", ("draft_",)),
     "register": (2, 5, "inspections, orders, parts", "its records", ("cabinet_core",)),
     "rules": (0, 6, "V1 to V14, reasons, street", "a plan",
-              ("signal_rules", "signal_street")),
+              ("signal_rules", "signal_street", "signal_warnings")),
     "records": (1, 7, "rows of a plan, numbers, texts", "nothing else",
                 ("signal_records", "signal_values")),
 }

@@ -115,7 +115,7 @@ module _ (set : Rows) (clean : IsClean set) (n : ℕ) (pattern : Pattern) (has :
       by_place (inr le) = le
 
     -- the split of the phase, which keeps its rule
-    right_split : (split : Split) → split_at set pattern.split p ≡ Some split → fits_phase split phase ≡ true
+    pub right_split : (split : Split) → split_at set pattern.split p ≡ Some split → fits_phase split phase ≡ true
     right_split split row =
         let own = has_split set clean n pattern has p phase of_p in
         let same : Some own.0 ≡ Some split = sym own.1 ∙ row in

@@ -11,10 +11,10 @@ use Rattle.signal_warnings.specs.declared.warning.Advice.{Advice}
 use Rattle.signal_warnings.specs.declared.warning.Advice.TheVariants.{WalkIfCalled, RecallWithoutWalk, NoGreen}
 
 -- splitMode calls the walk in each cycle: both pedestrian recalls do
-abbrev pub calls_walk : SplitMode → Bool
-calls_walk PedestrianRecall = true
-calls_walk MaximumVehicleAndPedestrianRecall = true
-calls_walk _ = false
+abbrev pub recalls_walk : SplitMode → Bool
+recalls_walk PedestrianRecall = true
+recalls_walk MaximumVehicleAndPedestrianRecall = true
+recalls_walk _ = false
 
 -- splitMode serves the phase and leaves the walk to a button (modes 2, 3 and 4)
 abbrev pub waits_for_button : SplitMode → Bool
@@ -32,7 +32,7 @@ button_case phase split = (
 
 -- recall-without-walk: splitMode calls the walk of a phase that has no pedestrian part
 abbrev pub recall_case : Phase → Split → Bool × Advice
-recall_case phase split = (is_none phase.ped && calls_walk split.mode, RecallWithoutWalk)
+recall_case phase split = (is_none phase.ped && recalls_walk split.mode, RecallWithoutWalk)
 
 -- what a phase shows besides its green: the lead of a walk that is called, yellow and red, in tenths of a second
 abbrev pub besides_green : Phase → SplitMode → ℕ

@@ -25,22 +25,22 @@ warned s None = []
 warned s (Some advice) = record { subject = s; advice = advice } ∷ []
 
 -- of some cases, in their order, each that is so, once
-abbrev pub told : Scope → Cases Advice → List Warning
-told s [] = []
-told s (c ∷ cs) = if c.0 then record { subject = s; advice = c.1 } ∷ told s cs else told s cs
+abbrev pub told_cases : Scope → Cases Advice → List Warning
+told_cases s [] = []
+told_cases s (c ∷ cs) = if c.0 then record { subject = s; advice = c.1 } ∷ told_cases s cs else told_cases s cs
 
 -- the warnings of a phase: of the phase itself, and then of its crossing
 abbrev pub phase_warnings : Rows → ℕ → Option Phase → List Warning
 phase_warnings set p None = []
 phase_warnings set p (Some phase) =
-    told (scope.Subject (subject.Phase p)) (phase_cases set p phase)
-    ++ told (scope.Subject (subject.Phase p)) (crossing_warnings phase.ped)
+    told_cases (scope.Subject (subject.Phase p)) (phase_cases set p phase)
+    ++ told_cases (scope.Subject (subject.Phase p)) (crossing_warnings phase.ped)
 
 -- the warnings of a split row, if there is one
 abbrev pub row_warnings : Rows → ℕ → ℕ → Option Split → List Warning
 row_warnings set n p None = []
 row_warnings set n p (Some split) =
-    told (scope.Subject (subject.Split n p)) (split_warnings (phase_at set p) split)
+    told_cases (scope.Subject (subject.Split n p)) (split_warnings (phase_at set p) split)
 
 -- the warnings of a pattern, if there is one
 abbrev pub pattern_warnings : Rows → ℕ → Option Pattern → List Warning
@@ -57,4 +57,4 @@ warnings_at set (subject.Pattern n) = pattern_warnings set n (pattern_at set n)
 
 -- the warnings of a set: those of its subjects, in the order of the rules, and then those of the plan as a whole
 unfoldable pub warnings_of : Rows → List Warning
-warnings_of set = flat_map (warnings_at set) (subjects set) ++ told scope.Plan (plan_cases set)
+warnings_of set = flat_map (warnings_at set) (subjects set) ++ told_cases scope.Plan (plan_cases set)

@@ -2,7 +2,7 @@
 
 ghost use Rattle.std.specs.Prelude.{◌≡◌, ◌++◌, Some, OnOk, IfOk};
 ghost use Rattle.signal_warnings.specs.Parts.{AreParts};
-ghost use Rattle.signal_warnings.specs.Warnings.{warned, told, phase_warnings, row_warnings, warnings_at, warnings_of};
+ghost use Rattle.signal_warnings.specs.Warnings.{warned, told_cases, phase_warnings, row_warnings, warnings_at, warnings_of};
 
 use crate::pattern::coordination_advice;
 use crate::phase::{crossing_cases, phase_cases};
@@ -119,7 +119,7 @@ fn push_advice(
 
 /// Adds of some cases, in their order, those that are so.
 fn tell(scope: &Scope, cases: &[(bool, Advice)], found: &mut Vec<Warning>) -> Result<(), NoMemory>
-    ensures { OnOk result (found.new.items ≡ found.old.items ++ told scope.now cases.now) }
+    ensures { OnOk result (found.new.items ≡ found.old.items ++ told_cases scope.now cases.now) }
 {
     for (is_so, advice) in cases {
         if *is_so {

@@ -9,9 +9,11 @@ mod pattern;
 mod phase;
 mod plan;
 mod split;
+mod street;
 mod texts;
 mod warning;
 
 pub use advising::warnings;
+pub use street::is_fit_however_called;
 pub use texts::warnings_text;
 pub use warning::{Advice, Scope, Warning};

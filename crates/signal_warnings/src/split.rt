@@ -1,7 +1,7 @@
 //! What an engineer is warned of in the split row of a phase.
 
 ghost use Rattle.std.specs.Prelude.{◌≡◌, ◌≤◌, Some};
-ghost use Rattle.signal_warnings.specs.SplitWarnings.{calls_walk, waits_for_button, besides_green, split_warnings};
+ghost use Rattle.signal_warnings.specs.SplitWarnings.{recalls_walk, waits_for_button, besides_green, split_warnings};
 
 use crate::warning::Advice;
 use signal_records::{Ped, Phase, Split, SplitMode};
@@ -21,7 +21,10 @@ pub(crate) fn split_cases(phase: &Phase, split: &Split) -> [(bool, Advice); 3]
             has_crossing && waits_for_button(mode) && tenths < need.tenths,
             Advice::WalkIfCalled { time, need },
         ),
-        (!has_crossing && calls_walk(mode), Advice::RecallWithoutWalk),
+        (
+            !has_crossing && recalls_walk(mode),
+            Advice::RecallWithoutWalk,
+        ),
         (
             coord && tenths < besides + 10,
             Advice::NoGreen { time, besides },
@@ -30,8 +33,8 @@ pub(crate) fn split_cases(phase: &Phase, split: &Split) -> [(bool, Advice); 3]
 }
 
 /// Whether a split mode calls the walk in each cycle.
-fn calls_walk(mode: SplitMode) -> bool
-    ensures { result ≡ calls_walk mode }
+fn recalls_walk(mode: SplitMode) -> bool
+    ensures { result ≡ recalls_walk mode }
 {
     match mode {
         SplitMode::PedestrianRecall | SplitMode::MaximumVehicleAndPedestrianRecall => true,
@@ -59,7 +62,7 @@ fn besides_green(phase: &Phase, mode: SplitMode) -> u32
     let Phase { yellow, red, .. } = phase;
     let clearance = u32::from(*yellow) + u32::from(*red);
     match &phase.ped {
-        Some(Ped { lead, .. }) if calls_walk(mode) => 10 * lead.get() + clearance,
+        Some(Ped { lead, .. }) if recalls_walk(mode) => 10 * lead.get() + clearance,
         _ => clearance,
     }
 }
