@@ -34,4 +34,5 @@ pub use reason::{
 pub use sequence::has_sequence;
 pub use split::{NeedPart, SplitNeed, need_if_called, split_need};
 pub use subjects::{subject_of, subjects_of};
+pub use texts::Tenths;
 pub use violation::{Rule, Subject, Violation};

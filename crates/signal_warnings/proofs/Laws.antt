@@ -1,5 +1,5 @@
 -- A timing set without violations and without warnings keeps the laws however its walks are called.
-use Rattle.std.proofs.Common.{◌≡◌, ℕ, ◌+◌, ◌*◌, ◌<◌, ◌≤◌, Bool, true, false, ◌&&◌, eqb, ltb, [], Option, Some, None, IfSome, is_some, refl, sym, ap, subst, ◌∙◌, arith}
+use Rattle.std.proofs.Common.{◌≡◌, ℕ, ◌+◌, ◌*◌, ◌<◌, ◌≤◌, Bool, true, false, not, ◌&&◌, eqb, ltb, [], Option, Some, None, IfSome, is_some, refl, sym, ap, subst, ◌∙◌, arith}
 use Rattle.std.proofs.lemmas.Bool.{ltb-false}
 use Rattle.std.proofs.lemmas.Bool.Decides.{nat_tests}
 use Rattle.signal_records.specs.declared.record.Pattern.{Pattern}
@@ -11,6 +11,7 @@ use Rattle.signal_records.specs.declared.record.SplitMode.TheVariants.{NoRecall,
 use Rattle.signal_records.specs.Need.{lead_time, need_of}
 use Rattle.signal_records.specs.TimingSet.{Rows}
 use Rattle.signal_rules.specs.Lookup.{phase_at, split_at}
+use Rattle.signal_rules.specs.SplitRule.{is_omitted}
 use Rattle.signal_rules.specs.declared.violation.Subject.TheVariants as subject
 use Rattle.signal_rules.specs.Violations.{violations_of}
 use Rattle.signal_street.specs.Timing.{HasPhase, HasPattern}
@@ -24,14 +25,14 @@ use Rattle.signal_street.proofs.Stretches.{right_split, walk_within, walkers}
 use Rattle.signal_street.proofs.Within.{fits_phase, enough, room, room_for, coordinated_times}
 use Rattle.signal_warnings.specs.declared.warning.Scope.TheVariants as scope
 use Rattle.signal_warnings.specs.PhaseWarnings.{crossing_warnings}
-use Rattle.signal_warnings.specs.SplitWarnings.{waits_for_button}
+use Rattle.signal_warnings.specs.SplitWarnings.{recalls_walk}
 use Rattle.signal_warnings.specs.Warnings.{told_cases, warnings_of}
 use Rattle.signal_warnings.proofs.Quiet.{IsQuiet, is_quiet, phase_quiet, measured, button_quiet}
 
 -- a split fits however its walk is called, where its mode calls it or a button does
-fits_called : (phase : Phase) (ped : Ped) (split : Split) → phase.ped ≡ Some ped → fits_phase split phase ≡ true → (is_some phase.ped && (waits_for_button split.mode && ltb (10 * split.time) (need_of phase PedestrianRecall))) ≡ false → ServesPhase split.mode → need_of phase PedestrianRecall ≤ 10 * split.time
-fits_called phase ped split is right quiet serves = by_mode split.mode (enough split phase right serves) (ap (λ o. is_some o && (waits_for_button split.mode && ltb (10 * split.time) (need_of phase PedestrianRecall))) (sym is) ∙ quiet) serves where
-  by_mode : (mode : SplitMode) → need_of phase mode ≤ 10 * split.time → (waits_for_button mode && ltb (10 * split.time) (need_of phase PedestrianRecall)) ≡ false → ServesPhase mode → need_of phase PedestrianRecall ≤ 10 * split.time
+fits_called : (phase : Phase) (ped : Ped) (split : Split) → phase.ped ≡ Some ped → fits_phase split phase ≡ true → (is_some phase.ped && (not (recalls_walk split.mode) && (not (is_omitted split.mode) && ltb (10 * split.time) (need_of phase PedestrianRecall)))) ≡ false → ServesPhase split.mode → need_of phase PedestrianRecall ≤ 10 * split.time
+fits_called phase ped split is right quiet serves = by_mode split.mode (enough split phase right serves) (ap (λ o. is_some o && (not (recalls_walk split.mode) && (not (is_omitted split.mode) && ltb (10 * split.time) (need_of phase PedestrianRecall)))) (sym is) ∙ quiet) serves where
+  by_mode : (mode : SplitMode) → need_of phase mode ≤ 10 * split.time → (not (recalls_walk mode) && (not (is_omitted mode) && ltb (10 * split.time) (need_of phase PedestrianRecall))) ≡ false → ServesPhase mode → need_of phase PedestrianRecall ≤ 10 * split.time
   by_mode NoRecall fits quiet serves = ltb-false (10 * split.time) (need_of phase PedestrianRecall) quiet
   by_mode MinimumVehicleRecall fits quiet serves = ltb-false (10 * split.time) (need_of phase PedestrianRecall) quiet
   by_mode MaximumVehicleRecall fits quiet serves = ltb-false (10 * split.time) (need_of phase PedestrianRecall) quiet

@@ -5,24 +5,19 @@ use Rattle.signal_records.specs.declared.record.Phase.{Phase}
 use Rattle.signal_records.specs.TimingSet.{Rows}
 use Rattle.signal_rules.specs.Cases.{Cases}
 use Rattle.signal_rules.specs.Lanes.{used_rings}
-use Rattle.signal_rules.specs.Lookup.{phase_at, phases, lists}
-use Rattle.signal_rules.specs.SequenceRule.{in_ring}
+use Rattle.signal_rules.specs.Lookup.{phase_at, phases, is_in}
 use Rattle.signal_warnings.specs.declared.warning.Advice.{Advice}
 use Rattle.signal_warnings.specs.declared.warning.Advice.TheVariants.{NoPattern, NoConflict}
 use Rattle.signal_warnings.specs.PhaseWarnings.{patterns}
 
--- two phases have one phaseRing
-abbrev pub share_ring : Option Phase → Option Phase → Bool
-share_ring None other = false
-share_ring (Some phase) other = in_ring phase.ring other
-
--- a phase is in the ring of another, or lists it (phaseConcurrency): nothing but a ring keeps them apart
-abbrev pub may_time : Rows → ℕ → ℕ → Bool
-may_time set p q = share_ring (phase_at set p) (phase_at set q) || lists set p q
+-- a phase is in the ring of another one (phaseRing), or lists it (phaseConcurrency): nothing but a ring keeps them apart
+abbrev pub may_time : Option Phase → ℕ → Option Phase → Bool
+may_time (Some phase) q (Some other) = phase.ring == other.ring || is_in q phase.mates
+may_time _ q _ = false
 
 -- one phase may time with each of some others
 abbrev pub may_time_with_all : Rows → List ℕ → ℕ → Bool
-may_time_with_all set qs p = list_all (may_time set p) qs
+may_time_with_all set qs p = list_all (λ q. may_time (phase_at set p) q (phase_at set q)) qs
 
 -- no phase of the set conflicts with one of another ring
 abbrev pub has_no_conflict : Rows → Bool

@@ -3,10 +3,10 @@ use Rattle.std.specs.Prelude.{◌==◌, ◌+◌, ◌*◌, ℕ, nat_lt, Bool, tru
 use Rattle.signal_records.specs.declared.record.Phase.{Phase}
 use Rattle.signal_records.specs.declared.record.Split.{Split}
 use Rattle.signal_records.specs.declared.record.SplitMode.{SplitMode}
-use Rattle.signal_records.specs.declared.record.SplitMode.TheVariants.{PedestrianRecall, MaximumVehicleAndPedestrianRecall, PhaseOmitted}
+use Rattle.signal_records.specs.declared.record.SplitMode.TheVariants.{PedestrianRecall, MaximumVehicleAndPedestrianRecall}
 use Rattle.signal_records.specs.Need.{called, lead_time, need_of}
 use Rattle.signal_rules.specs.Cases.{Cases}
-use Rattle.signal_rules.specs.SplitRule.{need_if_called}
+use Rattle.signal_rules.specs.SplitRule.{is_omitted, need_if_called}
 use Rattle.signal_warnings.specs.declared.warning.Advice.{Advice}
 use Rattle.signal_warnings.specs.declared.warning.Advice.TheVariants.{WalkIfCalled, RecallWithoutWalk, NoGreen}
 
@@ -16,17 +16,10 @@ recalls_walk PedestrianRecall = true
 recalls_walk MaximumVehicleAndPedestrianRecall = true
 recalls_walk _ = false
 
--- splitMode serves the phase and leaves the walk to a button (modes 2, 3 and 4)
-abbrev pub waits_for_button : SplitMode → Bool
-waits_for_button PedestrianRecall = false
-waits_for_button MaximumVehicleAndPedestrianRecall = false
-waits_for_button PhaseOmitted = false
-waits_for_button _ = true
-
--- walk-if-called: a button may call the walk, and lead and minimum green, or walk and clearance, do not fit into splitTime with yellow and red
+-- walk-if-called: the phase is served in mode 2, 3 or 4, a button may call its walk, and lead and minimum green, or walk and clearance, do not fit into splitTime with yellow and red
 abbrev pub button_case : Phase → Split → Bool × Advice
 button_case phase split = (
-  is_some phase.ped && waits_for_button split.mode && nat_lt (10 * split.time) (need_if_called phase).tenths,
+  is_some phase.ped && not (recalls_walk split.mode) && not (is_omitted split.mode) && nat_lt (10 * split.time) (need_if_called phase).tenths,
   WalkIfCalled split.time (need_if_called phase),
 )
 

@@ -4,7 +4,7 @@ ghost use Rattle.std.specs.Prelude.{◌≡◌, ◌≤◌, ◌*◌, IfOk, length}
 ghost use Rattle.signal_rules.specs.Cases.{first_true};
 ghost use Rattle.signal_rules.specs.Lookup as set_has;
 ghost use Rattle.signal_rules.specs.Lookup.{phase_at};
-ghost use Rattle.signal_warnings.specs.PatternWarnings.{coordinated_phases, own_row, begin_of, begins_within, time_together, apart_from, apart_cases, or_all, coordination_advice, seconds_of};
+ghost use Rattle.signal_warnings.specs.PatternWarnings.{coordinated_phases, own_row, begin_of, time_together, apart_from, apart_cases, or_all, coordination_advice, seconds_of};
 
 use crate::warning::Advice;
 use signal_records::{NoMemory, Pattern, PhaseNo, SeqNo, SplitNo, TimingSet};
@@ -90,18 +90,16 @@ fn apart_from(
     None
 }
 
-/// Whether two phases time together at some second of the cycle.
+/// Whether two phases time together at some second of the cycle: each begins before the other is
+/// over.
 fn time_together(set: &TimingSet, pattern: &Pattern, p: PhaseNo, q: PhaseNo) -> bool
     ensures { result ≡ time_together set.now pattern.now p q }
 {
-    begins_within(set, pattern, p, q) && begins_within(set, pattern, q, p)
-}
-
-/// Whether a phase begins before another is over.
-fn begins_within(set: &TimingSet, pattern: &Pattern, p: PhaseNo, q: PhaseNo) -> bool
-    ensures { result ≡ begins_within set.now pattern.now p q }
-{
-    begin_of(set, pattern, p) < begin_of(set, pattern, q) + time_of(split_at(set, pattern.split, q))
+    let begin = begin_of(set, pattern, p);
+    let end = begin + time_of(split_at(set, pattern.split, p));
+    let other_begin = begin_of(set, pattern, q);
+    let other_end = other_begin + time_of(split_at(set, pattern.split, q));
+    begin < other_end && other_begin < end
 }
 
 /// The second of the cycle at which a phase begins.

@@ -69,7 +69,7 @@ fn is_served(set: &TimingSet, patterns: &[Pattern], p: PhaseNo) -> bool
 }
 
 /// Whether a split row serves its phase in each cycle.
-fn is_serving(split: Option<Split>) -> bool
+pub(crate) fn is_serving(split: Option<Split>) -> bool
     ensures { result ≡ is_serving split }
 {
     match split {

@@ -6,11 +6,11 @@ ghost use Rattle.signal_rules.specs.Lookup as set_has;
 ghost use Rattle.signal_rules.specs.Lookup.{phase_at};
 ghost use Rattle.signal_warnings.specs.Parts.{AreParts};
 ghost use Rattle.signal_warnings.specs.PhaseWarnings.{patterns};
-ghost use Rattle.signal_warnings.specs.PlanWarnings.{share_ring, may_time, may_time_with_all, has_no_conflict, lacks_pattern, lacks_conflict, plan_cases};
+ghost use Rattle.signal_warnings.specs.PlanWarnings.{may_time, may_time_with_all, has_no_conflict, lacks_pattern, lacks_conflict, plan_cases};
 
 use crate::warning::Advice;
 use signal_records::{NoMemory, Pattern, PatternNo, PhaseNo, TimingSet};
-use signal_rules::{lists, pattern_at, phase_at, phases_of, used_rings};
+use signal_rules::{pattern_at, phase_at, phases_of, used_rings};
 use std::alloc::Global;
 
 /// What is looked up of a set once: its phases, its patterns, and how many of its rings have a
@@ -111,19 +111,14 @@ fn may_time_with_all(set: &TimingSet, others: &[PhaseNo], p: PhaseNo) -> bool
     true
 }
 
-/// Whether nothing but a ring keeps two phases apart.
+/// Whether nothing but a ring keeps a phase from timing with another one.
 fn may_time(set: &TimingSet, p: PhaseNo, q: PhaseNo) -> bool
-    ensures { result ≡ may_time set.now p q }
-{
-    share_ring(set, p, q) || lists(set, p, q)
-}
-
-/// Whether two phases are in one ring.
-fn share_ring(set: &TimingSet, p: PhaseNo, q: PhaseNo) -> bool
-    ensures { result ≡ share_ring (phase_at set.now p) (phase_at set.now q) }
+    ensures { result ≡ may_time (phase_at set.now p) q (phase_at set.now q) }
 {
     match (phase_at(set, p), phase_at(set, q)) {
-        (Some(phase), Some(other)) => phase.ring == other.ring,
+        (Some(phase), Some(other)) => {
+            phase.ring == other.ring || phase.mates.as_slice().contains(&q)
+        }
         _ => false,
     }
 }

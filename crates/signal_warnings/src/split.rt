@@ -1,8 +1,9 @@
 //! What an engineer is warned of in the split row of a phase.
 
 ghost use Rattle.std.specs.Prelude.{◌≡◌, ◌≤◌, Some};
-ghost use Rattle.signal_warnings.specs.SplitWarnings.{recalls_walk, waits_for_button, besides_green, split_warnings};
+ghost use Rattle.signal_warnings.specs.SplitWarnings.{recalls_walk, besides_green, split_warnings};
 
+use crate::phase::is_serving;
 use crate::warning::Advice;
 use signal_records::{Ped, Phase, Split, SplitMode};
 use signal_rules::need_if_called;
@@ -14,17 +15,15 @@ pub(crate) fn split_cases(phase: &Phase, split: &Split) -> [(bool, Advice); 3]
     let Split { time, mode, coord } = *split;
     let need = need_if_called(phase);
     let has_crossing = phase.ped.is_some();
+    let recalls = recalls_walk(mode);
     let tenths = 10 * u32::from(time);
     let besides = besides_green(phase, mode);
     [
         (
-            has_crossing && waits_for_button(mode) && tenths < need.tenths,
+            has_crossing && !recalls && is_serving(Some(*split)) && tenths < need.tenths,
             Advice::WalkIfCalled { time, need },
         ),
-        (
-            !has_crossing && recalls_walk(mode),
-            Advice::RecallWithoutWalk,
-        ),
+        (!has_crossing && recalls, Advice::RecallWithoutWalk),
         (
             coord && tenths < besides + 10,
             Advice::NoGreen { time, besides },
@@ -39,18 +38,6 @@ fn recalls_walk(mode: SplitMode) -> bool
     match mode {
         SplitMode::PedestrianRecall | SplitMode::MaximumVehicleAndPedestrianRecall => true,
         _ => false,
-    }
-}
-
-/// Whether a split mode serves the phase and leaves the walk to a button.
-fn waits_for_button(mode: SplitMode) -> bool
-    ensures { result ≡ waits_for_button mode }
-{
-    match mode {
-        SplitMode::PedestrianRecall
-        | SplitMode::MaximumVehicleAndPedestrianRecall
-        | SplitMode::PhaseOmitted => false,
-        _ => true,
     }
 }
 

@@ -2,22 +2,10 @@
 
 use crate::warning::{Advice, Scope, Warning};
 use signal_records::NoMemory;
-use signal_rules::{NeedPart, SplitNeed};
+use signal_rules::{NeedPart, SplitNeed, Tenths};
 use std::alloc::Global;
 use std::fmt;
 use std::fmt::Write;
-
-/// A number of tenths, written as `13.5`.
-#[derive(Clone, Copy)]
-struct Tenths(u32);
-
-impl fmt::Display for Tenths {
-    fn fmt<W: fmt::Write>(&self, f: &mut fmt::Formatter<W>) -> fmt::Result {
-        let whole = self.0 / 10;
-        let tenth = self.0 % 10;
-        write!(f, "{whole}.{tenth}")
-    }
-}
 
 /// Writes the subject's kind and numbers, as `split 1 8`, or `plan`.
 impl fmt::Display for Scope {
@@ -25,19 +13,6 @@ impl fmt::Display for Scope {
         match self {
             Scope::Subject(subject) => write!(f, "{subject}"),
             Scope::Plan => write!(f, "plan"),
-        }
-    }
-}
-
-/// What of a phase is too long for its split.
-#[derive(Clone, Copy)]
-struct Governing(NeedPart);
-
-impl fmt::Display for Governing {
-    fn fmt<W: fmt::Write>(&self, f: &mut fmt::Formatter<W>) -> fmt::Result {
-        match self.0 {
-            NeedPart::Green => write!(f, "lead and minimum green"),
-            NeedPart::Walk => write!(f, "walk and clearance"),
         }
     }
 }
@@ -67,7 +42,10 @@ impl fmt::Display for Advice {
                 let SplitNeed { tenths, governs } = *need;
                 let short = Tenths(tenths.saturating_sub(10 * u32::from(*time)));
                 let tenths = Tenths(tenths);
-                let governing = Governing(governs);
+                let governing = match governs {
+                    NeedPart::Green => "lead and minimum green",
+                    NeedPart::Walk => "walk and clearance",
+                };
                 write!(
                     f,
                     "if a button calls the walk, {tenths} s are needed, the split has {time} s: \
