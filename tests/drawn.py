@@ -73,8 +73,8 @@ def told_and_came(text):
     office = Office()
     for asked, told in rows.plain(text) or ():
         yield asked, told, rows.played(office, asked)
-    for plan, explain, told in rows.checked(text):
-        yield plan, told, rows.verified(plan, explain)
+    for plan, flags, told in rows.checked(text):
+        yield plan, told, rows.verified(plan, flags)
     for asked, told, came in rows.drawn(text):
         yield asked, told, came
 

@@ -1,12 +1,12 @@
 #!/usr/bin/env python3
 """Compares the program with the second office (tests/model) on drawn plans, with reasons and
-without: what is printed must be what the model says, byte for byte.
+warnings and without: what is printed must be what the model says, byte for byte.
 
     tests/plans.py [PROGRAM [SEED COUNT]]
 
 COUNT plans are drawn, 20,000 by default. Most break some rule, since rows of a good plan are
-changed. Prints how often each rule was broken and each reason given, and ends with status 1 at the
-first plan that differs, or if a rule or a reason did not come up.
+changed. Prints how often each rule was broken, each reason given and each warning told, and ends
+with status 1 at the first plan that differs, or if a rule, a reason or a warning did not come up.
 """
 import collections
 import concurrent.futures
@@ -53,6 +53,24 @@ V13: from second # to # phases # and # time together and do not list each other
 V14: lead is # s, less than # s
 V14: lead is # s, longer than the walk of # s""".splitlines()
 
+# What is told of a plan besides.
+WARNINGS = """\
+the maximum green is # s, less than the minimum green of # s
+the minimum green is # s
+no phase may time with it, and the plan has # rings
+no pattern serves it
+the crossing of # ft has a clearance of # s
+the width of the crossing is # ft, not measured
+if a button calls the walk, # s are needed, the split has # s: walk and clearance are # s too long
+if a button calls the walk, # s are needed, the split has # s: lead and minimum green are # s too long
+the mode calls the walk of a phase that has no crossing
+coordinated without a second of green: the split has # s, and lead, yellow and red are # s
+each of the # phases is coordinated
+phases # and # are coordinated and do not time together
+# phases, and no pattern
+each phase may time with every phase of the other rings: none of the # rings waits for another\
+""".splitlines()
+
 
 def drawn(seed):
     """The text of a plan in a file."""
@@ -90,8 +108,8 @@ def differs(program, folder, seed):
     path = os.path.join(folder, str(seed))
     with open(path, "w") as file:
         file.write(text)
-    for flags in (("--explain",), ())[:2 if seed % PLAIN == 0 else 1]:
-        wanted = rows.verified(text, bool(flags))
+    for flags in (("--explain", "--advise"), ())[:2 if seed % PLAIN == 0 else 1]:
+        wanted = rows.verified(text, flags)
         status = 0 if wanted[0] == "no violations" else BREAKS
         came = verified(program, path, *flags)
         if came != (wanted, status):
@@ -101,10 +119,17 @@ def differs(program, folder, seed):
     return told, None
 
 
+def marked(text):
+    """A text with a mark for each number."""
+    return re.sub(r"[0-9]+([.][0-9]+)?", "#", text)
+
+
 def reason(line):
-    """The rule and the reason of a line, with a mark for each number."""
+    """The rule and the reason of a line, or its warning, with a mark for each number."""
+    if line.startswith("warning: "):
+        return marked(line.split(": ", 2)[2])
     rule, _, why = line.rpartition(" V")[2].partition(": ")
-    return f"V{rule}: {re.sub(r'[0-9]+([.][0-9]+)?', '#', why)}"
+    return f"V{rule}: {marked(why)}"
 
 
 def main():
@@ -120,11 +145,11 @@ def main():
             if wrong:
                 pool.shutdown(cancel_futures=True)
                 sys.exit(f"plans.py: {wrong}")
-            whole += told == ["no violations"]
+            whole += "no violations" in told
             tally.update(reason(it) for it in told if it != "no violations")
-    for it in sorted(tally, key=lambda it: (int(it[1:].partition(":")[0]), it)):
+    for it in [*REASONS, *WARNINGS]:
         print(f"{tally[it]:7} {it}")
-    missing = [it for it in REASONS if not tally[it]]
+    missing = [it for it in [*REASONS, *WARNINGS] if not tally[it]]
     if missing and count >= 20_000:
         sys.exit(f"plans.py: these did not come: {missing}")
     print(f"{count} drawn plans, {whole} break no rule: the program tells what the model does")

@@ -3,7 +3,7 @@ import itertools
 import pathlib
 import shlex
 
-from . import commands, fields, hints, pages, pictures, plan, reasons, rules
+from . import commands, fields, hints, pages, pictures, plan, reasons, rules, warnings
 from .office import Office
 from .refusal import Refused
 from .wire import answer, read_each
@@ -34,13 +34,13 @@ NOTED = {"phase": "phase {}", "seq": "sequence {} ring {}", "split": "split {} p
 
 
 def checked(text):
-    """Each file of a plan that a row has the program verify, whether with reasons, and the lines
-    that it prints where there is room for them."""
+    """Each file of a plan that a row has the program verify, the flags that ask for more, and the
+    lines that it prints where there is room for them."""
     files, name, told, notes, flags = {}, None, None, [], []
     for line in [*text.split("\n"), "run"]:
         word, _, rest = line.partition(" ")
         if word in ("run", "file", "holds") and told is not None:
-            yield files[name], "--explain" in flags, told + notes
+            yield files[name], {"--explain", "--advise"} & set(flags), told + notes
         if word == "file":
             name, files[rest], told = rest, "", None
         elif word == "holds":
@@ -58,9 +58,11 @@ def checked(text):
             (notes if rest.startswith("note: ") else told).append(rest)
 
 
-def verified(text, explain):
-    """What is told of a plan in a file: what it breaks, with reasons where that is asked, or the
-    first record that spells nothing, with its line too."""
+def verified(text, flags):
+    """What is told of a plan in a file: what it breaks, with reasons where that is asked, and what
+    an engineer is warned of where that is; or the first record that spells nothing, with its line
+    too."""
+    explain, advise = ("--explain" in flags), ("--advise" in flags)
     try:
         changes = read_each(plan.read_change, fields.read_csv(text))
     except Refused as it:
@@ -73,7 +75,8 @@ def verified(text, explain):
         found = reasons.explained(made)
     else:
         found = [f"{it['subject']} {it['rule']}" for it in rules.violations(made)]
-    return (found or ["no violations"]) + noted(changes)
+    advice = warnings.warnings(made) if advise else []
+    return (found or ["no violations"]) + advice + noted(changes)
 
 
 def noted(changes):

@@ -18,7 +18,7 @@ pair_here second span later why e = ap first_true (parts second span later) ∙ 
 pub pair_past : (second : ℕ) (span : Span) (later : List Span) → first_true (slot_cases second span later) ≡ None → first_true (pair_cases second (spans_in second (span ∷ later))) ≡ first_true (pair_cases second (spans_in second later))
 pair_past second span later e = ap first_true (parts second span later) ∙ first_past (slot_cases second span later) (pair_cases second (spans_in second later)) e
 
--- some spans by their first and those after it
-pub parted : (spans : List Span) (span : Span) → 1 ≤ length spans → span ≡ get_or spans 0 span → spans ≡ span ∷ take (length spans - 1) (drop 1 spans)
-parted [] span le is = absurd (omega arith)
-parted (x ∷ later) span le is = ap (λ (y : Span). y ∷ later) (sym is) ∙ ap (λ l. span ∷ l) (sym (take_all (length (x ∷ later) - 1) later (omega arith)))
+-- a list by its first item and those after it
+pub parted : {A : Type 0} (items : List A) (item : A) → 1 ≤ length items → item ≡ get_or items 0 item → items ≡ item ∷ take (length items - 1) (drop 1 items)
+parted [] item le is = absurd (omega arith)
+parted {A = A} (x ∷ later) item le is = ap (λ (y : A). y ∷ later) (sym is) ∙ ap (λ l. item ∷ l) (sym (take_all (length (x ∷ later) - 1) later (omega arith)))

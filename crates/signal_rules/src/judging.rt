@@ -17,7 +17,7 @@ use crate::lookup::{pattern_at, phase_at, phases_of, split_at};
 use crate::reason::{Explained, Reason};
 use crate::sequence::{has_sequence, sequence_reason};
 use crate::split::split_reason;
-use crate::subjects::subjects;
+use crate::subjects::subjects_of;
 use crate::violation::{Rule, Subject, Violation};
 use crate::{lanes, pattern, phase};
 use signal_records::{Cycle, NoMemory, Pattern, PatternNo, Phase, PhaseNo, SeqNo, TimingSet};
@@ -94,7 +94,7 @@ fn judge_all<F: Finding>(alloc: Global, set: &TimingSet) -> Result<Vec<F>, NoMem
 {
     let mut found = Vec::new(alloc);
     let mut ticks = 0;
-    for subject in &subjects(alloc, set)? {
+    for subject in &subjects_of(alloc, set)? {
         judge(alloc, set, *subject, &mut ticks, &mut found)?;
     }
     Ok(found)

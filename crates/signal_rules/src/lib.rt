@@ -23,7 +23,7 @@ mod violation;
 pub use counting::{Judge, Tally, violations_touched};
 pub use judging::{reasons, violations};
 pub use lanes::{lane_seconds, lists, time_of};
-pub use lookup::{has_phase, pattern_at, phase_at, ring_row, split_at};
+pub use lookup::{has_phase, pattern_at, phase_at, phases_of, ring_row, split_at};
 pub use pattern::{is_coordinated, used_rings, without_split};
 pub use phase::clearance;
 pub use reach::touched;
@@ -32,5 +32,7 @@ pub use reason::{
     SplitReason,
 };
 pub use sequence::has_sequence;
-pub use subjects::subject_of;
+pub use split::{NeedPart, SplitNeed, need_if_called, split_need};
+pub use subjects::{subject_of, subjects_of};
+pub use texts::Tenths;
 pub use violation::{Rule, Subject, Violation};

@@ -5,7 +5,7 @@ ghost use Rattle.signal_rules.specs.Touched.{reaches, reaches_any, uses_sequence
 
 use crate::lanes::lists;
 use crate::lookup::pattern_at;
-use crate::subjects::subjects;
+use crate::subjects::subjects_of;
 use crate::violation::Subject;
 use signal_records::{Key, NoMemory, Pattern, SeqNo, SplitNo, TimingSet};
 use std::alloc::Global;
@@ -20,7 +20,7 @@ pub fn touched(alloc: Global, draft: &TimingSet, keys: &[Key]) -> Result<Vec<Sub
     ensures { IfOk result (λ found. found.items ≡ touched_subjects draft.now keys.now) }
 {
     let mut found = Vec::new(alloc);
-    for subject in &subjects(alloc, draft)? {
+    for subject in &subjects_of(alloc, draft)? {
         if reaches_any(draft, keys, subject) {
             found.push(*subject)?;
         }

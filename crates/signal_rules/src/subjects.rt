@@ -10,7 +10,7 @@ use signal_records::{NoMemory, Row, SeqNo, TimingSet};
 use std::alloc::Global;
 
 /// Phases, sequences, split rows and patterns, each by ascending number.
-pub(crate) fn subjects(alloc: Global, set: &TimingSet) -> Result<Vec<Subject>, NoMemory>
+pub fn subjects_of(alloc: Global, set: &TimingSet) -> Result<Vec<Subject>, NoMemory>
     ensures { IfOk result (λ found. found.items ≡ subjects set.now) }
 {
     let rows = set.rows(alloc)?;

@@ -8,7 +8,7 @@ use std::fmt;
 
 /// A number of tenths, written as `13.5`.
 #[derive(Clone, Copy)]
-struct Tenths(u32);
+pub struct Tenths(pub u32);
 
 impl fmt::Display for Tenths {
     ghost use Rattle.std.specs.Prelude.{Some};

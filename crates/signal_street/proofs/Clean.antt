@@ -27,10 +27,10 @@ mapped_at V make (n ∷ ns) t none among =
       by_place (inl e) here later = ap (λ k. V (make k)) (sym (eqb-true n t e)) ∙ here
       by_place (inr e) here later = later e
 
-made_at : {S B : Type 0} (V : S → List B) (make : ℕ → S) (P : ℕ → Bool) (ns : List ℕ) (t : ℕ) → flat_map V (map make (filter P ns)) ≡ [] → is_in t ns ≡ true → P t ≡ true → V (make t) ≡ []
+pub made_at : {S B : Type 0} (V : S → List B) (make : ℕ → S) (P : ℕ → Bool) (ns : List ℕ) (t : ℕ) → flat_map V (map make (filter P ns)) ≡ [] → is_in t ns ≡ true → P t ≡ true → V (make t) ≡ []
 made_at V make P ns t none among is = mapped_at V make (filter P ns) t none (in_filter P ns t is among)
 
-joined_at : {S B : Type 0} (V : S → List B) (f : ℕ → List S) (ns : List ℕ) (t : ℕ) → flat_map V (flat_map f ns) ≡ [] → is_in t ns ≡ true → flat_map V (f t) ≡ []
+pub joined_at : {S B : Type 0} (V : S → List B) (f : ℕ → List S) (ns : List ℕ) (t : ℕ) → flat_map V (flat_map f ns) ≡ [] → is_in t ns ≡ true → flat_map V (f t) ≡ []
 joined_at V f [] t none among = absurd (false≢true among)
 joined_at V f (n ∷ ns) t none among =
     let parts = nil_append V (f n) (flat_map f ns) none in
@@ -39,7 +39,7 @@ joined_at V f (n ∷ ns) t none among =
       by_place (inl e) here later = ap (λ k. flat_map V (f k)) (sym (eqb-true n t e)) ∙ here
       by_place (inr e) here later = later e
 
-four_parts : {A B : Type 0} (V : A → List B) (a b c d : List A) → flat_map V (a ++ (b ++ (c ++ d))) ≡ [] → (flat_map V a ≡ []) × (flat_map V b ≡ []) × (flat_map V c ≡ []) × (flat_map V d ≡ [])
+pub four_parts : {A B : Type 0} (V : A → List B) (a b c d : List A) → flat_map V (a ++ (b ++ (c ++ d))) ≡ [] → (flat_map V a ≡ []) × (flat_map V b ≡ []) × (flat_map V c ≡ []) × (flat_map V d ≡ [])
 four_parts V a b c d none =
     let one = nil_append V a (b ++ (c ++ d)) none in
     let two = nil_append V b (c ++ d) one.1 in

@@ -3,15 +3,15 @@ use Rattle.std.proofs.Common.{◌≡◌, ℕ, [], Option, Some, None, IfSome, re
 use Rattle.signal_records.specs.{declared.record.Pattern.Pattern, declared.record.Ped.Ped, declared.record.Phase.Phase, TimingSet.Rows}
 use Rattle.signal_rules.specs.Violations.{violations_of}
 use Rattle.signal_street.specs.Timing.{HasPhase, HasPattern}
-use Rattle.signal_street.specs.Intervals.{WalkersCross}
-use Rattle.signal_street.specs.StreetLaws.{CalledWalkLiesWithin, WalkersHaveTheStreet, RunsItsCycle, KeepsApart, HasTimeForWalks, StreetLaws}
+use Rattle.signal_street.specs.Intervals.{CallsPedestrian, WalkersCross}
+use Rattle.signal_street.specs.StreetLaws.{WalkLiesWithin, WalkersHaveTheStreet, RunsItsCycle, KeepsApart, HasTimeForWalks, StreetLaws}
 use Rattle.signal_street.proofs.Clean.{IsClean, is_clean, phase_rules}
 use Rattle.signal_street.proofs.Cycles.{known, served, coordinated, conflicts_cleared, barriers_crossed}
 use Rattle.signal_street.proofs.Patterns.{phase_number}
-use Rattle.signal_street.proofs.Stretches.{concurrent, stretch, ring_filled, walk_within, walkers}
+use Rattle.signal_street.proofs.Stretches.{concurrent, stretch, ring_filled, room_called, walk_within, walkers}
 use Rattle.signal_street.proofs.Within.{crosses, crosses_from_setback}
 
-where_some : {A : Type 0} (o : Option A) (P : A → Type 0) → ((x : A) → o ≡ Some x → P x) → IfSome o P
+pub where_some : {A : Type 0} (o : Option A) (P : A → Type 0) → ((x : A) → o ≡ Some x → P x) → IfSome o P
 where_some None P h = tt
 where_some (Some x) P h = h x refl
 
@@ -38,10 +38,10 @@ module _ (set : Rows) (clean : IsClean set) where
       barriers = barriers_crossed set clean n pattern has;
     }
 
-    walks : HasTimeForWalks set pattern
+    walks : HasTimeForWalks CallsPedestrian set pattern
     walks = record {
-      within = λ p phase of_p. where_some phase.ped (CalledWalkLiesWithin set pattern p phase) (walk_within set clean n pattern has p phase of_p);
-      walkers = λ p phase of_p. where_some phase.ped (WalkersHaveTheStreet set pattern p phase) (walkers set clean n pattern has p phase of_p);
+      within = λ p phase of_p. where_some phase.ped (WalkLiesWithin CallsPedestrian set pattern p phase) (λ ped is. walk_within set clean n pattern has p phase of_p CallsPedestrian ped is (room_called set clean n pattern has p phase of_p ped is));
+      walkers = λ p phase of_p. where_some phase.ped (WalkersHaveTheStreet CallsPedestrian set pattern p phase) (λ ped is. walkers set clean n pattern has p phase of_p CallsPedestrian ped is (room_called set clean n pattern has p phase of_p ped is));
     }
 
 -- the laws of a set without violations

@@ -2,15 +2,15 @@
 use Rattle.std.proofs.Common.{◌≡◌, ◌≢◌, ◌↔◌, ℕ, ◌+◌, ◌*◌, ◌<◌, ◌≤◌, max, true, Option, Some, IfSome, ◌⊎◌, inl, inr, refl, sym, ap, subst, ◌∙◌, arith}
 use Rattle.std.proofs.lemmas.Bool.{cases_eq, cases_lt}
 use Rattle.std.specs.Int.{IsInRange}
-use Rattle.signal_records.specs.{declared.record.Pattern.Pattern, declared.record.Ped.Ped, declared.record.Phase.Phase, declared.record.Split.Split, TimingSet.Rows}
+use Rattle.signal_records.specs.{declared.record.Pattern.Pattern, declared.record.Ped.Ped, declared.record.Phase.Phase, declared.record.Split.Split, declared.record.SplitMode.SplitMode, TimingSet.Rows}
 use Rattle.signal_values.specs.declared.number.TheConstants.{RINGS}
 use Rattle.signal_rules.specs.{Lanes.time_of, Lookup.phase_at, Lookup.split_at}
 use Rattle.signal_street.specs.Timing.{HasPhase, HasPattern, order, split_time, BeginsIn, TimesIn, IsTiming}
-use Rattle.signal_street.specs.Intervals.{CallsPedestrian, FitsCrossing, FitsSplit, clear_end}
-use Rattle.signal_street.specs.StreetLaws.{AreConcurrent, OnlyConcurrentPhasesTime, TimesOnce, FillsCycle, CalledWalkLiesWithin, WalkersHaveTheStreet}
+use Rattle.signal_street.specs.Intervals.{CallsPedestrian, HasRoom, clear_end}
+use Rattle.signal_street.specs.StreetLaws.{AreConcurrent, OnlyConcurrentPhasesTime, TimesOnce, FillsCycle, WalkLiesWithin, WalkersHaveTheStreet}
 use Rattle.signal_street.proofs.Clean.{IsClean, phase_rules}
 use Rattle.signal_street.proofs.Places.{places, begin_at, ends_within, times_within, alone_at, filled_at, begins_once, has_place, ordered_at}
-use Rattle.signal_street.proofs.Within.{fits_phase, none_where_omitted, not_omitted, room, crosses, within_split}
+use Rattle.signal_street.proofs.Within.{fits_phase, none_where_omitted, room, called_room, crosses, within_split}
 use Rattle.signal_street.proofs.Patterns.{phase_number, of_ring, in_own_ring, owned, once, full, timing_owned, concurrent_in, has_split}
 
 module _ (set : Rows) (clean : IsClean set) (n : ℕ) (pattern : Pattern) (has : HasPattern set n pattern) where
@@ -114,38 +114,40 @@ module _ (set : Rows) (clean : IsClean set) (n : ℕ) (pattern : Pattern) (has :
       by_place (inl lt) = absurd (conflict (concurrent p q second apart ((times_there split row second).1 (shifted begin _ second split.time start.1 after lt)) t))
       by_place (inr le) = le
 
-    called_room : (split : Split) → split_at set pattern.split p ≡ Some split → CallsPedestrian split.mode → FitsSplit phase split
-    called_room split row calls =
+    -- the split of the phase, which keeps its rule
+    pub right_split : (split : Split) → split_at set pattern.split p ≡ Some split → fits_phase split phase ≡ true
+    right_split split row =
         let own = has_split set clean n pattern has p phase of_p in
         let same : Some own.0 ≡ Some split = sym own.1 ∙ row in
         let one : own.0 ≡ split = cc in
-        room split phase (subst (λ s. fits_phase s phase ≡ true) one own.2) (not_omitted split.mode calls)
+        subst (λ s. fits_phase s phase ≡ true) one own.2
 
-    pub walk_within : (ped : Ped) → phase.ped ≡ Some ped → CalledWalkLiesWithin set pattern p phase ped
-    walk_within ped is split begin second row calls begins after before =
-        let fits = called_room split row calls in
-        let crossing : FitsCrossing phase ped fits.green_end = at_some fits.green_end phase.ped is (fits.crossing calls) in
-        let start = begins_there phase.ring begin of_p.0.ring begins in
-        (times_there split row second).1 (from_begin _ _ _ start.1 after, to_end _ _ _ _ _ _ _ _ _ start.1 crossing.walk_and_clearance crossing.lead_and_green fits.cleared before) where
-          at_some : (green_end : ℕ) (o : Option Ped) → o ≡ Some ped → IfSome o (λ ped. FitsCrossing phase ped green_end) → FitsCrossing phase ped green_end
-          at_some green_end o e h = rw e at h
+    pub room_called : (ped : Ped) → phase.ped ≡ Some ped → (split : Split) → split_at set pattern.split p ≡ Some split → CallsPedestrian split.mode → HasRoom phase split ped
+    room_called ped is split row calls = called_room phase split ped is (right_split split row) calls
 
-          from_begin : (begin at second : ℕ) → begin ≡ at → begin ≤ second → at ≤ second
-          from_begin begin at second e le = omega arith
+    -- splits of some modes that have room for the crossing
+    module _ (IsOfModes : SplitMode → Type 0) (ped : Ped) (is : phase.ped ≡ Some ped) (has_room : (split : Split) → split_at set pattern.split p ≡ Some split → IsOfModes split.mode → HasRoom phase split ped) where
+      pub walk_within : WalkLiesWithin IsOfModes set pattern p phase ped
+      walk_within split begin second row of_mode begins after before =
+          let fits = has_room split row of_mode in
+          let start = begins_there phase.ring begin of_p.0.ring begins in
+          (times_there split row second).1 (from_begin _ _ _ start.1 after, to_end _ _ _ _ _ _ _ _ _ start.1 fits.crossing.walk_and_clearance fits.crossing.lead_and_green fits.cleared before) where
+            from_begin : (begin at second : ℕ) → begin ≡ at → begin ≤ second → at ≤ second
+            from_begin begin at second e le = omega arith
 
-          to_end : (begin at second walk lead green yellow red time : ℕ) → begin ≡ at → 10 * walk ≤ green → 10 * lead ≤ green → green + yellow + red ≡ 10 * time → second < begin + max walk lead → second < at + time
-          to_end begin at second walk lead green yellow red time e f g h i = omega arith
+            to_end : (begin at second walk lead green yellow red time : ℕ) → begin ≡ at → 10 * walk ≤ green → 10 * lead ≤ green → green + yellow + red ≡ 10 * time → second < begin + max walk lead → second < at + time
+            to_end begin at second walk lead green yellow red time e f g h i = omega arith
 
-    pub walkers : (ped : Ped) → phase.ped ≡ Some ped → WalkersHaveTheStreet set pattern p phase ped
-    walkers ped is split begin left now second row calls begins by crossing lies =
-        let rules = phase_rules set clean p phase (phase_number p of_p.0.number) of_p.1 in
-        let in_time : now < clear_end phase ped = crosses phase ped is rules.0 left now by crossing in
-        let before_end : now < 10 * split.time = within_split phase ped split now is calls (called_room split row calls) in_time in
-        let start = begins_there phase.ring begin of_p.0.ring begins in
-        let timing : IsTiming set pattern p second = (times_there split row second).1 (from_begin _ _ _ _ start.1 lies.1, to_end _ _ _ _ _ start.1 before_end lies.0) in
-        record { times = timing; others = λ q apart t. concurrent p q second apart timing t } where
-          from_begin : (begin at now second : ℕ) → begin ≡ at → 10 * begin + now < 10 * second + 10 → at ≤ second
-          from_begin begin at now second e lt = omega arith
+      pub walkers : WalkersHaveTheStreet IsOfModes set pattern p phase ped
+      walkers split begin left now second row of_mode begins by crossing lies =
+          let rules = phase_rules set clean p phase (phase_number p of_p.0.number) of_p.1 in
+          let in_time : now < clear_end phase ped = crosses phase ped is rules.0 left now by crossing in
+          let before_end : now < 10 * split.time = within_split phase ped split now (has_room split row of_mode) in_time in
+          let start = begins_there phase.ring begin of_p.0.ring begins in
+          let timing : IsTiming set pattern p second = (times_there split row second).1 (from_begin _ _ _ _ start.1 lies.1, to_end _ _ _ _ _ start.1 before_end lies.0) in
+          record { times = timing; others = λ q apart t. concurrent p q second apart timing t } where
+            from_begin : (begin at now second : ℕ) → begin ≡ at → 10 * begin + now < 10 * second + 10 → at ≤ second
+            from_begin begin at now second e lt = omega arith
 
-          to_end : (begin at now second time : ℕ) → begin ≡ at → now < 10 * time → 10 * second ≤ 10 * begin + now → second < at + time
-          to_end begin at now second time e lt le = omega arith
+            to_end : (begin at now second time : ℕ) → begin ≡ at → now < 10 * time → 10 * second ≤ 10 * begin + now → second < at + time
+            to_end begin at now second time e lt le = omega arith

@@ -1,13 +1,13 @@
 -- What a split has room for, and how long a walker crosses.
-use Rattle.std.proofs.Common.{◌≡◌, ◌≢◌, ◌↔◌, ℕ, ◌+◌, ◌-◌, ◌*◌, ◌<◌, ◌≤◌, max, Bool, true, false, not, ◌&&◌, eqb, ltb, [], ◌∷◌, Option, Some, None, IfSome, inl, inr, refl, sym, ap, ◌∙◌, arith}
+use Rattle.std.proofs.Common.{◌≡◌, ◌≢◌, ◌↔◌, ℕ, ◌+◌, ◌-◌, ◌*◌, ◌<◌, ◌≤◌, max, Bool, true, false, not, ◌&&◌, eqb, ltb, [], ◌∷◌, Option, Some, None, IfSome, inl, inr, refl, sym, ap, subst, ◌∙◌, arith}
 use Rattle.std.proofs.lemmas.Bool.{false≢true, eq-eqb, eqb-true, leb-true, ltb-false}
-use Rattle.signal_records.specs.{declared.record.Ped.Ped, declared.record.Phase.Phase, declared.record.Split.Split, declared.record.SplitMode.SplitMode, declared.record.SplitMode.TheVariants.PhaseOmitted, Need.called}
+use Rattle.signal_records.specs.{declared.record.Ped.Ped, declared.record.Phase.Phase, declared.record.Split.Split, declared.record.SplitMode.SplitMode, declared.record.SplitMode.TheVariants.PhaseOmitted, declared.record.SplitMode.TheVariants.PedestrianRecall, Need.called}
 use Rattle.signal_records.specs.Need.{lead_time, walk_time, need_of}
 use Rattle.signal_rules.specs.Cases.{Cases, holds}
 use Rattle.signal_rules.specs.PhaseRules.{clearance, clears_crossing, crossing_cases, clears_setback, setback_cases, of_ped}
 use Rattle.signal_rules.specs.SplitRule.{is_omitted, split_cases}
 use Rattle.signal_rules.proofs.Cases.{test_holds}
-use Rattle.signal_street.specs.Intervals.{CallsPedestrian, FitsCrossing, FitsSplit, clear_end, CrossesInTime, CrossesFromSetback}
+use Rattle.signal_street.specs.Intervals.{CallsPedestrian, FitsCrossing, HasRoom, FitsSplit, clear_end, CrossesInTime, CrossesFromSetback}
 
 -- V8 of the row of a phase
 abbrev pub fits_phase : Split → Phase → Bool
@@ -58,10 +58,10 @@ coordinated_times split phase right coord omitted =
     let broken : true ≡ false = sym (ap (λ m. is_omitted m && split.coord) omitted ∙ coord) ∙ (split_parts split phase right).1 in
     absurd (false≢true (sym broken))
 
-both_needs : (a b c t : ℕ) → max a b + c ≤ t → (a + c ≤ t) × (b + c ≤ t)
+pub both_needs : (a b c t : ℕ) → max a b + c ≤ t → (a + c ≤ t) × (b + c ≤ t)
 both_needs a b c t h = (omega arith, omega arith)
 
-enough : (split : Split) (phase : Phase) → fits_phase split phase ≡ true → split.mode ≢ PhaseOmitted → need_of phase split.mode ≤ 10 * split.time
+pub enough : (split : Split) (phase : Phase) → fits_phase split phase ≡ true → split.mode ≢ PhaseOmitted → need_of phase split.mode ≤ 10 * split.time
 enough split phase right some = by_time (eqb split.time 0) refl (split_parts split phase right).3 where
   by_time : (t : Bool) → eqb split.time 0 ≡ t → (not t && is_long split phase) ≡ false → need_of phase split.mode ≤ 10 * split.time
   by_time true e h = absurd (some ((none_where_omitted split phase right).0 (eqb-true split.time 0 e)))
@@ -69,6 +69,29 @@ enough split phase right some = by_time (eqb split.time 0) refl (split_parts spl
 
 crossing_fits : (lead green walk clear clearance time l w : ℕ) → l ≡ lead → w ≡ walk + clear → 10 * (l + green) + clearance ≤ time → 10 * w + clearance ≤ time → (10 * (lead + green) ≤ time - clearance) × (10 * (walk + clear) ≤ time - clearance)
 crossing_fits lead green walk clear clearance time l w e f g h = (omega arith, omega arith)
+
+-- a split that is as long as a phase needs whose walk is called has room for its crossing
+pub room_for : (phase : Phase) (split : Split) (ped : Ped) → phase.ped ≡ Some ped → need_of phase PedestrianRecall ≤ 10 * split.time → HasRoom phase split ped
+room_for phase split ped is fits =
+    let bounds = both_needs (10 * (lead_time phase.ped + phase.min_green)) (10 * walk_time phase.ped) (phase.yellow + phase.red) (10 * split.time) fits in
+    let fit = crossing_fits ped.lead phase.min_green ped.walk ped.clear (phase.yellow + phase.red) (10 * split.time) (lead_time phase.ped) (walk_time phase.ped) (ap lead_time is) (ap walk_time is) bounds.0 bounds.1 in
+    record {
+      green_end = 10 * split.time - (phase.yellow + phase.red);
+      cleared = ends _ _ _ _ _ bounds.0;
+      crossing = record { lead_and_green = fit.0; walk_and_clearance = fit.1 };
+    } where
+      ends : (l g y r t : ℕ) → 10 * (l + g) + (y + r) ≤ t → t - (y + r) + y + r ≡ t
+      ends l g y r t h = omega arith
+
+-- a mode that calls the walk needs as much as one in which a button calls it
+called_needs : (phase : Phase) (mode : SplitMode) → CallsPedestrian mode → need_of phase mode ≡ need_of phase PedestrianRecall
+called_needs phase mode (inl e) = ap (need_of phase) e
+called_needs phase mode (inr e) = ap (need_of phase) e
+
+-- a split that calls the walk has room for it
+pub called_room : (phase : Phase) (split : Split) (ped : Ped) → phase.ped ≡ Some ped → fits_phase split phase ≡ true → CallsPedestrian split.mode → HasRoom phase split ped
+called_room phase split ped is right calls =
+    room_for phase split ped is (subst (λ need. need ≤ 10 * split.time) (called_needs phase split.mode calls) (enough split phase right (not_omitted split.mode calls)))
 
 -- a split that is not omitted has room for all that the phase shows
 pub room : (split : Split) (phase : Phase) → fits_phase split phase ≡ true → split.mode ≢ PhaseOmitted → FitsSplit phase split
@@ -112,13 +135,9 @@ crosses_from_setback phase ped is clears now on_the_way =
     let enough : ped.width + ped.setback ≤ 3 * (10 * ped.walk + clearance phase ped) = leb-true (ped.width + ped.setback) (3 * (10 * ped.walk + clearance phase ped)) (test_holds (clears_setback phase ped) _ (ap (λ o. holds (of_ped o (setback_cases phase))) (sym is) ∙ clears)) in
     from_behind now ped.walk ped.clear phase.yellow phase.red ped.width ped.setback enough on_the_way
 
--- and so before the split is over, where it calls the walk
-pub within_split : (phase : Phase) (ped : Ped) (split : Split) (now : ℕ) → phase.ped ≡ Some ped → CallsPedestrian split.mode → FitsSplit phase split → now < clear_end phase ped → now < 10 * split.time
-within_split phase ped split now is calls fits before =
-    let crossing : FitsCrossing phase ped fits.green_end = at_some phase.ped is (fits.crossing calls) in
-    ended _ _ _ _ _ _ _ crossing.walk_and_clearance fits.cleared before where
-      at_some : (o : Option Ped) → o ≡ Some ped → IfSome o (λ ped. FitsCrossing phase ped fits.green_end) → FitsCrossing phase ped fits.green_end
-      at_some o e h = rw e at h
-
+-- red is over before the split is, where it has room for the crossing
+pub within_split : (phase : Phase) (ped : Ped) (split : Split) (now : ℕ) → HasRoom phase split ped → now < clear_end phase ped → now < 10 * split.time
+within_split phase ped split now fits before =
+    ended _ _ _ _ _ _ _ fits.crossing.walk_and_clearance fits.cleared before where
       ended : (now walk clear green yellow red time : ℕ) → 10 * (walk + clear) ≤ green → green + yellow + red ≡ time → now < 10 * walk + 10 * clear + yellow + red → now < time
       ended now walk clear green yellow red time f g h = omega arith

@@ -16,6 +16,13 @@ pub record FitsCrossing (phase : Phase) (ped : Ped) (green_end : ℕ) : Type 0 w
   pub lead_and_green : 10 * (ped.lead + phase.min_green) ≤ green_end
   pub walk_and_clearance : 10 * (ped.walk + ped.clear) ≤ green_end
 
+-- green ends so early that all of yellow and red follow it within the split, and so late that a walk
+-- with its clearance is over, and its lead with the minimum green, whatever calls the walk
+pub record HasRoom (phase : Phase) (split : Split) (ped : Ped) : Type 0 where
+  pub green_end : ℕ
+  pub cleared : green_end + phase.yellow + phase.red ≡ 10 * split.time
+  pub crossing : FitsCrossing phase ped green_end
+
 -- green ends so early that all of yellow and red follow it within the split, and so late that the
 -- minimum green is over, and a walk that is called with its clearance
 pub record FitsSplit (phase : Phase) (split : Split) : Type 0 where
@@ -44,9 +51,10 @@ CrossesInTime phase ped =
 abbrev pub IsOnTheWay : Ped → ℕ → Type 0
 IsOnTheWay ped now = 3 * now < ped.setback + ped.width
 
--- and is across before red is over
+-- who set out from the setback when the walk began is across before red is over
 abbrev pub CrossesFromSetback : Phase → Ped → Type 0
 CrossesFromSetback phase ped = (now : ℕ) → IsOnTheWay ped now → now < clear_end phase ped
 
+-- who crosses, from the curb or from the setback, is across before red is over
 abbrev pub WalkersCross : Phase → Ped → Type 0
 WalkersCross phase ped = CrossesInTime phase ped × CrossesFromSetback phase ped

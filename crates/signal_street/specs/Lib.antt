@@ -1,3 +1,4 @@
 pub mod Timing
 pub mod Intervals
 pub mod StreetLaws
+pub mod HoweverCalled

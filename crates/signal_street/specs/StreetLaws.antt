@@ -12,6 +12,7 @@ use Rattle.signal_records.specs.declared.record.Pattern.{Pattern}
 use Rattle.signal_records.specs.declared.record.Ped.{Ped}
 use Rattle.signal_records.specs.declared.record.Phase.{Phase}
 use Rattle.signal_records.specs.declared.record.Split.{Split}
+use Rattle.signal_records.specs.declared.record.SplitMode.{SplitMode}
 use Rattle.signal_records.specs.declared.record.SplitMode.TheVariants.{PhaseOmitted}
 use Rattle.signal_records.specs.TimingSet.{Rows}
 use Rattle.signal_rules.specs.Lookup.{phase_at, split_at}
@@ -98,12 +99,12 @@ BarriersAreCrossedTogether set pattern p phase =
     → p ≢ q → ¬ AreConcurrent set p q → InItsCycle pattern (TimesIn set pattern ring q) second
     → (next : ℕ) × InItsCycle pattern (StartsIn set pattern ring next) (1 + second)
 
--- a walk that splitMode calls lies with its clearance within the phase's own time, and so do its
--- lead and the minimum green after it
-abbrev pub CalledWalkLiesWithin : Rows → Pattern → ℕ → Phase → Ped → Type 0
-CalledWalkLiesWithin set pattern p phase ped =
+-- where splitMode is one of some, a walk lies with its clearance within the phase's own time, and its
+-- lead with the minimum green after it
+abbrev pub WalkLiesWithin : (SplitMode → Type 0) → Rows → Pattern → ℕ → Phase → Ped → Type 0
+WalkLiesWithin IsOfModes set pattern p phase ped =
     (split : Split) (begin second : ℕ)
-    → split_at set pattern.split p ≡ Some split → CallsPedestrian split.mode
+    → split_at set pattern.split p ≡ Some split → IsOfModes split.mode
     → BeginsIn set pattern phase.ring p begin → begin ≤ second
     → second < begin + max (ped.walk + ped.clear) (ped.lead + phase.min_green)
     → IsTiming set pattern p second
@@ -117,20 +118,21 @@ pub record HasTheStreet (set : Rows) (pattern : Pattern) (p second : ℕ) : Type
 abbrev pub LiesIn : ℕ → ℕ → Type 0
 LiesIn moment second = (10 * second ≤ moment) × (moment < 10 * second + 10)
 
--- While somebody crosses who left the curb within a walk that the split mode calls (modes 5 and 6),
--- the phase of the crossing has the street. In the other modes a button may call the walk, and the
--- split need not have room for it: the phase may end, and one that is not concurrent begin, while
--- somebody still crosses. A width of 0 was not measured, and nobody crosses it: nothing is said.
-abbrev pub WalkersHaveTheStreet : Rows → Pattern → ℕ → Phase → Ped → Type 0
-WalkersHaveTheStreet set pattern p phase ped =
+-- Where splitMode is one of some: while somebody crosses who left the curb within the walk, the phase
+-- of the crossing has the street. A width of 0 was not measured, and nobody crosses it: nothing is
+-- said.
+abbrev pub WalkersHaveTheStreet : (SplitMode → Type 0) → Rows → Pattern → ℕ → Phase → Ped → Type 0
+WalkersHaveTheStreet IsOfModes set pattern p phase ped =
     (split : Split) (begin left now second : ℕ)
-    → split_at set pattern.split p ≡ Some split → CallsPedestrian split.mode
+    → split_at set pattern.split p ≡ Some split → IsOfModes split.mode
     → BeginsIn set pattern phase.ring p begin → left ≤ 10 * ped.walk → IsCrossing ped left now
     → LiesIn (10 * begin + now) second → HasTheStreet set pattern p second
 
+-- a law of a pattern holds of each pattern of a set
 abbrev pub InEachPattern : Rows → (Pattern → Type 0) → Type 0
 InEachPattern set Law = (n : ℕ) (pattern : Pattern) → HasPattern set n pattern → Law pattern
 
+-- a law of a phase holds of each phase of a set
 abbrev pub OfEachPhase : Rows → (ℕ → Phase → Type 0) → Type 0
 OfEachPhase set Law = (p : ℕ) (phase : Phase) → HasPhase set p phase → Law p phase
 
@@ -148,14 +150,18 @@ pub record KeepsApart (set : Rows) (pattern : Pattern) : Type 0 where
   pub cleared : OfEachPhase set (ConflictsAreCleared set pattern)
   pub barriers : OfEachPhase set (BarriersAreCrossedTogether set pattern)
 
--- walks that are called have their time, and walkers the street
-pub record HasTimeForWalks (set : Rows) (pattern : Pattern) : Type 0 where
-  pub within : OfEachPhase set (λ p phase. IfSome phase.ped (CalledWalkLiesWithin set pattern p phase))
-  pub walkers : OfEachPhase set (λ p phase. IfSome phase.ped (WalkersHaveTheStreet set pattern p phase))
+-- where splitMode is one of some, walks have their time, and walkers the street
+pub record HasTimeForWalks (IsOfModes : SplitMode → Type 0) (set : Rows) (pattern : Pattern) : Type 0 where
+  pub within : OfEachPhase set (λ p phase. IfSome phase.ped (WalkLiesWithin IsOfModes set pattern p phase))
+  pub walkers : OfEachPhase set (λ p phase. IfSome phase.ped (WalkersHaveTheStreet IsOfModes set pattern p phase))
 
--- the laws, in each pattern and of each phase of a set; the last one needs no pattern
+-- The laws, in each pattern and of each phase of a set; the last one needs no pattern. Walks have
+-- their time where the split mode calls them (modes 5 and 6). In the other modes a button may call the
+-- walk, and the split need not have room for it: the phase may end, and one that is not concurrent
+-- begin, while somebody still crosses. `HoweverCalled` says what holds there of a plan without
+-- warnings.
 pub record StreetLaws (set : Rows) : Type 0 where
   pub cycles : InEachPattern set (RunsItsCycle set)
   pub apart : InEachPattern set (KeepsApart set)
-  pub walks : InEachPattern set (HasTimeForWalks set)
+  pub walks : InEachPattern set (HasTimeForWalks CallsPedestrian set)
   pub crossings : OfEachPhase set (λ p phase. IfSome phase.ped (WalkersCross phase))

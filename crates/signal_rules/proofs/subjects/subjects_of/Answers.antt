@@ -3,7 +3,7 @@ use Rattle.std.specs.List.{flat_map, list_all}
 use Rattle.signal_rules.specs.declared.violation.Subject.TheVariants as subject
 use Rattle.signal_rules.specs.RowWalk.{of_kind, sequences_after, is_within}
 use Rattle.signal_rules.proofs.{RowNumbers.AreRowsOf, RowWalk.subjects_walked}
-use Rattle.signal_rules.proofs.subjects.subjects.Goals as goal
+use Rattle.signal_rules.proofs.subjects.subjects_of.Goals as goal
 
 pub returns : goal.returns
 returns c =

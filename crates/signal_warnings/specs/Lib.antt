@@ -1,0 +1,6 @@
+pub mod PhaseWarnings
+pub mod SplitWarnings
+pub mod PatternWarnings
+pub mod PlanWarnings
+pub mod Parts
+pub mod Warnings
