@@ -23,6 +23,9 @@ pub fn is_fit_however_called(alloc: Global, set: &TimingSet) -> Result<bool, NoM
     ensures laws { IfOk result (λ fit. IsTrue fit → StreetLaws set.now × LawsHoweverCalled set.now) }
 {
     let is_fit = is_fit_for_the_street(alloc, set)?;
+    if !is_fit {
+        return Ok(false);
+    }
     let found = warnings(alloc, set)?;
-    Ok(is_fit && found.is_empty())
+    Ok(found.is_empty())
 }
