@@ -1,7 +1,12 @@
 -- A list of noted calls with one more, and a call that was made, by what came of it.
-use Rattle.std.proofs.Common.{◌≡◌, List, [], ◌∷◌, ap, inl, inr, refl, ◌∙◌}
-use Rattle.std.specs.Prelude.{◌++◌}
-use Rattle.signal_office_in_file.specs.Calls.{FileCall, IsCalled}
+use Rattle.std.proofs.Common.{◌≡◌, ℕ, List, [], ◌∷◌, Ok, Err, ap, inl, inr, refl, subst, ◌∙◌}
+use Rattle.std.specs.Prelude.{◌++◌, Result}
+use Rattle.signal_office_faults.specs.declared.fault.Fault.{Fault}
+use Rattle.signal_office_faults.specs.declared.fault.Fault.TheVariants as fault
+use Rattle.signal_office_in_file.specs.Calls.{FileCall, IsCalled, called, unmade}
+use Rattle.signal_office_in_file.specs.declared.Ended.{Ended}
+use Rattle.signal_office_in_file.specs.declared.Ended.TheVariants.{Unopened}
+use Rattle.signal_office_in_file.specs.declared.Kind.{Kind}
 use Rattle.signal_office_file.specs.Calls.{call_of, calls_of}
 use Rattle.signal_office_file.specs.declared.calls.Call.{Call}
 
@@ -13,7 +18,25 @@ with_one (first ∷ calls) call = ap (λ rest. call_of first ∷ rest) (with_one
 pub one_more : (old new : List Call) (call : Call) (it : FileCall) → new ≡ old ++ call ∷ [] → call_of call ≡ it → calls_of new ≡ calls_of old ++ it ∷ []
 one_more old new call it is said = ap calls_of is ∙ with_one old call ∙ ap (λ one. calls_of old ++ one ∷ []) said
 
--- where it was not made, that is also what follows from it
-pub called_so : {A B : Type 0} (old new : List FileCall) (call : FileCall) → (A → B) → IsCalled old new call A → IsCalled old new call B
-called_so old new call so (inl made) = inl made
-called_so old new call so (inr none) = inr (none.0, so none.1)
+refused_as : {A T Left : Type 0} → Result A Fault → Ended T Left
+refused_as (Ok it) = unmade
+refused_as (Err why) = Unopened why
+
+-- files that were not opened: the call was made, or memory for it was refused
+pub unopened : {A T Left : Type 0} (old new : List FileCall) (call : FileCall) (why : Fault) → IsCalled old new call (◌≡◌ {A = Result A Fault} (Err why) (Err fault.Memory))
+    → IsCalled old new call (◌≡◌ {A = Ended T Left} (Unopened why) unmade)
+unopened old new call why (inl made) = inl made
+unopened old new call why (inr none) = inr (none.0, ap refused_as none.1)
+
+not_refused : {A : Type 0} (it : A) (why : Fault) → Ok it ≡ Err why → ⊥
+not_refused it why is = cc
+
+-- files that were opened: the call was made
+pub opened : {A B : Type 0} (old new : List FileCall) (call : FileCall) (it : A) (why : Fault) → IsCalled old new call (Ok it ≡ Err why) → IsCalled old new call B
+opened old new call it why (inl made) = inl made
+opened old new call it why (inr none) = absurd (not_refused it why none.1)
+
+-- its kind by another name
+pub of_kind : {A : Type 0} (old new : List FileCall) (path : List ℕ) (wait : ℕ) (kind is : Kind) → kind ≡ is → IsCalled old new (called path wait kind) A
+    → IsCalled old new (called path wait is) A
+of_kind {A} old new path wait kind is same it = subst (λ (k : Kind). IsCalled old new (called path wait k) A) same it

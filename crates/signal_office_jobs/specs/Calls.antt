@@ -1,5 +1,5 @@
 -- Which calls a job makes of the opener of files.
-use Rattle.std.specs.Prelude.{List, [], ◌∷◌, true, Option, Some, None, Result, Ok, Err}
+use Rattle.std.specs.Prelude.{List, [], ◌∷◌, true, false, Option, Some, None, Result, Ok, Err}
 use Rattle.signal_office_in_file.specs.Calls.{FileCall, called}
 use Rattle.signal_office_in_file.specs.declared.Kind.{Kind}
 use Rattle.signal_office_in_file.specs.declared.Kind.TheVariants as kind

@@ -11,10 +11,10 @@ pub looks_keep : (request : Request) (text lines : List ℕ) → IsLook (kind_of
 looks_keep (request.Show it) text lines look old done new start end did = did.0
 looks_keep (request.Fill dir folder) text lines look old done new start end did = did.0
 looks_keep (request.Used part csv) text lines look old done new start end did = did.0
-looks_keep (request.Add id interval name) text lines none = absurd none
+looks_keep (request.Add id interval name) text lines none old done new start end did = absurd none
 looks_keep (request.Import csv until true) text lines look old done new start end did = did.0
-looks_keep (request.Import csv until false) text lines none = absurd none
-looks_keep (request.Edit edit) text lines none = absurd none
-looks_keep (request.Abandon id clerk) text lines none = absurd none
+looks_keep (request.Import csv until false) text lines none old done new start end did = absurd none
+looks_keep (request.Edit edit) text lines none old done new start end did = absurd none
+looks_keep (request.Abandon id clerk) text lines none old done new start end did = absurd none
 looks_keep (request.CompareDraft id csv) text lines look old done new start end did = did.0
 looks_keep (request.CompareRunning id plan csv) text lines look old done new start end did = did.0

@@ -1,5 +1,5 @@
 use Rattle.signal_office_file.proofs.InFileLemmas.{counted_noted}
-use Rattle.signal_office_file.proofs.CallsLemmas.{called_so}
+use Rattle.signal_office_file.proofs.CallsLemmas.{opened, unopened}
 use Rattle.signal_office_file.proofs.in_file.TablesInFileOfficeInFile.migrate.Goals as goal
 
 pub returns-in-Ok-clause-counted : goal.returns-in-Ok-clause-counted
@@ -7,7 +7,7 @@ returns-in-Ok-clause-counted c =
     counted_noted _ _ c.in-Ok.files c.in-Ok.ensures.new c.migrated_in.result c.noted.result c.noted.ensures c.migrated_in.ensures
 
 pub returns-in-Ok-clause-noted : goal.returns-in-Ok-clause-noted
-returns-in-Ok-clause-noted c = called_so _ _ _ (λ is. cc) c.in-Ok.ensures.noted
+returns-in-Ok-clause-noted c = opened _ _ _ _ _ c.in-Ok.ensures.noted
 
 pub returns-in-Err-clause-noted : goal.returns-in-Err-clause-noted
-returns-in-Err-clause-noted c = called_so _ _ _ (λ is. cc) c.in-Err.ensures.noted
+returns-in-Err-clause-noted c = unopened _ _ _ c.in-Err.fault c.in-Err.ensures.noted
