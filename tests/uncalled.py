@@ -26,6 +26,7 @@ MEANT = {
         "one_front one_list_of_requests is_fit_for_the_street",
     "a list of phases by its numbers, for a caller that has no row": "PhaseList::new",
     "how often the rows of a table were written, of which the contracts speak": "Shelf::writes",
+    "how many of a part are on hand, for those who read a shelf": "Shelf::hand",
     "the office on a listener of the system, for a server of one's own": "serve_on",
     "a command that is made of its record, for a caller that has one":
         "Command::inspect Command::open_order Command::use_part Command::close_order "

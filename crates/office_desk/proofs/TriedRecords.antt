@@ -51,11 +51,6 @@ damage_there tables (asks.Receive asked) why damage = inr damage
 pub damaged_place : (tables : Content) (asked at : Place) → asked ≡ at → DamagedAt tables at → DamagedAt tables asked
 damaged_place tables asked at same damage = subst (DamagedAt tables) (sym same) damage
 
-pub reads_place : {E : Type 0} (honest : Type 0) (stored : Content) (pending : List RowChange) (result : Result There E) (asked at : Place) → asked ≡ at
-    → IfOk result (λ it. honest → ReadsThere stored pending at it) → IfOk result (λ it. honest → ReadsThere stored pending asked it)
-reads_place honest stored pending result asked at same reads =
-    subst (λ (p : Place). IfOk result (λ it. honest → ReadsThere stored pending p it)) (sym same) reads
-
 pub found_place : (stored : Content) (pending : List RowChange) (asked at : Place) (it : There) → asked ≡ at → ReadsThere stored pending at it → ReadsThere stored pending asked it
 found_place stored pending asked at it same reads = subst (λ (p : Place). ReadsThere stored pending p it) (sym same) reads
 

@@ -1,8 +1,8 @@
 //! What stands in the register where a record is refused.
-ghost use Rattle.std.specs.Prelude.{◌≡◌, IfOk, IfSome, Err};
+ghost use Rattle.std.specs.Prelude.{◌≡◌, IfOk, Err};
 ghost use Rattle.office_tables_shelf.specs.Keeps.{KeepsShelf};
 ghost use Rattle.office_tables_shelf.specs.Places as place;
-ghost use Rattle.office_tables_shelf.specs.Places.{DamagedAt, IsRecordAt, found_at, place_of};
+ghost use Rattle.office_tables_shelf.specs.Places.{DamagedAt, found_at, place_of};
 ghost use Rattle.office_desk.specs.Checking.{ReadsThere, place_told, told_there};
 
 use cabinet_core::{
@@ -37,21 +37,29 @@ fn on_hand(part: &PartCode, hand: Option<Hand>) -> Result<There, NoMemory>
     }
 }
 
-/// What was found under a key: a record of its kind, or nothing.
+/// What was found under a key, as what stands there.
 fn there_at(key: &RegisterKey<'_>, found: Option<RegisterRecord>) -> Result<There, NoMemory>
-    requires { IfSome found (IsRecordAt (place_of key.now)) }
     ensures { IfOk result (λ there.
         there ≡ told_there (place_of key.now) (found_at (place_of key.now) found)) }
 {
-    if let RegisterKey::Part(part) = key {
-        return on_hand(part, RegisterRecord::hand(found));
-    }
-    match found {
-        Some(RegisterRecord::Inspection(inspection)) => Ok(There::Inspection(inspection)),
-        Some(RegisterRecord::Order(order)) => Ok(There::Order(order)),
-        Some(RegisterRecord::Line(line)) => Ok(There::UsedLine(line)),
-        Some(RegisterRecord::Delivery(delivery)) => Ok(There::Delivery(delivery)),
-        _ => Ok(There::Nothing),
+    match key {
+        RegisterKey::Inspection(..) => {
+            let inspection = RegisterRecord::inspection(found);
+            Ok(inspection.map(There::Inspection).unwrap_or(There::Nothing))
+        }
+        RegisterKey::Order(..) => {
+            let order = RegisterRecord::order(found);
+            Ok(order.map(There::Order).unwrap_or(There::Nothing))
+        }
+        RegisterKey::Line(..) => {
+            let line = RegisterRecord::line(found);
+            Ok(line.map(There::UsedLine).unwrap_or(There::Nothing))
+        }
+        RegisterKey::Part(part) => on_hand(part, RegisterRecord::hand(found)),
+        RegisterKey::Delivery(..) => {
+            let delivery = RegisterRecord::delivery(found);
+            Ok(delivery.map(There::Delivery).unwrap_or(There::Nothing))
+        }
     }
 }
 

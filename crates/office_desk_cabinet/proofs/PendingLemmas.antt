@@ -8,7 +8,7 @@ use Rattle.office_tables_shelf.specs.declared.rows.RowChange.TheVariants.{AddIns
 use Rattle.office_tables_shelf.specs.declared.rows.RowChange.{RowChange}
 use Rattle.office_tables_shelf.specs.declared.register.RegisterRecord.{RegisterRecord}
 use Rattle.office_tables_shelf.specs.declared.register.RegisterRecord.TheVariants as kind
-use Rattle.office_tables_shelf.specs.Places.{Place, Inspection, Order, Line, Part, Delivery, RecordAt, IsRecordAt, WithinAt, ReadsAt, columns_at, found_at}
+use Rattle.office_tables_shelf.specs.Places.{Place, Inspection, Order, Line, Part, Delivery, RecordAt, IsOfPlace, WithinAt, ReadsAt, columns_at, found_at}
 use Rattle.office_desk_cabinet.specs.Puts.{Puts, StandsAt}
 use Rattle.office_desk_cabinet.proofs.Places.{cells_at, whole_at}
 use Rattle.office_desk_cabinet.proofs.KeyTies.{numbered_ties, used_ties, delivery_ties, part_ties}
@@ -121,7 +121,7 @@ record FoundSome (place : Place) (it : RegisterRecord) : Type 0 where
   pub same : found_at place (Some it) ≡ Some found
   pub within : WithinAt place found
 
-found_some : (place : Place) (it : RegisterRecord) → IsRecordAt place it → FoundSome place it
+found_some : (place : Place) (it : RegisterRecord) → IsOfPlace place it → FoundSome place it
 found_some (Inspection id n) (kind.Inspection it) within = record { found = it; same = refl; within = within }
 found_some (Order id n) (kind.Order it) within = record { found = it; same = refl; within = within }
 found_some (Line id order line) (kind.Line it) within = record { found = it; same = refl; within = within }
@@ -136,7 +136,7 @@ found_none (Line id order line) = refl
 found_none (Part code) = refl
 found_none (Delivery code n) = refl
 
-found_within : (place : Place) (found : Option RegisterRecord) → IfSome found (IsRecordAt place)
+found_within : (place : Place) (found : Option RegisterRecord) → IfSome found (IsOfPlace place)
     → IfSome (found_at place found) (WithinAt place)
 found_within place None within = subst (λ o. IfSome o (WithinAt place)) (sym (found_none place)) tt
 found_within place (Some it) within =
@@ -147,24 +147,24 @@ found_within place (Some it) within =
 
 module _ (place : Place) (changes : List RowChange) (put : Option RegisterRecord) (puts : Puts place changes (found_at place put)) where
   -- what they put, over whatever tables; and there are some
-  pub put_stands : (it : RegisterRecord) → put ≡ Some it → IfSome put (IsRecordAt place)
+  pub put_stands : (it : RegisterRecord) → put ≡ Some it → IfSome put (IsOfPlace place)
       → (tables : Content) → StandsAt (changed_by tables changes) place (found_at place (Some it))
   put_stands it is within tables =
-      let one = found_some place it (subst (λ o. IfSome o (IsRecordAt place)) is within) in
+      let one = found_some place it (subst (λ o. IfSome o (IsOfPlace place)) is within) in
       let reads = subst (Puts place changes) (ap (found_at place) is ∙ one.same) puts tables in
       subst (StandsAt (changed_by tables changes) place) (sym one.same)
       (record { reads = reads; whole = whole_at _ place (Some one.found) reads one.within })
 
-  pub some_put : (it : RegisterRecord) → put ≡ Some it → IfSome put (IsRecordAt place) → changes ≢ []
+  pub some_put : (it : RegisterRecord) → put ≡ Some it → IfSome put (IsOfPlace place) → changes ≢ []
   some_put it is within none =
-      let one = found_some place it (subst (λ o. IfSome o (IsRecordAt place)) is within) in
+      let one = found_some place it (subst (λ o. IfSome o (IsOfPlace place)) is within) in
       let reads = subst (λ (rows : List RowChange). ReadsAt (changed_by no_content rows) place (Some one.found)) none
       (subst (Puts place changes) (ap (found_at place) is ∙ one.same) puts no_content) in
       let never : None ≡ Some (columns_at place one.found) = sym (nothing_at place) ∙ reads.stored in cc
 
   -- or what stood there
   pub still_stands : put ≡ None → (tables : Content) (before : Option RegisterRecord)
-      → ReadsAt tables place (found_at place before) → IfSome before (IsRecordAt place)
+      → ReadsAt tables place (found_at place before) → IfSome before (IsOfPlace place)
       → StandsAt (changed_by tables changes) place (found_at place before)
   still_stands is tables before there within =
       let reads = subst (Puts place changes) (ap (found_at place) is ∙ found_none place) puts tables (found_at place before) there in

@@ -13,6 +13,7 @@ use Rattle.office_desk_cabinet.specs.RegisterDamage.{IsWhole, SparesDamage}
 use Rattle.office_desk_cabinet.specs.Registers.{IsNamed, LeavesTiming, Registers, line_told, most_record_writes, rows_told}
 use Rattle.office_desk_cabinet.specs.declared.registered.Registered.{Registered}
 
+-- a command of the register is decided on what the shelf holds once the pending rows are written
 pub record DecidesRecord (honest : Type 0) (stored : Content) (pending : List RowChange)
     (command : RecordCommand) (result : Result Registered ShelfFault) : Type 0 where
   -- it is the step of the register that the tables stand for

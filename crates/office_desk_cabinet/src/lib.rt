@@ -2,7 +2,6 @@
 #![tactic(auto)]
 
 mod deciding;
-mod listing;
 mod pending;
 mod records;
 mod registered;

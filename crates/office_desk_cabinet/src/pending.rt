@@ -1,6 +1,6 @@
 //! Rows of the register that are to be written, and what they put under its keys.
 ghost use Rattle.std.specs.Prelude.{◌≡◌, ◌++◌, [], IfOk, IfSome};
-ghost use Rattle.office_tables_shelf.specs.Places.{IsRecordAt, found_at, place_of};
+ghost use Rattle.office_tables_shelf.specs.Places.{IsOfPlace, found_at, place_of};
 ghost use Rattle.office_desk_cabinet.specs.Puts.{Puts};
 
 use office_tables_maps::maps::Maps;
@@ -73,7 +73,7 @@ impl Pending {
     ) -> Result<Option<RegisterRecord>, NoMemory>
         ensures put { IfOk result (λ put.
             Puts (place_of key.now) self.now (found_at (place_of key.now) put)) }
-        ensures within { IfOk result (λ put. IfSome put (IsRecordAt (place_of key.now))) }
+        ensures within { IfOk result (λ put. IfSome put (IsOfPlace (place_of key.now))) }
     {
         let put = self.puts.record_at(key)?;
         Ok(put)

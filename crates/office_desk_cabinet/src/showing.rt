@@ -9,8 +9,7 @@ ghost use Rattle.office_desk_cabinet.specs.RegisterDamage.{HasDamagedCabinet};
 ghost use Rattle.office_desk_cabinet.specs.RegisterStands.{RegisterStandsSound};
 ghost use Rattle.office_desk_cabinet.specs.Registers.{ShowsCabinet};
 
-use crate::listing::{inspections_of, lines_of, orders_of};
-use cabinet_core::{CabinetView, Order};
+use cabinet_core::{CabinetView, Order, Ordered};
 use office_tables_shelf::shelf::{Shelf, ShelfFault};
 use signal_records::{InterId, NoMemory, RecordNo};
 use std::alloc::Global;
@@ -31,13 +30,13 @@ pub fn cabinet_view<S: Shelf>(
     ensures kept { KeepsShelf S.Shelf shelf.old shelf.new }
     ensures open { AnswersShelf S.Shelf result shelf.old shelf.new }
 {
-    let inspections = inspections_of(shelf, alloc, id)?;
-    let orders = orders_of(shelf, alloc, id)?;
-    let lines = lines_of(shelf, alloc, id)?;
+    let inspections = shelf.inspections(alloc, id)?;
+    let orders = shelf.orders(alloc, id)?;
+    let lines = shelf.used_lines(alloc, id)?;
     Ok(CabinetView {
-        inspections,
-        orders,
-        lines,
+        inspections: Ordered::new(inspections),
+        orders: Ordered::new(orders),
+        lines: Ordered::new(lines),
     })
 }
 
@@ -71,7 +70,7 @@ pub fn open_orders<S: Shelf>(
     ensures kept { KeepsShelf S.Shelf shelf.old shelf.new }
     ensures open { AnswersShelf S.Shelf result shelf.old shelf.new }
 {
-    let orders = orders_of(shelf, alloc, id)?;
+    let orders = shelf.orders(alloc, id)?;
     let numbers = open_numbers(alloc, orders.as_slice())?;
     Ok(numbers)
 }

@@ -2,7 +2,7 @@
 ghost use Rattle.std.specs.Prelude.{◌≡◌, IfOk, IfSome, []};
 ghost use Rattle.office_tables_shelf.specs.Change.{changed_by};
 ghost use Rattle.office_tables_shelf.specs.Keeps.{KeepsShelf};
-ghost use Rattle.office_tables_shelf.specs.Places.{DamagedAt, IsRecordAt, found_at, place_of};
+ghost use Rattle.office_tables_shelf.specs.Places.{DamagedAt, IsOfPlace, found_at, place_of};
 ghost use Rattle.office_desk_cabinet.specs.Open.{DatabaseStaysOpen};
 ghost use Rattle.office_desk_cabinet.specs.Puts.{StandsAt};
 
@@ -21,7 +21,7 @@ pub fn record_at<S: Shelf>(
     ensures stands { IfOk result (λ there. S.is_honest shelf.new →
         StandsAt (changed_by (S.content shelf.old) pending.now) (place_of key.now)
         (found_at (place_of key.now) there)) }
-    ensures within { IfOk result (λ there. IfSome there (IsRecordAt (place_of key.now))) }
+    ensures within { IfOk result (λ there. IfSome there (IsOfPlace (place_of key.now))) }
     ensures damaged { result ≡ Err ShelfFault.Damaged → S.is_honest shelf.new →
         DamagedAt (S.content shelf.old) (place_of key.now) }
     ensures kept { KeepsShelf S.Shelf shelf.old shelf.new }

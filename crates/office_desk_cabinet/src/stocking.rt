@@ -11,7 +11,6 @@ ghost use Rattle.office_desk_cabinet.specs.Decides.{DecidesRecord};
 ghost use Rattle.office_desk_cabinet.specs.Stocking.{TellsStock, stock_row_of, stock_rows_of};
 ghost use Rattle.office_desk_cabinet.specs.Telling.{WantsMemory};
 
-use crate::listing::parts_of;
 use crate::pending::Pending;
 use crate::registered::Registered;
 use crate::rows::registered;
@@ -127,6 +126,6 @@ pub fn stock<S: Shelf>(shelf: &mut S, alloc: Global) -> Result<Vec<(PartCode, Ha
     ensures kept { KeepsShelf S.Shelf shelf.old shelf.new }
     ensures open { AnswersShelf S.Shelf result shelf.old shelf.new }
 {
-    let parts = parts_of(shelf, alloc)?;
+    let parts = shelf.parts(alloc)?;
     Ok(parts)
 }

@@ -8,7 +8,7 @@ use Rattle.sqlite_disk.specs.declared.Files.{Files}
 use Rattle.sqlite_store.specs.FileStore.{view}
 use Rattle.office_machine.specs.Office.{Office, version_1}
 use Rattle.office_tables.specs.Stored.{content_of}
-use Rattle.office_tables_migration.specs.Migration.{StandAnew}
+use Rattle.office_tables.specs.Migration.{StandAnew}
 use Rattle.office_tables_shelf.specs.Content.{Content}
 use Rattle.office_tables_standing.specs.StandFor.{StandForSoundIn}
 use Rattle.office_http_framing.specs.Serve.{Ends}

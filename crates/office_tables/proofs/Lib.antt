@@ -1,1 +1,3 @@
+pub mod ListsAll
 mod MigrateLemmas
+pub mod Migration

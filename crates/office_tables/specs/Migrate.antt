@@ -16,9 +16,9 @@ use Rattle.office_tables_standing.specs.StandFor.{StandForSoundIn}
 use Rattle.office_tables_shelf.specs.declared.rows.RowChange.{RowChange}
 use Rattle.office_tables_statements.specs.Calls.{IsHonest, IsReady}
 use Rattle.office_tables_statements.specs.Stored.{content_now, content_of}
-use Rattle.office_tables_migration.specs.Former.{HasNoFormer, HasNoFormerRow}
-use Rattle.office_tables_migration.specs.Migration.{IsMigrated, StandAnew}
-use Rattle.office_tables_migration.specs.declared.puts.Migrated.{Migrated}
+use Rattle.office_tables.specs.Former.{HasNoFormer, HasNoFormerRow}
+use Rattle.office_tables.specs.Migration.{IsMigrated, StandAnew}
+use Rattle.office_tables.specs.declared.rewritten.Migrated.{Migrated}
 use Rattle.office_tables_open.specs.declared.open.OpenFault.{OpenFault}
 use Rattle.office_tables_open.specs.declared.open.OpenFault.TheVariants as fault
 use Rattle.office_tables_open.specs.declared.version.TheConstants.{FIND}
@@ -49,6 +49,7 @@ pub record IsAnew (old new : Trees) (count : Migrated) : Type 0 where
   pub migrated : IsMigrated (content_of old) (content_of new) count
   pub stored : AreToday new
 
+-- stored tables were of today's version and stayed, or were of version 1 and are spelled anew
 abbrev pub IsBrought : Trees → Trees → Migrated → Type 0
 IsBrought old new count = IsToday old new count ⊎ IsAnew old new count
 
@@ -87,6 +88,7 @@ module _ {S : Type 0} (g : Ghosts S) where
 abbrev pub HasFormerDamage : Content → Type 0
 HasFormerDamage tables = HasNoFormerRow tables.timing ⊎ HasNoFormer tables.draft
 
+-- version 1 is stored, and cells stand in `timing` or `draft` in which it kept nothing
 pub record HasDamagedFormer (trees : Trees) : Type 0 where
   pub was : version_in trees ≡ Some first_version
   pub damage : HasFormerDamage (content_of trees)
@@ -131,15 +133,17 @@ StandsAnew result old new =
     (office : Office) → StandFormerly old.committed.trees office
     → StandAnew (content_now new) office)
 
--- when Version is told, and when Damaged
+-- Version is told only of tables without today's version and version 1
 abbrev pub TellsVersion : {A S : Type 0} → Ghosts S → Result A OpenFault → Held S → Held S → Type 0
 TellsVersion g result old new =
     result ≡ Err fault.Version → HasCleanDisk (state g new) → HasUnknownVersion g old
 
+-- Damaged is told inside the transaction only of rows that are none of version 1
 abbrev pub TellsFormerDamage : {A : Type 0} → Result A OpenFault → State → State → Type 0
 TellsFormerDamage result old new =
     result ≡ Err fault.Damaged → HasCleanDisk new → HasFormerDamage (content_now old)
 
+-- Damaged is told of a call only where committed rows are none of version 1
 abbrev pub TellsDamage : {A : Type 0} → Result A OpenFault → State → State → Type 0
 TellsDamage result old new =
     result ≡ Err fault.Damaged → HasCleanDisk new → HasDamagedFormer old.committed.trees

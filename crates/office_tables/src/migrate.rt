@@ -9,9 +9,9 @@ ghost use Rattle.office_tables.specs.Migrate.{KeepNoVersion, IsChangedToday, IsS
 ghost use Rattle.office_tables_open.specs.Promises.{WasHonest, StaysReady, LeavesNoMore, KeepsTrees, KeepsCommitted, Commits, IsArrangedIfClean};
 ghost use Rattle.office_tables_open.specs.Version.{AreToday};
 
-use office_tables_changes::change::change_rows;
-use office_tables_migration::listing::{draft_rows, timing_rows};
-use office_tables_migration::puts::{Migrated, draft_changes, timing_changes};
+use crate::change::change_rows;
+use crate::listing::{draft_rows, timing_rows};
+use crate::rewritten::{Migrated, draft_changes, timing_changes};
 use office_tables_open::open::OpenFault;
 use office_tables_open::version::{
     FIND, FIRST_VERSION, VERSION, is_version, renew_version, stored_version,

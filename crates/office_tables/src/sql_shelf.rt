@@ -10,10 +10,10 @@ ghost use Rattle.office_tables_open.specs.SqlShelf.{IsCurrent};
 ghost use Rattle.office_tables_open.specs.Opening.{HasOtherVersion, HasRowsAlone, StaysClean, IsOpened, IsRefused};
 ghost use Rattle.office_tables_schema.specs.Schema.{office_schema};
 
+use crate::change;
 use crate::migrate::migrate;
+use crate::rewritten::Migrated;
 use cabinet_core::{Day, Hand, Inspection, Order, PartCode, UsedLine};
-use office_tables_changes::change;
-use office_tables_migration::puts::Migrated;
 use office_tables_open::found::{checked, has_only_ours};
 use office_tables_open::open::{Left, OpenFault, prepared};
 use office_tables_shelf::counts::WriteCounts;

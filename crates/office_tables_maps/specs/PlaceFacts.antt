@@ -21,17 +21,19 @@ use Rattle.office_tables_shelf.proofs.TreeLemmas.{number_order, ranged_cmp, then
 
 -- ---- one number of a key
 
+-- the number cells of a key are ordered as numbers of a range
 pub ranged_order : (a b : ℕ) → cell_cmp (number (pos a)) (number (pos b)) ≡ ranged_cmp a b
 ranged_order a b = number_order a b ∙ sym (then_last (nat_cmp a b))
 
--- one that is the last or the only one of its key
+-- the last or only number of a key is ordered as a number of a range
 pub last_order : (a b : ℕ) → cells_cmp (number (pos a) ∷ []) (number (pos b) ∷ []) ≡ ranged_cmp a b
 last_order a b = λ i. ordering_then (number_order a b i) Equal
 
+-- numbers of a range tie only where they are equal
 pub number_exact : CmpEqualImpliesEq ranged_cmp
 number_exact a b tie = exact_unsigned a b (sym (then_last (nat_cmp a b)) ∙ tie)
 
--- two of them
+-- pairs of numbers of a range tie only where they are equal
 numbers_exact : CmpEqualImpliesEq (λ (a b : ℕ × ℕ). ordering_then (ranged_cmp a.0 b.0) (ranged_cmp a.1 b.1))
 numbers_exact = exact_pairs ranged_cmp ranged_cmp number_exact number_exact
 
@@ -41,6 +43,7 @@ numbers_exact = exact_pairs ranged_cmp ranged_cmp number_exact number_exact
 abbrev pub place_cmp : Place → Place → Ordering
 place_cmp a b = ordering_then (ranged_cmp a.inter b.inter) (key_cmp a.key b.key)
 
+-- the cells of two timing or draft keys are ordered as their places
 pub place_order : (a b : Place) → cells_cmp (place_key a) (place_key b) ≡ place_cmp a b
 place_order a b =
     (λ i. ordering_then (ranged_order a.inter b.inter i)
@@ -48,6 +51,7 @@ place_order a b =
     (ordering_then (number_order (first_of a.key) (first_of b.key) i)
     ((then_last _ ∙ number_order (second_of a.key) (second_of b.key)) i))))
 
+-- places of timing and draft rows tie only where they are equal
 pub place_exact : CmpEqualImpliesEq place_cmp
 place_exact a b tie =
     ap (λ (p : ℕ × Key). record { inter = p.0; key = p.1 })
@@ -59,9 +63,11 @@ place_exact a b tie =
 abbrev pub record_place_cmp : RecordPlace → RecordPlace → Ordering
 record_place_cmp a b = ordering_then (ranged_cmp a.inter b.inter) (ranged_cmp a.number b.number)
 
+-- the cells of two keys of inspections or orders are ordered as their places
 pub inspection_order : (a b : RecordPlace) → cells_cmp (inspection_place_key a) (inspection_place_key b) ≡ record_place_cmp a b
 inspection_order a b = λ i. ordering_then (ranged_order a.inter b.inter i) (last_order a.number b.number i)
 
+-- places of inspections and orders tie only where they are equal
 pub record_exact : CmpEqualImpliesEq record_place_cmp
 record_exact a b tie =
     ap (λ (p : ℕ × ℕ). record { inter = p.0; number = p.1 })
@@ -73,9 +79,11 @@ record_exact a b tie =
 abbrev pub line_place_cmp : LinePlace → LinePlace → Ordering
 line_place_cmp a b = ordering_then (ranged_cmp a.inter b.inter) (ordering_then (ranged_cmp a.order b.order) (ranged_cmp a.line b.line))
 
+-- the cells of two keys of used parts are ordered as their places
 pub line_order : (a b : LinePlace) → cells_cmp (line_place_key a) (line_place_key b) ≡ line_place_cmp a b
 line_order a b = λ i. ordering_then (ranged_order a.inter b.inter i) (ordering_then (ranged_order a.order b.order i) (last_order a.line b.line i))
 
+-- places of used parts tie only where they are equal
 pub line_exact : CmpEqualImpliesEq line_place_cmp
 line_exact a b tie =
     ap (λ (p : ℕ × (ℕ × ℕ)). record { inter = p.0; order = p.1.0; line = p.1.1 })
@@ -84,6 +92,7 @@ line_exact a b tie =
 
 -- ---- of a part, or a delivery
 
+-- codes of parts tie only where they are equal
 pub part_exact : CmpEqualImpliesEq part_cmp
 part_exact = slice_cmp-IsAntisymmetric exact_unsigned
 
@@ -91,9 +100,11 @@ part_exact = slice_cmp-IsAntisymmetric exact_unsigned
 abbrev pub delivery_place_cmp : DeliveryPlace → DeliveryPlace → Ordering
 delivery_place_cmp a b = ordering_then (part_cmp a.part b.part) (ranged_cmp a.number b.number)
 
+-- the cells of two keys of deliveries are ordered as their places
 pub delivery_order : (a b : DeliveryPlace) → cells_cmp (delivery_place_key a) (delivery_place_key b) ≡ delivery_place_cmp a b
 delivery_order a b = λ i. ordering_then (text_order a.part b.part i) (last_order a.number b.number i)
 
+-- places of deliveries tie only where they are equal
 pub delivery_exact : CmpEqualImpliesEq delivery_place_cmp
 delivery_exact a b tie =
     ap (λ (p : List ℕ × ℕ). record { part = p.0; number = p.1 })

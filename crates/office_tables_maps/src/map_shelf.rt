@@ -78,7 +78,7 @@ impl Shelf for MapShelf {
     ghost use Rattle.office_tables_shelf.specs.Counts.{count_of, counts_after};
     ghost use Rattle.office_tables_shelf.specs.Rows.{IsIntersectionRow};
     ghost use Rattle.office_tables_shelf.specs.CabinetReads.{ListsInspections, ListsOrders, ListsUsed, ListsParts, IsPartWithin, HasAnyDamagedInspection, HasAnyDamagedOrder};
-    ghost use Rattle.office_tables_shelf.specs.Places.{FindsAt, IsRecordAt, place_of};
+    ghost use Rattle.office_tables_shelf.specs.Places.{FindsAt, IsOfPlace, place_of};
     ghost use Rattle.office_tables_shelf.specs.Shelf.{ReadsIntersection, ListsIntersections, ListsTiming, CountsTiming, ListsDraft, IsIntersectionWithin};
     ghost use Rattle.office_tables_shelf.specs.Overdue.{last_day_in, ReadsLast};
     ghost use Rattle.office_tables_shelf.specs.OpenOrders.{orders_in, ReadsOpen};
@@ -151,7 +151,7 @@ impl Shelf for MapShelf {
         key: &RegisterKey<'_>,
     ) -> Result<Option<RegisterRecord>, ShelfFault>
         ensures row { FindsAt self.old.tables (place_of key.now) result }
-        ensures within { IfOk result (λ found. IfSome found (IsRecordAt (place_of key.now))) }
+        ensures within { IfOk result (λ found. IfSome found (IsOfPlace (place_of key.now))) }
         ensures unchanged { self.new ≡ self.old }
         ensures sound { IsFreeOfStore result }
     {

@@ -45,7 +45,7 @@ impl Model for Maps {
 }
 
 impl Maps {
-    ghost use Rattle.office_tables_shelf.specs.Places.{FindsAt, IsRecordAt, place_of};
+    ghost use Rattle.office_tables_shelf.specs.Places.{FindsAt, IsOfPlace, place_of};
     ghost use Rattle.office_tables_shelf.specs.Content.{no_content};
     ghost use Rattle.office_tables_shelf.specs.Change.{changed, changed_by};
 
@@ -124,7 +124,7 @@ impl Maps {
     /// The record under a key of the register, if there is one.
     pub fn record_at(&self, key: &RegisterKey<'_>) -> Result<Option<RegisterRecord>, NoMemory>
         ensures row { FindsAt self.now (place_of key.now) result }
-        ensures within { IfOk result (λ found. IfSome found (IsRecordAt (place_of key.now))) }
+        ensures within { IfOk result (λ found. IfSome found (IsOfPlace (place_of key.now))) }
     {
         match key {
             RegisterKey::Inspection(inter, number) => {

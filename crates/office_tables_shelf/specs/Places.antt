@@ -94,46 +94,46 @@ place_of (key.Part code) = Part code.now
 place_of (key.Delivery code n) = Delivery code.now n
 
 -- the inspection that was found, if one was
-abbrev pub inspection_of : Option RegisterRecord → Option InspectionRecord
-inspection_of (Some (kind.Inspection inspection)) = Some inspection
-inspection_of _ = None
+abbrev pub found_inspection : Option RegisterRecord → Option InspectionRecord
+found_inspection (Some (kind.Inspection inspection)) = Some inspection
+found_inspection _ = None
 
 -- the order that was found, if one was
-abbrev pub order_of : Option RegisterRecord → Option OrderRecord
-order_of (Some (kind.Order order)) = Some order
-order_of _ = None
+abbrev pub found_order : Option RegisterRecord → Option OrderRecord
+found_order (Some (kind.Order order)) = Some order
+found_order _ = None
 
 -- the used part that was found, if one was
-abbrev pub line_of : Option RegisterRecord → Option UsedLine
-line_of (Some (kind.Line used)) = Some used
-line_of _ = None
+abbrev pub found_line : Option RegisterRecord → Option UsedLine
+found_line (Some (kind.Line used)) = Some used
+found_line _ = None
 
 -- how many of a part were found on hand, if so many were found
-abbrev pub hand_of : Option RegisterRecord → Option ℕ
-hand_of (Some (kind.Part hand)) = Some hand
-hand_of _ = None
+abbrev pub found_hand : Option RegisterRecord → Option ℕ
+found_hand (Some (kind.Part hand)) = Some hand
+found_hand _ = None
 
 -- the delivery that was found, if one was
-abbrev pub delivery_of : Option RegisterRecord → Option DeliveryRecord
-delivery_of (Some (kind.Delivery delivery)) = Some delivery
-delivery_of _ = None
+abbrev pub found_delivery : Option RegisterRecord → Option DeliveryRecord
+found_delivery (Some (kind.Delivery delivery)) = Some delivery
+found_delivery _ = None
 
 -- what was found, where it is of the kind of a place
 abbrev pub found_at : (place : Place) → Option RegisterRecord → Option (RecordAt place)
-found_at (Inspection id n) = inspection_of
-found_at (Order id n) = order_of
-found_at (Line id order line) = line_of
-found_at (Part code) = hand_of
-found_at (Delivery code n) = delivery_of
+found_at (Inspection id n) = found_inspection
+found_at (Order id n) = found_order
+found_at (Line id order line) = found_line
+found_at (Part code) = found_hand
+found_at (Delivery code n) = found_delivery
 
 -- a record of the kind of a place, within its limits
-abbrev pub IsRecordAt : Place → RegisterRecord → Type 0
-IsRecordAt (Inspection id n) (kind.Inspection inspection) = IsInspectionWithin inspection
-IsRecordAt (Order id n) (kind.Order order) = IsOrderWithin order
-IsRecordAt (Line id order line) (kind.Line used) = IsUsedLineWithin used
-IsRecordAt (Part code) (kind.Part hand) = IsHand hand
-IsRecordAt (Delivery code n) (kind.Delivery delivery) = IsDeliveryWithin delivery
-IsRecordAt _ _ = ⊥
+abbrev pub IsOfPlace : Place → RegisterRecord → Type 0
+IsOfPlace (Inspection id n) (kind.Inspection inspection) = IsInspectionWithin inspection
+IsOfPlace (Order id n) (kind.Order order) = IsOrderWithin order
+IsOfPlace (Line id order line) (kind.Line used) = IsUsedLineWithin used
+IsOfPlace (Part code) (kind.Part hand) = IsHand hand
+IsOfPlace (Delivery code n) (kind.Delivery delivery) = IsDeliveryWithin delivery
+IsOfPlace _ _ = ⊥
 
 -- ---- what a call of a shelf answers of a place
 

@@ -1,7 +1,7 @@
 //! Where the rows of the register stand, and the records that stand there.
 
 ghost use Rattle.std.specs.Prelude.{◌≡◌};
-ghost use Rattle.office_tables_shelf.specs.Places.{inspection_of, order_of, line_of, hand_of, delivery_of};
+ghost use Rattle.office_tables_shelf.specs.Places.{found_inspection, found_order, found_line, found_hand, found_delivery};
 
 use cabinet_core::{Delivery, Hand, Inspection, Order, PartCode, UsedLine};
 use signal_records::{InterId, LineNo, RecordNo};
@@ -35,7 +35,7 @@ pub enum RegisterRecord {
 impl RegisterRecord {
     /// The inspection that was found, if one was.
     pub fn inspection(found: Option<RegisterRecord>) -> Option<Inspection>
-        ensures { result ≡ inspection_of found }
+        ensures { result ≡ found_inspection found }
     {
         match found {
             Some(RegisterRecord::Inspection(inspection)) => Some(inspection),
@@ -45,7 +45,7 @@ impl RegisterRecord {
 
     /// The order that was found, if one was.
     pub fn order(found: Option<RegisterRecord>) -> Option<Order>
-        ensures { result ≡ order_of found }
+        ensures { result ≡ found_order found }
     {
         match found {
             Some(RegisterRecord::Order(order)) => Some(order),
@@ -55,7 +55,7 @@ impl RegisterRecord {
 
     /// The used part that was found, if one was.
     pub fn line(found: Option<RegisterRecord>) -> Option<UsedLine>
-        ensures { result ≡ line_of found }
+        ensures { result ≡ found_line found }
     {
         match found {
             Some(RegisterRecord::Line(line)) => Some(line),
@@ -65,7 +65,7 @@ impl RegisterRecord {
 
     /// How many of a part were found on hand, if there ever was a delivery of it.
     pub fn hand(found: Option<RegisterRecord>) -> Option<Hand>
-        ensures { result ≡ hand_of found }
+        ensures { result ≡ found_hand found }
     {
         match &found {
             Some(RegisterRecord::Part(hand)) => Some(*hand),
@@ -75,7 +75,7 @@ impl RegisterRecord {
 
     /// The delivery that was found, if one was.
     pub fn delivery(found: Option<RegisterRecord>) -> Option<Delivery>
-        ensures { result ≡ delivery_of found }
+        ensures { result ≡ found_delivery found }
     {
         match found {
             Some(RegisterRecord::Delivery(delivery)) => Some(delivery),

@@ -11,7 +11,7 @@ ghost use Rattle.office_tables_shelf.specs.Shelf.{AnswersOpen, IsKept, ReadsInte
 ghost use Rattle.office_tables_shelf.specs.Damage.{HasDamagedIntersection, HasAnyDamagedIntersection, HasDamagedTiming, HasDamagedDraft};
 ghost use Rattle.office_tables_shelf.specs.CabinetReads.{ListsInspections, HasDamagedInspection, ListsOrders, HasDamagedOrder, HasAnyDamagedInspection, HasAnyDamagedOrder, ListsUsed, HasDamagedUsed, IsHand, ListsParts, IsPartWithin, HasDamagedPart};
 ghost use Rattle.office_tables_shelf.specs.Places as place;
-ghost use Rattle.office_tables_shelf.specs.Places.{BlamesAt, GivesAt, IsRecordAt, ReadsAt, place_of};
+ghost use Rattle.office_tables_shelf.specs.Places.{BlamesAt, GivesAt, IsOfPlace, ReadsAt, place_of};
 ghost use Rattle.office_tables_shelf.specs.Overdue.{last_day_in, ReadsLast, ListsOverdue, HasOverdueDamage};
 ghost use Rattle.office_tables_shelf.specs.OpenOrders.{orders_in, ReadsOpen};
 ghost use Rattle.office_tables_shelf.specs.declared.counts.WriteCounts.{WriteCounts};
@@ -133,7 +133,7 @@ pub trait Shelf {
         key: &RegisterKey<'_>,
     ) -> Result<Option<RegisterRecord>, ShelfFault>
         ensures row { GivesAt (is_honest self.new) (content self.old) (place_of key.now) result }
-        ensures within { IfOk result (λ found. IfSome found (IsRecordAt (place_of key.now))) }
+        ensures within { IfOk result (λ found. IfSome found (IsOfPlace (place_of key.now))) }
         ensures damaged { BlamesAt (is_honest self.new) (content self.old)
             (place_of key.now) result }
         ensures kept { IsKept is_honest content written may_leave self.old self.new }

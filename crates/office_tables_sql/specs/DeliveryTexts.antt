@@ -17,6 +17,7 @@ table_texts = record { list = LIST.now; find = FIND.now; update = UPDATE.now; in
 abbrev shown : List (List ℕ)
 shown = codes "part" ∷ codes "number" ∷ codes "day" ∷ codes "amount" ∷ []
 
+-- the query of a list shows the deliveries, by their keys
 pub lists_rows : IsListText Delivery None LIST.now
 unfolding understood everything
 lists_rows = record {
@@ -25,6 +26,7 @@ lists_rows = record {
   query = record { plain = (refl, refl); unlisted = refl };
 }
 
+-- the texts on the table find, change and add one delivery
 pub means : AreTextsOf Delivery table_texts
 unfolding understood everything
 means = record {
@@ -37,6 +39,7 @@ means = record {
   inserts = record { is = refl; plain = (refl, refl) };
 }
 
+-- the cells of each delivery fit the columns of the table
 pub fits : (found : Found) → Fits Delivery (delivery_key found.part found.number) (delivery_columns found)
 fits found = record {
   whole = refl;

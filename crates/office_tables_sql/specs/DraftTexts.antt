@@ -18,6 +18,7 @@ table_texts = record { list = LIST.now; find = FIND.now; update = UPDATE.now; in
 abbrev shown : List (List ℕ)
 shown = codes "inter" ∷ codes "kind" ∷ codes "a" ∷ codes "b" ∷ codes "body" ∷ []
 
+-- the query of a list shows the draft rows of one intersection, by their keys
 pub lists_rows : (id : ℕ) → IsListText Draft (Some id) LIST.now
 unfolding understood everything
 lists_rows id = record {
@@ -26,6 +27,7 @@ lists_rows id = record {
   query = record { plain = (refl, refl); unlisted = refl };
 }
 
+-- the texts on the table find, change and add one draft row
 pub means : AreTextsOf Draft table_texts
 unfolding understood everything
 means = record {
@@ -38,14 +40,17 @@ means = record {
   inserts = record { is = refl; plain = (refl, refl) };
 }
 
+-- the text that removes a draft row removes the one under its key
 pub removes : IsRemoveText Draft REMOVE.now
 unfolding understood everything
 removes = record { is = refl; plain = (refl, refl) }
 
+-- the text that drops draft rows removes those of one intersection
 pub drops : IsDropText Draft DROP.now
 unfolding understood everything
 drops = record { is = refl; plain = (refl, refl) }
 
+-- the cells of each draft row fit the columns of the table
 pub fits : (id : ℕ) (change : Change) → Fits Draft (draft_key id change) (draft_columns change)
 fits id (Put row) = record {
   whole = refl;

@@ -21,6 +21,7 @@ walk_texts = record table_texts { list = WALK.now }
 abbrev shown : List (List ℕ)
 shown = codes "inter" ∷ codes "number" ∷ codes "day" ∷ codes "clerk" ∷ codes "body" ∷ []
 
+-- the query of a list shows the inspections of one intersection, by their keys
 pub lists_rows : (id : ℕ) → IsListText Inspection (Some id) LIST.now
 unfolding understood everything
 lists_rows id = record {
@@ -29,6 +30,7 @@ lists_rows id = record {
   query = record { plain = (refl, refl); unlisted = refl };
 }
 
+-- the query of a walk shows the inspections of all intersections, by their keys
 pub walks : IsListText Inspection None WALK.now
 unfolding understood everything
 walks = record {
@@ -37,6 +39,7 @@ walks = record {
   query = record { plain = (refl, refl); unlisted = refl };
 }
 
+-- the texts on the table find, change and add one inspection
 pub means : AreTextsOf Inspection table_texts
 unfolding understood everything
 means = record {
@@ -49,9 +52,11 @@ means = record {
   inserts = record { is = refl; plain = (refl, refl) };
 }
 
+-- the texts beside the walk find, change and add one inspection
 pub walk_means : AreTextsOf Inspection walk_texts
 walk_means = record { finds = means.finds; updates = means.updates; inserts = means.inserts }
 
+-- the cells of each inspection fit the columns of the table
 pub fits : (id : ℕ) (found : Found) → Fits Inspection (inspection_key id found.number) (inspection_columns found)
 fits id found = record {
   whole = refl;

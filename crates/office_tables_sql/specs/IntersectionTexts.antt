@@ -18,6 +18,7 @@ table_texts = record { list = LIST.now; find = FIND.now; update = UPDATE.now; in
 abbrev shown : List (List ℕ)
 shown = codes "id" ∷ codes "name" ∷ codes "days" ∷ codes "revision" ∷ codes "state" ∷ codes "owner" ∷ []
 
+-- the query of a list shows the intersections, by their keys
 pub lists_rows : IsListText Intersection None LIST.now
 unfolding understood everything
 lists_rows = record {
@@ -26,6 +27,7 @@ lists_rows = record {
   query = record { plain = (refl, refl); unlisted = refl };
 }
 
+-- the texts on the table find, change and add one intersection
 pub means : AreTextsOf Intersection table_texts
 unfolding understood everything
 means = record {
@@ -38,6 +40,7 @@ means = record {
   inserts = record { is = refl; plain = (refl, refl) };
 }
 
+-- the cells of each intersection fit the columns of the table
 pub fits : (id : ℕ) (name : List ℕ) (days revision : ℕ) (holder : Option Holder)
     → Fits Intersection (intersection_key id) (text name ∷ number (pos days) ∷ number (pos revision) ∷ number (pos (state_number holder)) ∷ owner_cell holder ∷ [])
 fits id name days revision None = record {

@@ -22,6 +22,7 @@ walk_texts = record table_texts { list = WALK.now }
 abbrev shown : List (List ℕ)
 shown = codes "inter" ∷ codes "number" ∷ codes "opened" ∷ codes "clerk" ∷ codes "body" ∷ codes "closed" ∷ codes "closer" ∷ []
 
+-- the query of a list shows the orders of one intersection, by their keys
 pub lists_rows : (id : ℕ) → IsListText WorkOrder (Some id) LIST.now
 unfolding understood everything
 lists_rows id = record {
@@ -30,6 +31,7 @@ lists_rows id = record {
   query = record { plain = (refl, refl); unlisted = refl };
 }
 
+-- the query of a walk shows the orders of all intersections, by their keys
 pub walks : IsListText WorkOrder None WALK.now
 unfolding understood everything
 walks = record {
@@ -38,6 +40,7 @@ walks = record {
   query = record { plain = (refl, refl); unlisted = refl };
 }
 
+-- the texts on the table find, change and add one order
 pub means : AreTextsOf WorkOrder table_texts
 unfolding understood everything
 means = record {
@@ -50,9 +53,11 @@ means = record {
   inserts = record { is = refl; plain = (refl, refl) };
 }
 
+-- the texts beside the walk find, change and add one order
 pub walk_means : AreTextsOf WorkOrder walk_texts
 walk_means = record { finds = means.finds; updates = means.updates; inserts = means.inserts }
 
+-- the cells of each order fit the columns of the table
 pub fits : (id n opened : ℕ) (clerk body : List ℕ) (closing : Option Closing) → Fits WorkOrder (order_key id n) (number (pos opened) ∷ text clerk ∷ text body ∷ closed_cell closing ∷ closer_cell closing ∷ [])
 fits id n opened clerk body None = record {
   whole = refl;

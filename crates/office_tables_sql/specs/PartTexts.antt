@@ -16,6 +16,7 @@ table_texts = record { list = LIST.now; find = FIND.now; update = UPDATE.now; in
 abbrev shown : List (List ℕ)
 shown = codes "code" ∷ codes "hand" ∷ []
 
+-- the query of a list shows the parts, by their keys
 pub lists_rows : IsListText Part None LIST.now
 unfolding understood everything
 lists_rows = record {
@@ -24,6 +25,7 @@ lists_rows = record {
   query = record { plain = (refl, refl); unlisted = refl };
 }
 
+-- the texts on the table find, change and add one part
 pub means : AreTextsOf Part table_texts
 unfolding understood everything
 means = record {
@@ -36,6 +38,7 @@ means = record {
   inserts = record { is = refl; plain = (refl, refl) };
 }
 
+-- the cells of each part fit the columns of the table
 pub fits : (code : List ℕ) (hand : ℕ) → Fits Part (part_key code) (part_columns hand)
 fits code hand = record {
   whole = refl;

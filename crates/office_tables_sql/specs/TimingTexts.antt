@@ -18,6 +18,7 @@ table_texts = record { list = LIST.now; find = FIND.now; update = UPDATE.now; in
 abbrev shown : List (List ℕ)
 shown = codes "inter" ∷ codes "kind" ∷ codes "a" ∷ codes "b" ∷ codes "body" ∷ []
 
+-- the query of a list shows the committed rows of one intersection, by their keys
 pub lists_rows : (id : ℕ) → IsListText Timing (Some id) LIST.now
 unfolding understood everything
 lists_rows id = record {
@@ -26,6 +27,7 @@ lists_rows id = record {
   query = record { plain = (refl, refl); unlisted = refl };
 }
 
+-- the texts on the table find, change and add one committed row
 pub means : AreTextsOf Timing table_texts
 unfolding understood everything
 means = record {
@@ -38,14 +40,17 @@ means = record {
   inserts = record { is = refl; plain = (refl, refl) };
 }
 
+-- the query of a count tells how many committed rows an intersection has
 pub counts : IsCountText Timing COUNT.now
 unfolding understood everything
 counts = record { names = codes "count(*)" ∷ []; is = refl; query = record { plain = (refl, refl); unlisted = refl } }
 
+-- the text that removes a committed row removes the one under its key
 pub removes : IsRemoveText Timing REMOVE.now
 unfolding understood everything
 removes = record { is = refl; plain = (refl, refl) }
 
+-- the cells of each committed row fit the columns of the table
 pub fits : (id : ℕ) (row : Row) → Fits Timing (timing_key id (key_of row)) (timing_columns row)
 fits id row = record {
   whole = refl;

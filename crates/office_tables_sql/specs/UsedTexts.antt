@@ -17,6 +17,7 @@ table_texts = record { list = LIST.now; find = FIND.now; update = UPDATE.now; in
 abbrev shown : List (List ℕ)
 shown = codes "inter" ∷ codes "ord" ∷ codes "line" ∷ codes "part" ∷ codes "amount" ∷ []
 
+-- the query of a list shows the used parts of one intersection, by their keys
 pub lists_rows : (id : ℕ) → IsListText UsedPart (Some id) LIST.now
 unfolding understood everything
 lists_rows id = record {
@@ -25,6 +26,7 @@ lists_rows id = record {
   query = record { plain = (refl, refl); unlisted = refl };
 }
 
+-- the texts on the table find, change and add one used part
 pub means : AreTextsOf UsedPart table_texts
 unfolding understood everything
 means = record {
@@ -37,6 +39,7 @@ means = record {
   inserts = record { is = refl; plain = (refl, refl) };
 }
 
+-- the cells of each used part fit the columns of the table
 pub fits : (id : ℕ) (line : UsedLine) → Fits UsedPart (used_key id line.order line.line) (used_columns line)
 fits id line = record {
   whole = refl;

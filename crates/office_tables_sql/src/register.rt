@@ -3,7 +3,7 @@
 ghost use Rattle.std.specs.Prelude.{◌≡◌, IfOk, IfSome};
 ghost use Rattle.sqlite.specs.State.{Survives};
 ghost use Rattle.sqlite.specs.Held.{state};
-ghost use Rattle.office_tables_shelf.specs.Places.{BlamesAt, GivesAt, IsRecordAt, place_of};
+ghost use Rattle.office_tables_shelf.specs.Places.{BlamesAt, GivesAt, IsOfPlace, place_of};
 ghost use Rattle.office_tables_statements.specs.Stored.{content_now};
 ghost use Rattle.office_tables_statements.specs.Calls.{IsHonest, IsOffice, Keeps, TellsOpen};
 
@@ -24,7 +24,7 @@ pub fn record_at<S: Alter>(
     requires { IsOffice (state S.Store conn.old) }
     ensures row { GivesAt (IsHonest (state S.Store conn.new))
         (content_now (state S.Store conn.old)) (place_of key.now) result }
-    ensures within { IfOk result (λ found. IfSome found (IsRecordAt (place_of key.now))) }
+    ensures within { IfOk result (λ found. IfSome found (IsOfPlace (place_of key.now))) }
     ensures damaged { BlamesAt (IsHonest (state S.Store conn.new))
         (content_now (state S.Store conn.old)) (place_of key.now) result }
     ensures kept { Keeps (state S.Store conn.old) (state S.Store conn.new) }

@@ -4,12 +4,13 @@ ghost use Rattle.std.specs.Prelude.{◌≡◌, OnErr};
 
 use crate::asking::{Bench, Step, play, same, shown, states};
 use crate::rows::{LIST, rows, steps};
-use cabinet_core::{Day, Delivery, Hand, Inspection, Order, PartCode, UsedLine};
+use cabinet_core::{Day, Hand, Inspection, Order, PartCode, UsedLine};
 use office_desk::office::Office;
 use office_tables_maps::map_shelf::MapShelf;
+use office_tables_shelf::register::{RegisterKey, RegisterRecord};
 use office_tables_shelf::rows::{IntersectionRow, RowChange, Table};
 use office_tables_shelf::shelf::{Shelf, ShelfFault};
-use signal_records::{Change, InterId, LineNo, RecordNo, Row};
+use signal_records::{Change, InterId, Row};
 use std::alloc::Global;
 use std::cell::Cell;
 use std::collections::BTreeMap;
@@ -82,9 +83,9 @@ impl Shelf for Refusing<'_> {
         self.inner.draft_rows(alloc, id)
     }
 
-    fn inspection(&mut self, alloc: Global, id: InterId, n: RecordNo) -> Found<Option<Inspection>> {
+    fn record_at(&mut self, alloc: Global, key: &RegisterKey<'_>) -> Found<Option<RegisterRecord>> {
         pass(self.left)?;
-        self.inner.inspection(alloc, id, n)
+        self.inner.record_at(alloc, key)
     }
 
     fn inspections(&mut self, alloc: Global, id: InterId) -> Found<Vec<Inspection>> {
@@ -97,11 +98,6 @@ impl Shelf for Refusing<'_> {
         self.inner.last_inspections(alloc)
     }
 
-    fn order(&mut self, alloc: Global, id: InterId, n: RecordNo) -> Found<Option<Order>> {
-        pass(self.left)?;
-        self.inner.order(alloc, id, n)
-    }
-
     fn orders(&mut self, alloc: Global, id: InterId) -> Found<Vec<Order>> {
         pass(self.left)?;
         self.inner.orders(alloc, id)
@@ -112,30 +108,9 @@ impl Shelf for Refusing<'_> {
         self.inner.open_orders(alloc)
     }
 
-    fn used_line(
-        &mut self,
-        alloc: Global,
-        id: InterId,
-        order: RecordNo,
-        line: LineNo,
-    ) -> Found<Option<UsedLine>> {
-        pass(self.left)?;
-        self.inner.used_line(alloc, id, order, line)
-    }
-
     fn used_lines(&mut self, alloc: Global, id: InterId) -> Found<Vec<UsedLine>> {
         pass(self.left)?;
         self.inner.used_lines(alloc, id)
-    }
-
-    fn delivery(&mut self, alloc: Global, part: &PartCode, n: RecordNo) -> Found<Option<Delivery>> {
-        pass(self.left)?;
-        self.inner.delivery(alloc, part, n)
-    }
-
-    fn hand(&mut self, alloc: Global, part: &PartCode) -> Found<Option<Hand>> {
-        pass(self.left)?;
-        self.inner.hand(alloc, part)
     }
 
     fn parts(&mut self, alloc: Global) -> Found<Vec<(PartCode, Hand)>> {

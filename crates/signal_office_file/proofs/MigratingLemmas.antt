@@ -5,8 +5,8 @@ use Rattle.sqlite.specs.{Closing.IsCopied, Files.file_state, Files.over_files, H
 use Rattle.sqlite_disk.specs.declared.Disk.{Ghosts as Disk}
 use Rattle.sqlite_disk.specs.declared.Files.{Files}
 use Rattle.office_tables.specs.{Calls.IsHonest, Migrate.IsBrought, Stored.content_of}
-use Rattle.office_tables_migration.specs.{declared.puts.Migrated.Migrated}
-use Rattle.office_tables_migration.proofs.Migration.{stand_anew}
+use Rattle.office_tables.specs.{declared.rewritten.Migrated.Migrated}
+use Rattle.office_tables.proofs.Migration.{stand_anew}
 use Rattle.office_tables_open.specs.{Version.current_version, Version.first_version, declared.open.OpenFault.OpenFault}
 use Rattle.signal_office_file.specs.Migrating.{AreMigrated, BringsToday, ClosedMigrated, MigratesOnDisk, MigratesIn, told_of_outcome}
 use Rattle.signal_office_file.proofs.FilesLemmas.{copied_alone}

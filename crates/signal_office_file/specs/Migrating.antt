@@ -14,8 +14,8 @@ use Rattle.sqlite_trees.specs.declared.store.Store.{Ghosts}
 use Rattle.office_machine.specs.Office.{Office}
 use Rattle.office_tables.specs.Stored.{content_of}
 use Rattle.office_tables.specs.Migrate.{HasDamagedFormer, HasUnknownVersion, IsBrought, MayBecome, StandFormerly, TellsDamage, TellsVersion}
-use Rattle.office_tables_migration.specs.Migration.{StandAnew}
-use Rattle.office_tables_migration.specs.declared.puts.Migrated.{Migrated}
+use Rattle.office_tables.specs.Migration.{StandAnew}
+use Rattle.office_tables.specs.declared.rewritten.Migrated.{Migrated}
 use Rattle.office_tables_open.specs.Promises.{KeepsCommitted}
 use Rattle.office_tables_open.specs.declared.open.OpenFault.{OpenFault}
 use Rattle.office_tables_open.specs.declared.open.OpenFault.TheVariants as why

@@ -1,0 +1,92 @@
+//! All rows of `timing` and of `draft`, as version 1 kept them.
+
+ghost use Rattle.std.specs.Prelude.{◌≡◌, map, IfOk};
+ghost use Rattle.sqlite.specs.State.{Survives};
+ghost use Rattle.sqlite.specs.Held.{state};
+ghost use Rattle.office_tables_statements.specs.Calls.{IsOffice, IsQuery, Keeps, TellsOpen};
+ghost use Rattle.office_tables_statements.specs.Stored.{content_now};
+ghost use Rattle.office_tables_statements.specs.Tables.{rows_at};
+ghost use Rattle.office_tables.specs.Former.{former_cells, shown_cells, AreFormer, HaveFive, ShowNoFormer};
+ghost use Rattle.office_tables.specs.Listing.{ListsKept, ListsEach, TellsNoFormer, TellsNoFormerOfEach};
+
+use crate::former::read;
+use office_tables_shelf::shelf::ShelfFault;
+use office_tables_statements::statement::select;
+use signal_records::{Change, InterId};
+use sqlite::{Alter, Connection, Row as SqlRow};
+use std::alloc::Global;
+
+const TIMING: &str = "SELECT inter, kind, a, b, body FROM timing ORDER BY inter, kind, a, b";
+
+const DRAFT: &str = "SELECT inter, kind, a, b, body FROM draft ORDER BY inter, kind, a, b";
+
+/// What each of the shown rows stood for.
+fn read_all(alloc: Global, rows: Vec<SqlRow>) -> Result<Vec<(InterId, Change)>, ShelfFault>
+    ensures cells { IfOk result (λ kept. map former_cells kept.items ≡ map shown_cells rows.items) }
+    ensures within { IfOk result (λ kept. AreFormer kept.items) }
+    ensures damaged { result ≡ Err ShelfFault.Damaged →
+        HaveFive rows.items → ShowNoFormer rows.items }
+{
+    let mut kept = Vec::new(alloc);
+    for row in rows {
+        let found = read(alloc, &row)?;
+        let Ok(()) = kept.push(found) else {
+            return Err(ShelfFault::NoMemory);
+        };
+    }
+    Ok(kept)
+}
+
+/// What the rows stood for that the query of a whole table shows, in the order of their keys.
+fn list<S: Alter>(
+    alloc: Global,
+    conn: &mut Connection<S>,
+    sql: &str,
+) -> Result<Vec<(InterId, Change)>, ShelfFault>
+    requires office { IsOffice (state S.Store conn.old) }
+    requires query { IsQuery sql.now }
+    ensures rows { ListsEach result (state S.Store conn.new) sql.now
+        (rows_at (content_now (state S.Store conn.old))) }
+    ensures damaged { TellsNoFormerOfEach result (state S.Store conn.new) sql.now
+        (rows_at (content_now (state S.Store conn.old))) }
+    ensures open { TellsOpen result (state S.Store conn.new) }
+    ensures kept { Keeps (state S.Store conn.old) (state S.Store conn.new) }
+    ensures crash { Survives (state S.Store conn.old) (state S.Store conn.new) (λ _. ⊥) }
+{
+    let rows = select(conn, sql, &[])?;
+    read_all(alloc, rows)
+}
+
+/// What all rows of `timing` stood for.
+pub fn timing_rows<S: Alter>(
+    alloc: Global,
+    conn: &mut Connection<S>,
+) -> Result<Vec<(InterId, Change)>, ShelfFault>
+    requires { IsOffice (state S.Store conn.old) }
+    ensures rows { ListsKept result (state S.Store conn.new)
+        (content_now (state S.Store conn.old)).timing }
+    ensures damaged { TellsNoFormer result (state S.Store conn.new)
+        (content_now (state S.Store conn.old)).timing }
+    ensures open { TellsOpen result (state S.Store conn.new) }
+    ensures kept { Keeps (state S.Store conn.old) (state S.Store conn.new) }
+    ensures crash { Survives (state S.Store conn.old) (state S.Store conn.new) (λ _. ⊥) }
+{
+    list(alloc, conn, TIMING)
+}
+
+/// What all rows of `draft` stood for.
+pub fn draft_rows<S: Alter>(
+    alloc: Global,
+    conn: &mut Connection<S>,
+) -> Result<Vec<(InterId, Change)>, ShelfFault>
+    requires { IsOffice (state S.Store conn.old) }
+    ensures rows { ListsKept result (state S.Store conn.new)
+        (content_now (state S.Store conn.old)).draft }
+    ensures damaged { TellsNoFormer result (state S.Store conn.new)
+        (content_now (state S.Store conn.old)).draft }
+    ensures open { TellsOpen result (state S.Store conn.new) }
+    ensures kept { Keeps (state S.Store conn.old) (state S.Store conn.new) }
+    ensures crash { Survives (state S.Store conn.old) (state S.Store conn.new) (λ _. ⊥) }
+{
+    list(alloc, conn, DRAFT)
+}

@@ -1,0 +1,70 @@
+//! What is put in the place of the rows that are spelled otherwise today.
+
+ghost use Rattle.std.specs.Prelude.{◌≡◌, true, false, IfOk, OnOk};
+ghost use Rattle.office_tables.specs.Former.{has_ped, are_rows, timing_puts, draft_puts};
+
+use office_tables_shelf::rows::RowChange;
+use office_tables_shelf::shelf::ShelfFault;
+use signal_records::{Change, InterId, NoMemory, Row};
+use std::alloc::Global;
+
+/// How many rows were written anew when tables of version 1 were brought to today's version: those
+/// of phases with a pedestrian part.
+#[derive(Clone, Copy, Debug, PartialEq, Eq)]
+pub struct Migrated {
+    /// Rows of committed sets.
+    pub timing: usize,
+    /// Drafted rows.
+    pub draft: usize,
+}
+
+/// Whether this is the row of a phase with a pedestrian part, which alone is spelled otherwise.
+fn has_pedestrian_part(change: &Change) -> bool
+    ensures { result ≡ has_ped change.now }
+{
+    match change {
+        Change::Put(Row::Phase(_, phase)) => phase.ped.is_some(),
+        _ => false,
+    }
+}
+
+/// The rows of `timing` with a pedestrian part, to be put in their place. A removal there is
+/// damage.
+pub fn timing_changes(
+    alloc: Global,
+    kept: Vec<(InterId, Change)>,
+) -> Result<Vec<RowChange>, ShelfFault>
+    ensures puts { IfOk result (λ changes. changes.items ≡ timing_puts kept.items) }
+    ensures rows { OnOk result (are_rows kept.items ≡ true) }
+    ensures damaged { result ≡ Err ShelfFault.Damaged → are_rows kept.items ≡ false }
+{
+    let mut changes = Vec::new(alloc);
+    for (id, change) in kept {
+        let is_rewritten = has_pedestrian_part(&change);
+        let Change::Put(row) = change else {
+            return Err(ShelfFault::Damaged);
+        };
+        if is_rewritten {
+            let Ok(()) = changes.push(RowChange::PutTiming(id, row)) else {
+                return Err(ShelfFault::NoMemory);
+            };
+        }
+    }
+    Ok(changes)
+}
+
+/// The drafted rows with a pedestrian part, to be put in their place.
+pub fn draft_changes(
+    alloc: Global,
+    kept: Vec<(InterId, Change)>,
+) -> Result<Vec<RowChange>, NoMemory>
+    ensures { IfOk result (λ changes. changes.items ≡ draft_puts kept.items) }
+{
+    let mut changes = Vec::new(alloc);
+    for (id, change) in kept {
+        if has_pedestrian_part(&change) {
+            changes.push(RowChange::PutDraft(id, change))?;
+        }
+    }
+    Ok(changes)
+}

@@ -1,2 +1,0 @@
-pub mod ListsAll
-pub mod Migration

@@ -1,3 +1,0 @@
-pub mod Former
-pub mod Listing
-pub mod Migration
