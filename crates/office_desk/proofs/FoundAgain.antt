@@ -6,7 +6,7 @@ use Rattle.std.proofs.lemmas.Map.Views.{All-insert_key, Contains-from_any, tells
 use Rattle.std.specs.{BTreeSet.BTreeSet, BTreeSet.insert_key, List.All, List.Contains, List.list_any, Ordering.eq_by_cmp}
 use Rattle.office_tables_shelf.specs.{Content.Content, declared.shelf.ShelfFault.ShelfFault}
 use Rattle.office_tables_shelf.proofs.TreeLemmas.{ranged_cmp, then_last}
-use Rattle.office_desk.specs.Recording.{AreFound, IsAmong, IsIntersectionFound}
+use Rattle.office_desk.specs.Recording.{AreFound, IsAmong, TellsIntersection}
 
 ranged_exact : CmpEqualImpliesEq ranged_cmp
 ranged_exact a b same = exact_unsigned a b (sym (then_last (nat_cmp a b)) ∙ same)
@@ -19,21 +19,21 @@ has_number found id has = Contains-from_any (tells_apart ranged_exact) id found.
 pub none_found : (tables : Content) (found : BTreeSet ℕ) → found.keys ≡ []
     → AreFound tables found
 none_found tables found none =
-    subst (λ (ids : List ℕ). All (λ id. IsIntersectionFound tables (Some id)) ids) (sym none)
-    (All-nil (λ id. IsIntersectionFound tables (Some id)))
+    subst (λ (ids : List ℕ). All (λ id. TellsIntersection tables (Some id) true) ids) (sym none)
+    (All-nil (λ id. TellsIntersection tables (Some id) true))
 
 pub among_found : (tables : Content) (found : BTreeSet ℕ) (about : Option ℕ)
-    → AreFound tables found → IsAmong found about → IsIntersectionFound tables about
+    → AreFound tables found → IsAmong found about → TellsIntersection tables about true
 among_found tables found None all among = absurd among
 among_found tables found (Some id) all among =
-    All-contains (λ id. IsIntersectionFound tables (Some id)) found.keys id all among
+    All-contains (λ id. TellsIntersection tables (Some id) true) found.keys id all among
 
 pub one_found : (tables : Content) (found more : BTreeSet ℕ) (id : ℕ)
     → more.keys ≡ insert_key ranged_cmp found.keys id → AreFound tables found
-    → IsIntersectionFound tables (Some id) → AreFound tables more
+    → TellsIntersection tables (Some id) true → AreFound tables more
 one_found tables found more id keys all one =
-    subst (λ (ids : List ℕ). All (λ id. IsIntersectionFound tables (Some id)) ids) (sym keys)
-    (All-insert_key ranged_cmp id (λ id. IsIntersectionFound tables (Some id)) found.keys all one)
+    subst (λ (ids : List ℕ). All (λ id. TellsIntersection tables (Some id) true) ids) (sym keys)
+    (All-insert_key ranged_cmp id (λ id. TellsIntersection tables (Some id) true) found.keys all one)
 
 -- whether it was told that one is there
 abbrev pub told_there : Result Bool ShelfFault → Bool

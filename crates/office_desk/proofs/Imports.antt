@@ -4,8 +4,10 @@ use Rattle.std.proofs.{Math.Seq.drop-cons, lemmas.List.drop_all, lemmas.List.tak
 use Rattle.std.specs.Prelude.{◌⊎◌}
 use Rattle.cabinet_core.specs.{Cabinet.Line, Cabinet.added as added_line, Cabinet.same as same_line, Cabinet.refused as refused_line, Register.Register, Step.line_at, Step.with_record, declared.command.RecordCommand.RecordCommand}
 use Rattle.office_tables_shelf.specs.{Change.AddNew, Change.changed_by, Content.Content, Counts.writes_in, Shelf.IsTold}
-use Rattle.office_tables_shelf.specs.declared.{shelf.ShelfFault.ShelfFault, rows.RowChange.RowChange, rows.Table.Table}
-use Rattle.office_desk_decisions.specs.{Open.DatabaseStaysOpen, RegisterDamage.KeepsDamage, RegisterDamage.MeetsRecordDamage, RecordBounds.most_record_writes, declared.decided.Decided.Decided}
+use Rattle.office_tables_shelf.proofs.KeptLemmas.{kept_on}
+use Rattle.office_desk_decisions.proofs.ReadLemmas.{HasRead}
+use Rattle.office_tables_shelf.specs.declared.{shelf.Shelf.Ghosts, shelf.ShelfFault.ShelfFault, rows.RowChange.RowChange, rows.Table.Table}
+use Rattle.office_desk_decisions.specs.{Reads.OnlyReads, RegisterDamage.KeepsDamage, RegisterDamage.MeetsRecordDamage, RecordBounds.most_record_writes, declared.decided.Decided.Decided}
 use Rattle.office_desk_cabinet.proofs.{KeptDamage.kept_after, KeptDamage.meets_still, KeptDamage.nothing_kept, News.news_after, News.tells_new}
 use Rattle.office_desk.specs.Importing.{ImportsAny, LeavesAnyTiming, TakesInTurn, TakesLine, TakesWhole, goes_on, register_with, taken_by}
 use Rattle.office_desk.specs.{Answers.AnswersAny, Changes.most_import_writes, Damage.MeetsCabinetDamage, Damage.MeetsImportDamage, Deciding.IsDecision, Recording.TellsAbout, StandFor.StandForSound, Named.number_of, Blaming.AreTaken, Blaming.IsFirstRefused, Blaming.IsTakenAfter, declared.importing.Taken.Taken}
@@ -124,13 +126,21 @@ first_or_later zero = inl refl
 first_or_later (suc n) = inr (λ e. let never : ⊥ = omega (arith, e) in never)
 
 -- the first record is read, and a later one leaves open what was open
-pub taken_open : {S A : Type 0} (is_clean is_honest : S → Type 0) (pending : List RowChange) (index : ℕ) (result : Result A ShelfFault) (old new : S) → (index ≡ 0 → pending ≡ []) → (is_clean old → index ≢ 0 → is_honest old)
-    → DatabaseStaysOpen is_clean is_honest (pending ≡ []) result old new → is_clean new → IsTold result → is_honest new
-taken_open is_clean is_honest pending index result old new fresh read opens clean told =
-    elim (first_or_later index) [
-      | inl start ↦ opens.read (fresh start) clean told
-      | inr later ↦ opens.stays clean told (read (opens.clean_before clean) later)
-    ]
+pub taken_reads : {S A B : Type 0} (g : Ghosts S) (reads : Type 0) (pending : List RowChange) (index : ℕ) (given : Result A ShelfFault) (result : Result B ShelfFault) (old mid new : S)
+    → (index ≡ 0 → pending ≡ []) → HasRead g (index ≢ 0) old mid → OnlyReads g (pending ≡ []) given mid new → (IsTold result → IsTold given) → OnlyReads g reads result old new
+taken_reads g reads pending index given result old mid new fresh before taken tells = record {
+  kept = kept_on _ _ _ _ old mid new before.kept taken.kept;
+  clean_before = λ clean. before.clean_before (taken.clean_before clean);
+  stays = λ clean told honest. now_open clean (tells told);
+  read = λ reading clean told. now_open clean (tells told);
+}
+  where
+    now_open : g.is_clean new → IsTold given → g.is_honest new
+    now_open clean told =
+        elim (first_or_later index) [
+          | inl start ↦ taken.read (fresh start) clean told
+          | inr later ↦ taken.stays clean told (before.read later (taken.clean_before clean) tt)
+        ]
 
 pub none_next : (records : List RecordCommand) (n : ℕ) (c : RecordCommand) → IsNext records n c → records ≢ []
 none_next records n c next none = let few = ap (λ (list : List RecordCommand). length list) none in omega (arith, next.low, few)

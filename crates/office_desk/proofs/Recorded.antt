@@ -13,7 +13,7 @@ use Rattle.office_desk_cabinet.specs.Registers.{LeavesTiming, RegistersFrom, Sho
 use Rattle.office_desk_cabinet.specs.{Decides.DecidesRecord, declared.registered.Registered.Registered}
 use Rattle.office_desk_cabinet.specs.declared.registered.Registered.TheVariants.{Added, Same, Refused}
 use Rattle.office_desk.specs.Named.{RefusesBy, number_of, numbers_about, numbers_of}
-use Rattle.office_desk.specs.{Answers.Answers, Changes.IsRefused, Damage.MeetsAfter, Damage.MeetsCabinetDamage, Deciding.IsDecision, Recording.HasDamagedAbout, Recording.IsKnownIn, Recording.TellsAbout, Known.TellsIntersection, StandFor.StandForSound, StandFor.row_of}
+use Rattle.office_desk.specs.{Answers.Answers, Changes.IsRefused, Damage.MeetsAfter, Damage.MeetsCabinetDamage, Deciding.IsDecision, Recording.HasDamagedAbout, Recording.IsKnownIn, Recording.TellsAbout, Recording.TellsIntersection, StandFor.StandForSound, StandFor.row_of}
 use Rattle.office_machine.specs.Step.{answered, cabinet_of, cabinet_shown, is_known, known, recorded, recorded_at, refusal_of_record, shown, told}
 use Rattle.office_machine.specs.Office.{Office, Intersection}
 use Rattle.office_machine.specs.declared.{reply.CabinetShown.CabinetShown, refusal.Refusal.Refusal, reply.Reply.Reply}

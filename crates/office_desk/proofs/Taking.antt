@@ -9,7 +9,7 @@ use Rattle.office_desk_cabinet.specs.declared.registered.Registered.{Registered}
 use Rattle.office_desk_cabinet.specs.declared.registered.Registered.TheVariants as registered
 use Rattle.office_desk_cabinet.proofs.{KeptDamage.nothing_kept, PendingLemmas.changed_append}
 use Rattle.office_desk.specs.Importing.{DecidesAfter, IsNamedTaken, LeavesAnyTiming, TakesInTurn, TakesWhole, TakesWithin, rows_decided, taken_as, taken_by}
-use Rattle.office_desk.specs.{Recording.TellsAbout, Known.TellsIntersection, declared.importing.Taken.Taken}
+use Rattle.office_desk.specs.{Recording.TellsAbout, Recording.TellsIntersection, declared.importing.Taken.Taken}
 use Rattle.office_desk.specs.declared.importing.Taken.TheVariants as taken
 use Rattle.office_desk.proofs.Recorded.{refused_named, unknown_named}
 use Rattle.office_machine.specs.Step.{cabinet_of, refusal_of_record}

@@ -6,12 +6,14 @@ use Rattle.cabinet_core.specs.declared.{record.Delivery.Delivery, record.UsedLin
 use Rattle.cabinet_core.specs.declared.command.RecordCommand.TheVariants as asks
 use Rattle.cabinet_core.specs.declared.refusal.CabinetRefusal.TheVariants as cabinet
 use Rattle.office_tables_shelf.specs.{Change.changed_by, Content.Content, declared.rows.RowChange.RowChange, RegisterStands.RegisterStandsSound}
+use Rattle.office_tables_shelf.specs.declared.{shelf.ShelfFault.ShelfFault, shelf.ShelfFault.TheVariants.Damaged}
 use Rattle.office_tables_shelf.specs.Places as place
+use Rattle.office_desk_decisions.specs.Reads.{Reports}
 use Rattle.office_tables_shelf.specs.Places.{DamagedAt, Place}
 use Rattle.office_desk_cabinet.proofs.Found.{standing_at, stands_at}
 use Rattle.office_desk_decisions.specs.RegisterDamage.{MeetsRecordDamage}
 use Rattle.office_desk.specs.Checking.{ChecksRecord, MeetsCheckDamage, ReadsThere, TellsThere, checked_by, checked_from, held_in, office_with, place_told, taken_in, there_in, told_there}
-use Rattle.office_desk.specs.{Importing.register_with, Importing.taken_by, Recording.HasDamagedAbout, StandFor.StandForSound}
+use Rattle.office_desk.specs.{Damage.MeetsCabinetDamage, Importing.register_with, Importing.taken_by, Recording.HasDamagedAbout, StandFor.StandForSound}
 use Rattle.office_desk.specs.declared.{checking.Checked.Checked, importing.Taken.Taken, there.There.There}
 use Rattle.office_desk.specs.declared.there.There.TheVariants as there
 use Rattle.office_desk.proofs.Imports.{IsNext}
@@ -37,7 +39,7 @@ there_read stored pending at it r read stands =
     read.2 ∙ ap (told_there at) (stands_at (changed_by stored pending) r stands at read.0 read.1.reads ∙ held_at r at)
 
 -- a damaged row there is one that the record reads
-pub damage_there : (tables : Content) (c : RecordCommand) (why : CabinetRefusal) → DamagedAt tables (place_told c why) → MeetsRecordDamage tables c
+damage_there : (tables : Content) (c : RecordCommand) (why : CabinetRefusal) → DamagedAt tables (place_told c why) → MeetsRecordDamage tables c
 damage_there tables (asks.Inspect id asked) why damage = damage
 damage_there tables (asks.OpenOrder id asked) why damage = damage
 damage_there tables (asks.UsePart id asked) cabinet.LineDiffers damage = inl damage
@@ -67,12 +69,14 @@ other_received asked cabinet.DeliveryDiffers differs = absurd (differs refl)
 other_received asked why differs = refl
 
 -- what is told of it
-pub tells_read : {E : Type 0} (honest : Type 0) (stored : Content) (pending : List RowChange) (c : RecordCommand) (why : CabinetRefusal) (refusal : Refusal)
-    (result : Result There E) → refusal ≡ office.Cabinet why → IfOk result (λ it. honest → ReadsThere stored pending (place_told c why) it)
-    → IfOk result (λ it. honest → TellsThere stored pending c refusal it)
-tells_read honest stored pending c why refusal (Ok it) is reads = λ h r stands.
+pub tells_read : (honest : Type 0) (stored : Content) (pending : List RowChange) (c : RecordCommand) (why : CabinetRefusal) (refusal : Refusal)
+    (result : Result There ShelfFault) → refusal ≡ office.Cabinet why → IfOk result (λ it. honest → ReadsThere stored pending (place_told c why) it)
+    → (result ≡ Err Damaged → honest → DamagedAt stored (place_told c why))
+    → Reports honest result (TellsThere stored pending c refusal) (MeetsRecordDamage stored c)
+tells_read honest stored pending c why refusal (Ok it) is reads damage = λ h r stands.
     there_read stored pending (place_told c why) it r (reads h) stands ∙ ap (there_in r c) (sym is)
-tells_read honest stored pending c why refusal (Err fault) is reads = tt
+tells_read honest stored pending c why refusal (Err fault) is reads damage =
+    λ damaged h. damage_there stored c why (damage (ap (λ (it : ShelfFault). Err it) damaged) h)
 
 pub nothing_told : (r : Register) (c : RecordCommand) (refusal : Refusal) → ((why : CabinetRefusal) → refusal ≡ office.Cabinet why → ⊥)
     → there.Nothing ≡ there_in r c refusal
@@ -86,6 +90,13 @@ pub handed_err : {A B E : Type 0} (result : Result A E) (found : Result B E) (wh
     → result ≡ Err told → found ≡ Err told
 handed_err (Ok x) found why told was is e = absurd is
 handed_err (Err it) found why told was is e = let same : it ≡ told = cc in was ∙ ap Err (sym is ∙ same)
+
+-- a damaged row that a record of an import meets is its intersection's, or one of the register
+pub cabinet_damage : (tables : Content) (c : RecordCommand) (about : Option ℕ) → MeetsCabinetDamage tables c about
+    → HasDamagedAbout tables about ⊎ MeetsRecordDamage tables c
+cabinet_damage tables c None damage = inr damage
+cabinet_damage tables c (Some id) (inl row) = inl row
+cabinet_damage tables c (Some id) (inr later) = inr later.1
 
 check_among : (tables : Content) (records : List RecordCommand) (n : ℕ) → MeetsCheckDamage tables (drop n records) → MeetsCheckDamage tables records
 check_among tables records zero damage = damage

@@ -85,9 +85,11 @@ checked_by r c taken.Added = checked.Added
 checked_by r c taken.Same = checked.Same
 checked_by r c (taken.Refused why) = checked.Refused why (there_in r c why)
 
+-- how an office takes a record
 abbrev pub taken_in : Office → RecordCommand → Taken
 taken_in office c = taken_by (is_known office (cabinet_of c)) (line_at office.register c)
 
+-- the office after a record that was taken so
 abbrev pub office_with : Taken → Office → RecordCommand → Office
 office_with t office c = record office { register = register_with t office.register c }
 
@@ -101,7 +103,7 @@ checked_from office (c ∷ cs) =
 abbrev pub Checks : Content → List RecordCommand → List Checked → Type 0
 Checks tables records list = (office : Office) → StandForSound tables office → list ≡ checked_from office records
 
--- the same of one record, after rows that are pending
+-- a record is checked as every sound office that the tables stand for would take it, after rows that are pending
 abbrev pub ChecksRecord : Content → (before : List RowChange) → RecordCommand → Checked → (after : List RowChange) → Type 0
 ChecksRecord stored before c it after =
     (office : Office) → StandForSound stored office → (r : Register) → RegisterStandsSound (changed_by stored before) r

@@ -19,8 +19,7 @@ use Rattle.office_machine.specs.Office.{Office}
 use Rattle.office_desk_decisions.specs.RegisterDamage.{KeepsDamage, MeetsRecordDamage}
 use Rattle.office_desk.specs.Blaming.{FollowsRegisterLine, IsRefusedAfter}
 use Rattle.office_desk.specs.Named.{number_of, numbers_of}
-use Rattle.office_desk.specs.Known.{TellsIntersection}
-use Rattle.office_desk.specs.Recording.{HasDamagedAbout, TellsAbout}
+use Rattle.office_desk.specs.Recording.{HasDamagedAbout, TellsAbout, TellsIntersection}
 use Rattle.office_machine.specs.Refusal.{line_of}
 use Rattle.office_desk.specs.StandFor.{StandForSound}
 use Rattle.office_machine.specs.Step.{cabinet_of, import_from, is_known, refusal_of_record}
@@ -94,19 +93,19 @@ pub record TakesWithin (before : List RowChange) (c : RecordCommand) (taken : Ta
 
 -- ---- a record that was decided
 
--- its intersection is not there, and one is asked for; or it is, and the register decided
+-- a record was decided: its intersection is not there, and one is asked for; or it is, and the register decided
 abbrev pub DecidesAfter : (is_honest : Type 0) (stored : Content) (before : List RowChange) → RecordCommand → Option Registered → Type 0
 DecidesAfter is_honest stored before c None = IsSome (cabinet_of c) × (is_honest → TellsIntersection stored (cabinet_of c) false)
 DecidesAfter is_honest stored before c (Some told) = (is_honest → TellsIntersection stored (cabinet_of c) true) × DecidesRecord is_honest stored before c (Ok told)
 
--- what comes of it
+-- what comes of a record that was decided so
 abbrev pub taken_as : Option Registered → Taken
 taken_as None = Refused UnknownIntersection
 taken_as (Some (registered.Added rows)) = Added
 taken_as (Some registered.Same) = Same
 taken_as (Some (registered.Refused why)) = Refused (refusal_of_record why)
 
--- the rows that it writes
+-- the rows that it writes so
 abbrev pub rows_decided : Option Registered → List RowChange
 rows_decided None = []
 rows_decided (Some told) = rows_told told

@@ -6,7 +6,6 @@ pub use Rattle.office_desk_decisions.specs.Damage
 pub use Rattle.office_desk_decisions.specs.Named
 pub use Rattle.office_desk_decisions.specs.Blaming
 pub use Rattle.office_desk_decisions.specs.Deciding
-pub mod Known
 pub mod Running
 pub mod Importing
 pub mod Checking

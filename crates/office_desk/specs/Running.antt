@@ -29,7 +29,7 @@ HoldsTables g shelf tables = g.is_honest shelf → g.content shelf ≡ tables
 abbrev pub TellsTables : {S : Type 0} → Ghosts S → (old new : S) → (Content → Type 0) → Type 0
 TellsTables g old new Says = g.is_clean new → (tables : Content) → HoldsTables g old tables → Says tables
 
--- the same of what was made of them, which an open database holds then
+-- What is said on a clean disk alone of the tables that an open database held, and of those that it holds then, which were made of them.
 abbrev pub MakesTables : {S : Type 0} → Ghosts S → (old new : S) → (Content → Content → Type 0) → Type 0
 MakesTables g old new Makes = TellsTables g old new (λ tables. EndsIn (g.is_honest new) (g.content new) (Makes tables))
 

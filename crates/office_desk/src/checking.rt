@@ -1,6 +1,7 @@
 //! Records of the register that are tried in turn and not taken.
-ghost use Rattle.std.specs.Prelude.{◌≡◌, ◌⊎◌, ◌++◌, [], ◌∷◌, IfOk, OnOk, Err};
+ghost use Rattle.std.specs.Prelude.{◌≡◌, ◌⊎◌, ◌++◌, [], ◌∷◌, IfOk, OnOk};
 ghost use Rattle.office_tables_shelf.specs.Keeps.{KeepsShelf};
+ghost use Rattle.office_desk_decisions.specs.Reads.{Reports};
 ghost use Rattle.office_desk.specs.Checking.{Checks, ChecksRecord, MeetsCheckDamage, TellsThere};
 ghost use Rattle.office_desk.specs.Recording.{AreFound, HasDamagedAbout};
 ghost use Rattle.office_desk_decisions.specs.RegisterDamage.{MeetsRecordDamage};
@@ -35,10 +36,9 @@ fn there_of<S: Shelf>(
     command: &RecordCommand,
     refusal: Refusal,
 ) -> Result<There, ShelfFault>
-    ensures told { IfOk result (λ there. S.is_honest shelf.new →
-        TellsThere (S.content shelf.old) pending.now command.now refusal there) }
-    ensures damaged { result ≡ Err ShelfFault.Damaged → S.is_honest shelf.new →
-        MeetsRecordDamage (S.content shelf.old) command.now }
+    ensures there { Reports (S.is_honest shelf.new) result
+        (TellsThere (S.content shelf.old) pending.now command.now refusal)
+        (MeetsRecordDamage (S.content shelf.old) command.now) }
     ensures clean { S.is_clean shelf.new → S.is_clean shelf.old }
     ensures kept { KeepsShelf S.Shelf shelf.old shelf.new }
 {
@@ -59,11 +59,10 @@ fn check_record<S: Shelf>(
     requires { S.is_honest shelf.old → AreFound (S.content shelf.old) found.old }
     ensures found { IfOk result (λ _. S.is_honest shelf.new →
         AreFound (S.content shelf.old) found.new) }
-    ensures checks { IfOk result (λ checked. S.is_honest shelf.new →
-        ChecksRecord (S.content shelf.old) pending command.now checked.0 checked.1) }
-    ensures damaged { result ≡ Err ShelfFault.Damaged → S.is_honest shelf.new →
-        HasDamagedAbout (S.content shelf.old) (about_of command.now)
-        ⊎ MeetsRecordDamage (S.content shelf.old) command.now }
+    ensures checks { Reports (S.is_honest shelf.new) result
+        (λ checked. ChecksRecord (S.content shelf.old) pending command.now checked.0 checked.1)
+        (HasDamagedAbout (S.content shelf.old) (about_of command.now)
+        ⊎ MeetsRecordDamage (S.content shelf.old) command.now) }
     ensures clean { S.is_clean shelf.new → S.is_clean shelf.old }
     ensures kept { KeepsShelf S.Shelf shelf.old shelf.new }
 {
@@ -92,10 +91,9 @@ pub(crate) fn check_records<S: Shelf>(
     alloc: Global,
     records: &[RecordCommand],
 ) -> Result<Vec<Checked>, ShelfFault>
-    ensures checks { IfOk result (λ checked. S.is_honest shelf.new →
-        Checks (S.content shelf.old) records.now checked.items) }
-    ensures damaged { result ≡ Err ShelfFault.Damaged → S.is_honest shelf.new →
-        MeetsCheckDamage (S.content shelf.old) records.now }
+    ensures checks { Reports (S.is_honest shelf.new) result
+        (λ checked. Checks (S.content shelf.old) records.now checked.items)
+        (MeetsCheckDamage (S.content shelf.old) records.now) }
     ensures clean { S.is_clean shelf.new → S.is_clean shelf.old }
     ensures kept { KeepsShelf S.Shelf shelf.old shelf.new }
 {

@@ -1,7 +1,6 @@
 //! How a command is decided over a shelf.
 ghost use Rattle.std.specs.Prelude.{◌≡◌, IfOk, ◌≢◌, [], IsOkAnd};
-ghost use Rattle.office_tables_shelf.specs.Keeps.{KeepsShelf};
-ghost use Rattle.office_desk_decisions.specs.Open.{DatabaseStaysOpen};
+ghost use Rattle.office_desk_decisions.specs.Reads.{OnlyReads};
 ghost use Rattle.office_desk.specs.Blaming.{BlamesRightly};
 ghost use Rattle.office_desk.specs.Deciding.{AddsNothing, Decides};
 ghost use Rattle.office_desk_timing.specs.Decisions.{refusal_of};
@@ -37,9 +36,7 @@ pub(crate) fn try_decide<S: Shelf>(
     ensures decides { Decides (S.is_honest shelf.new) (S.content shelf.old) command.now result }
     ensures blames { IfOk result (λ decided. BlamesRightly (S.is_honest shelf.new)
         (S.content shelf.old) command.now decided.reply) }
-    ensures kept { KeepsShelf S.Shelf shelf.old shelf.new }
-    ensures open { DatabaseStaysOpen S.is_clean S.is_honest (command.now ≢ Command.Import [])
-        result shelf.old shelf.new }
+    ensures reads { OnlyReads S.Shelf (command.now ≢ Command.Import []) result shelf.old shelf.new }
     ensures nothing { command.now ≡ Command.Import [] → IsOkAnd result AddsNothing }
 {
     match command {

@@ -1,10 +1,8 @@
 //! Intersections that were found in the tables, so that the row of none is read twice.
-ghost use Rattle.std.specs.Prelude.{◌≡◌, ◌≢◌, true, false, Ok, Err, IfOk, IsSome, IsTrue, OnErr, OnOk};
+ghost use Rattle.std.specs.Prelude.{◌≡◌, ◌≢◌, true, false, Ok, IfOk, IsSome, IsTrue, OnErr, OnOk};
 ghost use Rattle.office_tables_shelf.specs.Content.{Content};
-ghost use Rattle.office_tables_shelf.specs.Keeps.{KeepsShelf};
-ghost use Rattle.office_desk_decisions.specs.Open.{DatabaseStaysOpen};
-ghost use Rattle.office_desk.specs.Known.{TellsIntersection};
-ghost use Rattle.office_desk.specs.Recording.{AreFound, IsAmong, IsIntersectionFound, HasDamagedAbout};
+ghost use Rattle.office_desk_decisions.specs.Reads.{OnlyReads, Reports};
+ghost use Rattle.office_desk.specs.Recording.{AreFound, HasDamagedAbout, IsAmong, TellsIntersection};
 
 use crate::recording::is_known;
 use office_tables_shelf::shelf::{Shelf, ShelfFault};
@@ -25,7 +23,7 @@ fn is_among(found: &BTreeSet<InterId>, about: Option<InterId>) -> bool
 /// Keeps the one that was asked for, beside these.
 fn keep(found: &mut BTreeSet<InterId>, about: Option<InterId>) -> Result<(), NoMemory>
     ensures kept { OnOk result ((tables : Content) → AreFound tables found.old →
-        IsIntersectionFound tables about → AreFound tables found.new) }
+        TellsIntersection tables about true → AreFound tables found.new) }
     ensures fault { OnErr result (IsSome about) }
 {
     let Some(id) = about else {
@@ -45,15 +43,12 @@ pub(crate) fn is_found<S: Shelf>(
     requires { S.is_honest shelf.old → AreFound (S.content shelf.old) found.old }
     ensures found { IfOk result (λ _. S.is_honest shelf.new →
         AreFound (S.content shelf.old) found.new) }
-    ensures tells { IfOk result (λ known. S.is_honest shelf.new →
-        TellsIntersection (S.content shelf.old) about known) }
+    ensures tells { Reports (S.is_honest shelf.new) result
+        (TellsIntersection (S.content shelf.old) about)
+        (HasDamagedAbout (S.content shelf.old) about) }
     ensures asked { result ≡ Ok false → IsSome about }
     ensures fault { OnErr result (IsSome about) }
-    ensures damaged { result ≡ Err ShelfFault.Damaged → S.is_honest shelf.new →
-        HasDamagedAbout (S.content shelf.old) about }
-    ensures kept { KeepsShelf S.Shelf shelf.old shelf.new }
-    ensures open { DatabaseStaysOpen S.is_clean S.is_honest (result ≢ Ok true)
-        result shelf.old shelf.new }
+    ensures reads { OnlyReads S.Shelf (result ≢ Ok true) result shelf.old shelf.new }
 {
     if is_among(found, about) {
         return Ok(true);

@@ -1,7 +1,6 @@
 //! Imports: records of the register decided in turn, each after those before it.
 ghost use Rattle.std.specs.Prelude.{◌≡◌, ◌++◌, IfOk, ◌≢◌, [], IsOkAnd};
-ghost use Rattle.office_tables_shelf.specs.Keeps.{KeepsShelf};
-ghost use Rattle.office_desk_decisions.specs.Open.{DatabaseStaysOpen};
+ghost use Rattle.office_desk_decisions.specs.Reads.{OnlyReads, Reports};
 ghost use Rattle.office_desk.specs.Blaming.{BlamesRightly};
 ghost use Rattle.office_desk.specs.Deciding.{AddsNothing, Decides};
 ghost use Rattle.office_desk.specs.Damage.{MeetsCabinetDamage};
@@ -50,9 +49,7 @@ fn decide_after<S: Shelf>(
         (S.content shelf.old) pending.now command.now decided) }
     ensures damaged { result ≡ Err ShelfFault.Damaged → S.is_honest shelf.new →
         MeetsCabinetDamage (S.content shelf.old) command.now (about_of command.now) }
-    ensures kept { KeepsShelf S.Shelf shelf.old shelf.new }
-    ensures open { DatabaseStaysOpen S.is_clean S.is_honest (pending.now ≡ [])
-        result shelf.old shelf.new }
+    ensures reads { OnlyReads S.Shelf (pending.now ≡ []) result shelf.old shelf.new }
 {
     if !is_found(shelf, alloc, found, cabinet_of(command))? {
         return Ok(None);
@@ -91,14 +88,11 @@ pub(crate) fn take_record<S: Shelf>(
     requires { S.is_honest shelf.old → AreFound (S.content shelf.old) found.old }
     ensures found { IfOk result (λ _. S.is_honest shelf.new →
         AreFound (S.content shelf.old) found.new) }
-    ensures takes { IfOk result (λ taken. S.is_honest shelf.new →
-        TakesInTurn (S.content shelf.old) pending command.now taken.0 taken.1) }
+    ensures takes { Reports (S.is_honest shelf.new) result
+        (λ taken. TakesInTurn (S.content shelf.old) pending command.now taken.0 taken.1)
+        (MeetsCabinetDamage (S.content shelf.old) command.now (about_of command.now)) }
     ensures within { IfOk result (λ taken. TakesWithin pending command.now taken.0 taken.1) }
-    ensures damaged { result ≡ Err ShelfFault.Damaged → S.is_honest shelf.new →
-        MeetsCabinetDamage (S.content shelf.old) command.now (about_of command.now) }
-    ensures kept { KeepsShelf S.Shelf shelf.old shelf.new }
-    ensures open { DatabaseStaysOpen S.is_clean S.is_honest (pending ≡ [])
-        result shelf.old shelf.new }
+    ensures reads { OnlyReads S.Shelf (pending ≡ []) result shelf.old shelf.new }
 {
     let decided = decide_after(shelf, alloc, found, &pending, command)?;
     let taken = take_decided(decided, pending)?;
@@ -116,9 +110,7 @@ pub(crate) fn decide_import<S: Shelf>(
         (Command.Import records.now) result }
     ensures blames { IfOk result (λ decided. BlamesRightly (S.is_honest shelf.new)
         (S.content shelf.old) (Command.Import records.now) decided.reply) }
-    ensures kept { KeepsShelf S.Shelf shelf.old shelf.new }
-    ensures open { DatabaseStaysOpen S.is_clean S.is_honest (records.now ≢ [])
-        result shelf.old shelf.new }
+    ensures reads { OnlyReads S.Shelf (records.now ≢ []) result shelf.old shelf.new }
     ensures nothing { records.now ≡ [] → IsOkAnd result AddsNothing }
 {
     let mut found = BTreeSet::new(alloc);

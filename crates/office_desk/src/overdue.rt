@@ -1,5 +1,6 @@
 //! The query Overdue.
-ghost use Rattle.office_tables_shelf.specs.Keeps.{AnswersShelf, KeepsShelf};
+ghost use Rattle.std.specs.Prelude.{⊤};
+ghost use Rattle.office_desk_decisions.specs.Reads.{OnlyReads};
 ghost use Rattle.office_desk.specs.Deciding.{Decides};
 
 use cabinet_core::Day;
@@ -20,8 +21,7 @@ pub(crate) fn decide_overdue<S: Shelf>(
 ) -> Result<Decided, ShelfFault>
     ensures decides { Decides (S.is_honest shelf.new) (S.content shelf.old)
         (Command.Overdue day) result }
-    ensures kept { KeepsShelf S.Shelf shelf.old shelf.new }
-    ensures open { AnswersShelf S.Shelf result shelf.old shelf.new }
+    ensures reads { OnlyReads S.Shelf ⊤ result shelf.old shelf.new }
 {
     let late = shelf.overdue_rows(alloc, day, ALL)?;
     let found = OverdueList::new(late);

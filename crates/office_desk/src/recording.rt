@@ -1,11 +1,9 @@
 //! The commands of the register.
-ghost use Rattle.std.specs.Prelude.{◌≡◌, false, IfOk, IsSome, OnErr, Ok, Err};
-ghost use Rattle.office_tables_shelf.specs.Keeps.{AnswersShelf, KeepsShelf};
-ghost use Rattle.office_desk_decisions.specs.Open.{DatabaseStaysOpen};
+ghost use Rattle.std.specs.Prelude.{◌≡◌, false, IsSome, OnErr, Ok, ⊤};
+ghost use Rattle.office_desk_decisions.specs.Reads.{OnlyReads, Reports};
 ghost use Rattle.office_desk_cabinet.specs.Registers.{line_told, rows_told};
 ghost use Rattle.office_desk.specs.Deciding.{Decides};
-ghost use Rattle.office_desk.specs.Known.{TellsIntersection};
-ghost use Rattle.office_desk.specs.Recording.{HasDamagedAbout};
+ghost use Rattle.office_desk.specs.Recording.{HasDamagedAbout, TellsIntersection};
 ghost use Rattle.office_machine.specs.Step.{cabinet_of as about_of, refusal_of_record, told as reply_of};
 
 use cabinet_core::{CabinetRefusal, RecordCommand};
@@ -38,15 +36,12 @@ pub(crate) fn is_known<S: Shelf>(
     alloc: Global,
     about: Option<InterId>,
 ) -> Result<bool, ShelfFault>
-    ensures tells { IfOk result (λ known. S.is_honest shelf.new →
-        TellsIntersection (S.content shelf.old) about known) }
+    ensures tells { Reports (S.is_honest shelf.new) result
+        (TellsIntersection (S.content shelf.old) about)
+        (HasDamagedAbout (S.content shelf.old) about) }
     ensures asked { result ≡ Ok false → IsSome about }
     ensures fault { OnErr result (IsSome about) }
-    ensures damaged { result ≡ Err ShelfFault.Damaged → S.is_honest shelf.new →
-        HasDamagedAbout (S.content shelf.old) about }
-    ensures kept { KeepsShelf S.Shelf shelf.old shelf.new }
-    ensures open { DatabaseStaysOpen S.is_clean S.is_honest (IsSome about)
-        result shelf.old shelf.new }
+    ensures reads { OnlyReads S.Shelf (IsSome about) result shelf.old shelf.new }
 {
     let Some(id) = about else {
         return Ok(true);
@@ -88,8 +83,7 @@ pub(crate) fn decide_record_command<S: Shelf>(
 ) -> Result<Decided, ShelfFault>
     ensures decides { Decides (S.is_honest shelf.new) (S.content shelf.old)
         (Command.Record command.now) result }
-    ensures kept { KeepsShelf S.Shelf shelf.old shelf.new }
-    ensures open { AnswersShelf S.Shelf result shelf.old shelf.new }
+    ensures reads { OnlyReads S.Shelf ⊤ result shelf.old shelf.new }
 {
     if !is_known(shelf, alloc, cabinet_of(command))? {
         return Ok(Decided::refused(alloc, Refusal::UnknownIntersection));

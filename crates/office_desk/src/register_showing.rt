@@ -1,5 +1,6 @@
 //! The queries Cabinet, OpenOrders and Stock.
-ghost use Rattle.office_tables_shelf.specs.Keeps.{AnswersShelf, KeepsShelf};
+ghost use Rattle.std.specs.Prelude.{⊤};
+ghost use Rattle.office_desk_decisions.specs.Reads.{OnlyReads};
 ghost use Rattle.office_desk.specs.Deciding.{Decides};
 
 use crate::recording::is_known;
@@ -20,8 +21,7 @@ pub(crate) fn decide_cabinet<S: Shelf>(
 ) -> Result<Decided, ShelfFault>
     ensures decides { Decides (S.is_honest shelf.new) (S.content shelf.old)
         (Command.Cabinet id) result }
-    ensures kept { KeepsShelf S.Shelf shelf.old shelf.new }
-    ensures open { AnswersShelf S.Shelf result shelf.old shelf.new }
+    ensures reads { OnlyReads S.Shelf ⊤ result shelf.old shelf.new }
 {
     if !is_known(shelf, alloc, Some(id))? {
         return Ok(Decided::refused(alloc, Refusal::UnknownIntersection));
@@ -39,8 +39,7 @@ pub(crate) fn decide_open_orders<S: Shelf>(
 ) -> Result<Decided, ShelfFault>
     ensures decides { Decides (S.is_honest shelf.new) (S.content shelf.old)
         (Command.OpenOrders id) result }
-    ensures kept { KeepsShelf S.Shelf shelf.old shelf.new }
-    ensures open { AnswersShelf S.Shelf result shelf.old shelf.new }
+    ensures reads { OnlyReads S.Shelf ⊤ result shelf.old shelf.new }
 {
     let known = is_known(shelf, alloc, Some(id))?;
     if !known {
@@ -54,8 +53,7 @@ pub(crate) fn decide_open_orders<S: Shelf>(
 /// Decides Stock.
 pub(crate) fn decide_stock<S: Shelf>(shelf: &mut S, alloc: Global) -> Result<Decided, ShelfFault>
     ensures decides { Decides (S.is_honest shelf.new) (S.content shelf.old) Command.Stock result }
-    ensures kept { KeepsShelf S.Shelf shelf.old shelf.new }
-    ensures open { AnswersShelf S.Shelf result shelf.old shelf.new }
+    ensures reads { OnlyReads S.Shelf ⊤ result shelf.old shelf.new }
 {
     let list = stock(shelf, alloc)?;
     let parts = Stock::new(list);

@@ -74,9 +74,14 @@ accepted_decides is_honest tables command said rows decided is same accepted ask
   whole = λ honest damaged. absurd (whole honest damaged);
 }
 
--- a fault that is handed on
+-- a fault that is handed on, and reports damage only where the command meets it
+pub handed_decides : (is_honest : Type 0) (tables : Content) (command : Command) (fault : ShelfFault) (result : Result Decided ShelfFault)
+    → IsErrAnd result (λ e. e ≡ fault) → (fault ≡ Damaged → is_honest → MeetsDamage tables command) → Decides is_honest tables command result
+handed_decides is_honest tables command fault (Ok decided) is damage = absurd is
+handed_decides is_honest tables command fault (Err other) is damage = λ damaged. damage (sym is ∙ damaged)
+
+-- of a call whose clause speaks of its result
 pub fault_decides : {A : Type 0} (is_honest : Type 0) (tables : Content) (command : Command) (fault : ShelfFault) (inner : Result A ShelfFault) (result : Result Decided ShelfFault)
     → inner ≡ Err fault → IsErrAnd result (λ e. e ≡ fault) → (inner ≡ Err Damaged → is_honest → MeetsDamage tables command) → Decides is_honest tables command result
-fault_decides is_honest tables command fault inner (Ok decided) was is damage = absurd is
-fault_decides is_honest tables command fault inner (Err other) was is damage =
-    λ damaged. damage (was ∙ ap (λ (f : ShelfFault). Err f) (sym is ∙ damaged))
+fault_decides is_honest tables command fault inner result was is damage =
+    handed_decides is_honest tables command fault result is (λ damaged. damage (was ∙ ap (λ (f : ShelfFault). Err f) damaged))

@@ -5,6 +5,7 @@ use Rattle.draft_core.specs.declared.step.Step.TheVariants.{Begin, Edit, Verify,
 use Rattle.office_machine.specs.declared.command.Command.{Command}
 use Rattle.office_machine.specs.declared.command.Command.TheVariants as command
 
+-- a step of the transaction, as the command of a clerk on an intersection
 abbrev pub asking_command : ℕ → List ℕ → Step → Command
 asking_command id clerk Begin = command.Begin id clerk
 asking_command id clerk (Edit changes) = command.Edit id clerk changes

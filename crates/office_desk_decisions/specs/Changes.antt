@@ -13,6 +13,7 @@ use Rattle.office_machine.specs.declared.command.Command.TheVariants as command
 use Rattle.office_machine.specs.declared.reply.Reply.{Reply}
 use Rattle.office_machine.specs.declared.reply.Reply.TheVariants.{Refused}
 
+-- the reply is a refusal
 abbrev pub IsRefused : Reply → Type 0
 IsRefused (Refused refusal) = Unit {0}
 IsRefused _ = ⊥

@@ -23,6 +23,7 @@ use Rattle.office_machine.specs.declared.refusal.Refusal.TheVariants as refusal
 use Rattle.office_machine.specs.declared.reply.Reply.{Reply}
 use Rattle.office_machine.specs.declared.reply.Reply.TheVariants.{Refused}
 
+-- the command imports records
 abbrev pub IsImport : Command → Type 0
 IsImport (command.Import records) = Unit {0}
 IsImport _ = ⊥
@@ -32,7 +33,7 @@ IsImport _ = ⊥
 abbrev pub IsTurnedAway : Command → Reply → Type 0
 IsTurnedAway command reply = ((reply ≡ Refused refusal.Damaged) ⊎ (reply ≡ Refused refusal.Unavailable)) ⊎ (IsImport command × IsRefused reply)
 
--- its row is no record; or it is there, and something that is read after it is none
+-- the row of an intersection is no record; or it is there, and something that is read after it is none
 abbrev pub MeetsAfter : Content → ℕ → Type 0 → Type 0
 MeetsAfter tables id Later = HasDamagedIntersection tables id ⊎ (IsThere tables id × Later)
 
@@ -66,7 +67,7 @@ abbrev pub MeetsCabinetDamage : Content → RecordCommand → Option ℕ → Typ
 MeetsCabinetDamage tables c None = MeetsRecordDamage tables c
 MeetsCabinetDamage tables c (Some id) = MeetsAfter tables id (MeetsRecordDamage tables c)
 
--- the same of some record of an import
+-- the row of an intersection that a record of an import is about, or a row of the register that the record reads, is no record
 abbrev pub MeetsImportDamage : Content → List RecordCommand → Type 0
 MeetsImportDamage tables [] = ⊥
 MeetsImportDamage tables (c ∷ cs) = MeetsCabinetDamage tables c (cabinet_of c) ⊎ MeetsImportDamage tables cs

@@ -1,4 +1,5 @@
 pub mod Open
+pub mod Reads
 pub mod Committed
 pub mod RecordBounds
 pub mod RegisterRows

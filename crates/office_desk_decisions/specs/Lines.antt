@@ -28,7 +28,7 @@ ReadsKeys tables (CloseOrder id number asked) there = ReadsAt tables (place.Orde
 ReadsKeys tables (Receive asked) (there, hand) =
     ReadsAt tables (place.Delivery asked.part asked.number) there × ReadsAt tables (place.Part asked.part) hand
 
--- its rows where it adds
+-- the rows that a record adds where it is new
 abbrev pub rows_added : (command : RecordCommand) → Standing command → List RowChange
 rows_added (Inspect id asked) there = AddInspection id asked ∷ []
 rows_added (OpenOrder id asked) there = AddOrder id (record_of asked) ∷ []

@@ -10,6 +10,7 @@ use Rattle.office_machine.specs.declared.refusal.Refusal.TheVariants.{Unavailabl
 use Rattle.office_machine.specs.declared.reply.Reply.{Reply}
 use Rattle.office_machine.specs.declared.reply.Reply.TheVariants.{Refused}
 
+-- the number of a refusal in the table
 abbrev pub number_of : Refusal → ℕ
 number_of why = (line_of why).number
 

@@ -24,15 +24,15 @@ abbrev pub TellsAbout : Content → Option ℕ → Bool → Type 0
 TellsAbout tables None known = known ≡ true
 TellsAbout tables (Some id) known = known ≡ is_some (get tables.intersection (intersection_key id))
 
--- the intersection that is asked for stands there, and its row is a record; or none is asked for
-pub record IsIntersectionFound (tables : Content) (about : Option ℕ) : Type 0 where
-  pub known : IsKnownIn tables about true
-  pub told : TellsAbout tables about true
+-- it is there or not, in whichever sound office the tables stand for and by its row, which is no damaged one
+pub record TellsIntersection (tables : Content) (about : Option ℕ) (is_there : Bool) : Type 0 where
+  pub known : IsKnownIn tables about is_there
+  pub told : TellsAbout tables about is_there
   pub whole : ¬ HasDamagedAbout tables about
 
--- so does each of these
+-- each of these intersections is there, and its row is a record
 abbrev pub AreFound : Content → BTreeSet ℕ → Type 0
-AreFound tables found = All (λ id. IsIntersectionFound tables (Some id)) found.keys
+AreFound tables found = All (λ id. TellsIntersection tables (Some id) true) found.keys
 
 -- one is asked for, and it is one of these
 abbrev pub IsAmong : BTreeSet ℕ → Option ℕ → Type 0

@@ -21,6 +21,7 @@ row_change_of id (change.PutLine line) = AddLine id line
 row_change_of id (change.PutPart code hand) = PutPart code hand
 row_change_of id (change.PutDelivery delivery) = AddDelivery delivery
 
+-- changes of the register as rows of an intersection, in their order
 abbrev pub row_changes_of : ℕ → List CabinetChange → List RowChange
 row_changes_of id = map (row_change_of id)
 
@@ -30,5 +31,6 @@ stock_row_of (change.PutPart code hand) = Some (PutPart code hand)
 stock_row_of (change.PutDelivery delivery) = Some (AddDelivery delivery)
 stock_row_of _ = None
 
+-- the changes of parts and deliveries as rows, in their order; the others are left out
 abbrev pub stock_rows_of : List CabinetChange → List RowChange
 stock_rows_of = filter_map stock_row_of

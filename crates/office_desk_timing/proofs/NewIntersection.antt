@@ -82,14 +82,14 @@ differs_named true why e = absurd (let f : reply.Same ≡ reply.Refused why = e 
 differs_named false why e = refuses_so (11 ∷ []) refusal.IntersectionDiffers (inl refl) why e
 
 pub add_decides : (is_honest : Type 0) (tables : Content) (id interval : ℕ) (name : List ℕ) (row : Option IntersectionRow) (decided : Decided)
-    → (is_honest → ReadsIntersection tables id row) → (is_honest → ¬ HasDamagedIntersection tables id) → AddsRow id interval name row decided.reply decided.changes.items → IsDecision is_honest tables (AddIntersection id interval name) decided
-add_decides is_honest tables id interval name None decided reads whole adds =
+    → (is_honest → ReadsIntersection tables id row × (¬ HasDamagedIntersection tables id)) → AddsRow id interval name row decided.reply decided.changes.items → IsDecision is_honest tables (AddIntersection id interval name) decided
+add_decides is_honest tables id interval name None decided reads adds =
     accepted_decides is_honest tables (AddIntersection id interval name) reply.Added _ decided adds.0 adds.1 (λ refused. refused) (λ query. query)
-    (λ honest office stands. new_answers tables office id interval name stands (reads honest) adds.2)
-    (λ honest. one_row tables id interval name (row_of (new_intersection interval name))) (λ honest. (reads honest, tt)) whole
-add_decides is_honest tables id interval name (Some row) decided reads whole adds =
-    told_decides is_honest tables (AddIntersection id interval name) _ decided adds.0 (never_damaged (bytes_eq row.name name && (row.interval == interval))) (differs_named (bytes_eq row.name name && (row.interval == interval))) adds.1 whole
+    (λ honest office stands. new_answers tables office id interval name stands (reads honest).0 adds.2)
+    (λ honest. one_row tables id interval name (row_of (new_intersection interval name))) (λ honest. ((reads honest).0, tt)) (λ honest. (reads honest).1)
+add_decides is_honest tables id interval name (Some row) decided reads adds =
+    told_decides is_honest tables (AddIntersection id interval name) _ decided adds.0 (never_damaged (bytes_eq row.name name && (row.interval == interval))) (differs_named (bytes_eq row.name name && (row.interval == interval))) adds.1 (λ honest. (reads honest).1)
     (λ honest office stands.
-    let at = there tables office id row stands (reads honest) in
+    let at = there tables office id row stands (reads honest).0 in
     ap (added office id interval name) at.1
     ∙ ap (λ (r : IntersectionRow). (answer_at interval name r, office)) (sym at.2))

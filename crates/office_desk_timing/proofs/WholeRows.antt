@@ -79,7 +79,7 @@ same_done tables id row other reads again done =
     let same = row_from_cells other row (same_columns _ _ (sym again ∙ reads)) in
     subst IsDone same done
 
-pub judged_whole : (tables : Content) (id : ℕ) (row : IntersectionRow) → ReadsIntersection tables id (Some row) → ¬ HasDamagedIntersection tables id → (IsDone row → ¬ HasDamage tables id)
+pub judged_whole : (tables : Content) (id : ℕ) (row : IntersectionRow) → ReadsIntersection tables id (Some row) → ¬ HasDamagedIntersection tables id → ¬ (IsDone row × HasDamage tables id)
     → ¬ (HasDamagedIntersection tables id ⊎ HasJudgedDamage tables id)
 judged_whole tables id row reads whole judged (inl damaged) = whole damaged
-judged_whole tables id row reads whole judged (inr damaged) = judged (same_done tables id row damaged.row reads damaged.read damaged.done) damaged.damage
+judged_whole tables id row reads whole judged (inr damaged) = judged (same_done tables id row damaged.row reads damaged.read damaged.done, damaged.damage)

@@ -25,6 +25,7 @@ row_change_of id (Drafted change) = PutDraft id change
 row_change_of id (DraftGone key) = RemoveDraft id key
 row_change_of id DraftDropped = DropDraft id
 
+-- changes of an intersection's timing side as rows, in their order
 abbrev pub row_changes_of : ℕ → List TimingChange → List RowChange
 row_changes_of id = map (row_change_of id)
 

@@ -1,6 +1,6 @@
 //! The command AddIntersection.
-ghost use Rattle.std.specs.Prelude.{IfOk};
-ghost use Rattle.office_tables_shelf.specs.Keeps.{AnswersShelf, KeepsShelf};
+ghost use Rattle.std.specs.Prelude.{⊤, IfOk};
+ghost use Rattle.office_desk_decisions.specs.Reads.{OnlyReads};
 ghost use Rattle.office_desk_timing.specs.Adding.{AddsRow};
 ghost use Rattle.office_desk_decisions.specs.Deciding.{Decides};
 
@@ -58,8 +58,7 @@ pub fn decide_add<S: Shelf>(
 ) -> Result<Decided, ShelfFault>
     ensures decides { Decides (S.is_honest shelf.new) (S.content shelf.old)
         (Command.AddIntersection id interval name.now) result }
-    ensures kept { KeepsShelf S.Shelf shelf.old shelf.new }
-    ensures open { AnswersShelf S.Shelf result shelf.old shelf.new }
+    ensures reads { OnlyReads S.Shelf ⊤ result shelf.old shelf.new }
 {
     let row = intersection_row(shelf, alloc, id)?;
     let decided = added(alloc, id, interval, name, &row)?;

@@ -1,7 +1,7 @@
 //! All intersections, as they are listed.
-ghost use Rattle.std.specs.Prelude.{◌≡◌, [], ◌∷◌, ◌++◌, Err, IfOk, OnOk};
+ghost use Rattle.std.specs.Prelude.{◌≡◌, [], ◌∷◌, ◌++◌, ⊤, OnOk};
 ghost use Rattle.office_tables_shelf.specs.Damage.{HasAnyDamagedIntersection};
-ghost use Rattle.office_tables_shelf.specs.Keeps.{AnswersShelf, KeepsShelf};
+ghost use Rattle.office_desk_decisions.specs.Reads.{OnlyReads, ReportsWhole};
 ghost use Rattle.office_desk_timing.specs.Listing.{ListsEachIntersection, row_listed};
 
 use office_machine::intersections::ListedIntersection;
@@ -42,14 +42,10 @@ pub fn list_intersections<S: Shelf>(
     shelf: &mut S,
     alloc: Global,
 ) -> Result<Vec<ListedIntersection>, ShelfFault>
-    ensures lists { IfOk result (λ found. S.is_honest shelf.new →
-        ListsEachIntersection (S.content shelf.old) found.items) }
-    ensures whole { IfOk result (λ _. S.is_honest shelf.new →
-        ¬ HasAnyDamagedIntersection (S.content shelf.old)) }
-    ensures damaged { result ≡ Err ShelfFault.Damaged → S.is_honest shelf.new →
-        HasAnyDamagedIntersection (S.content shelf.old) }
-    ensures kept { KeepsShelf S.Shelf shelf.old shelf.new }
-    ensures open { AnswersShelf S.Shelf result shelf.old shelf.new }
+    ensures lists { ReportsWhole (S.is_honest shelf.new) result
+        (λ found. ListsEachIntersection (S.content shelf.old) found.items)
+        (HasAnyDamagedIntersection (S.content shelf.old)) }
+    ensures reads { OnlyReads S.Shelf ⊤ result shelf.old shelf.new }
 {
     let rows = shelf.intersections(alloc)?;
     let mut found = Vec::new(alloc);

@@ -1,9 +1,8 @@
 //! What is read of an intersection.
-ghost use Rattle.std.specs.Prelude.{◌≡◌, IfOk, IfSome, ◌≢◌};
+ghost use Rattle.std.specs.Prelude.{IfOk, IfSome, ⊤, ◌≢◌};
 ghost use Rattle.office_tables_shelf.specs.Damage.{HasDamagedIntersection};
-ghost use Rattle.office_tables_shelf.specs.Keeps.{AnswersShelf, KeepsShelf};
 ghost use Rattle.office_tables_shelf.specs.Shelf.{ReadsIntersection};
-ghost use Rattle.office_desk_decisions.specs.Open.{DatabaseStaysOpen};
+ghost use Rattle.office_desk_decisions.specs.Reads.{OnlyReads, Reports, ReportsWhole};
 ghost use Rattle.office_desk_decisions.specs.Damage.{HasDamageIn, HasDamagedPlan};
 ghost use Rattle.office_desk_timing.specs.Reading.{AreRowsWithin, FindsAny, IsMadeOf, ListsFound, ListsPlan};
 
@@ -58,14 +57,10 @@ pub fn intersection_row<S: Shelf>(
     alloc: Global,
     id: InterId,
 ) -> Result<Option<IntersectionRow>, ShelfFault>
-    ensures row { IfOk result
-        (λ row. S.is_honest shelf.new → ReadsIntersection (S.content shelf.old) id row) }
-    ensures whole { IfOk result
-        (λ _. S.is_honest shelf.new → ¬ HasDamagedIntersection (S.content shelf.old) id) }
-    ensures damaged { result ≡ Err ShelfFault.Damaged → S.is_honest shelf.new →
-        HasDamagedIntersection (S.content shelf.old) id }
-    ensures kept { KeepsShelf S.Shelf shelf.old shelf.new }
-    ensures open { AnswersShelf S.Shelf result shelf.old shelf.new }
+    ensures row { ReportsWhole (S.is_honest shelf.new) result
+        (ReadsIntersection (S.content shelf.old) id)
+        (HasDamagedIntersection (S.content shelf.old) id) }
+    ensures reads { OnlyReads S.Shelf ⊤ result shelf.old shelf.new }
 {
     let row = shelf.intersection(alloc, id)?;
     Ok(row)
@@ -79,14 +74,11 @@ fn plan_rows<S: Shelf>(
     id: InterId,
     reach: Reach,
 ) -> Result<(Vec<Row>, Vec<Change>), ShelfFault>
-    ensures lists { IfOk result (λ read. S.is_honest shelf.new →
-        ListsPlan reach (S.content shelf.old) id read.0.items read.1.items) }
-    ensures within { IfOk result (λ read. S.is_honest shelf.new → AreRowsWithin read.0.items) }
-    ensures damaged { result ≡ Err ShelfFault.Damaged → S.is_honest shelf.new →
-        HasDamagedPlan reach (S.content shelf.old) id }
-    ensures kept { KeepsShelf S.Shelf shelf.old shelf.new }
-    ensures open { DatabaseStaysOpen S.is_clean S.is_honest (reach ≢ Reach.Row)
-        result shelf.old shelf.new }
+    ensures plan { Reports (S.is_honest shelf.new) result
+        (λ read. ListsPlan reach (S.content shelf.old) id read.0.items read.1.items
+        × AreRowsWithin read.0.items)
+        (HasDamagedPlan reach (S.content shelf.old) id) }
+    ensures reads { OnlyReads S.Shelf (reach ≢ Reach.Row) result shelf.old shelf.new }
 {
     match reach {
         Reach::Row => return Ok((Vec::new(alloc), Vec::new(alloc))),
@@ -105,16 +97,11 @@ pub(crate) fn find<S: Shelf>(
     id: InterId,
     reach: Reach,
 ) -> Result<Option<Found>, ShelfFault>
-    ensures found { IfOk result (λ found. S.is_honest shelf.new →
-        FindsAny reach (S.content shelf.old) id found) }
-    ensures listed { IfOk result (λ found. S.is_honest shelf.new →
-        IfSome found (ListsFound reach (S.content shelf.old) id)) }
-    ensures whole { IfOk result (λ _. S.is_honest shelf.new →
-        ¬ HasDamageIn reach (S.content shelf.old) id) }
-    ensures damaged { result ≡ Err ShelfFault.Damaged → S.is_honest shelf.new →
-        HasDamageIn reach (S.content shelf.old) id }
-    ensures kept { KeepsShelf S.Shelf shelf.old shelf.new }
-    ensures open { AnswersShelf S.Shelf result shelf.old shelf.new }
+    ensures found { ReportsWhole (S.is_honest shelf.new) result
+        (λ found. FindsAny reach (S.content shelf.old) id found
+        × IfSome found (ListsFound reach (S.content shelf.old) id))
+        (HasDamageIn reach (S.content shelf.old) id) }
+    ensures reads { OnlyReads S.Shelf ⊤ result shelf.old shelf.new }
 {
     let Some(row) = intersection_row(shelf, alloc, id)? else {
         return Ok(None);

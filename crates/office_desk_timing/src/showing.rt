@@ -1,8 +1,7 @@
 //! The queries State, Timing and Draft.
-ghost use Rattle.std.specs.Prelude.{◌≡◌, ◌≢◌, ◌∷◌, [], Some, IfOk};
+ghost use Rattle.std.specs.Prelude.{◌≡◌, ◌≢◌, ◌∷◌, [], ⊤, IfOk};
 ghost use Rattle.draft_core.specs.Transaction.{state_of_holder};
-ghost use Rattle.office_tables_shelf.specs.Keeps.{AnswersShelf, KeepsShelf};
-ghost use Rattle.office_desk_decisions.specs.Open.{DatabaseStaysOpen};
+ghost use Rattle.office_desk_decisions.specs.Reads.{OnlyReads, ReportsWhole};
 ghost use Rattle.office_desk_decisions.specs.Deciding.{Decides};
 ghost use Rattle.office_desk_decisions.specs.Damage.{HasDamage, IsDone};
 ghost use Rattle.office_desk_timing.specs.Decisions.{row_shown, IsVerdictOf, ShowsDraft};
@@ -63,15 +62,10 @@ fn verdict_at<S: Shelf>(
     id: InterId,
     row: &IntersectionRow,
 ) -> Result<Verdict, ShelfFault>
-    ensures verdict { IfOk result
-        (λ verdict. S.is_honest shelf.new → IsVerdictOf (S.content shelf.old) id row.now verdict) }
-    ensures whole { IfOk result (λ _. S.is_honest shelf.new →
-        IsDone row.now → ¬ HasDamage (S.content shelf.old) id) }
-    ensures damaged { result ≡ Err ShelfFault.Damaged → S.is_honest shelf.new →
-        IsDone row.now × HasDamage (S.content shelf.old) id }
-    ensures kept { KeepsShelf S.Shelf shelf.old shelf.new }
-    ensures open { DatabaseStaysOpen S.is_clean S.is_honest (IsDone row.now)
-        result shelf.old shelf.new }
+    ensures verdict { ReportsWhole (S.is_honest shelf.new) result
+        (IsVerdictOf (S.content shelf.old) id row.now)
+        (IsDone row.now × HasDamage (S.content shelf.old) id) }
+    ensures reads { OnlyReads S.Shelf (IsDone row.now) result shelf.old shelf.new }
 {
     let Some(holder) = &row.holder else {
         return Ok(Verdict::NotDone);
@@ -94,8 +88,7 @@ pub fn decide_state<S: Shelf>(
 ) -> Result<Decided, ShelfFault>
     ensures decides { Decides (S.is_honest shelf.new) (S.content shelf.old)
         (Command.State id) result }
-    ensures kept { KeepsShelf S.Shelf shelf.old shelf.new }
-    ensures open { AnswersShelf S.Shelf result shelf.old shelf.new }
+    ensures reads { OnlyReads S.Shelf ⊤ result shelf.old shelf.new }
 {
     let Some(row) = intersection_row(shelf, alloc, id)? else {
         return Ok(Decided::refused(alloc, Refusal::UnknownIntersection));
@@ -113,8 +106,7 @@ pub fn decide_timing<S: Shelf>(
 ) -> Result<Decided, ShelfFault>
     ensures decides { Decides (S.is_honest shelf.new) (S.content shelf.old)
         (Command.Timing id) result }
-    ensures kept { KeepsShelf S.Shelf shelf.old shelf.new }
-    ensures open { AnswersShelf S.Shelf result shelf.old shelf.new }
+    ensures reads { OnlyReads S.Shelf ⊤ result shelf.old shelf.new }
 {
     let Some(row) = intersection_row(shelf, alloc, id)? else {
         return Ok(Decided::refused(alloc, Refusal::UnknownIntersection));
@@ -161,8 +153,7 @@ pub fn decide_draft<S: Shelf>(
 ) -> Result<Decided, ShelfFault>
     ensures decides { Decides (S.is_honest shelf.new) (S.content shelf.old)
         (Command.Draft id) result }
-    ensures kept { KeepsShelf S.Shelf shelf.old shelf.new }
-    ensures open { AnswersShelf S.Shelf result shelf.old shelf.new }
+    ensures reads { OnlyReads S.Shelf ⊤ result shelf.old shelf.new }
 {
     let Some(found) = find(shelf, alloc, id, Reach::Plan)? else {
         return Ok(Decided::refused(alloc, Refusal::UnknownIntersection));

@@ -1,5 +1,6 @@
 //! The steps of the transaction.
-ghost use Rattle.office_tables_shelf.specs.Keeps.{AnswersShelf, KeepsShelf};
+ghost use Rattle.std.specs.Prelude.{⊤};
+ghost use Rattle.office_desk_decisions.specs.Reads.{OnlyReads};
 ghost use Rattle.office_desk_decisions.specs.Deciding.{Decides};
 ghost use Rattle.office_desk_decisions.specs.Asking.{asking_command};
 
@@ -22,8 +23,7 @@ pub fn transact<S: Shelf>(
 ) -> Result<Decided, ShelfFault>
     ensures decides { Decides (S.is_honest shelf.new) (S.content shelf.old)
         (asking_command id clerk.now step.now) result }
-    ensures kept { KeepsShelf S.Shelf shelf.old shelf.new }
-    ensures open { AnswersShelf S.Shelf result shelf.old shelf.new }
+    ensures reads { OnlyReads S.Shelf ⊤ result shelf.old shelf.new }
 {
     let _name = clerk.as_str();
     let Some(found) = find(shelf, alloc, id, step.reach())? else {

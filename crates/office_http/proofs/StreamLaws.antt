@@ -11,7 +11,7 @@ use Rattle.office_http_faults.specs.declared.fault.AskFault.{AskFault}
 use Rattle.office_http_framing.specs.Front.{PlainRequest}
 use Rattle.office_http_framing.specs.Stops.{How, stepped, unavailable, Leaves, LeavesOne, Moment, Passes, Ran, Storage, moment_of}
 use Rattle.office_http_framing.proofs.StopLemmas.{may_answer}
-use Rattle.office_http_responses.specs.Answers.{unavailable_bytes}
+use Rattle.office_http_responses.specs.Unavailable.{unavailable_bytes}
 use Rattle.office_http_requests.specs.declared.asked.Asked.{Asked}
 
 -- the replies of a run that the answers tell

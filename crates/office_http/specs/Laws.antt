@@ -15,7 +15,8 @@ use Rattle.office_http_framing.specs.Front.{PlainRequest}
 use Rattle.office_http_framing.specs.Stops.{Moment, Ran, Storage}
 use Rattle.office_tables_shelf.specs.Content.{Content}
 use Rattle.office_http.specs.Protocol.{office_protocol, read_of}
-use Rattle.office_http_responses.specs.Answers.{answer_bytes, unavailable_bytes}
+use Rattle.office_http_responses.specs.Answers.{answer_bytes}
+use Rattle.office_http_responses.specs.Unavailable.{unavailable_bytes}
 use Rattle.office_http_responses.specs.Faults.{ask_fault_text}
 use Rattle.office_http_requests.specs.declared.asked.Asked.{Asked}
 use Rattle.signal_street.specs.StreetLaws.{StreetLaws}

@@ -65,6 +65,7 @@ pub record Connected : Type 0 where
   pub start : Ends
   pub end : Ends
 
+-- a connection that was given so, and given back so
 abbrev pub connected : Ends → Ends → Connected
 connected start end = record { start = start; end = end }
 

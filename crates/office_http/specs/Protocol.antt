@@ -11,7 +11,8 @@ use Rattle.office_http_framing.specs.Protocol.{Protocol}
 use Rattle.office_http_framing.specs.Stops.{Storage}
 use Rattle.office_tables_shelf.specs.Content.{Content}
 use Rattle.office_tables_shelf.specs.declared.counts.WriteCounts.{WriteCounts}
-use Rattle.office_http_responses.specs.Answers.{answer_bytes, unavailable_bytes}
+use Rattle.office_http_responses.specs.Answers.{answer_bytes}
+use Rattle.office_http_responses.specs.Unavailable.{unavailable_bytes}
 use Rattle.office_http_requests.specs.Commands.{command_at}
 use Rattle.office_http_responses.specs.Faults.{ask_fault_text, framing_fault_text}
 use Rattle.office_http_requests.specs.declared.asked.Asked.{Asked}

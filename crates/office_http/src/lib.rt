@@ -22,6 +22,6 @@ pub use office_http_framing::ends::{
 pub use office_http_framing::engine::{ServeFault, Served};
 pub use office_http_framing::front::{Fault, Front, Request, next_request};
 pub use office_http_requests::{AskFault, Asked, Field, Form, command_of};
-pub use office_http_responses::{More, answer_of, fault_answer, unavailable};
+pub use office_http_responses::{More, answer_of, fault_answer, unavailable_answer};
 pub use service::serve;
 pub use waiting::WaitsOnce;

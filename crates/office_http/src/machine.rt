@@ -15,7 +15,7 @@ use office_http_framing::front::{Fault, Request};
 use office_http_framing::machine::{Answer, Machine, Unavailable};
 use office_http_requests::{AskFault, Asked, Form, RouteCache};
 use office_http_responses::{
-    answer_of, ask_fault_answer, damaged, framing_fault_answer, unavailable,
+    answer_of, ask_fault_answer, damaged, framing_fault_answer, unavailable_answer,
 };
 use office_machine::refusal::Refusal;
 use office_machine::reply::Reply;
@@ -114,6 +114,6 @@ impl<S: Shelf> Machine<StreamTools> for Office<S> {
     }
 
     fn unavailable() -> &'static [u8] {
-        unavailable()
+        unavailable_answer()
     }
 }

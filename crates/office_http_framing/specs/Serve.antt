@@ -17,6 +17,7 @@ pub record Ends : Type 0 where
   pub source : Told
   pub sink : Told
 
+-- the two ends of a stream, by what each tells
 abbrev pub ends_of : Told → Told → Ends
 ends_of source sink = record { source = source; sink = sink }
 

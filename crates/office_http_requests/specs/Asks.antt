@@ -37,8 +37,8 @@ MayWant (Err Method) = ⊥
 MayWant (Err Json) = ⊥
 MayWant (Err (FieldFault field)) = ⊥
 
--- a step, and the next on what it gave
 infixl 10 ◌>>=◌
+-- a step, and the next on what it gave
 abbrev pub ◌>>=◌ : {A B : Type 0} → Result A AskFault → (A → Result B AskFault) → Result B AskFault
 Ok x >>= next = next x
 Err fault >>= next = Err fault

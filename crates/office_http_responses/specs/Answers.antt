@@ -4,11 +4,9 @@ use Rattle.http.specs.StatusCode.{status_text}
 use Rattle.serde_json.specs.Data.{Data}
 use Rattle.serde_json.specs.Written.{compact_text}
 use Rattle.office_machine.specs.Refusal.{line_of}
-use Rattle.office_machine.specs.declared.refusal.Refusal.TheVariants.{Unavailable}
 use Rattle.office_machine.specs.declared.reply.Reply.{Reply}
 use Rattle.office_machine.specs.declared.reply.Reply.TheVariants.{Refused}
 use Rattle.office_http_faults.specs.declared.form.Form.{Form}
-use Rattle.office_http_faults.specs.declared.form.Form.TheVariants.{Json}
 use Rattle.office_http_responses.specs.Trees.{tree_in}
 
 -- an answer with this status and this content
@@ -34,7 +32,3 @@ status_of _ = 200
 -- the answer of a reply in a form
 unfoldable pub answer_bytes : Reply → Form → List ℕ
 answer_bytes reply form = answer_text (status_of reply) (tree_in form reply)
-
--- the answer for want of memory
-unfoldable pub unavailable_bytes : List ℕ
-unavailable_bytes = answer_bytes (Refused Unavailable) Json

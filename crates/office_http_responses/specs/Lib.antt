@@ -1,4 +1,5 @@
 pub mod Answers
+pub mod Unavailable
 pub mod Faults
 pub mod Json
 pub mod RegisterTrees

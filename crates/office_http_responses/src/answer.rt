@@ -5,7 +5,7 @@ ghost use Rattle.office_machine.specs.Refusal.{line_of};
 ghost use Rattle.office_machine.specs.declared.refusal.Refusal.TheVariants.{Damaged};
 ghost use Rattle.office_machine.specs.declared.reply.Reply.TheVariants.{Refused};
 ghost use Rattle.office_http_faults.specs.declared.form.Form.{Form};
-ghost use Rattle.office_http_responses.specs.Answers.{answer_bytes, status_of, unavailable_bytes};
+ghost use Rattle.office_http_responses.specs.Answers.{answer_bytes, status_of};
 ghost use Rattle.office_http_responses.specs.Trees.{tree_in};
 
 use crate::head::with_head;
@@ -17,22 +17,11 @@ use office_machine::refusal::Refusal;
 use office_machine::reply::Reply;
 use std::alloc::{AllocError, Global};
 
-const UNAVAILABLE: &[u8] = b"HTTP/1.1 503 Service Unavailable\r\nContent-Type: application/json\r\n\
-      Content-Length: 35\r\n\r\n{\"error\":\"Unavailable\",\"number\":90}";
-
 const DAMAGED: &[u8] = b"HTTP/1.1 500 Internal Server Error\r\nContent-Type: application/json\r\n\
       Content-Length: 31\r\n\r\n{\"error\":\"Damaged\",\"number\":91}";
 
 /// The room that most contents need.
 pub(crate) const CONTENT_ROOM: usize = 240;
-
-/// The answer that stands for any other where there is no memory, or the database refused. It takes
-/// no memory.
-pub fn unavailable() -> &'static [u8]
-    ensures { result.now ≡ unavailable_bytes }
-{
-    UNAVAILABLE
-}
 
 /// The answer where a stored row is no record, in whichever form. It takes no memory.
 pub fn damaged() -> &'static [u8]

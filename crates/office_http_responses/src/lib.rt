@@ -9,7 +9,9 @@ mod fault;
 mod head;
 mod lists;
 mod reply;
+mod unavailable;
 mod writing;
 
-pub use answer::{answer_of, damaged, unavailable};
+pub use answer::{answer_of, damaged};
 pub use fault::{More, ask_fault_answer, fault_answer, framing_fault_answer};
+pub use unavailable::unavailable_answer;

@@ -30,7 +30,7 @@ side_of (Some i) = i.timing
 abbrev pub side_at : Office → ℕ → TimingSide
 side_at office id = side_of (get office.intersections id)
 
--- its name is a name, its interval is 1 to 3650 days, and its committed set breaks no rule
+-- an intersection is sound: its name is a name, its interval is 1 to 3650 days, and its committed set breaks no rule
 pub record IsSoundIntersectionIn (v : Version) (i : Intersection) : Type 0 where
   pub name : AreWords 120 i.name
   pub interval_low : 1 ≤ i.interval
@@ -40,6 +40,7 @@ pub record IsSoundIntersectionIn (v : Version) (i : Intersection) : Type 0 where
   pub no_violations : v.violations i.timing.committed ≡ []
   pub draft : IfSome i.timing.draft (IsSoundDraftIn v)
 
+-- an intersection is sound by today's limits and rules
 abbrev pub IsSoundIntersection : Intersection → Type 0
 IsSoundIntersection = IsSoundIntersectionIn today
 
@@ -49,5 +50,6 @@ pub record IsSoundIn (v : Version) (office : Office) : Type 0 where
   pub intersections : (id : ℕ) → IfSome (get office.intersections id) (IsSoundIntersectionIn v)
   pub register : IsSoundRegister office.register
 
+-- an office is sound by today's limits and rules
 abbrev pub IsSound : Office → Type 0
 IsSound = IsSoundIn today

@@ -33,5 +33,6 @@ status_of Unavailable = 503
 status_of Damaged = 500
 status_of why = 409
 
+-- a refusal's line of the table: its number, its name and the status code of an answer that shows it
 abbrev pub line_of : Refusal → RefusalLine
 line_of why = record { number = (named why).0; name = (named why).1; status = status_of why }

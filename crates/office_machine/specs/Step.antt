@@ -37,6 +37,7 @@ with_intersection office id i = record office { intersections = insert office.in
 
 -- ---- AddIntersection
 
+-- an intersection as it is added: no plan was committed, and nobody holds a draft
 abbrev pub new_intersection : ℕ → List ℕ → Intersection
 new_intersection interval name = record { name = name; interval = interval; timing = no_timing }
 
@@ -68,6 +69,7 @@ transacted office id line (Some i) = moved office id i (line i.timing)
 
 -- ---- queries
 
+-- an intersection as the query State shows it
 abbrev pub state_shown : ℕ → Intersection → IntersectionState
 state_shown id i = record {
   id = id;
@@ -88,6 +90,7 @@ timing_shown i = record {
   rows = i.timing.committed;
 }
 
+-- what the query Draft shows of a draft, with the rules that it breaks, or where there is none
 abbrev pub draft_shown : Option Draft → Reply
 draft_shown None = Refused (refusal.Draft draft.NotTransaction)
 draft_shown (Some d) = Drafted (record { owner = d.owner; rows = d.set; violations = violations_of d.set })
@@ -127,6 +130,7 @@ abbrev pub known : Office → Option Intersection → Reply × Office → Reply 
 known office None answer = (Refused refusal.UnknownIntersection, office)
 known office (Some i) answer = answer
 
+-- what is answered to a command of the register about an intersection, or about none: an intersection has to be there
 abbrev pub recorded_at : Office → Option ℕ → Reply × Office → Reply × Office
 recorded_at office None answer = answer
 recorded_at office (Some id) answer = known office (get office.intersections id) answer

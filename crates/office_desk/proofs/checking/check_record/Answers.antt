@@ -1,5 +1,7 @@
-use Rattle.std.proofs.Common.{ap, refl, subst}
-use Rattle.office_desk.proofs.TriedRecords.{checks_so}
+use Rattle.std.proofs.Common.{ap, inr, refl, subst}
+use Rattle.office_desk_decisions.proofs.ReadLemmas.{handed_reports}
+use Rattle.office_desk_decisions.specs.RegisterDamage.{MeetsRecordDamage}
+use Rattle.office_desk.proofs.TriedRecords.{cabinet_damage, checks_so}
 use Rattle.office_desk.specs.{Checking.TellsThere, Importing.register_with}
 use Rattle.office_desk.specs.declared.{importing.Taken.Taken, there.There.There}
 use Rattle.office_desk.specs.declared.checking.Checked.TheVariants as checked
@@ -26,7 +28,16 @@ returns-in_ok-there-in-Refused-clause-checks g c = λ honest office stands r reg
     let first = c.there_of.ensures.kept.honest_before honest in
     let told = (took first office stands r register).told in
     let stand = (took first office stands r register).stand in
-    let same = c.take_record.ensures.kept.same_content first in
-    let here = subst (λ (tables : Content). TellsThere tables after asked why c.in_ok-there-in-Refused.there) same (c.in_ok-there-in-Refused.ensures.told honest) in
+    let same = c.take_record.ensures.reads.kept.same_content first in
+    let here = subst (λ (tables : Content). TellsThere tables after asked why c.in_ok-there-in-Refused.there) same (c.in_ok-there-in-Refused.ensures.there honest) in
     let left = subst (λ (t : Taken). RegisterStandsSound (changed_by stored after) (register_with t r asked)) c.in-Refused.is stand in
     checks_so stored after asked r _ _ _ _ c.in-Refused.is told (ap (λ (it : There). checked.Refused why it) (here r left)) stand
+
+pub returns-in_err-taken-clause-checks : goal.returns-in_err-taken-clause-checks
+returns-in_err-taken-clause-checks g c = handed_reports _ _ _ _ _ c.from_residual.ensures.1
+    (λ damaged honest. cabinet_damage _ c.args.command.now _ (c.in_err-taken.ensures.takes damaged honest))
+
+pub returns-in_err-there-in-Refused-clause-checks : goal.returns-in_err-there-in-Refused-clause-checks
+returns-in_err-there-in-Refused-clause-checks g c = handed_reports _ _ _ _ _ c.from_residual-in_err-there-in-Refused.ensures.1 (λ damaged honest.
+    let same = c.take_record.ensures.reads.kept.same_content (c.there_of.ensures.kept.honest_before honest) in
+    inr (subst (λ (tables : Content). MeetsRecordDamage tables c.args.command.now) same (c.in_err-there-in-Refused.ensures.there damaged honest)))

@@ -3,7 +3,8 @@ use Rattle.office_desk_decisions.specs.RegisterDamage.{MeetsRecordDamage}
 use Rattle.office_desk.specs.{Checking.ChecksRecord, Recording.AreFound, Recording.HasDamagedAbout}
 use Rattle.office_machine.specs.Step.{cabinet_of}
 use Rattle.office_tables_shelf.specs.Content.{Content}
-use Rattle.office_desk.proofs.TriedRecords.{CheckedSoFar, checked_more, damage_in_check, handed_err, none_checked}
+use Rattle.office_desk.proofs.TriedRecords.{CheckedSoFar, checked_more, damage_in_check, none_checked}
+use Rattle.office_desk_decisions.proofs.ReadLemmas.{handed_reports}
 use Rattle.office_desk.proofs.Imports.{is_next}
 use Rattle.office_desk.proofs.FoundAgain.{none_found}
 use Rattle.office_tables_shelf.proofs.KeptLemmas.{kept_on}
@@ -47,13 +48,12 @@ loop-command-preserved g c =
       kept = kept_on shelf.is_honest shelf.content shelf.written shelf.may_leave c.args.shelf.now c.loop-command.shelf c.check_record.new.shelf inv.kept c.check_record.ensures.kept;
     }
 
-pub returns-in_err-one-clause-damaged : goal.returns-in_err-one-clause-damaged
-returns-in_err-one-clause-damaged g c = λ damaged honest.
+pub returns-in_err-one-clause-checks : goal.returns-in_err-one-clause-checks
+returns-in_err-one-clause-checks g c = handed_reports _ _ _ _ _ c.from_residual.ensures.1 (λ damaged honest.
     let index = c.loop-command.command-index in
     let item = c.command-item.result in
     let next = is_next index item refl c.loop-command-test.true c.command-item.is in
     let first = c.check_record.ensures.kept.honest_before honest in
-    let told = handed_err _ c.check_record.result c.in_err-one.field-0.0 _ c.in_err-one.was c.from_residual.ensures.1 damaged in
     damage_in_check (g.S.Shelf.content c.args.shelf.now) c.args.records.now index item next
     (subst (λ (tables : Content). HasDamagedAbout tables (cabinet_of item) ⊎ MeetsRecordDamage tables item)
-    (c.loop-command.invariant.kept.same_content first) (c.check_record.ensures.damaged told honest))
+    (c.loop-command.invariant.kept.same_content first) (c.in_err-one.ensures.checks damaged honest)))

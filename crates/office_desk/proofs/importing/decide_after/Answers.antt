@@ -1,6 +1,5 @@
 use Rattle.std.proofs.Common.{◌∙◌, Bool, Ok, ap, refl}
-use Rattle.office_tables_shelf.specs.Shelf.{IsTold}
-use Rattle.office_desk_cabinet.proofs.Opened.{handed_told}
+use Rattle.office_desk_decisions.proofs.ReadLemmas.{handed_told, told_on}
 use Rattle.office_desk.proofs.Recorded.{about_tells, decides_stored}
 use Rattle.office_desk.proofs.FoundAgain.{not_told, told_there}
 use Rattle.office_desk.proofs.importing.decide_after.Goals as goal
@@ -13,25 +12,14 @@ returns-then-not-branch-clause-decides g c = (
   λ honest. about_tells _ _ _ _ _ c.cabinet_of.ensures c.if-not-branch.true (c.in_ok-is_found.ensures.tells honest),
 )
 
-pub returns-then-not-branch-clause-open : goal.returns-then-not-branch-clause-open
-returns-then-not-branch-clause-open g c =
-    let reads = not_told (Ok c.in_ok-is_found.field-0) c.if-not-branch.true in
-    record {
-      clean_before = c.in_ok-is_found.ensures.open.clean_before;
-      stays = λ clean told honest. c.in_ok-is_found.ensures.open.read reads clean tt;
-      read = λ none clean told. c.in_ok-is_found.ensures.open.read reads clean tt;
-    }
+pub returns-then-not-branch-clause-reads : goal.returns-then-not-branch-clause-reads
+returns-then-not-branch-clause-reads g c =
+    told_on _ _ _ (Ok c.in_ok-is_found.field-0) _ _ _ c.in_ok-is_found.ensures.reads (not_told (Ok c.in_ok-is_found.field-0) c.if-not-branch.true) (λ told. tt)
 
-pub returns-in_err-is_found-clause-open : goal.returns-in_err-is_found-clause-open
-returns-in_err-is_found-clause-open g c =
-    let reads = λ (clean : g.S.Shelf.is_clean c.is_found.new.shelf) (told : IsTold c.from_residual.result).
-    c.is_found.ensures.open.read (not_told c.is_found.result (ap told_there c.in_err-is_found.was)) clean
-    (handed_told c.from_residual.result c.is_found.result c.in_err-is_found.field-0.0 c.in_err-is_found.was c.from_residual.ensures.1 told) in
-    record {
-      clean_before = c.is_found.ensures.open.clean_before;
-      stays = λ clean told honest. reads clean told;
-      read = λ none clean told. reads clean told;
-    }
+pub returns-in_err-is_found-clause-reads : goal.returns-in_err-is_found-clause-reads
+returns-in_err-is_found-clause-reads g c =
+    told_on _ _ _ _ c.from_residual.result _ _ c.is_found.ensures.reads (not_told c.is_found.result (ap told_there c.in_err-is_found.was))
+    (handed_told _ _ c.in_err-is_found.field-0.0 c.in_err-is_found.was c.from_residual.ensures.1)
 
 -- ---- the register decides
 
@@ -39,7 +27,7 @@ pub returns-clause-decides : goal.returns-clause-decides
 returns-clause-decides g c =
     let before = c.decide_record.ensures.kept.honest_before in (
       λ honest. about_tells _ _ _ _ _ c.cabinet_of.ensures c.if-not-branch.false (c.in_ok-is_found.ensures.tells (before honest)),
-      decides_stored (λ honest. c.is_found.ensures.kept.same_content (before honest)) refl c.in_ok-told.ensures.decides,
+      decides_stored (λ honest. c.is_found.ensures.reads.kept.same_content (before honest)) refl c.in_ok-told.ensures.decides,
     )
 
 pub returns-clause-found : goal.returns-clause-found

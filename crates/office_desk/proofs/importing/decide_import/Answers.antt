@@ -1,14 +1,12 @@
 use Rattle.std.proofs.Common.{◌≡◌, ◌+◌, ◌≤◌, ◌∙◌, List, length, inl, inr, ap, sym, refl, subst, arith, rules}
 use Rattle.cabinet_core.specs.declared.command.RecordCommand.{RecordCommand}
-use Rattle.office_tables_shelf.specs.Shelf.{IsTold}
-use Rattle.office_desk_cabinet.proofs.Opened.{handed_told}
+use Rattle.office_desk_decisions.proofs.ReadLemmas.{handed_told, unread}
 use Rattle.office_desk.specs.{Damage.MeetsCabinetDamage, Recording.AreFound, Importing.IsNamedTaken, Importing.LeavesAnyTiming}
 use Rattle.office_machine.specs.{Step.cabinet_of, declared.reply.Reply.TheVariants.Imported}
-use Rattle.office_desk.proofs.Imports.{SoFar, counted_on, damage_of_record, first_refused, import_decides, is_next, none_next, nothing_leaves, nothing_written, nothing_yet, one_more, refused_all, refused_decides, some_read, taken_open, takes_so, writes_left, writes_whole}
+use Rattle.office_desk.proofs.Imports.{SoFar, counted_on, damage_of_record, first_refused, import_decides, is_next, none_next, nothing_leaves, nothing_written, nothing_yet, one_more, refused_all, refused_decides, some_read, taken_reads, takes_so, writes_left, writes_whole}
 use Rattle.office_desk.proofs.{FoundAgain.none_found, Blames.WentOn, Blames.blames_next, Blames.taken_blames}
-use Rattle.office_desk_decisions.proofs.Decisions.{fault_decides}
+use Rattle.office_desk_decisions.proofs.Decisions.{handed_decides}
 use Rattle.office_desk.proofs.importing.decide_import.Goals.{in-Added, in-Same}
-use Rattle.office_tables_shelf.proofs.KeptLemmas.{kept_on}
 use Rattle.office_desk.proofs.importing.decide_import.Goals as goal
 
 pub loop-index-init : goal.loop-index-init
@@ -20,17 +18,14 @@ loop-index-init g c =
       so_far = λ honest. subst (SoFar stored c.args.records.now 0 0 0) (sym none) (nothing_yet stored c.args.records.now);
       found = λ honest. none_found stored c.new-found.result c.new-found.ensures.empty;
       fresh = λ start. none;
-      clean = λ clean. clean;
-      stays = λ clean honest. honest;
-      read = λ clean later. absurd (later refl);
+      reads = unread _ _ _ _ (λ later told. absurd (later refl));
       leaves = subst LeavesAnyTiming (sym none) nothing_leaves;
       writes = λ table. nothing_written table c.new-pending.result c.args.records.now none;
-      kept = record { honest_before = λ honest. honest; same_content = λ honest. refl; same_counts = refl; same_outcomes = λ tables left. left };
     }
 
 pub take_record-requires : goal.take_record-requires
 take_record-requires g c = λ honest.
-    let kept = c.loop-index.invariant.kept in
+    let kept = c.loop-index.invariant.reads.kept in
     subst (λ tables. AreFound tables c.loop-index.found) (sym (kept.same_content honest)) (c.loop-index.invariant.found honest)
 
 pub overflow_add-added : goal.overflow_add-added
@@ -49,27 +44,22 @@ loop-index-preserved g c =
     let t = c.in_ok-taken.taken in
     let told = c.in_ok-taken.ensures in
     let next = is_next index item c.as_slice-command-items.ensures c.loop-index-test.true c.command-item.is in
-    let now_open = λ (clean : shelf.is_clean c.take_record.new.shelf).
-    taken_open shelf.is_clean shelf.is_honest before index _ c.loop-index.shelf c.take_record.new.shelf c.loop-index.invariant.fresh c.loop-index.invariant.read told.open clean tt in
     let came : WentOn t c.loop-index.added c.loop-index.same c.match-taken.added c.match-taken.same =
     elim c.match-taken.branch [ in-Added w ↦ inl (w.in-Added.is, w.added-is, w.same-is) | in-Same w ↦ inr (w.in-Same.is, w.added-is, w.same-is) ] in
     record {
       counted = counted_on c.loop-index.added c.loop-index.same index _ _ t c.loop-index.invariant.counted came;
       so_far = λ honest.
-          let first = c.take_record.ensures.kept.honest_before honest in
+          let first = c.take_record.ensures.reads.kept.honest_before honest in
           one_more _ all index c.loop-index.added c.loop-index.same before c.in_ok-taken.next item t (c.loop-index.invariant.so_far first) next
-          (takes_so (c.loop-index.invariant.kept.same_content first) (told.takes honest)) _ _ came;
+          (takes_so (c.loop-index.invariant.reads.kept.same_content first) (told.takes honest)) _ _ came;
       found = λ honest.
-          let first = c.take_record.ensures.kept.honest_before honest in
-          subst (λ tables. AreFound tables c.take_record.new.found) (c.loop-index.invariant.kept.same_content first)
+          let first = c.take_record.ensures.reads.kept.honest_before honest in
+          subst (λ tables. AreFound tables c.take_record.new.found) (c.loop-index.invariant.reads.kept.same_content first)
           (told.found honest);
       fresh = λ start. absurd (let e : index + 1 ≡ 0 = start in let never : ⊥ = omega (arith, e) in never);
-      clean = λ clean. c.loop-index.invariant.clean (told.open.clean_before clean);
-      stays = λ clean honest. now_open clean;
-      read = λ clean later. now_open clean;
+      reads = taken_reads shelf _ before index _ _ _ _ _ c.loop-index.invariant.fresh c.loop-index.invariant.reads told.reads (λ told. tt);
       leaves = told.within.leaves c.loop-index.invariant.leaves;
       writes = λ table. writes_left table all index item _ _ _ next (c.loop-index.invariant.writes table) (told.within.writes table);
-      kept = kept_on shelf.is_honest shelf.content shelf.written shelf.may_leave c.args.shelf.now c.loop-index.shelf c.take_record.new.shelf c.loop-index.invariant.kept c.take_record.ensures.kept;
     }
 
 pub returns-in_err-taken : goal.returns-in_err-taken
@@ -79,20 +69,13 @@ returns-in_err-taken g c =
     let inv = c.loop-index.invariant in
     let took = c.take_record.ensures in
     let next = is_next c.loop-index.index item c.as_slice-command-items.ensures c.loop-index-test.true c.command-item.is in
-    let now_open = λ (clean : shelf.is_clean c.take_record.new.shelf) (told : IsTold c.from_residual.result).
-    taken_open shelf.is_clean shelf.is_honest c.loop-index.pending c.loop-index.index _ c.loop-index.shelf c.take_record.new.shelf inv.fresh inv.read took.open clean
-    (handed_told _ _ c.in_err-taken.field-0.0 c.in_err-taken.was c.from_residual.ensures.1 told) in
     record {
-      decides = fault_decides _ _ _ _ _ _ c.in_err-taken.was c.from_residual.ensures.1
+      decides = handed_decides _ _ _ _ _ c.from_residual.ensures.1
           (λ damaged honest. damage_of_record _ c.args.records.now c.loop-index.index item next
-          (subst (λ tables. MeetsCabinetDamage tables item (cabinet_of item)) (inv.kept.same_content (took.kept.honest_before honest)) (took.damaged damaged honest)));
+          (subst (λ tables. MeetsCabinetDamage tables item (cabinet_of item)) (inv.reads.kept.same_content (took.reads.kept.honest_before honest)) (c.in_err-taken.ensures.takes damaged honest)));
       blames = search rules;
-      kept = kept_on _ _ _ _ _ _ _ inv.kept took.kept;
-      «open» = record {
-        clean_before = λ clean. inv.clean (took.open.clean_before clean);
-        stays = λ clean told honest. now_open clean told;
-        read = λ some clean told. now_open clean told;
-      };
+      reads = taken_reads shelf _ c.loop-index.pending c.loop-index.index _ _ _ _ _ inv.fresh inv.reads took.reads
+          (handed_told c.from_residual.result _ c.in_err-taken.field-0.0 c.in_err-taken.was c.from_residual.ensures.1);
       nothing = λ none. absurd (none_next _ c.loop-index.index item next none);
     }
 
@@ -104,11 +87,9 @@ returns-in-Refused g c =
     let inv = c.loop-index.invariant in
     let next = is_next c.loop-index.index item c.as_slice-command-items.ensures c.loop-index-test.true c.command-item.is in
     let told = c.in_ok-taken.ensures in
-    let first = c.take_record.ensures.kept.honest_before in
+    let first = c.take_record.ensures.reads.kept.honest_before in
     let takes = λ (honest : shelf.is_honest c.take_record.new.shelf).
-    takes_so (inv.kept.same_content (first honest)) (told.takes honest) in
-    let now_open = λ (clean : shelf.is_clean c.take_record.new.shelf).
-    taken_open shelf.is_clean shelf.is_honest c.loop-index.pending c.loop-index.index _ c.loop-index.shelf c.take_record.new.shelf inv.fresh inv.read told.open clean tt in
+    takes_so (inv.reads.kept.same_content (first honest)) (told.takes honest) in
     record {
       decides = refused_decides _ _ all (c.loop-index.index + 1) _ _
           (λ honest office stands. refused_all _ all c.loop-index.index c.loop-index.added c.loop-index.same c.loop-index.pending c.in_ok-taken.next item c.in_ok-taken.taken
@@ -118,12 +99,7 @@ returns-in-Refused g c =
           (subst (IsNamedTaken item) c.in-Refused.is told.within.named)
           (λ honest. first_refused _ all c.loop-index.index c.loop-index.added c.loop-index.same c.loop-index.pending c.in_ok-taken.next item c.in_ok-taken.taken
           (inv.so_far (first honest)) next (takes honest) c.in-Refused.refusal c.in-Refused.is);
-      kept = kept_on _ _ _ _ _ _ _ inv.kept c.take_record.ensures.kept;
-      «open» = record {
-        clean_before = λ clean. inv.clean (told.open.clean_before clean);
-        stays = λ clean told honest. now_open clean;
-        read = λ some clean told. now_open clean;
-      };
+      reads = taken_reads shelf _ c.loop-index.pending c.loop-index.index _ _ _ _ _ inv.fresh inv.reads told.reads (λ told. tt);
       nothing = λ none. absurd (none_next _ c.loop-index.index item next none);
     }
 
@@ -137,11 +113,11 @@ returns g c =
       decides = import_decides _ _ all index c.loop-index.added c.loop-index.same c.loop-index.pending _ high inv.so_far inv.leaves
           (λ table. writes_whole table all index _ _ high (inv.writes table)) c.all_or_none-2.ensures.reply (c.all_or_none-2.ensures.all (λ refused. refused) ∙ c.into_changes-2.ensures);
       blames = taken_blames _ _ _ _ (Imported c.loop-index.added c.loop-index.same) c.all_or_none-2.ensures.reply (λ why e. cc);
-      kept = inv.kept;
-      «open» = record {
-        clean_before = inv.clean;
-        stays = λ clean told honest. inv.stays clean honest;
-        read = λ some clean told. inv.read clean (some_read all index high some);
+      reads = record {
+        kept = inv.reads.kept;
+        clean_before = inv.reads.clean_before;
+        stays = λ clean told honest. inv.reads.stays clean tt honest;
+        read = λ some clean told. inv.reads.read (some_read all index high some) clean tt;
       };
       nothing = λ none.
           let size : length all ≡ 0 = ap (λ (list : List RecordCommand). length list) none in

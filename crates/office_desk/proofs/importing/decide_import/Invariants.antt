@@ -1,5 +1,6 @@
 use Rattle.std.proofs.Common.{◌≡◌, ◌≢◌, ◌+◌, ◌≤◌, [], drop}
-use Rattle.office_tables_shelf.specs.{Counts.writes_in, Shelf.IsKept, declared.rows.Table.Table}
+use Rattle.office_tables_shelf.specs.{Counts.writes_in, declared.rows.Table.Table}
+use Rattle.office_desk_decisions.proofs.ReadLemmas.{HasRead}
 use Rattle.office_desk.specs.{Changes.most_import_writes, Importing.LeavesAnyTiming, Recording.AreFound}
 use Rattle.office_desk.proofs.Imports.{SoFar}
 use Rattle.office_desk.proofs.importing.decide_import.Given as goal
@@ -13,10 +14,7 @@ invariant-loop-index g l =
       so_far : shelf.is_honest l.shelf → SoFar (shelf.content l.fn.shelf) l.records l.index l.added l.same l.pending;
       found : shelf.is_honest l.shelf → AreFound (shelf.content l.fn.shelf) l.found;
       fresh : l.index ≡ 0 → l.pending ≡ [];
-      clean : shelf.is_clean l.shelf → shelf.is_clean l.fn.shelf;
-      stays : shelf.is_clean l.shelf → shelf.is_honest l.fn.shelf → shelf.is_honest l.shelf;
-      read : shelf.is_clean l.shelf → l.index ≢ 0 → shelf.is_honest l.shelf;
+      reads : HasRead shelf (l.index ≢ 0) l.fn.shelf l.shelf;
       leaves : LeavesAnyTiming l.pending;
       writes : (table : Table) → writes_in table l.pending + most_import_writes (drop l.index l.records) table ≤ most_import_writes l.records table;
-      kept : IsKept shelf.is_honest shelf.content shelf.written shelf.may_leave l.fn.shelf l.shelf;
     }

@@ -1,6 +1,6 @@
 use Rattle.std.proofs.Common.{◌∙◌, Bool, Ok, ap}
 use Rattle.office_machine.specs.Step.{cabinet_of}
-use Rattle.office_desk_cabinet.proofs.Opened.{handed_told}
+use Rattle.office_desk_decisions.proofs.ReadLemmas.{handed_told, told_on}
 use Rattle.office_desk.proofs.Recorded.{about_tells, at_unknown, gone_whole, decides_stored, meets_record, record_decides, unknown_named}
 use Rattle.office_desk_decisions.proofs.Decisions.{fault_decides, unknown_decides}
 use Rattle.office_desk.proofs.recording.decide_record_command.Goals as goal
@@ -20,7 +20,7 @@ pub returns-clause-decides : goal.returns-clause-decides
 returns-clause-decides g c =
     let before = c.decide_record.ensures.kept.honest_before in
     record_decides _ (g.S.Shelf.content c.args.shelf.now) _ c.in_ok-told.told _
-    (decides_stored (λ honest. c.is_known.ensures.kept.same_content (before honest)) c.new-pending.ensures c.in_ok-told.ensures.decides)
+    (decides_stored (λ honest. c.is_known.ensures.reads.kept.same_content (before honest)) c.new-pending.ensures c.in_ok-told.ensures.decides)
     (λ honest. about_tells _ _ _ _ _ c.cabinet_of.ensures c.if-not-branch.false (c.in_ok-is_known.ensures.tells (before honest)))
     c.answer.ensures.reply c.answer.ensures.changes
 
@@ -32,11 +32,9 @@ returns-in_err-told-clause-decides g c =
     let first = c.decide_record.ensures.kept.honest_before honest in
     let about = about_tells tables _ _ _ _ c.cabinet_of.ensures c.if-not-branch.false (c.in_ok-is_known.ensures.tells first) in
     meets_record tables asked (cabinet_of asked) about.told
-    (rw (c.is_known.ensures.kept.same_content first) at (rw damaged at (c.decide_record.ensures.decides.step honest))))
+    (rw (c.is_known.ensures.reads.kept.same_content first) at (rw damaged at (c.decide_record.ensures.decides.step honest))))
 
-pub returns-in_err-is_known-clause-open : goal.returns-in_err-is_known-clause-open
-returns-in_err-is_known-clause-open g c = record {
-  clean_before = c.is_known.ensures.open.clean_before;
-  told = λ clean told. c.is_known.ensures.open.read c.in_err-is_known.ensures.fault clean
-      (handed_told c.from_residual.result c.is_known.result c.in_err-is_known.field-0.0 c.in_err-is_known.was c.from_residual.ensures.1 told);
-}
+pub returns-in_err-is_known-clause-reads : goal.returns-in_err-is_known-clause-reads
+returns-in_err-is_known-clause-reads g c =
+    told_on _ _ _ _ c.from_residual.result _ _ c.is_known.ensures.reads c.in_err-is_known.ensures.fault
+    (handed_told _ _ c.in_err-is_known.field-0.0 c.in_err-is_known.was c.from_residual.ensures.1)

@@ -1,5 +1,5 @@
-use Rattle.std.proofs.Common.{◌≡◌, ◌∙◌, true, refl, subst, sym}
-use Rattle.office_desk.specs.Known.{TellsIntersection}
+use Rattle.std.proofs.Common.{◌∙◌, true, refl, subst, sym}
+use Rattle.office_desk.specs.Recording.{TellsIntersection}
 use Rattle.office_desk.proofs.Recorded.{known_read, row_stands}
 use Rattle.office_desk.proofs.recording.is_known.Goals as goal
 
@@ -11,9 +11,9 @@ returns-in_default-clause-tells g c = λ honest.
 pub returns-clause-tells : goal.returns-clause-tells
 returns-clause-tells g c = λ honest.
     let tables = g.S.Shelf.content c.args.shelf.now in
-    let reads = c.in_ok-row.ensures.row honest in
+    let row = c.in_ok-row.ensures.row honest in
     subst (λ about. TellsIntersection tables about c.is_some.result) (sym c.in-Some.is) (record {
-      known = λ office stands. c.is_some.ensures ∙ known_read _ c.in-Some.id c.in_ok-row.row reads office stands;
-      told = c.is_some.ensures ∙ row_stands tables c.in-Some.id c.in_ok-row.row reads;
-      whole = c.in_ok-row.ensures.whole honest;
+      known = λ office stands. c.is_some.ensures ∙ known_read _ c.in-Some.id c.in_ok-row.row row.0 office stands;
+      told = c.is_some.ensures ∙ row_stands tables c.in-Some.id c.in_ok-row.row row.0;
+      whole = row.1;
     })

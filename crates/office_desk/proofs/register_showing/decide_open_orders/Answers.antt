@@ -23,11 +23,11 @@ returns-clause-decides g c =
     (λ e. cc) (λ why e. absurd cc) c.unchanged.ensures.no_changes
     (λ honest.
     let first = c.open_orders.ensures.kept.honest_before honest in
-    row_after _ c.args.id _ (known.tells first).whole (rw (c.is_known.ensures.kept.same_content first) at (list.whole honest)))
+    row_after _ c.args.id _ (known.tells first).whole (rw (c.is_known.ensures.reads.kept.same_content first) at (list.whole honest)))
     (λ honest office stands.
     let first = c.open_orders.ensures.kept.honest_before honest in
     orders_show _ office c.args.id _ stands (λ other at. sym c.if-not-known.false ∙ (known.tells first).known other at)
-    (rw (c.is_known.ensures.kept.same_content first) at (list.shows honest)))
+    (rw (c.is_known.ensures.reads.kept.same_content first) at (list.shows honest)))
 
 pub returns-in_err-list-clause-decides : goal.returns-in_err-list-clause-decides
 returns-in_err-list-clause-decides g c =
@@ -35,4 +35,4 @@ returns-in_err-list-clause-decides g c =
     (λ damaged honest.
     let first = c.open_orders.ensures.kept.honest_before honest in
     let known = sym c.if-not-known.false ∙ (c.in_ok-known.ensures.tells first).told in
-    inr (sym known, rw (c.is_known.ensures.kept.same_content first) at (c.open_orders.ensures.damaged damaged honest)))
+    inr (sym known, rw (c.is_known.ensures.reads.kept.same_content first) at (c.open_orders.ensures.damaged damaged honest)))

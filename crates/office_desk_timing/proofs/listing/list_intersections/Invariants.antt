@@ -1,6 +1,8 @@
 use Rattle.std.proofs.Common.{◌≡◌, map, take}
+use Rattle.std.specs.Prelude.{⊤}
 use Rattle.std.specs.List.{AllByRecursion}
-use Rattle.office_tables_shelf.specs.Shelf.{IsIntersectionWithin, IsKept, ListsIntersections}
+use Rattle.office_tables_shelf.specs.Shelf.{IsIntersectionWithin, ListsIntersections}
+use Rattle.office_desk_decisions.proofs.ReadLemmas.{HasRead}
 use Rattle.office_desk_timing.specs.Listing.{listed_in}
 use Rattle.office_desk_timing.proofs.listing.list_intersections.Given as goal
 
@@ -12,7 +14,5 @@ invariant-loop-id g l =
       read : shelf.is_honest l.shelf → ListsIntersections (shelf.content l.fn.shelf) l.id-items;
       within : shelf.is_honest l.shelf → AllByRecursion IsIntersectionWithin l.id-items;
       listed : shelf.is_honest l.shelf → l.found.items ≡ map (listed_in (shelf.content l.fn.shelf)) (take l.id-index l.id-items);
-      clean : shelf.is_clean l.shelf → shelf.is_clean l.fn.shelf;
-      opened : shelf.is_clean l.shelf → shelf.is_honest l.shelf;
-      kept : IsKept shelf.is_honest shelf.content shelf.written shelf.may_leave l.fn.shelf l.shelf;
+      reads : HasRead shelf ⊤ l.fn.shelf l.shelf;
     }

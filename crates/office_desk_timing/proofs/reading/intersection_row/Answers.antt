@@ -1,7 +1,7 @@
 use Rattle.office_desk_timing.proofs.WholeRows.{read_whole}
 use Rattle.office_desk_timing.proofs.reading.intersection_row.Goals as goal
 
-pub returns-clause-whole : goal.returns-clause-whole
-returns-clause-whole g c = λ honest.
-    read_whole (g.S.Shelf.content c.args.shelf.now) c.args.id c.in_ok-row.row
-    (c.in_ok-row.ensures.row honest) c.in_ok-row.ensures.within
+pub returns-clause-row : goal.returns-clause-row
+returns-clause-row g c = λ honest.
+    let row = c.in_ok-row.ensures.row honest in
+    (row, read_whole (g.S.Shelf.content c.args.shelf.now) c.args.id c.in_ok-row.row row c.in_ok-row.ensures.within)
