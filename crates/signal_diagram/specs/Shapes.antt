@@ -1,6 +1,6 @@
 -- What is drawn of a pattern, in tenths of a second from the beginning of the cycle. A lane is
 -- numbered from the top, from 0.
-use Rattle.std.specs.Prelude.{ℕ, zero, suc, ◌+◌, ◌-◌, ◌*◌, ◌/◌, min, max, nat_lt, Bool, true, false, if◌then◌else◌, List, [], ◌∷◌, ◌++◌, flat_map, map, length, Option, Some, None}
+use Rattle.std.specs.Prelude.{ℕ, ◌+◌, ◌-◌, ◌*◌, ◌/◌, min, max, nat_lt, Bool, true, false, if◌then◌else◌, List, [], ◌∷◌, ◌++◌, flat_map, map, length, Option, Some, None}
 use Rattle.signal_records.specs.declared.record.Ped.{Ped}
 use Rattle.signal_records.specs.declared.record.Pattern.{Pattern}
 use Rattle.signal_records.specs.declared.record.Phase.{Phase}
@@ -55,8 +55,8 @@ interval lane band comes from to =
     if nat_lt from to then shape.Interval lane band comes from to ∷ [] else []
 
 -- yellow, and red to the end of the phase
-abbrev pub changes : ℕ → Bar → Phase → List Shape
-changes lane bar phase =
+abbrev pub yellow_and_red : ℕ → Bar → Phase → List Shape
+yellow_and_red lane bar phase =
     interval lane Yellow true (yellow_from bar phase) (tenth_before bar phase.red)
     ++ interval lane Red true (tenth_before bar phase.red) (10 * bar.to)
 
@@ -82,7 +82,7 @@ intervals lane comes bar None = []
 intervals lane comes bar (Some phase) =
     let limit = yellow_from bar phase in
     interval lane Green true (green_from bar limit comes phase.ped) limit
-    ++ walking lane comes bar limit phase.ped ++ changes lane bar phase
+    ++ walking lane comes bar limit phase.ped ++ yellow_and_red lane bar phase
 
 -- a phase with its intervals, its edge and its words, as its split row has it
 abbrev pub phase_shapes : Rows → Pattern → ℕ → Bar → List Shape

@@ -109,6 +109,7 @@ seconds_words seconds = if nat_lt seconds 10 then [] else (codes ": " ++ decimal
 
 -- ---- the shapes
 
+-- what is written of a shape, where it stands
 abbrev pub svg_of : Shape → List ℕ
 svg_of (shape.Ring lane ring) =
     words_from 12 (top_of lane + 40) ++ codes "Ring " ++ decimal ring ++ words_end

@@ -2,7 +2,7 @@
 
 ghost use Rattle.std.specs.Prelude.{◌≡◌, ◌++◌, ◌≤◌, OnOk, length};
 ghost use Rattle.std.specs.Option.{option_copied};
-ghost use Rattle.signal_diagram.specs.Shapes.{calls_walk, tenth_after, tenth_before, yellow_from, green_from, interval, changes, cut, walking, intervals, phase_shapes, lane_shapes, lanes_shapes};
+ghost use Rattle.signal_diagram.specs.Shapes.{calls_walk, tenth_after, tenth_before, yellow_from, green_from, interval, yellow_and_red, cut, walking, intervals, phase_shapes, lane_shapes, lanes_shapes};
 
 use crate::chart::{Bar, Lane};
 use crate::shapes::{Band, Shape};
@@ -77,13 +77,13 @@ fn add_interval(
 }
 
 /// Adds yellow and red, the last tenths of a phase.
-fn add_changes(
+fn add_yellow_and_red(
     shapes: &mut Vec<Shape>,
     lane: u32,
     bar: &Bar,
     phase: &Phase,
 ) -> Result<(), AllocError>
-    ensures { OnOk result (shapes.new.items ≡ shapes.old.items ++ changes lane bar.now phase.now) }
+    ensures { OnOk result (shapes.new.items ≡ shapes.old.items ++ yellow_and_red lane bar.now phase.now) }
 {
     let to = bar.to;
     let red_from = tenth_before(bar, u16::from(phase.red));
@@ -163,7 +163,7 @@ fn add_intervals(
     let begin = green_from(bar, limit, comes, phase.ped);
     add_interval(shapes, lane, Band::Green, true, begin, limit)?;
     add_walking(shapes, lane, comes, bar, limit, phase.ped)?;
-    add_changes(shapes, lane, bar, phase)
+    add_yellow_and_red(shapes, lane, bar, phase)
 }
 
 /// Adds a phase, as its split row has it.

@@ -1,4 +1,3 @@
-use Rattle.std.proofs.Common.{rules}
 use Rattle.signal_rules.proofs.Starts.{agree_by_starts}
 use Rattle.signal_diagram.proofs.agreement.lanes_agree.Goals as goal
 
