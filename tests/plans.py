@@ -1,6 +1,7 @@
 #!/usr/bin/env python3
 """Compares the program with the second office (tests/model) on drawn plans, with reasons and
-warnings and without: what is printed must be what the model says, byte for byte.
+warnings and without, and the pictures of their patterns: what is printed must be what the model
+says, byte for byte.
 
     tests/plans.py [PROGRAM [SEED COUNT]]
 
@@ -19,11 +20,12 @@ import subprocess
 import sys
 import tempfile
 
-from model import plan, planning, rows
+from model import pictures, plan, planning, rows, rules
 from program import found
 
 KEPT = 3  # a plan in so many is verified as it was drawn
 PLAIN = 10  # a plan in so many is verified without reasons too
+DRAWN = 10  # the patterns of a plan in so many are drawn
 BREAKS = 3  # the status where a plan breaks a rule
 # What each rule may be told for, with a mark for each number. That a phase stands twice can't come
 # alone: within a list phases are distinct, and in the row of another ring that is told first.
@@ -102,6 +104,17 @@ def verified(program, path, *flags):
     return (ran.stdout + ran.stderr).decode().splitlines(), ran.returncode
 
 
+def misdrawn(program, path, text):
+    """What is wrong with the picture of a pattern of a plan, if anything is."""
+    made = rows.plan_of(text)
+    for number in sorted(rules.View(made).patterns):
+        ran = subprocess.run([program, "diagram", "--file", path, str(number)], capture_output=True)
+        came = (ran.stdout + ran.stderr).decode(), ran.returncode
+        if came != (pictures.picture(made, number), 0):
+            return f"the picture of pattern {number}:\n{text}{came[0]}"
+    return None
+
+
 def differs(program, folder, seed):
     """The lines that are told of a plan, and what is wrong with them, if anything is."""
     text = drawn(seed)
@@ -115,8 +128,9 @@ def differs(program, folder, seed):
         if came != (wanted, status):
             return [], f"plan {seed}, {flags}:\n{text}told {wanted}, {status}\ncame {came}"
         told = [it for it in wanted if not it.startswith("note: ")] if flags else told
+    wrong = misdrawn(program, path, text) if seed % DRAWN == 0 else None
     os.remove(path)
-    return told, None
+    return told, wrong and f"plan {seed}, {wrong}"
 
 
 def marked(text):
@@ -152,7 +166,8 @@ def main():
     missing = [it for it in [*REASONS, *WARNINGS] if not tally[it]]
     if missing and count >= 20_000:
         sys.exit(f"plans.py: these did not come: {missing}")
-    print(f"{count} drawn plans, {whole} break no rule: the program tells what the model does")
+    print(f"{count} drawn plans, {whole} break no rule: the program tells what the model does, and "
+          f"draws the patterns of one in {DRAWN} as it does")
 
 
 if __name__ == "__main__":

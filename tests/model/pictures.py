@@ -6,7 +6,7 @@ from .rules import View, of_pattern
 LEFT, RIGHT, LEAST, LANES_TOP, PITCH, RISE = 120, 60, 900, 140, 120, 12
 # Of each stretch how far below the top of its lane it begins, how high it is, and its colour.
 BANDS = {
-    "green": (0, 64, "#dcefd8"),
+    "green": (34, 30, "#dcefd8"),
     "lead": (34, 30, "#9fb4c7"),
     "yellow": (34, 30, "#ffd84d"),
     "red": (34, 30, "#b3261e"),
@@ -16,10 +16,11 @@ BANDS = {
 OPENING = "<svg xmlns='http://www.w3.org/2000/svg'"
 LETTERS = "font-family='sans-serif' font-size='20'>"
 GROUND = "<rect width='100%' height='100%' fill='white'/>"
-# The first broken rule of these two is named in the picture.
+# The first broken rule of these three is named in the picture.
 NOTES = {
     "V9": "V9: the sequence has no row, or a phase has no split.",
     "V12": "V12: the splits of a ring do not add up to the cycle.",
+    "V13": "V13: two phases that conflict time together.",
 }
 
 
@@ -35,7 +36,7 @@ def dashed(x, y, width, height):
 
 
 def wedge(x, y):
-    """The mark of a walk that goes on past the end of its phase, which it points at."""
+    """The mark of a walk that goes on past the point where yellow begins, at which it points."""
     return f"<polygon points='{x - 10},{y} {x},{y + 8} {x - 10},{y + 16}' fill='black'/>"
 
 
@@ -62,18 +63,21 @@ def opening(number, width, height, in_page):
 
 
 def legend():
-    """What colours, star, outline and wedge mean, in two lines."""
-    for x, y, name in ((120, 80, "green"), (240, 80, "lead"), (360, 80, "yellow"), (480, 80, "red"),
-                       (600, 80, None), (120, 104, "walk"), (240, 104, "pedestrian clearance")):
-        if name is None:
-            yield words(x, y + 15, "* coordinated")
-        else:
-            yield box(x, y, 20, 16, BANDS[name][2])
-            yield words(x + 28, y + 15, name)
+    """What colours, star, lines, outline and wedge mean, in two rows."""
+    for x, name in ((120, "green"), (215, "lead"), (300, "yellow"), (405, "red")):
+        yield box(x, 80, 20, 16, BANDS[name][2])
+        yield words(x + 28, 95, name)
+    yield words(480, 95, "* coordinated")
+    for x, width, name in ((630, 5, "barrier"), (730, 2, "all rings change, or cycle ends")):
+        yield line(x, 80, x, 96, width)
+        yield words(x + 10, 95, name)
+    for x, name in ((120, "walk"), (240, "pedestrian clearance")):
+        yield box(x, 104, 20, 16, BANDS[name][2])
+        yield words(x + 28, 119, name)
     yield dashed(510, 104, 20, 16)
     yield words(538, 119, "walk, if called")
     yield wedge(730, 104)
-    yield words(738, 119, "longer than the split")
+    yield words(738, 119, "not over when yellow begins")
 
 
 def stretch(x, top, name, begin, end, is_called=True):
@@ -84,27 +88,33 @@ def stretch(x, top, name, begin, end, is_called=True):
         yield box(*place, fill) if is_called else dashed(*place)
 
 
-def walking(x, top, phase, length, is_called):
-    """Lead, walk and clearance, none of which goes past the phase, and a wedge where they would."""
+def walking(x, top, phase, room, is_called):
+    """Lead, walk and clearance, none of which goes past the green, and a wedge where they would."""
     walk, both = 10 * phase.walk, 10 * (phase.walk + phase.clear)
-    yield from stretch(x, top, "lead", 0, min(10 * phase.lead, length), is_called)
-    yield from stretch(x, top, "walk", 0, min(walk, length), is_called)
-    yield from stretch(
-        x, top, "pedestrian clearance", min(walk, length), min(both, length), is_called)
-    if both > length:
-        yield wedge(x + length, top + 70)
+    yield from stretch(x, top, "lead", 0, min(10 * phase.lead, room), is_called)
+    yield from stretch(x, top, "walk", 0, min(walk, room), is_called)
+    yield from stretch(x, top, "pedestrian clearance", min(walk, room), min(both, room), is_called)
+    if both > room:
+        yield wedge(x + room, top + 70)
+
+
+def signals(x, top, phase, length, is_called):
+    """What a phase shows in turn: a lead that is called, green, yellow, red."""
+    red = max(length - phase.red, 0)
+    yellow = max(length - phase.yellow - phase.red, 0)
+    has_lead = phase.walk is not None and is_called
+    yield from stretch(x, top, "green", min(10 * phase.lead, yellow) if has_lead else 0, yellow)
+    if phase.walk is not None:
+        yield from walking(x, top, phase, yellow, is_called)
+    yield from stretch(x, top, "yellow", yellow, red)
+    yield from stretch(x, top, "red", red, length)
 
 
 def phase_drawn(view, split, start, top):
     """A phase from a second on: what it shows, its edge, and its number and time."""
     x, length, phase = LEFT + 10 * start, 10 * split.time, view.phases.get(split.phase)
-    yield from stretch(x, top, "green", 0, length)
     if phase is not None:
-        if phase.walk is not None:
-            yield from walking(x, top, phase, length, split.mode in (5, 6))
-        red = max(length - phase.red, 0)
-        yield from stretch(x, top, "yellow", max(length - phase.yellow - phase.red, 0), red)
-        yield from stretch(x, top, "red", red, length)
+        yield from signals(x, top, phase, length, split.mode in (5, 6))
     yield box(x, top, length, 64, "none", 5 if split.coord else 1)
     time = f": {split.time} s" if split.time >= 10 else ""
     yield words(x + 8, top + 25, f"{split.phase}{'*' if split.coord else ''}{time}")
@@ -118,10 +128,23 @@ def starts(view, pattern, ring):
     return list(zip(itertools.accumulate((it.time for it in timed), initial=0), timed))
 
 
-def barriers(lanes, cycle):
-    """The seconds at which all rings change phase, and the end of the cycle."""
-    together = set.intersection(*({at for at, _ in lane} for lane in lanes)) if lanes else set()
-    return [*sorted(at for at in together if 0 < at < cycle), cycle]
+def lines(view, lanes, cycle):
+    """The seconds at which all rings change phase, and the end of the cycle, each with whether it
+    is a barrier: all rings change, and no phase before it may time with one behind it."""
+    for at in range(1, cycle + 1):
+        behind = 0 if at == cycle else at
+        ends = [[it.phase for start, it in lane if start + it.time == at] for lane in lanes]
+        begins = [[it.phase for start, it in lane if start == behind] for lane in lanes]
+        change = bool(lanes) and all(ends) and all(begins)
+        if change or at == cycle:
+            pairs = itertools.product(itertools.chain(*ends), itertools.chain(*begins))
+            yield at, change and not any(together(view, *pair) for pair in pairs)
+
+
+def together(view, one, other):
+    """Whether two phases may time together: each lists the other."""
+    return all(b in (view.phases[a].mates if a in view.phases else ())
+               for a, b in ((one, other), (other, one)))
 
 
 def scale(y, seconds):
@@ -153,9 +176,9 @@ def elements(plan, number, in_page):
         yield words(12, top + 40, f"Ring {ring}")
         for at, split in lane:
             yield from phase_drawn(view, split, at, top)
-    for at in barriers(lanes, pattern.cycle):
+    for at, is_barrier in lines(view, lanes, pattern.cycle):
         x = LEFT + 10 * at
-        yield line(x, LANES_TOP - RISE, x, bottom - RISE, 5)
+        yield line(x, LANES_TOP - RISE, x, bottom - RISE, 5 if is_barrier else 2)
     yield from scale(bottom, seconds)
     yield "</svg>"
 

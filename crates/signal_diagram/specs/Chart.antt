@@ -1,12 +1,13 @@
 -- The chart of a pattern, which a reader takes from its picture: which phase each ring has from
 -- which second of the cycle to which, and where all rings change phase.
-use Rattle.std.specs.Prelude.{◌≡◌, ℕ, zero, suc, ◌+◌, ◌==◌, ◌&&◌, ◌||◌, max, nat_lt, nat_le, ⊤, Bool, List, [], ◌∷◌, ◌++◌, All, map, filter, find, length, Option, option_map, slice_get}
+use Rattle.std.specs.Prelude.{◌≡◌, ℕ, zero, suc, ◌+◌, ◌==◌, ◌&&◌, ◌||◌, not, max, if◌then◌else◌, nat_lt, nat_le, ⊤, Bool, List, [], ◌∷◌, ◌++◌, All, map, filter, find, length, Option, option_map, slice_get}
 use Rattle.std.specs.List.{list_any, list_all}
 use Rattle.signal_records.specs.declared.record.Pattern.{Pattern}
 use Rattle.signal_records.specs.TimingSet.{Rows}
 use Rattle.signal_values.specs.Numbers.{numbers}
 use Rattle.signal_rules.specs.SequenceRule.{ring_row}
 use Rattle.signal_rules.specs.PatternRules.{lane, lanes_fill_cycle, used_rings}
+use Rattle.signal_rules.specs.Lanes.{list_each_other}
 use Rattle.signal_rules.specs.Starts.{times}
 use Rattle.signal_diagram.specs.declared.chart.Bar.{Bar}
 use Rattle.signal_diagram.specs.Lane.{RingLane}
@@ -48,23 +49,45 @@ longest seconds (shown ∷ more) = longest (max seconds (end_of 0 shown.bars)) m
 
 -- ---- where all rings change phase
 
--- a ring changes phase: one of its phases ends at the second, and one begins
-abbrev pub changes : ℕ → RingLane → Bool
-changes second shown =
-    list_any (λ bar. bar.to == second) shown.bars
-    && list_any (λ bar. bar.from == second) shown.bars
+-- a ring changes phase: one of its phases ends at a second, and one begins at another
+abbrev pub changes : ℕ → ℕ → RingLane → Bool
+changes ends begins shown =
+    list_any (λ bar. bar.to == ends) shown.bars && list_any (λ bar. bar.from == begins) shown.bars
 
--- all rings change phase at a second; where there is no ring nothing changes
-abbrev pub all_change : ℕ → List RingLane → Bool
-all_change second lanes = nat_lt 0 (length lanes) && list_all (changes second) lanes
+-- all rings change phase; where there is no ring nothing changes
+abbrev pub all_change : ℕ → ℕ → List RingLane → Bool
+all_change ends begins lanes = nat_lt 0 (length lanes) && list_all (changes ends begins) lanes
 
 -- a line stands at the end of the cycle, and before it where all rings change phase: none at
 -- second 0, where no phase ends
 abbrev pub has_line : ℕ → List RingLane → ℕ → Bool
-has_line cycle lanes second = second == cycle || all_change second lanes
+has_line cycle lanes second = second == cycle || all_change second second lanes
 
+-- the seconds at which a line stands, ascending
 abbrev pub line_seconds : ℕ → List RingLane → List ℕ
 line_seconds cycle lanes = filter (has_line cycle lanes) (numbers cycle 1)
+
+-- the second at which the phases behind a line begin: behind the end of the cycle the first ones
+abbrev pub behind : ℕ → ℕ → ℕ
+behind cycle second = if second == cycle then 0 else second
+
+-- a phase may time together with none of a lane that begins at a second
+abbrev pub conflicts_with_lane : Rows → ℕ → ℕ → RingLane → Bool
+conflicts_with_lane set begins p shown = list_all (λ bar. not (bar.from == begins && list_each_other set p bar.phase)) shown.bars
+
+-- a phase may time together with none that begins at a second
+abbrev pub conflicts_with_all : Rows → ℕ → ℕ → List RingLane → Bool
+conflicts_with_all set begins p lanes = list_all (conflicts_with_lane set begins p) lanes
+
+-- no phase of a lane that ends at a second may time together with one that begins at another
+abbrev pub lane_conflicts : Rows → ℕ → ℕ → List RingLane → RingLane → Bool
+lane_conflicts set ends begins lanes shown = list_all (λ bar. not (bar.to == ends) || conflicts_with_all set begins bar.phase lanes) shown.bars
+
+-- a barrier: all rings change phase, and no phase before it may time together with one behind it
+abbrev pub is_barrier : Rows → ℕ → List RingLane → ℕ → Bool
+is_barrier set cycle lanes second =
+    all_change second (behind cycle second) lanes
+    && list_all (lane_conflicts set second (behind cycle second) lanes) lanes
 
 -- ---- what holds of the lanes
 

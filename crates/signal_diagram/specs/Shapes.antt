@@ -1,6 +1,6 @@
 -- What is drawn of a pattern, in tenths of a second from the beginning of the cycle. A lane is
 -- numbered from the top, from 0.
-use Rattle.std.specs.Prelude.{ℕ, zero, suc, ◌+◌, ◌-◌, ◌*◌, ◌/◌, min, max, nat_lt, Bool, true, false, if◌then◌else◌, List, [], ◌∷◌, ◌++◌, flat_map, map, length, Option, Some, None}
+use Rattle.std.specs.Prelude.{ℕ, ◌+◌, ◌-◌, ◌*◌, ◌/◌, min, max, nat_lt, Bool, true, false, if◌then◌else◌, List, [], ◌∷◌, ◌++◌, flat_map, map, length, Option, Some, None}
 use Rattle.signal_records.specs.declared.record.Ped.{Ped}
 use Rattle.signal_records.specs.declared.record.Pattern.{Pattern}
 use Rattle.signal_records.specs.declared.record.Phase.{Phase}
@@ -17,7 +17,7 @@ use Rattle.signal_diagram.specs.declared.shapes.Band.TheVariants.{Green, Lead, Y
 use Rattle.signal_diagram.specs.declared.shapes.Shape.{Shape}
 use Rattle.signal_diagram.specs.declared.shapes.Shape.TheVariants as shape
 use Rattle.signal_diagram.specs.Lane.{RingLane}
-use Rattle.signal_diagram.specs.Chart.{line_seconds, longest}
+use Rattle.signal_diagram.specs.Chart.{is_barrier, line_seconds, longest}
 
 -- ---- a phase
 
@@ -27,63 +27,75 @@ calls mode.PedestrianRecall = true
 calls mode.MaximumVehicleAndPedestrianRecall = true
 calls _ = false
 
+-- the split of a phase calls for its walk; one without a row does not
 abbrev pub calls_walk : Option Split → Bool
 calls_walk None = false
 calls_walk (Some split) = calls split.mode
 
--- the tenth so many seconds after a phase begins, or the one at which it ends
-abbrev pub tenth_after : Bar → ℕ → ℕ
-tenth_after bar seconds = min (10 * (bar.from + seconds)) (10 * bar.to)
+-- the tenth so many seconds after a phase begins, or a limit
+abbrev pub tenth_after : Bar → ℕ → ℕ → ℕ
+tenth_after bar limit seconds = min (10 * (bar.from + seconds)) limit
 
 -- the tenth so many tenths before a phase ends, or the one at which it begins
 abbrev pub tenth_before : Bar → ℕ → ℕ
 tenth_before bar tenths = max (10 * bar.from) (10 * bar.to - tenths)
+
+-- yellow and red are the last tenths of a phase; its green ends where yellow begins
+abbrev pub yellow_from : Bar → Phase → ℕ
+yellow_from bar phase = tenth_before bar (phase.yellow + phase.red)
+
+-- a lead that comes without a button is before the green
+abbrev pub green_from : Bar → ℕ → Bool → Option Ped → ℕ
+green_from bar limit comes (Some ped) = if comes then tenth_after bar limit ped.lead else 10 * bar.from
+green_from bar limit comes None = 10 * bar.from
 
 -- an interval from one tenth to another, if it has any
 abbrev pub interval : ℕ → Band → Bool → ℕ → ℕ → List Shape
 interval lane band comes from to =
     if nat_lt from to then shape.Interval lane band comes from to ∷ [] else []
 
--- yellow and red are the last tenths of a phase, and red ends with it
-abbrev pub changes : ℕ → Bar → Phase → List Shape
-changes lane bar phase =
-    interval lane Yellow true (tenth_before bar (phase.yellow + phase.red)) (tenth_before bar phase.red)
+-- yellow, and red to the end of the phase
+abbrev pub yellow_and_red : ℕ → Bar → Phase → List Shape
+yellow_and_red lane bar phase =
+    interval lane Yellow true (yellow_from bar phase) (tenth_before bar phase.red)
     ++ interval lane Red true (tenth_before bar phase.red) (10 * bar.to)
 
--- the mark at the end of a phase, if walk and clearance are not over there
-abbrev pub cut : ℕ → Bar → Ped → List Shape
-cut lane bar ped =
-    if nat_lt bar.to (bar.from + ped.walk + ped.clear) then shape.Cut lane (10 * bar.to) ∷ [] else []
+-- the mark of a walk whose clearance is not over at a limit
+abbrev pub cut : ℕ → Bar → ℕ → Ped → List Shape
+cut lane bar limit ped =
+    if nat_lt limit (10 * (bar.from + ped.walk + ped.clear)) then shape.Cut lane limit ∷ [] else []
 
--- the lead before the green, and the clearance after the walk; none of them goes past the phase
-abbrev pub walking : ℕ → Bool → Bar → Ped → List Shape
-walking lane comes bar ped =
-    interval lane Lead comes (10 * bar.from) (tenth_after bar ped.lead)
-    ++ interval lane Walk comes (10 * bar.from) (tenth_after bar ped.walk)
-    ++ interval lane Clearance comes (tenth_after bar ped.walk) (tenth_after bar (ped.walk + ped.clear))
-    ++ cut lane bar ped
+-- the lead before the green, and the clearance after the walk, of a phase that has them; none of
+-- them goes past a limit
+abbrev pub walking : ℕ → Bool → Bar → ℕ → Option Ped → List Shape
+walking lane comes bar limit None = []
+walking lane comes bar limit (Some ped) =
+    interval lane Lead comes (10 * bar.from) (tenth_after bar limit ped.lead)
+    ++ interval lane Walk comes (10 * bar.from) (tenth_after bar limit ped.walk)
+    ++ interval lane Clearance comes (tenth_after bar limit ped.walk) (tenth_after bar limit (ped.walk + ped.clear))
+    ++ cut lane bar limit ped
 
-abbrev pub walking_of : ℕ → Bool → Bar → Option Ped → List Shape
-walking_of lane comes bar None = []
-walking_of lane comes bar (Some ped) = walking lane comes bar ped
-
--- what the intervals of a phase show; a phase that is not in the set has none
+-- the intervals of a phase: green for its green alone, walk and clearance up to its yellow, yellow
+-- and red; a phase that is not in the set has none
 abbrev pub intervals : ℕ → Bool → Bar → Option Phase → List Shape
 intervals lane comes bar None = []
-intervals lane comes bar (Some phase) = walking_of lane comes bar phase.ped ++ changes lane bar phase
+intervals lane comes bar (Some phase) =
+    let limit = yellow_from bar phase in
+    interval lane Green true (green_from bar limit comes phase.ped) limit
+    ++ walking lane comes bar limit phase.ped ++ yellow_and_red lane bar phase
 
 -- a phase with its intervals, its edge and its words, as its split row has it
 abbrev pub phase_shapes : Rows → Pattern → ℕ → Bar → List Shape
 phase_shapes set pattern lane bar =
     let split = split_at set pattern.split bar.phase in
-    interval lane Green true (10 * bar.from) (10 * bar.to)
-    ++ intervals lane (calls_walk split) bar (phase_at set bar.phase)
+    intervals lane (calls_walk split) bar (phase_at set bar.phase)
     ++ shape.Edge lane (10 * bar.from) (10 * bar.to) (is_coordinated split)
     ∷ shape.Label lane (10 * bar.from) bar.phase (bar.to - bar.from) (is_coordinated split)
     ∷ []
 
 -- ---- the lanes, the lines over them and the scale below them
 
+-- a lane: the name of its ring, and its phases
 abbrev pub lane_shapes : Rows → Pattern → ℕ → RingLane → List Shape
 lane_shapes set pattern index lane =
     shape.Ring index lane.ring ∷ flat_map (phase_shapes set pattern index) lane.bars
@@ -94,8 +106,10 @@ lanes_shapes set pattern index [] = []
 lanes_shapes set pattern index (lane ∷ lanes) =
     lane_shapes set pattern index lane ++ lanes_shapes set pattern (index + 1) lanes
 
-abbrev pub line_shapes : ℕ → List RingLane → List Shape
-line_shapes cycle lanes = map (λ second. shape.Line (length lanes) (10 * second)) (line_seconds cycle lanes)
+-- the lines, each a barrier or none
+abbrev pub line_shapes : Rows → ℕ → List RingLane → List Shape
+line_shapes set cycle lanes =
+    map (λ second. shape.Line (length lanes) (10 * second) (is_barrier set cycle lanes second)) (line_seconds cycle lanes)
 
 -- a scale over so many seconds, with a tick each 10 seconds
 abbrev pub scale_shapes : ℕ → ℕ → List Shape
@@ -106,5 +120,5 @@ scale_shapes seconds lanes =
 -- the shapes of a pattern with these lanes
 abbrev pub shapes_of : Rows → Pattern → List RingLane → List Shape
 shapes_of set pattern lanes =
-    lanes_shapes set pattern 0 lanes ++ line_shapes pattern.cycle lanes
+    lanes_shapes set pattern 0 lanes ++ line_shapes set pattern.cycle lanes
     ++ scale_shapes (longest pattern.cycle lanes) (length lanes)

@@ -25,7 +25,7 @@ height_of lanes = top_of lanes + 60
 
 -- how far below the top of its lane an interval stands
 abbrev pub top_in : Band → ℕ
-top_in Green = 0
+top_in Green = 34
 top_in Lead = 34
 top_in Yellow = 34
 top_in Red = 34
@@ -34,7 +34,7 @@ top_in Clearance = 70
 
 -- how high an interval is
 abbrev pub height_in : Band → ℕ
-height_in Green = 64
+height_in Green = 30
 height_in Lead = 30
 height_in Yellow = 30
 height_in Red = 30
@@ -109,6 +109,7 @@ seconds_words seconds = if nat_lt seconds 10 then [] else (codes ": " ++ decimal
 
 -- ---- the shapes
 
+-- what is written of a shape, where it stands
 abbrev pub svg_of : Shape → List ℕ
 svg_of (shape.Ring lane ring) =
     words_from 12 (top_of lane + 40) ++ codes "Ring " ++ decimal ring ++ words_end
@@ -120,7 +121,8 @@ svg_of (shape.Edge lane from to coordinated) =
 svg_of (shape.Label lane from p seconds coordinated) =
     words_from (x_of from + 8) (top_of lane + 25)
     ++ decimal p ++ star coordinated ++ seconds_words seconds ++ words_end
-svg_of (shape.Line lanes at) = stroke (x_of at) 128 (x_of at) (top_of lanes - 12) 5
+svg_of (shape.Line lanes at barrier) =
+    stroke (x_of at) 128 (x_of at) (top_of lanes - 12) (if barrier then 5 else 2)
 svg_of (shape.Scale lanes to) =
     words_from 12 (top_of lanes + 32) ++ codes "Seconds" ++ words_end
     ++ stroke (x_of 0) (top_of lanes) (x_of to) (top_of lanes) 1

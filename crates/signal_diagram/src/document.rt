@@ -105,7 +105,7 @@ fn shapes_of(
     let cycle = pattern.cycle.get();
     let mut shapes = Vec::new(alloc);
     add_lanes(&mut shapes, set, pattern, lanes)?;
-    add_lines(&mut shapes, cycle, lanes)?;
+    add_lines(&mut shapes, set, cycle, lanes)?;
     add_scale(
         &mut shapes,
         longest(cycle as u16, lanes),
@@ -131,7 +131,7 @@ fn picture(
     let height = height_of(lanes.len() as u32);
     let mut text = String::new(alloc);
     push_opening(&mut text, sizing, n, width, height)?;
-    push_head(&mut text, set, n, pattern, &lanes)?;
+    push_head(alloc, &mut text, set, n, pattern, &rings, &lanes)?;
     push_shapes(&mut text, &shapes)?;
     text.push_str("</svg>\n")?;
     Ok(text)

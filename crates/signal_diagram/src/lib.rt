@@ -7,6 +7,7 @@
 //! that all its coordinates are whole numbers.
 #![tactic(auto)]
 
+mod agreement;
 mod chart;
 mod document;
 mod head;

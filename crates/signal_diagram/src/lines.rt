@@ -1,12 +1,15 @@
 //! The lines over the lanes, and the scale below them.
 
-ghost use Rattle.std.specs.Prelude.{◌≡◌, ◌==◌, ◌++◌, ◌≤◌, OnOk, length};
+ghost use Rattle.std.specs.Prelude.{◌≡◌, ◌==◌, ◌++◌, ◌≤◌, ◌&&◌, OnOk, length};
 ghost use Rattle.std.specs.List.{list_any, list_all};
-ghost use Rattle.signal_diagram.specs.Chart.{changes, all_change, has_line};
+ghost use Rattle.signal_rules.specs.Lanes.{list_each_other};
+ghost use Rattle.signal_diagram.specs.Chart.{changes, all_change, has_line, behind, conflicts_with_lane, conflicts_with_all, lane_conflicts, is_barrier};
 ghost use Rattle.signal_diagram.specs.Shapes.{line_shapes, scale_shapes};
 
+use crate::agreement::list_each_other;
 use crate::chart::{Bar, Lane};
 use crate::shapes::Shape;
+use signal_records::{PhaseNo, TimingSet};
 use std::alloc::AllocError;
 
 fn ends_at(second: u32, bars: &[Bar]) -> bool
@@ -21,49 +24,105 @@ fn begins_at(second: u32, bars: &[Bar]) -> bool
     bars.iter().any(|bar| u32::from(bar.from) == second)
 }
 
-/// Whether a ring changes phase at a second: one ends, and one begins.
-fn changes(second: u32, lane: &Lane) -> bool
-    ensures { result ≡ changes second lane.now }
+/// Whether a ring changes phase: one ends at a second, and one begins at another.
+fn changes(ends: u32, begins: u32, lane: &Lane) -> bool
+    ensures { result ≡ changes ends begins lane.now }
 {
-    ends_at(second, lane.bars.as_slice()) && begins_at(second, lane.bars.as_slice())
+    ends_at(ends, lane.bars.as_slice()) && begins_at(begins, lane.bars.as_slice())
 }
 
-fn each_changes(second: u32, lanes: &[Lane]) -> bool
-    ensures { result ≡ list_all (changes second) lanes.now }
+fn each_changes(ends: u32, begins: u32, lanes: &[Lane]) -> bool
+    ensures { result ≡ list_all (changes ends begins) lanes.now }
 {
-    lanes.iter().all(|lane| changes(second, lane))
+    lanes.iter().all(|lane| changes(ends, begins, lane))
 }
 
-/// Whether all rings do; where there is no ring nothing changes.
-fn all_change(second: u32, lanes: &[Lane]) -> bool
-    ensures { result ≡ all_change second lanes.now }
+/// Whether all rings change phase; where there is no ring nothing changes.
+fn all_change(ends: u32, begins: u32, lanes: &[Lane]) -> bool
+    ensures { result ≡ all_change ends begins lanes.now }
 {
-    0 < lanes.len() && each_changes(second, lanes)
+    0 < lanes.len() && each_changes(ends, begins, lanes)
 }
 
 /// Whether a line stands at a second: at the end of the cycle, and where all rings change phase.
 fn has_line(cycle: u32, lanes: &[Lane], second: u32) -> bool
     ensures { result ≡ has_line cycle lanes.now second }
 {
-    second == cycle || all_change(second, lanes)
+    second == cycle || all_change(second, second, lanes)
+}
+
+/// The second at which the phases behind a line begin: behind the end of the cycle the first ones.
+fn behind(cycle: u32, second: u32) -> u32
+    ensures { result ≡ behind cycle second }
+{
+    if second == cycle { 0 } else { second }
+}
+
+/// Whether a phase begins at a second and may time together with another one.
+fn meets(set: &TimingSet, begins: u32, p: PhaseNo, bar: &Bar) -> bool
+    ensures { result ≡ (bar.now.from == begins && list_each_other set.now p bar.now.phase) }
+{
+    u32::from(bar.from) == begins && list_each_other(set, p, bar.phase)
+}
+
+/// Whether a phase may time together with none of a lane that begins at a second.
+fn conflicts_with_lane(set: &TimingSet, begins: u32, p: PhaseNo, lane: &Lane) -> bool
+    ensures { result ≡ conflicts_with_lane set.now begins p lane.now }
+{
+    lane.bars.iter().all(|bar| !meets(set, begins, p, bar))
+}
+
+/// Whether a phase may time together with none that begins at a second.
+fn conflicts_with_all(set: &TimingSet, begins: u32, p: PhaseNo, lanes: &[Lane]) -> bool
+    ensures { result ≡ conflicts_with_all set.now begins p lanes.now }
+{
+    lanes
+        .iter()
+        .all(|lane| conflicts_with_lane(set, begins, p, lane))
+}
+
+/// Whether no phase of a lane that ends at a second may time together with one that begins at
+/// another.
+fn lane_conflicts(set: &TimingSet, ends: u32, begins: u32, lanes: &[Lane], lane: &Lane) -> bool
+    ensures { result ≡ lane_conflicts set.now ends begins lanes.now lane.now }
+{
+    lane.bars.iter().all(|bar| u32::from(bar.to) != ends
+        || conflicts_with_all(set, begins, bar.phase, lanes))
+}
+
+fn all_conflict(set: &TimingSet, ends: u32, begins: u32, lanes: &[Lane]) -> bool
+    ensures { result ≡ list_all (lane_conflicts set.now ends begins lanes.now) lanes.now }
+{
+    lanes
+        .iter()
+        .all(|lane| lane_conflicts(set, ends, begins, lanes, lane))
+}
+
+/// Whether the line at a second is a barrier: all rings change phase there, and no phase before it
+/// may time together with one behind it.
+fn is_barrier(set: &TimingSet, cycle: u32, lanes: &[Lane], second: u32) -> bool
+    ensures { result ≡ is_barrier set.now cycle lanes.now second }
+{
+    let begins = behind(cycle, second);
+    all_change(second, begins, lanes) && all_conflict(set, second, begins, lanes)
 }
 
 /// Adds a line at each second at which all rings change phase, and at the end of the cycle.
 pub(crate) fn add_lines(
     shapes: &mut Vec<Shape>,
+    set: &TimingSet,
     cycle: u32,
     lanes: &[Lane],
 ) -> Result<(), AllocError>
     requires few { length lanes.now ≤ 8 }
     requires small { cycle ≤ 255 }
-    ensures { OnOk result (shapes.new.items ≡ shapes.old.items ++ line_shapes cycle lanes.now) }
+    ensures { OnOk result (shapes.new.items
+        ≡ shapes.old.items ++ line_shapes set.now cycle lanes.now) }
 {
     for second in 1..cycle + 1 {
         if has_line(cycle, lanes, second) {
-            shapes.push(Shape::Line {
-                lanes: lanes.len() as u32,
-                at: 10 * second,
-            })?;
+            let barrier = is_barrier(set, cycle, lanes, second);
+            shapes.push(Shape::Line(lanes.len() as u32, 10 * second, barrier))?;
         }
     }
     Ok(())
@@ -73,15 +132,9 @@ pub(crate) fn add_lines(
 pub(crate) fn add_scale(shapes: &mut Vec<Shape>, seconds: u16, lanes: u32) -> Result<(), AllocError>
     ensures { OnOk result (shapes.new.items ≡ shapes.old.items ++ scale_shapes seconds lanes) }
 {
-    shapes.push(Shape::Scale {
-        lanes,
-        to: 10 * u32::from(seconds),
-    })?;
+    shapes.push(Shape::Scale(lanes, 10 * u32::from(seconds)))?;
     for tens in 0..u32::from(seconds) / 10 + 1 {
-        shapes.push(Shape::Tick {
-            lanes,
-            at: 100 * tens,
-        })?;
+        shapes.push(Shape::Tick(lanes, 100 * tens))?;
     }
     Ok(())
 }

@@ -2,7 +2,7 @@
 
 ghost use Rattle.std.specs.Prelude.{◌≡◌, ◌++◌, ◌≤◌, OnOk, length};
 ghost use Rattle.std.specs.Option.{option_copied};
-ghost use Rattle.signal_diagram.specs.Shapes.{calls_walk, tenth_after, tenth_before, interval, changes, cut, walking, walking_of, intervals, phase_shapes, lane_shapes, lanes_shapes};
+ghost use Rattle.signal_diagram.specs.Shapes.{calls_walk, tenth_after, tenth_before, yellow_from, green_from, interval, yellow_and_red, cut, walking, intervals, phase_shapes, lane_shapes, lanes_shapes};
 
 use crate::chart::{Bar, Lane};
 use crate::shapes::{Band, Shape};
@@ -23,13 +23,12 @@ fn calls_walk(split: Option<Split>) -> bool
     }
 }
 
-/// The tenth so many seconds after a phase begins, or the one at which it ends.
-fn tenth_after(bar: &Bar, seconds: u16) -> u32
-    ensures { result ≡ tenth_after bar.now seconds }
+/// The tenth so many seconds after a phase begins, or a limit.
+fn tenth_after(bar: &Bar, limit: u32, seconds: u16) -> u32
+    ensures { result ≡ tenth_after bar.now limit seconds }
 {
-    let Bar { from, to, .. } = *bar;
-    let end = 10 * u32::from(to);
-    end.min(10 * (u32::from(from) + u32::from(seconds)))
+    let from = bar.from;
+    limit.min(10 * (u32::from(from) + u32::from(seconds)))
 }
 
 /// The tenth so many tenths before a phase ends, or the one at which it begins.
@@ -39,6 +38,24 @@ fn tenth_before(bar: &Bar, tenths: u16) -> u32
     let Bar { from, to, .. } = *bar;
     let begin = 10 * u32::from(from);
     begin.max((10 * u32::from(to)).saturating_sub(u32::from(tenths)))
+}
+
+/// The tenth at which the yellow of a phase begins, and its green ends.
+fn yellow_from(bar: &Bar, phase: &Phase) -> u32
+    ensures { result ≡ yellow_from bar.now phase.now }
+{
+    tenth_before(bar, u16::from(phase.yellow) + u16::from(phase.red))
+}
+
+/// The tenth at which the green of a phase begins: after a lead that comes without a button.
+fn green_from(bar: &Bar, limit: u32, comes: bool, ped: Option<Ped>) -> u32
+    ensures { result ≡ green_from bar.now limit comes ped }
+{
+    let from = bar.from;
+    match ped {
+        Some(ped) if comes => tenth_after(bar, limit, ped.lead.get() as u16),
+        _ => 10 * u32::from(from),
+    }
 }
 
 /// Adds an interval; an empty one is not drawn.
@@ -54,90 +71,81 @@ fn add_interval(
         ≡ shapes.old.items ++ interval lane band comes from to) }
 {
     if from < to {
-        shapes.push(Shape::Interval {
-            lane,
-            band,
-            comes,
-            from,
-            to,
-        })?;
+        shapes.push(Shape::Interval(lane, band, comes, from, to))?;
     }
     Ok(())
 }
 
 /// Adds yellow and red, the last tenths of a phase.
-fn add_changes(
+fn add_yellow_and_red(
     shapes: &mut Vec<Shape>,
     lane: u32,
     bar: &Bar,
     phase: &Phase,
 ) -> Result<(), AllocError>
-    ensures { OnOk result (shapes.new.items ≡ shapes.old.items ++ changes lane bar.now phase.now) }
+    ensures { OnOk result (shapes.new.items ≡ shapes.old.items ++ yellow_and_red lane bar.now phase.now) }
 {
-    let yellow_from = tenth_before(bar, u16::from(phase.yellow) + u16::from(phase.red));
+    let to = bar.to;
     let red_from = tenth_before(bar, u16::from(phase.red));
-    add_interval(shapes, lane, Band::Yellow, true, yellow_from, red_from)?;
+    let end = 10 * u32::from(to);
     add_interval(
         shapes,
         lane,
-        Band::Red,
+        Band::Yellow,
         true,
+        yellow_from(bar, phase),
         red_from,
-        10 * u32::from(bar.to),
-    )
+    )?;
+    add_interval(shapes, lane, Band::Red, true, red_from, end)
 }
 
-/// Adds the mark at the end of a phase, if walk and clearance are not over there.
-fn add_cut(shapes: &mut Vec<Shape>, lane: u32, bar: &Bar, ped: Ped) -> Result<(), AllocError>
-    ensures { OnOk result (shapes.new.items ≡ shapes.old.items ++ cut lane bar.now ped) }
+/// Adds the mark of a walk whose clearance is not over at a limit.
+fn add_cut(
+    shapes: &mut Vec<Shape>,
+    lane: u32,
+    bar: &Bar,
+    limit: u32,
+    ped: Ped,
+) -> Result<(), AllocError>
+    ensures { OnOk result (shapes.new.items ≡ shapes.old.items ++ cut lane bar.now limit ped) }
 {
-    let over = u32::from(bar.from) + u32::from(ped.walk) + u32::from(ped.clear);
-    if u32::from(bar.to) < over {
-        shapes.push(Shape::Cut {
-            lane,
-            at: 10 * u32::from(bar.to),
-        })?;
+    let from = bar.from;
+    let over = u32::from(from) + u32::from(ped.walk) + u32::from(ped.clear);
+    if limit < 10 * over {
+        shapes.push(Shape::Cut(lane, limit))?;
     }
     Ok(())
 }
 
-/// Adds lead, walk and clearance, by whether the split mode calls them.
+/// Adds lead, walk and clearance of a phase that has them up to a limit, by whether the split mode
+/// calls them.
 fn add_walking(
     shapes: &mut Vec<Shape>,
     lane: u32,
     comes: bool,
     bar: &Bar,
-    ped: Ped,
+    limit: u32,
+    ped: Option<Ped>,
 ) -> Result<(), AllocError>
-    ensures { OnOk result (shapes.new.items ≡ shapes.old.items ++ walking lane comes bar.now ped) }
+    ensures { OnOk result (shapes.new.items
+        ≡ shapes.old.items ++ walking lane comes bar.now limit ped) }
 {
-    let begin = 10 * u32::from(bar.from);
-    let lead_to = tenth_after(bar, ped.lead.get() as u16);
-    let walk_to = tenth_after(bar, u16::from(ped.walk));
-    let clear_to = tenth_after(bar, u16::from(ped.walk) + u16::from(ped.clear));
+    let Some(ped) = ped else {
+        return Ok(());
+    };
+    let from = bar.from;
+    let begin = 10 * u32::from(from);
+    let lead_to = tenth_after(bar, limit, ped.lead.get() as u16);
+    let walk_to = tenth_after(bar, limit, u16::from(ped.walk));
+    let clear_to = tenth_after(bar, limit, u16::from(ped.walk) + u16::from(ped.clear));
     add_interval(shapes, lane, Band::Lead, comes, begin, lead_to)?;
     add_interval(shapes, lane, Band::Walk, comes, begin, walk_to)?;
     add_interval(shapes, lane, Band::Clearance, comes, walk_to, clear_to)?;
-    add_cut(shapes, lane, bar, ped)
+    add_cut(shapes, lane, bar, limit, ped)
 }
 
-/// Adds what the pedestrian part of a phase shows.
-fn add_walking_of(
-    shapes: &mut Vec<Shape>,
-    lane: u32,
-    comes: bool,
-    bar: &Bar,
-    ped: Option<Ped>,
-) -> Result<(), AllocError>
-    ensures { OnOk result (shapes.new.items ≡ shapes.old.items ++ walking_of lane comes bar.now ped) }
-{
-    match ped {
-        Some(ped) => add_walking(shapes, lane, comes, bar, ped),
-        None => Ok(()),
-    }
-}
-
-/// Adds what the intervals of a phase show.
+/// Adds the intervals of a phase: its green up to its yellow, walk and clearance beside it, yellow
+/// and red.
 fn add_intervals(
     shapes: &mut Vec<Shape>,
     lane: u32,
@@ -151,8 +159,11 @@ fn add_intervals(
     let Some(phase) = phase else {
         return Ok(());
     };
-    add_walking_of(shapes, lane, comes, bar, phase.ped)?;
-    add_changes(shapes, lane, bar, phase)
+    let limit = yellow_from(bar, phase);
+    let begin = green_from(bar, limit, comes, phase.ped);
+    add_interval(shapes, lane, Band::Green, true, begin, limit)?;
+    add_walking(shapes, lane, comes, bar, limit, phase.ped)?;
+    add_yellow_and_red(shapes, lane, bar, phase)
 }
 
 /// Adds a phase, as its split row has it.
@@ -171,21 +182,10 @@ fn add_phase(
     let Bar { phase, from, to } = *bar;
     let begin = 10 * u32::from(from);
     let end = 10 * u32::from(to);
-    add_interval(shapes, lane, Band::Green, true, begin, end)?;
     add_intervals(shapes, lane, calls_walk(split), bar, phase_at(set, phase))?;
-    shapes.push(Shape::Edge {
-        lane,
-        from: begin,
-        to: end,
-        coordinated,
-    })?;
-    shapes.push(Shape::Label {
-        lane,
-        from: begin,
-        phase,
-        seconds: to.saturating_sub(from),
-        coordinated,
-    })?;
+    shapes.push(Shape::Edge(lane, begin, end, coordinated))?;
+    let seconds = to.saturating_sub(from);
+    shapes.push(Shape::Label(lane, begin, phase, seconds, coordinated))?;
     Ok(())
 }
 
@@ -200,10 +200,7 @@ fn add_lane(
     ensures { OnOk result (shapes.new.items
         ≡ shapes.old.items ++ lane_shapes set.now pattern.now index lane.now) }
 {
-    shapes.push(Shape::Ring {
-        lane: index,
-        ring: lane.ring,
-    })?;
+    shapes.push(Shape::Ring(index, lane.ring))?;
     for bar in &lane.bars {
         add_phase(shapes, set, pattern, index, bar)?;
     }

@@ -17,52 +17,22 @@ pub(crate) enum Band {
 /// One thing that is drawn.
 #[derive(Clone, Copy)]
 pub(crate) enum Shape {
-    /// The name of the ring of a lane.
-    Ring {
-        lane: u32,
-        ring: RingNo,
-    },
-    /// An interval; of one that only a button may call the edge alone is drawn, in dashes.
-    Interval {
-        lane: u32,
-        band: Band,
-        comes: bool,
-        from: u32,
-        to: u32,
-    },
-    /// The mark of a walk whose clearance is not over there.
-    Cut {
-        lane: u32,
-        at: u32,
-    },
-    /// The edge of a phase.
-    Edge {
-        lane: u32,
-        from: u32,
-        to: u32,
-        coordinated: bool,
-    },
-    /// The number of a phase and its seconds.
-    Label {
-        lane: u32,
-        from: u32,
-        phase: PhaseNo,
-        seconds: u16,
-        coordinated: bool,
-    },
-    /// A line over the first lanes.
-    Line {
-        lanes: u32,
-        at: u32,
-    },
-    /// The line of the scale below the first lanes.
-    Scale {
-        lanes: u32,
-        to: u32,
-    },
-    /// A tick of the scale, with its second.
-    Tick {
-        lanes: u32,
-        at: u32,
-    },
+    /// A lane, with the name of its ring.
+    Ring(u32, RingNo),
+    /// In a lane, an interval from a tenth to another. Of one that only a button may call (false)
+    /// the edge alone is drawn, in dashes.
+    Interval(u32, Band, bool, u32, u32),
+    /// In a lane, the mark of a walk whose clearance is not over at a tenth.
+    Cut(u32, u32),
+    /// In a lane, the edge of a phase from a tenth to another, by whether it is coordinated.
+    Edge(u32, u32, u32, bool),
+    /// In a lane, from a tenth on, the number of a phase and its seconds, by whether it is
+    /// coordinated.
+    Label(u32, u32, PhaseNo, u16, bool),
+    /// Over so many lanes, a line at a tenth, by whether it is a barrier.
+    Line(u32, u32, bool),
+    /// Below so many lanes, the line of the scale up to a tenth.
+    Scale(u32, u32),
+    /// Below so many lanes, a tick of the scale at a tenth, with its second.
+    Tick(u32, u32),
 }

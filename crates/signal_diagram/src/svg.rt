@@ -32,7 +32,7 @@ pub(crate) fn width_of(seconds: u16) -> u32
     120 + (10 * u32::from(seconds)).max(900) + 60
 }
 
-/// How high a picture of so many lanes is.
+/// How high a picture of so many lanes is, with its scale.
 pub(crate) fn height_of(lanes: u32) -> u64
     ensures { result ≡ height_of lanes }
 {
@@ -46,8 +46,7 @@ impl Band {
         ensures small { result ≤ 70 }
     {
         match self {
-            Band::Green => 0,
-            Band::Lead | Band::Yellow | Band::Red => 34,
+            Band::Green | Band::Lead | Band::Yellow | Band::Red => 34,
             Band::Walk | Band::Clearance => 70,
         }
     }
@@ -57,8 +56,7 @@ impl Band {
         ensures { result ≡ height_in self }
     {
         match self {
-            Band::Green => 64,
-            Band::Lead | Band::Yellow | Band::Red => 30,
+            Band::Green | Band::Lead | Band::Yellow | Band::Red => 30,
             Band::Walk | Band::Clearance => 16,
         }
     }
@@ -150,7 +148,7 @@ fn push_wedge(text: &mut String, x: u64, y: u64) -> Result<(), AllocError>
 
 /// Opens words that begin at a point.
 #[tactic(auto, unfolding(crate::specs::Svg::words_from))]
-fn open_words(text: &mut String, x: u64, y: u64) -> Result<(), AllocError>
+pub(crate) fn open_words(text: &mut String, x: u64, y: u64) -> Result<(), AllocError>
     ensures { OnOk result (string_bytes text.new ≡ string_bytes text.old ++ words_from x y) }
 {
     write!(text, "<text x='{x}' y='{y}'>")
@@ -164,7 +162,7 @@ fn open_words_around(text: &mut String, x: u64, y: u64) -> Result<(), AllocError
 }
 
 #[tactic(auto, unfolding(crate::specs::Svg::words_end))]
-fn close_words(text: &mut String) -> Result<(), AllocError>
+pub(crate) fn close_words(text: &mut String) -> Result<(), AllocError>
     ensures { OnOk result (string_bytes text.new ≡ string_bytes text.old ++ words_end) }
 {
     text.push_str("</text>\n")
@@ -260,12 +258,14 @@ fn push_label(
     close_words(text)
 }
 
-fn push_line(text: &mut String, lanes: u32, at: u32) -> Result<(), AllocError>
+/// Appends a line over some lanes, thick where it is a barrier.
+fn push_line(text: &mut String, lanes: u32, at: u32, barrier: bool) -> Result<(), AllocError>
     ensures { OnOk result (string_bytes text.new
-        ≡ string_bytes text.old ++ svg_of (Shape.Line lanes at)) }
+        ≡ string_bytes text.old ++ svg_of (Shape.Line lanes at barrier)) }
 {
     let x = x_of(at);
-    push_stroke(text, x, 128, x, top_of(lanes) - 12, 5)
+    let width = if barrier { 5 } else { 2 };
+    push_stroke(text, x, 128, x, top_of(lanes) - 12, width)
 }
 
 fn push_scale(text: &mut String, lanes: u32, to: u32) -> Result<(), AllocError>
@@ -297,31 +297,18 @@ fn push_shape(text: &mut String, shape: Shape) -> Result<(), AllocError>
     ensures { OnOk result (string_bytes text.new ≡ string_bytes text.old ++ svg_of shape) }
 {
     match shape {
-        Shape::Ring { lane, ring } => push_ring(text, lane, ring),
-        Shape::Interval {
-            lane,
-            band,
-            comes,
-            from,
-            to,
-        } => push_interval(text, lane, band, comes, from, to),
-        Shape::Cut { lane, at } => push_wedge(text, x_of(at), top_of(lane) + 70),
-        Shape::Edge {
-            lane,
-            from,
-            to,
-            coordinated,
-        } => push_edge(text, lane, from, to, coordinated),
-        Shape::Label {
-            lane,
-            from,
-            phase,
-            seconds,
-            coordinated,
-        } => push_label(text, lane, from, phase, seconds, coordinated),
-        Shape::Line { lanes, at } => push_line(text, lanes, at),
-        Shape::Scale { lanes, to } => push_scale(text, lanes, to),
-        Shape::Tick { lanes, at } => push_tick(text, lanes, at),
+        Shape::Ring(lane, ring) => push_ring(text, lane, ring),
+        Shape::Interval(lane, band, comes, from, to) => {
+            push_interval(text, lane, band, comes, from, to)
+        }
+        Shape::Cut(lane, at) => push_wedge(text, x_of(at), top_of(lane) + 70),
+        Shape::Edge(lane, from, to, coordinated) => push_edge(text, lane, from, to, coordinated),
+        Shape::Label(lane, from, phase, seconds, coordinated) => {
+            push_label(text, lane, from, phase, seconds, coordinated)
+        }
+        Shape::Line(lanes, at, barrier) => push_line(text, lanes, at, barrier),
+        Shape::Scale(lanes, to) => push_scale(text, lanes, to),
+        Shape::Tick(lanes, at) => push_tick(text, lanes, at),
     }
 }
 

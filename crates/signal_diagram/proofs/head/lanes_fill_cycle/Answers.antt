@@ -1,4 +1,4 @@
-use Rattle.std.proofs.Common.{sym, ap, ◌∙◌}
+use Rattle.std.proofs.Common.{sym, ◌∙◌}
 use Rattle.signal_diagram.specs.Chart.{lanes_end}
 use Rattle.signal_diagram.proofs.Charts.{fill_by_lanes}
 use Rattle.signal_diagram.proofs.head.lanes_fill_cycle.Goals as goal

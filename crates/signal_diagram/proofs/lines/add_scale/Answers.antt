@@ -1,4 +1,4 @@
-use Rattle.std.proofs.Common.{◌<◌, ◌*◌, ◌+◌, ◌/◌, append_assoc, arith}
+use Rattle.std.proofs.Common.{◌+◌, ◌/◌, append_assoc}
 use Rattle.signal_diagram.proofs.Seconds.{next_number}
 use Rattle.signal_diagram.proofs.lines.add_scale.Goals as goal
 
