@@ -19,6 +19,7 @@ returns-in-None-clause-does g c =
 
 pub returns-in-Some-clause-calls : goal.returns-in-Some-clause-calls
 returns-in-Some-clause-calls g c =
-    subst (λ db. AreCalled _ _ (calls_over kind.Requests db) c.status_over.result) (sym c.in-Some.is)
+    let calls = g.F.OfficeInFile.calls in
+    subst (λ db. AreCalled (calls c.args.files.now) (calls c.answer-ended.new.self) (calls_over kind.Requests db) c.status_over.result) (sym c.in-Some.is)
     (called_so _ _ _ _ c.status_over.result (at_path _ _ c.as_str-path.result.now _ _ _ c.as_str-path.ensures c.answer-ended.ensures.noted)
     (λ unmade. (fault.Memory, c.status_over.ensures ∙ ap status_over (c.told.ensures ∙ ap told_by unmade))))
