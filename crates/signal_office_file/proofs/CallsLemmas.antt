@@ -18,7 +18,7 @@ with_one (first ∷ calls) call = ap (λ rest. call_of first ∷ rest) (with_one
 pub one_more : (old new : List Call) (call : Call) (it : FileCall) → new ≡ old ++ call ∷ [] → call_of call ≡ it → calls_of new ≡ calls_of old ++ it ∷ []
 one_more old new call it is said = ap calls_of is ∙ with_one old call ∙ ap (λ one. calls_of old ++ one ∷ []) said
 
-refused_as : {A T Left : Type 0} → Result A Fault → Ended T Left
+abbrev refused_as : {A T Left : Type 0} → Result A Fault → Ended T Left
 refused_as (Ok it) = unmade
 refused_as (Err why) = Unopened why
 

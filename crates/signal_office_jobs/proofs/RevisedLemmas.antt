@@ -3,11 +3,13 @@ use Rattle.std.proofs.Common.{◌≡◌, ◌≢◌, ℕ, Bool, true, List, Ok, E
 use Rattle.std.specs.Prelude.{IsErrAnd, Result}
 use Rattle.office_tables_shelf.specs.Content.{Content}
 use Rattle.signal_office_commands.specs.{Comparing.ComparesRunning, Explaining.ExplainsDraft, Revising.RevisesAs}
+use Rattle.signal_office_commands.specs.declared.revising.Outcome.{Outcome}
+use Rattle.signal_office_commands.specs.declared.revising.Outcome.TheVariants.{Open}
 use Rattle.signal_office_commands.specs.declared.revising.Revised.{Revised}
 use Rattle.signal_office_line.specs.declared.job.Edit.{Edit}
 use Rattle.signal_office_faults.specs.declared.fault.Fault.{Fault}
 use Rattle.signal_office_faults.specs.declared.fault.Fault.TheVariants as told
-use Rattle.signal_office_jobs.specs.Requests.{ComparesWith, EditsBy, TellsEdit, TellsOpen}
+use Rattle.signal_office_jobs.specs.Requests.{ComparesWith, EditsBy, TellsEdit, TellsOpen, TellsRevised}
 use Rattle.signal_office_jobs.specs.declared.done.Done.{Done}
 use Rattle.signal_rules.specs.declared.violation.Violation.{Violation}
 
@@ -17,6 +19,13 @@ pub not_explained : (commit explain : Bool) (id : ℕ) (tables : Content) (viola
 not_explained commit explain id tables violations (Ok done) fault is says = absurd is
 not_explained commit explain id tables violations (Err why) fault is says =
     subst (λ (w : Fault). TellsOpen commit explain id tables violations (Err w)) (sym is) says
+
+-- a draft that stays open is told so
+pub open_told : (commit explain : Bool) (id : ℕ) (tables : Content) (violations shown : List Violation) (outcome : Outcome) (result : Result Done Fault)
+    → outcome ≡ Open → shown ≡ violations → TellsOpen commit explain id tables shown result → TellsRevised commit explain id tables violations outcome result
+open_told commit explain id tables violations shown outcome result is same tells =
+    subst (λ (o : Outcome). TellsRevised commit explain id tables violations o result) (sym is)
+    (subst (λ (v : List Violation). TellsOpen commit explain id tables v result) same tells)
 
 -- an edit, and then a look at the tables that it left
 pub edits_so : (csv lines : List ℕ) (edit : Edit) (old middle new : Content) (revised : Result Revised Fault) (result : Result Done Fault) → new ≡ middle

@@ -115,12 +115,13 @@ fn copied_to<F: OfficeInFile>(
     ensures calls { AreCalled (F.calls files.old) (F.calls files.new)
         (called db.now.path db.now.wait kind.Copy ∷ []) result }
 {
+    let path = db.path.as_str();
     let part = format!(in alloc; "{to}.part")?;
-    let Ok(file) = made_like(rt, db.path.as_str(), part.as_str()) else {
+    let Ok(file) = made_like(rt, path, part.as_str()) else {
         return Err(Fault::Write);
     };
     let mut sink = ToWrite::new(file);
-    let ended = files.copy(rt, alloc, db.path.as_str(), db.wait, &mut sink);
+    let ended = files.copy(rt, alloc, path, db.wait, &mut sink);
     put(rt, &sink.writer, joined(ended.told()), part.as_str(), to)
 }
 

@@ -1,7 +1,7 @@
 use Rattle.std.proofs.Common.{inl, ap, subst, ◌∙◌}
 use Rattle.signal_office_faults.specs.declared.fault.Fault.TheVariants as fault
 use Rattle.signal_office_in_file.specs.Ended.{told_by}
-use Rattle.signal_office_jobs.proofs.CallsLemmas.{called_for, called_so, called_told}
+use Rattle.signal_office_jobs.proofs.CallsLemmas.{at_path, called_for, called_so, called_told}
 use Rattle.signal_office_jobs.proofs.in_file.migrate.Goals as goal
 use Rattle.signal_office_jobs.specs.Output.{joined}
 use Rattle.signal_office_jobs.specs.Done.{migrated_line, TellsOutcome}
@@ -19,6 +19,6 @@ pub returns-clause-calls : goal.returns-clause-calls
 returns-clause-calls g c =
     called_for _ _ _ _ _ _ _
     (called_told migrated_line _ _ _ _ _
-    (called_so _ _ _ _ c.joined.result c.migrate-ended.ensures.noted
+    (called_so _ _ _ _ c.joined.result (at_path _ _ c.as_str-path.result.now _ _ _ c.as_str-path.ensures c.migrate-ended.ensures.noted)
     (λ unmade. (fault.Memory, c.joined.ensures ∙ ap joined c.told.ensures ∙ ap (λ ended. joined (told_by ended)) unmade))) c.migrated.ensures)
     c.print_done.ensures
