@@ -25,7 +25,8 @@ MEANT = {
     "laws over two calls, and what a plan means":
         "one_front one_list_of_requests is_fit_for_the_street",
     "a list of phases by its numbers, for a caller that has no row": "PhaseList::new",
-    "how often the rows of a table were written, of which the contracts speak": "Shelf::writes",
+    "commands that are run in turn whatever they are answered, of which laws speak":
+        "Office::run_all",
     "the office on a listener of the system, for a server of one's own": "serve_on",
     "a command that is made of its record, for a caller that has one":
         "Command::inspect Command::open_order Command::use_part Command::close_order "
