@@ -14,14 +14,12 @@ returns-in-Some-clause-writes g c =
 pub returns-in-Some-clause-revises : goal.returns-in-Some-clause-revises
 returns-in-Some-clause-revises g c =
     revises_as g.S.Shelf c.args.office.now c.run_revision.new.office (wrote_timing (g.S.Shelf.written c.args.office.now) (g.S.Shelf.written c.run_revision.new.office)) c.args.bytes.now c.args.edit.now.id c.args.edit.now.clerk c.args.edit.now c.run_revision.result
-    (revises_by g.S.Shelf c.args.bytes.now c.args.edit.now c.args.office.now _ c.in_ok-found.ensures.kept (Ok c.in_ok-found.found) c.in_ok-found.ensures.comes _ c.in-Some.revision c.run_revision.result (ap Ok c.in-Some.is)
-    c.run_revision.ensures.clean c.run_revision.ensures.drafts)
+    (returns-in-Some-clause-writes g c)
 
 pub returns-in-Some-clause-plan : goal.returns-in-Some-clause-plan
 returns-in-Some-clause-plan g c =
     plan_left_by g.S.Shelf c.args.office.now c.run_revision.new.office (wrote_timing (g.S.Shelf.written c.args.office.now) (g.S.Shelf.written c.run_revision.new.office)) c.args.bytes.now c.args.edit.now.id c.args.edit.now.clerk c.args.edit.now c.run_revision.result
-    (revises_by g.S.Shelf c.args.bytes.now c.args.edit.now c.args.office.now _ c.in_ok-found.ensures.kept (Ok c.in_ok-found.found) c.in_ok-found.ensures.comes _ c.in-Some.revision c.run_revision.result (ap Ok c.in-Some.is)
-    c.run_revision.ensures.clean c.run_revision.ensures.drafts)
+    (returns-in-Some-clause-writes g c)
 
 pub returns-in-None-clause-writes : goal.returns-in-None-clause-writes
 returns-in-None-clause-writes g c =
@@ -30,12 +28,12 @@ returns-in-None-clause-writes g c =
 pub returns-in-None-clause-revises : goal.returns-in-None-clause-revises
 returns-in-None-clause-revises g c =
     revises_as g.S.Shelf c.args.office.now c.revision_in.new.office (wrote_timing (g.S.Shelf.written c.args.office.now) (g.S.Shelf.written c.revision_in.new.office)) c.args.bytes.now c.args.edit.now.id c.args.edit.now.clerk c.args.edit.now (Ok c.as_it_stands.result)
-    (revises_idly g.S.Shelf c.args.bytes.now c.args.edit.now c.args.office.now _ c.in_ok-found.ensures.kept (Ok c.in_ok-found.found) c.in_ok-found.ensures.comes (Ok c.as_it_stands.result) (ap Ok c.in-None.is) (ap Ok c.as_it_stands.ensures))
+    (returns-in-None-clause-writes g c)
 
 pub returns-in-None-clause-plan : goal.returns-in-None-clause-plan
 returns-in-None-clause-plan g c =
     plan_left_by g.S.Shelf c.args.office.now c.revision_in.new.office (wrote_timing (g.S.Shelf.written c.args.office.now) (g.S.Shelf.written c.revision_in.new.office)) c.args.bytes.now c.args.edit.now.id c.args.edit.now.clerk c.args.edit.now (Ok c.as_it_stands.result)
-    (revises_idly g.S.Shelf c.args.bytes.now c.args.edit.now c.args.office.now _ c.in_ok-found.ensures.kept (Ok c.in_ok-found.found) c.in_ok-found.ensures.comes (Ok c.as_it_stands.result) (ap Ok c.in-None.is) (ap Ok c.as_it_stands.ensures))
+    (returns-in-None-clause-writes g c)
 
 pub returns-in_err-found-clause-writes : goal.returns-in_err-found-clause-writes
 returns-in_err-found-clause-writes g c =
@@ -47,10 +45,7 @@ returns-in_err-found-clause-writes g c =
 pub returns-in_err-found-clause-revises : goal.returns-in_err-found-clause-revises
 returns-in_err-found-clause-revises g c =
     revises_as g.S.Shelf c.args.office.now c.revision_in.new.office (wrote_timing (g.S.Shelf.written c.args.office.now) (g.S.Shelf.written c.revision_in.new.office)) c.args.bytes.now c.args.edit.now.id c.args.edit.now.clerk c.args.edit.now c.from_residual.result
-    (handed c.from_residual.result c.in_err-found.field-0.0
-    (λ result. MakesTables g.S.Shelf c.args.office.now c.revision_in.new.office (λ old new. RevisesSo (wrote_timing (g.S.Shelf.written c.args.office.now) (g.S.Shelf.written c.revision_in.new.office)) c.args.bytes.now
-    c.args.edit.now.id c.args.edit.now.clerk c.args.edit.now old new result)) c.from_residual.ensures.1
-    (revises_not g.S.Shelf c.args.bytes.now c.args.edit.now c.args.office.now _ c.in_err-found.ensures.kept (Err c.in_err-found.field-0.0) c.in_err-found.ensures.comes c.in_err-found.field-0.0 refl))
+    (returns-in_err-found-clause-writes g c)
 
 pub returns-in-Some-clause-stop : goal.returns-in-Some-clause-stop
 returns-in-Some-clause-stop g c =
