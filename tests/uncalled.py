@@ -27,6 +27,8 @@ MEANT = {
     "a list of phases by its numbers, for a caller that has no row": "PhaseList::new",
     "how often the rows of a table were written, of which the contracts speak": "Shelf::writes",
     "how many of a part are on hand, for those who read a shelf": "Shelf::hand",
+    "commands that are run in turn whatever they are answered, of which laws speak":
+        "Office::run_all",
     "the office on a listener of the system, for a server of one's own": "serve_on",
     "a command that is made of its record, for a caller that has one":
         "Command::inspect Command::open_order Command::use_part Command::close_order "

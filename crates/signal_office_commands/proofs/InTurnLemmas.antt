@@ -1,9 +1,9 @@
 -- Commands that were run in turn: what they make of the tables, and what a stop leaves of them.
-use Rattle.std.proofs.Common.{◌≡◌, ◌⊎◌, inl, inr, List, [], ◌∷◌, MatchResult, Result, Ok, Err, refl, sym, subst}
+use Rattle.std.proofs.Common.{◌≡◌, ◌⊎◌, inl, inr, List, [], ◌∷◌, MatchResult, Result, Ok, Err, refl, sym, subst, length, arith}
 use Rattle.office_desk.specs.{Answers.StandsAfterStep, Running.HoldsTables, Running.IsRun, Running.MakesTables}
 use Rattle.office_machine.specs.declared.{command.Command.Command, reply.Reply.Reply}
 use Rattle.office_tables_shelf.specs.{Content.Content, declared.shelf.Shelf.Ghosts}
-use Rattle.signal_office_commands.specs.InTurn.{Answered, Runs, passed}
+use Rattle.signal_office_commands.specs.InTurn.{Answered, RunsInTurn, passed}
 use Rattle.signal_office_commands.specs.Stopping.{AfterOneOf, StopLeaves}
 use Rattle.signal_office_faults.specs.declared.fault.Fault.{Fault}
 
@@ -31,6 +31,11 @@ module _ {S : Type 0} (g : Ghosts S) where
         | inr after ↦ inr (inr (made.0, made.1, after))
       ]
 
+  -- no command
+  pub runs_none : (commands : List Command) → length commands ≡ 0 → (old : S) (last : Reply) → MakesTables g old old (λ tables made. RunsInTurn last commands tables made (Ok last))
+  runs_none [] none old last clean tables held = (tables, (refl, refl), held)
+  runs_none (asked ∷ more) none old last clean tables held = absurd (omega (arith, none))
+
   module _ (asked : Command) (given : Reply) (old middle : S) (ran : IsRun g asked given old middle) where
     -- one command
     pub answered : MakesTables g old middle (λ tables after. Answered tables asked given after)
@@ -49,7 +54,7 @@ module _ {S : Type 0} (g : Ghosts S) where
 
     -- one that was refused
     pub runs_refused : (more : List Command) (last : Reply) (result : Result Reply Fault) (why : Fault) → passed asked given ≡ Err why → result ≡ Err why
-        → MakesTables g old middle (λ tables made. Runs last (asked ∷ more) tables made result)
+        → MakesTables g old middle (λ tables made. RunsInTurn last (asked ∷ more) tables made result)
     runs_refused more last result why refused is clean tables held =
         let one = answered clean tables held in (
           one.0,
@@ -57,7 +62,7 @@ module _ {S : Type 0} (g : Ghosts S) where
             given,
             one.0,
             one.1,
-            subst (λ (p : Result Unit Fault). MatchResult p (λ _. Runs given more one.0 one.0 result) (λ w. (one.0 ≡ one.0) × (result ≡ Err w))) (sym refused) (refl, is),
+            subst (λ (p : Result Unit Fault). MatchResult p (λ _. RunsInTurn given more one.0 one.0 result) (λ w. (one.0 ≡ one.0) × (result ≡ Err w))) (sym refused) (refl, is),
           ),
           one.2,
         )
@@ -67,7 +72,7 @@ module _ {S : Type 0} (g : Ghosts S) where
 
     -- one that was taken, and those after it
     pub runs_more : (more : List Command) (last : Reply) (new : S) (result : Result Reply Fault) → (g.is_clean new → g.is_clean middle) → passed asked given ≡ Ok tt
-        → MakesTables g middle new (λ tables made. Runs given more tables made result) → MakesTables g old new (λ tables made. Runs last (asked ∷ more) tables made result)
+        → MakesTables g middle new (λ tables made. RunsInTurn given more tables made result) → MakesTables g old new (λ tables made. RunsInTurn last (asked ∷ more) tables made result)
     runs_more more last new result was_clean taken makes clean tables held =
         let one = answered (was_clean clean) tables held in
         let rest = makes clean one.0 one.2 in (
@@ -76,7 +81,7 @@ module _ {S : Type 0} (g : Ghosts S) where
             given,
             one.0,
             one.1,
-            subst (λ (p : Result Unit Fault). MatchResult p (λ _. Runs given more one.0 rest.0 result) (λ w. (rest.0 ≡ one.0) × (result ≡ Err w))) (sym taken) rest.1,
+            subst (λ (p : Result Unit Fault). MatchResult p (λ _. RunsInTurn given more one.0 rest.0 result) (λ w. (rest.0 ≡ one.0) × (result ≡ Err w))) (sym taken) rest.1,
           ),
           rest.2,
         )

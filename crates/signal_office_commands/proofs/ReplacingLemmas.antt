@@ -8,9 +8,9 @@ use Rattle.office_machine.specs.{Office.Office, Office.Intersection, Step.draft_
 use Rattle.office_machine.specs.declared.reply.Reply.TheVariants as reply
 use Rattle.office_tables_shelf.specs.{Content.Content, declared.shelf.Shelf.Ghosts}
 use Rattle.signal_office_commands.proofs.RevisingLemmas.{Edits, Stands, drafted_set, held_base, settled_set, stands_by}
-use Rattle.signal_office_commands.specs.InTurn.{Makes, Runs}
+use Rattle.signal_office_commands.specs.InTurn.{Makes, RunsInTurn}
 use Rattle.signal_office_commands.specs.Replacing.{LeavesPlan, LeftPlan, TellsNoChange, base_at, draft_set, is_same, plan_left, plan_wanted}
-use Rattle.signal_office_commands.specs.Revising.{Commits, Ends, RevisesSo, Wants, WouldBe, commands_due, committing, drafted, drafting, is_idle, outcome_of}
+use Rattle.signal_office_commands.specs.Revising.{CommitsDraft, EndsRevision, RevisesSo, Wants, WouldBe, commands_due, committing, drafted, drafting, is_idle, outcome_of}
 use Rattle.signal_office_commands.specs.Standing.{AreWanted, ShowsStanding, base_from, base_of, standing_of, standing_seen}
 use Rattle.signal_office_commands.specs.declared.revising.{Outcome.Outcome, Outcome.TheVariants.Open, Outcome.TheVariants.Same, Outcome.TheVariants.Committed, Revised.Revised}
 use Rattle.signal_office_commands.specs.declared.standing.StandingPlan.{StandingPlan}
@@ -107,14 +107,14 @@ module _ (bytes : List ℕ) (id : ℕ) (clerk : List ℕ) (edit : Edit) (old new
   unchanged middle same after equal = left_so Same middle same (stands_by _ _ _ _ (λ side edits. ap Some (edits.committed ∙ equal)) after)
 
   -- it was committed
-  settled : (middle : Content) (last : Reply) → Runs reply.Same (committing true false id clerk) middle new (Ok last) → Stands middle id (λ side. Edits i.timing side changes)
+  settled : (middle : Content) (last : Reply) → RunsInTurn reply.Same (committing true false id clerk) middle new (Ok last) → Stands middle id (λ side. Edits i.timing side changes)
       → TellsNoChange edit.commit i.timing.committed wanted false → LeftPlan bytes id edit before new Committed
   settled middle last runs after = left_so Committed new refl (stands_by _ _ _ _ (λ side set. ap Some set)
       (settled_set middle new id clerk last wanted (stands_by _ _ _ _ (λ side edits. let m = made side edits in held_base side m.0 m.1 ∙ m.2) after) runs))
 
   finished : (commit same wrote : Bool) (violations : List Violation) (last : Reply) (middle : Content) (outcome : Outcome)
       → TellsNoChange edit.commit i.timing.committed wanted same → (same ≡ true → i.timing.committed ≡ wanted) → Stands middle id (λ side. Edits i.timing side changes)
-      → Runs reply.Same (commands_due violations (committing commit same id clerk)) middle new (Ok last)
+      → RunsInTurn reply.Same (commands_due violations (committing commit same id clerk)) middle new (Ok last)
       → outcome_of same wrote (commands_due violations (committing commit same id clerk)) ≡ Ok outcome → LeftPlan bytes id edit before new outcome
   finished true true wrote [] last middle outcome told equal after runs is =
       let o : Same ≡ outcome = cc in subst (LeftPlan bytes id edit before new) o (unchanged middle runs.0 after (equal refl) told)
@@ -138,7 +138,7 @@ module _ (bytes : List ℕ) (id : ℕ) (clerk : List ℕ) (edit : Edit) (old new
   here = record { office = before; stand = stands; it = i; there = there; holds = refl }
 
   by_ends : (wrote : Bool) (done : Revised) (idle same : Bool) → (same && is_none standing.draft) ≡ idle → TellsNoChange edit.commit i.timing.committed wanted same
-      → Ends idle same wrote (drafting id clerk changes) (committing edit.commit same id clerk) old new (Ok done) → LeftPlan bytes id edit before new done.outcome
+      → EndsRevision idle same wrote (drafting id clerk changes) (committing edit.commit same id clerk) old new (Ok done) → LeftPlan bytes id edit before new done.outcome
   by_ends wrote done true true e told (is_done, unmoved) =
       let outcome : Same ≡ done.outcome = cc in
       subst (LeftPlan bytes id edit before new) outcome
@@ -146,7 +146,7 @@ module _ (bytes : List ℕ) (id : ℕ) (clerk : List ℕ) (edit : Edit) (old new
   by_ends wrote done true false e told ends = absurd cc
   by_ends wrote done false same e told (middle, found, makes, commits) = by_found found makes commits where
     by_found : (found : Result (List Violation) Fault) → Makes drafted (drafting id clerk changes) old middle found
-        → Commits same wrote (committing edit.commit same id clerk) found middle new (Ok done) → LeftPlan bytes id edit before new done.outcome
+        → CommitsDraft same wrote (committing edit.commit same id clerk) found middle new (Ok done) → LeftPlan bytes id edit before new done.outcome
     by_found (Err why) makes commits = absurd (apart done why commits.1)
     by_found (Ok violations) (last, runs, shown) (ended, more, result) =
         let first = bound last drafted violations shown in
@@ -155,8 +155,8 @@ module _ (bytes : List ℕ) (id : ℕ) (clerk : List ℕ) (edit : Edit) (old new
         let outcome : third.0 ≡ done.outcome = let is = third.2 in cc in
         subst (LeftPlan bytes id edit before new) outcome (finished edit.commit same wrote violations second.0 middle third.0 told
         (λ same_is. equal_where edit.commit _ _ (subst (TellsNoChange edit.commit i.timing.committed wanted) same_is told))
-        (drafted_set old middle id clerk changes first.0 i.timing here (subst (Runs reply.Same (drafting id clerk changes) old middle) first.1 runs))
-        (subst (Runs reply.Same (commands_due violations (committing edit.commit same id clerk)) middle new) second.1 more) third.1)
+        (drafted_set old middle id clerk changes first.0 i.timing here (subst (RunsInTurn reply.Same (drafting id clerk changes) old middle) first.1 runs))
+        (subst (RunsInTurn reply.Same (commands_due violations (committing edit.commit same id clerk)) middle new) second.1 more) third.1)
 
 -- the plan that is left is the one that was asked for
 leaves : (wrote : Bool) (bytes : List ℕ) (id : ℕ) (clerk : List ℕ) (edit : Edit) (old new : Content) (done : Revised) → RevisesSo wrote bytes id clerk edit old new (Ok done)

@@ -5,17 +5,17 @@ use Rattle.draft_core.specs.Transaction.{Draft, TimingSide, holder_of, owned, wi
 use Rattle.draft_core.specs.declared.step.Step.TheVariants as step
 use Rattle.std.specs.Str.{bytes_eq}
 use Rattle.draft_core.specs.declared.refusal.DraftRefusal.{DraftRefusal}
-use Rattle.draft_core.specs.declared.refusal.DraftRefusal.TheVariants.{NotOwner, RevisionFull}
+use Rattle.draft_core.specs.declared.refusal.DraftRefusal.TheVariants.{NotDone, NotOwner, NotTransaction, NotVerify, RevisionFull}
 use Rattle.office_desk.specs.StandFor.{StandForSound}
 use Rattle.signal_records.specs.declared.state.Stage.{Stage}
-use Rattle.signal_records.specs.declared.state.Stage.TheVariants.{Transaction, Done}
+use Rattle.signal_records.specs.declared.state.Stage.TheVariants.{Transaction, Verify, Done}
 use Rattle.office_machine.specs.{Office.Office, Office.Intersection, Step.Step, Step.answered, Step.transacted, Step.with_intersection, declared.command.Command.Command, declared.refusal.Refusal.Refusal, declared.reply.Reply.Reply}
 use Rattle.office_machine.specs.Step.{moved as moved_by, refusal_of_draft}
 use Rattle.office_machine.specs.declared.command.Command.TheVariants as command
 use Rattle.office_machine.specs.declared.reply.Reply.TheVariants as reply
 use Rattle.office_machine.specs.declared.refusal.Refusal.TheVariants as refusal
 use Rattle.office_tables_shelf.specs.Content.{Content}
-use Rattle.signal_office_commands.specs.InTurn.{Answered, Runs, passed}
+use Rattle.signal_office_commands.specs.InTurn.{Answered, RunsInTurn, passed}
 use Rattle.signal_office_commands.specs.Revising.{drafting, committing}
 use Rattle.signal_office_commands.specs.{Replacing.base_at}
 use Rattle.signal_office_faults.specs.declared.fault.Fault.{Fault}
@@ -161,11 +161,11 @@ record Taken (asked : Command) (more : List Command) (old new : Content) (last :
   middle : Content
   answered : Answered old asked given middle
   passes : passed asked given ≡ Ok tt
-  rest : Runs given more middle new (Ok last)
+  rest : RunsInTurn given more middle new (Ok last)
 
-taken : (before : Reply) (asked : Command) (more : List Command) (old new : Content) (last : Reply) → Runs before (asked ∷ more) old new (Ok last) → Taken asked more old new last
+taken : (before : Reply) (asked : Command) (more : List Command) (old new : Content) (last : Reply) → RunsInTurn before (asked ∷ more) old new (Ok last) → Taken asked more old new last
 taken before asked more old new last (given, middle, answered, rest) = by_pass (passed asked given) refl rest where
-  by_pass : (p : Result Unit Fault) → passed asked given ≡ p → MatchResult p (λ _. Runs given more middle new (Ok last)) (λ why. (new ≡ middle) × (Ok last ≡ Err why))
+  by_pass : (p : Result Unit Fault) → passed asked given ≡ p → MatchResult p (λ _. RunsInTurn given more middle new (Ok last)) (λ why. (new ≡ middle) × (Ok last ≡ Err why))
       → Taken asked more old new last
   by_pass (Ok done) e rest = record { given = given; middle = middle; answered = answered; passes = e; rest = rest }
   by_pass (Err why) e rest = let none : Ok last ≡ Err why = rest.1 in absurd cc
@@ -187,26 +187,36 @@ module _ (id : ℕ) (asked : Command) (more : List Command) (old new : Content) 
   made : ((why : Refusal) → passed asked (reply.Refused why) ≢ Ok tt) → Stands t.middle id Q
   made ends = next_by (λ why refused. absurd (ends why (sym (ap (passed asked) refused) ∙ t.passes)))
 
+edit_ends : (id : ℕ) (clerk : List ℕ) (changes : List Change) (why : Refusal) → passed (command.Edit id clerk changes) (reply.Refused why) ≢ Ok tt
+edit_ends id clerk changes why e = cc
+
+commit_ends : (id : ℕ) (clerk : List ℕ) (why : Refusal) → passed (command.Commit id clerk) (reply.Refused why) ≢ Ok tt
+commit_ends id clerk why e = cc
+
 -- the draft of a revision is what its changes make of what stood
 pub drafted_set : (old new : Content) (id : ℕ) (clerk : List ℕ) (changes : List Change) (last : Reply) (was : TimingSide)
-    → Stands old id (λ side. side ≡ was) → Runs reply.Same (drafting id clerk changes) old new (Ok last) → Stands new id (λ side. Edits was side changes)
+    → Stands old id (λ side. side ≡ was) → RunsInTurn reply.Same (drafting id clerk changes) old new (Ok last) → Stands new id (λ side. Edits was side changes)
 drafted_set old new id clerk changes last was s runs =
-    let r1 = taken _ _ _ _ _ _ runs in
-    let r2 = taken _ _ _ _ _ _ r1.rest in
-    let r3 = taken _ _ _ _ _ _ r2.rest in
-    let r4 = taken _ _ _ _ _ _ r3.rest in
-    let r5 = taken _ _ _ _ _ _ r4.rest in
-    let start = stands_by old id _ (Keeps was) (λ side same. subst (Keeps was) (sym same) (kept was)) s in
-    let one = tried id _ _ _ _ _ r1 _ (λ office. refl) (Keeps was) (Keeps was) start (λ side next holds e. then_kept _ _ _ holds (begin_keeps side next clerk side.draft refl e)) (λ side holds. holds) in
-    let two = tried id _ _ _ _ _ r2 _ (λ office. refl) (Keeps was) (Keeps was) one (λ side next holds e. then_kept _ _ _ holds (stage_keeps side next _ _ _ clerk e)) (λ side holds. holds) in
-    let three = tried id _ _ _ _ _ r3 _ (λ office. refl) (Keeps was) (Keeps was) two (λ side next holds e. then_kept _ _ _ holds (stage_keeps side next _ _ _ clerk e)) (λ side holds. holds) in
-    let four = made id _ _ _ _ _ r4 _ (λ office. refl) (Keeps was) (λ side. Edits was side changes) three
-    (λ side next holds e. after_kept was side next changes holds (edit_makes side next clerk changes e)) (λ why e. cc) in
+    let r1 = taken reply.Same (command.Begin id clerk) (command.Check id clerk ∷ command.Reopen id clerk ∷ command.Edit id clerk changes ∷ command.Draft id ∷ []) old new last runs in
+    let r2 = taken r1.given (command.Check id clerk) (command.Reopen id clerk ∷ command.Edit id clerk changes ∷ command.Draft id ∷ []) r1.middle new last r1.rest in
+    let r3 = taken r2.given (command.Reopen id clerk) (command.Edit id clerk changes ∷ command.Draft id ∷ []) r2.middle new last r2.rest in
+    let r4 = taken r3.given (command.Edit id clerk changes) (command.Draft id ∷ []) r3.middle new last r3.rest in
+    let r5 = taken r4.given (command.Draft id) [] r4.middle new last r4.rest in
+    let start = stands_by old id (λ side. side ≡ was) (Keeps was) (λ side same. subst (Keeps was) (sym same) (kept was)) s in
+    let one = tried id (command.Begin id clerk) (command.Check id clerk ∷ command.Reopen id clerk ∷ command.Edit id clerk changes ∷ command.Draft id ∷ []) old new last r1 (table_line step.Begin clerk) (λ office. refl) (Keeps was) (Keeps was) start
+    (λ side next holds e. then_kept was side next holds (begin_keeps side next clerk side.draft refl e)) (λ side holds. holds) in
+    let two = tried id (command.Check id clerk) (command.Reopen id clerk ∷ command.Edit id clerk changes ∷ command.Draft id ∷ []) r1.middle new last r2 (table_line step.Check clerk) (λ office. refl) (Keeps was) (Keeps was) one
+    (λ side next holds e. then_kept was side next holds (stage_keeps side next Verify Done NotVerify clerk e)) (λ side holds. holds) in
+    let three = tried id (command.Reopen id clerk) (command.Edit id clerk changes ∷ command.Draft id ∷ []) r2.middle new last r3 (table_line step.Reopen clerk) (λ office. refl) (Keeps was) (Keeps was) two
+    (λ side next holds e. then_kept was side next holds (stage_keeps side next Done Transaction NotDone clerk e)) (λ side holds. holds) in
+    let four = made id (command.Edit id clerk changes) (command.Draft id ∷ []) r3.middle new last r4 (table_line (step.Edit changes) clerk) (λ office. refl) (Keeps was) (λ side. Edits was side changes) three
+    (λ side next holds e. after_kept was side next changes holds (edit_makes side next clerk changes e)) (edit_ends id clerk changes) in
     let shown = r5.answered.step four.office four.stand in
     let same = looks four.office shown.next id r5.given shown.step in
+    let rest : RunsInTurn r5.given [] r5.middle new (Ok last) = r5.rest in
     record {
       office = four.office;
-      stand = subst (λ tables. StandForSound tables four.office) (sym r5.rest.0) (subst (StandForSound r5.middle) same shown.stand);
+      stand = subst (λ tables. StandForSound tables four.office) (sym rest.0) (subst (StandForSound r5.middle) same shown.stand);
       it = four.it;
       there = four.there;
       holds = four.holds;
@@ -214,12 +224,16 @@ drafted_set old new id clerk changes last was s runs =
 
 -- the committed set is what a commit was made of
 pub settled_set : (old new : Content) (id : ℕ) (clerk : List ℕ) (last : Reply) (set : Rows)
-    → Stands old id (λ side. base_at side ≡ set) → Runs reply.Same (committing true false id clerk) old new (Ok last) → Stands new id (λ side. side.committed ≡ set)
+    → Stands old id (λ side. base_at side ≡ set) → RunsInTurn reply.Same (committing true false id clerk) old new (Ok last) → Stands new id (λ side. side.committed ≡ set)
 settled_set old new id clerk last set s runs =
-    let r1 = taken _ _ _ _ _ _ runs in
-    let r2 = taken _ _ _ _ _ _ r1.rest in
-    let r3 = taken _ _ _ _ _ _ r2.rest in
-    let one = tried id _ _ _ _ _ r1 _ (λ office. refl) _ (λ side. base_at side ≡ set) s (λ side next holds e. (stage_keeps side next _ _ _ clerk e).base ∙ holds) (λ side holds. holds) in
-    let two = tried id _ _ _ _ _ r2 _ (λ office. refl) _ (λ side. base_at side ≡ set) one (λ side next holds e. (stage_keeps side next _ _ _ clerk e).base ∙ holds) (λ side holds. holds) in
-    let three = made id _ _ _ _ _ r3 _ (λ office. refl) _ (λ side. side.committed ≡ set) two (λ side next holds e. commit_makes side next clerk e ∙ holds) (λ why e. cc) in
-    subst (λ tables. Stands tables id (λ side. side.committed ≡ set)) (sym r3.rest.0) three
+    let r1 = taken reply.Same (command.Verify id clerk) (command.Check id clerk ∷ command.Commit id clerk ∷ []) old new last runs in
+    let r2 = taken r1.given (command.Check id clerk) (command.Commit id clerk ∷ []) r1.middle new last r1.rest in
+    let r3 = taken r2.given (command.Commit id clerk) [] r2.middle new last r2.rest in
+    let one = tried id (command.Verify id clerk) (command.Check id clerk ∷ command.Commit id clerk ∷ []) old new last r1 (table_line step.Verify clerk) (λ office. refl) (λ side. base_at side ≡ set) (λ side. base_at side ≡ set) s
+    (λ side next holds e. (stage_keeps side next Transaction Verify NotTransaction clerk e).base ∙ holds) (λ side holds. holds) in
+    let two = tried id (command.Check id clerk) (command.Commit id clerk ∷ []) r1.middle new last r2 (table_line step.Check clerk) (λ office. refl) (λ side. base_at side ≡ set) (λ side. base_at side ≡ set) one
+    (λ side next holds e. (stage_keeps side next Verify Done NotVerify clerk e).base ∙ holds) (λ side holds. holds) in
+    let three = made id (command.Commit id clerk) [] r2.middle new last r3 (table_line step.Commit clerk) (λ office. refl) (λ side. base_at side ≡ set) (λ side. side.committed ≡ set) two
+    (λ side next holds e. commit_makes side next clerk e ∙ holds) (commit_ends id clerk) in
+    let rest : RunsInTurn r3.given [] r3.middle new (Ok last) = r3.rest in
+    subst (λ tables. Stands tables id (λ side. side.committed ≡ set)) (sym rest.0) three

@@ -19,9 +19,9 @@ entered_told reply.Same = Ok entered.Same
 entered_told other = Err told.Store
 
 -- a step of the transaction was made
-abbrev pub moved : Reply → Result Unit Fault
-moved (reply.Moved revision state verdict) = Ok tt
-moved other = Err told.Store
+abbrev pub moved_told : Reply → Result Unit Fault
+moved_told (reply.Moved revision state verdict) = Ok tt
+moved_told other = Err told.Store
 
 -- the first record of the file that spells nothing is told, or want of memory, as it was read
 abbrev pub IsUnread : {A : Type 0} → Result A CsvFault → Fault → Type 0
@@ -34,4 +34,4 @@ AddsIntersection id interval name old new result = Changes entered_told (command
 
 -- a draft is dropped
 abbrev pub Abandons : (id : ℕ) → (clerk : List ℕ) → Content → Content → Result Unit Fault → Type 0
-Abandons id clerk old new result = Changes moved (command.Abandon id clerk) old new result
+Abandons id clerk old new result = Changes moved_told (command.Abandon id clerk) old new result

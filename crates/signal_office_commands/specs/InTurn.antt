@@ -21,11 +21,26 @@ pub record Answered (old : Content) (asked : Command) (given : Reply) (new : Con
   pub damaged : given ≡ reply.Refused refusal.Damaged → MeetsDamage old asked
   pub turned_away : MeetsDamage old asked → IsTurnedAway asked given
 
+-- a transaction is under way
+abbrev pub is_not_normal : Refusal → Bool
+is_not_normal (refusal.Draft NotNormal) = true
+is_not_normal why = false
+
+-- the draft was not handed over
+abbrev pub is_not_verify : Refusal → Bool
+is_not_verify (refusal.Draft NotVerify) = true
+is_not_verify why = false
+
+-- the draft was not checked
+abbrev pub is_not_done : Refusal → Bool
+is_not_done (refusal.Draft NotDone) = true
+is_not_done why = false
+
 -- the refusal says that a step of the transaction is not due: one is under way, or its draft was not handed over, or not checked
 abbrev pub is_not_due : Command → Refusal → Bool
-is_not_due (command.Begin id clerk) (refusal.Draft NotNormal) = true
-is_not_due (command.Check id clerk) (refusal.Draft NotVerify) = true
-is_not_due (command.Reopen id clerk) (refusal.Draft NotDone) = true
+is_not_due (command.Begin id clerk) why = is_not_normal why
+is_not_due (command.Check id clerk) why = is_not_verify why
+is_not_due (command.Reopen id clerk) why = is_not_done why
 is_not_due asked why = false
 
 -- a refusal ends a run of commands, but for one that says that the step is not due
@@ -35,15 +50,15 @@ passed asked other = Ok tt
 
 -- A RUN: each command was answered over the tables that the one before it left. The last reply comes of it, where there is no command the one that was there before; or the
 -- fault of the first command that was refused, after which none was run.
-abbrev pub Runs : (last : Reply) → List Command → Content → Content → Result Reply Fault → Type 0
-Runs last [] old new result = (new ≡ old) × (result ≡ Ok last)
-Runs last (asked ∷ more) old new result =
+abbrev pub RunsInTurn : (last : Reply) → List Command → Content → Content → Result Reply Fault → Type 0
+RunsInTurn last [] old new result = (new ≡ old) × (result ≡ Ok last)
+RunsInTurn last (asked ∷ more) old new result =
     (given : Reply) × (middle : Content) × Answered old asked given middle
-    × MatchResult (passed asked given) (λ _. Runs given more middle new result) (λ why. (new ≡ middle) × (result ≡ Err why))
+    × MatchResult (passed asked given) (λ _. RunsInTurn given more middle new result) (λ why. (new ≡ middle) × (result ≡ Err why))
 
 -- commands were run, and this is made of the last reply, or why they ended
 abbrev pub Makes : {A : Type 0} → (made : Reply → Result A Fault) → List Command → Content → Content → Result A Fault → Type 0
-Makes made commands old new result = (last : Result Reply Fault) × Runs reply.Same commands old new last × (result ≡ (last >>= made))
+Makes made commands old new result = (last : Result Reply Fault) × RunsInTurn reply.Same commands old new last × (result ≡ (last >>= made))
 
 -- memory was refused before the first command, and nothing was changed
 abbrev pub IsWant : {A : Type 0} → Content → Content → Result A Fault → Type 0

@@ -9,8 +9,8 @@ use Rattle.office_tables_shelf.specs.Content.{Content}
 use Rattle.office_tables_shelf.specs.Counts.{count_of}
 use Rattle.office_tables_shelf.specs.declared.counts.WriteCounts.{WriteCounts}
 use Rattle.office_tables_shelf.specs.declared.rows.Table.TheVariants as table
-use Rattle.signal_office_commands.specs.Commands.{IsUnread, moved}
-use Rattle.signal_office_commands.specs.InTurn.{Makes, Runs}
+use Rattle.signal_office_commands.specs.Commands.{IsUnread}
+use Rattle.signal_office_commands.specs.InTurn.{Makes, RunsInTurn}
 use Rattle.signal_office_commands.specs.Standing.{AreWanted, IsNotStanding, ShowsStanding, TellsSame, base_of}
 use Rattle.signal_office_commands.specs.declared.revising.Outcome.{Outcome}
 use Rattle.signal_office_commands.specs.declared.revising.Outcome.TheVariants.{Open, Same, Committed}
@@ -67,16 +67,16 @@ abbrev pub revised : List Violation → Outcome → Revised
 revised violations outcome = record { violations = violations; outcome = outcome }
 
 -- the draft was changed, which breaks these rules; now it is committed where it breaks none
-abbrev pub Commits : (same wrote : Bool) → (more : List Command) → Result (List Violation) Fault → Content → Content → Result Revised Fault → Type 0
-Commits same wrote more (Err why) middle new result = (new ≡ middle) × (result ≡ Err why)
-Commits same wrote more (Ok violations) middle new result =
-    (ended : Result Reply Fault) × Runs reply.Same (commands_due violations more) middle new ended
+abbrev pub CommitsDraft : (same wrote : Bool) → (more : List Command) → Result (List Violation) Fault → Content → Content → Result Revised Fault → Type 0
+CommitsDraft same wrote more (Err why) middle new result = (new ≡ middle) × (result ≡ Err why)
+CommitsDraft same wrote more (Ok violations) middle new result =
+    (ended : Result Reply Fault) × RunsInTurn reply.Same (commands_due violations more) middle new ended
     × (result ≡ (ended >>= λ _. outcome_of same wrote (commands_due violations more) >>= λ outcome. Ok (revised violations outcome)))
 
 -- the draft is changed, and then committed where that is due
 abbrev pub Drafts : (same wrote : Bool) → (first more : List Command) → Content → Content → Result Revised Fault → Type 0
 Drafts same wrote first more old new result =
-    (middle : Content) × (found : Result (List Violation) Fault) × Makes drafted first old middle found × Commits same wrote more found middle new result
+    (middle : Content) × (found : Result (List Violation) Fault) × Makes drafted first old middle found × CommitsDraft same wrote more found middle new result
 
 -- ---- what an edit comes to
 
@@ -126,14 +126,14 @@ abbrev pub as_it_stands : Revised
 as_it_stands = record { violations = []; outcome = Same }
 
 -- nothing is done where the plan is as it stands; else the draft is changed
-abbrev pub Ends : (idle same wrote : Bool) → (first more : List Command) → Content → Content → Result Revised Fault → Type 0
-Ends true same wrote first more old new result = (result ≡ Ok as_it_stands) × (new ≡ old)
-Ends false same wrote first more old new result = Drafts same wrote first more old new result
+abbrev pub EndsRevision : (idle same wrote : Bool) → (first more : List Command) → Content → Content → Result Revised Fault → Type 0
+EndsRevision true same wrote first more old new result = (result ≡ Ok as_it_stands) × (new ≡ old)
+EndsRevision false same wrote first more old new result = Drafts same wrote first more old new result
 
 -- WHAT A FILE DOES TO A PLAN, where rows of its timing set were written or not; or nothing was changed
 abbrev pub RevisesSo : (wrote : Bool) → List ℕ → ℕ → List ℕ → Edit → Content → Content → Result Revised Fault → Type 0
 RevisesSo wrote bytes id clerk edit old new result =
-    ((it : Wants bytes id edit old) × Ends (is_idle it.same it.standing) it.same wrote (drafting id clerk it.changes)
+    ((it : Wants bytes id edit old) × EndsRevision (is_idle it.same it.standing) it.same wrote (drafting id clerk it.changes)
     (committing edit.commit it.same id clerk) old new result)
     ⊎ ((why : Fault) × (result ≡ Err why) × (new ≡ old) × IsNotRevised bytes id old why)
 

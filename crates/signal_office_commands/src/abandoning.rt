@@ -2,9 +2,8 @@
 
 ghost use Rattle.std.specs.Prelude.{◌≡◌};
 ghost use Rattle.office_desk.specs.Running.{MakesTables};
-ghost use Rattle.signal_office_commands.specs.Commands.{Abandons, moved};
+ghost use Rattle.signal_office_commands.specs.Commands.{Abandons, moved_told};
 ghost use Rattle.signal_office_commands.specs.Stopping.{AfterAbandoning, StopLeaves};
-ghost use Rattle.signal_office_reports.specs.Reports.{◌>>=◌};
 
 use crate::in_turn::run_one;
 use office_desk::office::Office;
@@ -17,10 +16,10 @@ use signal_records::InterId;
 use std::alloc::Global;
 
 /// A step of the transaction was made, or why not.
-fn moved(reply: Result<Reply, Fault>) -> Result<(), Fault>
-    ensures { result ≡ (reply >>= moved) }
+fn moved_told(reply: &Reply) -> Result<(), Fault>
+    ensures { result ≡ moved_told reply.now }
 {
-    match &reply? {
+    match reply {
         Reply::Moved { .. } => Ok(()),
         _ => Err(Fault::Store),
     }
@@ -40,5 +39,6 @@ pub fn abandon_draft<S: Shelf>(
     ensures stop { StopLeaves S.Shelf office.old office.new (AfterAbandoning id clerk.now) }
 {
     let clerk = clerk.to_words(alloc)?;
-    moved(run_one(alloc, office, Command::Abandon { id, clerk }))
+    let reply = run_one(alloc, office, Command::Abandon { id, clerk })?;
+    moved_told(&reply)
 }

@@ -4,7 +4,6 @@ ghost use Rattle.std.specs.Prelude.{◌≡◌};
 ghost use Rattle.office_desk.specs.Running.{MakesTables};
 ghost use Rattle.signal_office_commands.specs.Commands.{AddsIntersection, entered_told};
 ghost use Rattle.signal_office_commands.specs.Stopping.{AfterAdding, StopLeaves};
-ghost use Rattle.signal_office_reports.specs.Reports.{◌>>=◌};
 
 use crate::in_turn::run_one;
 use office_desk::office::Office;
@@ -26,10 +25,10 @@ pub enum Entered {
 }
 
 /// What is told of the reply.
-fn entered_told(reply: Result<Reply, Fault>) -> Result<Entered, Fault>
-    ensures { result ≡ (reply >>= entered_told) }
+fn entered_told(reply: &Reply) -> Result<Entered, Fault>
+    ensures { result ≡ entered_told reply.now }
 {
-    match &reply? {
+    match reply {
         Reply::Added => Ok(Entered::Added),
         Reply::Same => Ok(Entered::Same),
         _ => Err(Fault::Store),
@@ -53,5 +52,6 @@ pub fn add_intersection<S: Shelf>(
 {
     let name = name.to_words(alloc)?;
     let command = Command::AddIntersection { id, interval, name };
-    entered_told(run_one(alloc, office, command))
+    let reply = run_one(alloc, office, command)?;
+    entered_told(&reply)
 }

@@ -4,7 +4,6 @@ ghost use Rattle.std.specs.Prelude.{◌≡◌};
 ghost use Rattle.office_desk.specs.Running.{MakesTables};
 ghost use Rattle.signal_office_commands.specs.Importing.{Imports, import_told};
 ghost use Rattle.signal_office_commands.specs.Stopping.{AfterImporting, StopLeaves};
-ghost use Rattle.signal_office_reports.specs.Reports.{◌>>=◌};
 
 use crate::in_turn::run_one;
 use office_desk::office::Office;
@@ -26,14 +25,11 @@ pub struct Imported {
 }
 
 /// What is told of the reply to an import.
-fn import_told(reply: Result<Reply, Fault>) -> Result<Imported, Fault>
-    ensures { result ≡ (reply >>= import_told) }
+fn import_told(reply: &Reply) -> Result<Imported, Fault>
+    ensures { result ≡ import_told reply.now }
 {
-    match &reply? {
-        Reply::Imported { added, same } => Ok(Imported {
-            added: *added,
-            same: *same,
-        }),
+    match *reply {
+        Reply::Imported { added, same } => Ok(Imported { added, same }),
         _ => Err(Fault::Store),
     }
 }
@@ -53,5 +49,6 @@ pub fn import_csv<S: Shelf>(
     ensures stop { StopLeaves S.Shelf office.old office.new (AfterImporting bytes.now) }
 {
     let records = Records::new(read_records_csv(alloc, bytes)?);
-    import_told(run_one(alloc, office, Command::Import { records }))
+    let reply = run_one(alloc, office, Command::Import { records })?;
+    import_told(&reply)
 }

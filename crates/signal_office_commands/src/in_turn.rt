@@ -3,7 +3,7 @@
 ghost use Rattle.std.specs.Prelude.{◌≡◌, [], ◌∷◌};
 ghost use Rattle.office_desk.specs.Answers.{StandsAfterStep};
 ghost use Rattle.office_desk.specs.Running.{MakesTables};
-ghost use Rattle.signal_office_commands.specs.InTurn.{Runs, is_not_due, passed};
+ghost use Rattle.signal_office_commands.specs.InTurn.{RunsInTurn, is_not_due, passed};
 ghost use Rattle.signal_office_commands.specs.Stopping.{AfterOneOf, StopLeaves};
 
 use draft_core::refusal::DraftRefusal;
@@ -43,7 +43,7 @@ fn passed(command: &Command, reply: &Reply) -> Result<(), Fault>
     }
 }
 
-/// Runs commands in turn, up to the first that is refused, and gives the reply to the last one; where
+/// RunsInTurn commands in turn, up to the first that is refused, and gives the reply to the last one; where
 /// there is none, the one that is handed in.
 pub(crate) fn run_in_turn<S: Shelf>(
     alloc: Global,
@@ -54,7 +54,7 @@ pub(crate) fn run_in_turn<S: Shelf>(
     ensures clean { S.is_clean office.new → S.is_clean office.old }
     ensures honest { S.is_honest office.new → S.is_honest office.old }
     ensures runs { MakesTables S.Shelf office.old office.new
-        (λ old new. Runs last commands.now old new result) }
+        (λ old new. RunsInTurn last commands.now old new result) }
     ensures stop { StopLeaves S.Shelf office.old office.new (AfterOneOf commands.now) }
 {
     let Some((command, rest)) = commands.split_first() else {
@@ -65,7 +65,7 @@ pub(crate) fn run_in_turn<S: Shelf>(
     run_in_turn(alloc, office, rest, reply)
 }
 
-/// Runs one command.
+/// RunsInTurn one command.
 pub(crate) fn run_one<S: Shelf>(
     alloc: Global,
     office: &mut Office<S>,
@@ -74,7 +74,7 @@ pub(crate) fn run_one<S: Shelf>(
     ensures clean { S.is_clean office.new → S.is_clean office.old }
     ensures honest { S.is_honest office.new → S.is_honest office.old }
     ensures runs { MakesTables S.Shelf office.old office.new
-        (λ old new. Runs Reply.Same (command ∷ []) old new result) }
+        (λ old new. RunsInTurn Reply.Same (command ∷ []) old new result) }
     ensures stop { StopLeaves S.Shelf office.old office.new
         (λ old found. StandsAfterStep old command found) }
 {

@@ -1,12 +1,12 @@
 //! A plan that is revised by a CSV file: its draft is edited, and committed where that is asked.
 
-ghost use Rattle.std.specs.Prelude.{◌≡◌, IfOk};
+ghost use Rattle.std.specs.Prelude.{◌≡◌, ◌==◌, not, IfOk};
 ghost use Rattle.office_desk.specs.Running.{MakesTables, TellsTables};
+ghost use Rattle.office_tables_shelf.specs.Counts.{count_of};
 ghost use Rattle.office_tables_shelf.specs.Keeps.{KeepsShelf};
 ghost use Rattle.signal_office_commands.specs.Replacing.{LeavesPlan};
 ghost use Rattle.signal_office_commands.specs.Revising.{ComesTo, Drafts, IsRevision, RevisesAs, RevisesSo, WouldBe, as_it_stands, commands_due, committing, drafted, drafting, outcome_of, wrote_timing};
 ghost use Rattle.signal_office_commands.specs.Stopping.{AfterEither, AfterRevising, StopLeaves};
-ghost use Rattle.signal_office_reports.specs.Reports.{◌>>=◌};
 
 use crate::in_turn::run_in_turn;
 use crate::standing::{StandingPlan, standing_in};
@@ -133,10 +133,10 @@ fn revision_of(
 }
 
 /// The rules that a shown draft breaks.
-fn drafted(reply: Result<Reply, Fault>) -> Result<Violations, Fault>
-    ensures { result ≡ (reply >>= drafted) }
+fn drafted(reply: Reply) -> Result<Violations, Fault>
+    ensures { result ≡ drafted reply }
 {
-    match reply? {
+    match reply {
         Reply::Draft(draft) => Ok(draft.violations),
         _ => Err(Fault::Store),
     }
@@ -186,6 +186,20 @@ fn revision_in<S: Shelf>(
     Ok(revision_of(alloc, edit, &standing, changes)?)
 }
 
+/// How many rows of the timing set were written so far.
+fn timing_writes<S: Shelf>(office: &Office<S>) -> u64
+    ensures { result ≡ count_of (S.written office.now) Table.Timing }
+{
+    office.shelf().writes(Table::Timing)
+}
+
+/// Whether a count of writes is another one than before.
+fn has_risen(before: u64, after: u64) -> bool
+    ensures { result ≡ not (after == before) }
+{
+    after != before
+}
+
 /// Changes the draft, and commits it where that is due.
 fn run_revision<S: Shelf>(
     alloc: Global,
@@ -200,11 +214,13 @@ fn run_revision<S: Shelf>(
     ensures stop { StopLeaves S.Shelf office.old office.new
         (AfterEither revision.now.first.items revision.now.more.items) }
 {
-    let before = office.shelf().writes(Table::Timing);
-    let violations = drafted(run_in_turn(alloc, office, &revision.first, Reply::Same))?;
-    let due = commands_due(&violations, &revision.more);
+    let before = timing_writes(office);
+    let (first, more) = (revision.first.as_slice(), revision.more.as_slice());
+    let reply = run_in_turn(alloc, office, first, Reply::Same)?;
+    let violations = drafted(reply)?;
+    let due = commands_due(&violations, more);
     run_in_turn(alloc, office, due, Reply::Same)?;
-    let wrote = office.shelf().writes(Table::Timing) != before;
+    let wrote = has_risen(before, timing_writes(office));
     let outcome = outcome_of(revision.same, wrote, due)?;
     Ok(Revised {
         violations,
@@ -248,7 +264,8 @@ pub fn revise_plan<S: Shelf>(
     ensures plan { IfOk result (λ done. MakesTables S.Shelf office.old office.new
         (λ old new. LeavesPlan bytes.now edit.now.id edit.now done.outcome old new)) }
 {
-    match revision_in(alloc, office, edit, bytes)? {
+    let found = revision_in(alloc, office, edit, bytes)?;
+    match found {
         Some(revision) => run_revision(alloc, office, &revision),
         None => Ok(as_it_stands(alloc)),
     }
