@@ -9,7 +9,7 @@ from .plan import Pattern, Phase, Sequence, Split
 from .register import records_of
 
 STYLE = (pathlib.Path(__file__).parent / "page.css").read_text()
-HEAD = """<!DOCTYPE html>
+TOP = """<!DOCTYPE html>
 <html lang='en'>
 <head>
 <meta charset='utf-8'>
@@ -19,11 +19,18 @@ HEAD = """<!DOCTYPE html>
 {style}</style>
 </head>
 <body>
-<a class='skip' href='#main'>Skip to the plan</a>
+"""
+HEAD = TOP + """<a class='skip' href='#main'>Skip to the plan</a>
 <header>
 <h1>{heading}</h1>
 {facts}</header>
 <main id='main'>
+"""
+INDEX_STYLE = STYLE + ".late { color: var(--red); }\n"
+INDEX_HEAD = TOP + """<header>
+<h1>Intersections</h1>
+{note}</header>
+<main>
 """
 END = "</main>\n</body>\n</html>\n"
 VERDICTS = {"notDone": "not done", "doneWithError": "done, with errors",
@@ -44,6 +51,10 @@ TABLES = {
 }
 ORDERS = ["Order", ["Opened"], ["Clerk"], ["Work"], ["Lines: parts used (pieces)"]]
 INSPECTIONS = ["Inspection", ["Day"], ["Clerk"], ["Findings"]]
+INTERSECTIONS = ["No", ["Name"], ["State"], ["Draft of"], "Revision", "Committed rows",
+                 "Open orders", ["Last inspection"], ["Next inspection due"]]
+NAMED_ORDERS = ["No", ["Name"], "Order", ["Opened"], ["Clerk"], ["Work"]]
+STOCK = [["Part"], "On hand (pieces)"]
 
 
 def quoted(text):
@@ -211,16 +222,18 @@ def fact(name, value):
     return f"<div><dt>{name}</dt><dd>{value}</dd></div>\n"
 
 
-def links(has_draft):
-    """Links to the parts of the page."""
+def links(has_draft, linked):
+    """Links to the index, where that is wanted, and to the parts of the page."""
     parts = [("plan", "The committed plan"), ("draft", "The draft"), ("cabinet", "The cabinet")]
     lines = [f"<li><a href='#{at}'>{name}</a></li>\n" for at, name in parts
              if has_draft or at != "draft"]
+    if linked:
+        lines.insert(0, "<li><a href='index.html'>All intersections</a></li>\n")
     return f"<nav aria-label='Parts of this page'>\n<ul>\n{''.join(lines)}</ul>\n</nav>\n"
 
 
-def facts(office, id):
-    """How an intersection stands."""
+def facts(office, id, linked):
+    """How an intersection stands, with links."""
     it = office.find(id)
     inspected = [of.day for _, of in records_of(office.register.inspections, id)]
     told = {"Last inspection": max(inspected, default="none"),
@@ -230,7 +243,7 @@ def facts(office, id):
             "Verify status": VERDICTS[it.verdict()], "Revision": it.revision,
             "Committed rows": len(it.committed)}
     return (f"<dl>\n{''.join(fact(*pair) for pair in told.items())}</dl>\n"
-            f"{links(it.draft is not None)}")
+            f"{links(it.draft is not None, linked)}")
 
 
 def changes(before, after):
@@ -322,15 +335,56 @@ def cabinet_part(register, id, interval):
         for number, it in reversed(records_of(register.inspections, id))])
 
 
-def page(office, id):
-    """The page of an intersection, or refusal 10."""
+def page(office, id, linked=False):
+    """The page of an intersection, linked to the index or not, or refusal 10."""
     it = office.find(id)
     head = HEAD.format(
         title=f"Intersection {id}: {quoted(it.name)}", style=STYLE,
-        heading=f"Intersection {id}: {isolated(it.name)}", facts=facts(office, id))
+        heading=f"Intersection {id}: {isolated(it.name)}", facts=facts(office, id, linked))
     runs = plan_part(it.committed, " of the committed plan")
     parts = [section("plan", "The committed plan", runs)]
     if it.draft is not None:
         parts.append(section("draft", "The draft", draft_part(it)))
     cabinet = "".join(cabinet_part(office.register, id, it.interval))
     return "".join([head, *parts, section("cabinet", "The cabinet", cabinet), END])
+
+
+# ---- the index
+
+def entry(office, id, day):
+    """The row of an intersection, which begins with the link to its page, and whether it is
+    overdue on the day, if one is given."""
+    it = office.find(id)
+    last = max((of.day for _, of in records_of(office.register.inspections, id)), default=None)
+    due = office.register.due(id, it.interval)
+    late = day is not None and (due is None or due < day)
+    mark = " <strong class='late'>overdue</strong>" if late else ""
+    cells = [f"<th scope='row'><a href='{id}.html'>{id}</a></th>", word(isolated(it.name)),
+             word(it.state), word(isolated(it.owner) if it.owner else "nobody"), cell(it.revision),
+             cell(len(it.committed)), cell(len(office.open_orders(id)["open"])),
+             cell(last or "none", "d"), cell(f"{due or 'never inspected'}{mark}", "d")]
+    return late, f"<tr>{''.join(cells)}</tr>\n"
+
+
+def named_order(it, id, number, order):
+    """The row of an open order with its intersection."""
+    cells = [first(id), word(isolated(it.name)), cell(number), cell(order.opened, "d"),
+             word(isolated(order.clerk)), word(isolated(order.text))]
+    return f"<tr>{''.join(cells)}</tr>\n"
+
+
+def index(office, day=None):
+    """The index of all intersections, those that are overdue on the day first."""
+    entries = [entry(office, id, day) for id in sorted(office.intersections)]
+    late = [row for is_late, row in entries if is_late]
+    rows = late + [row for is_late, row in entries if not is_late]
+    note = (f"<p>Inspections overdue on <strong>{day}</strong>: {len(late)} of {len(entries)}.</p>\n"
+            if day else "")
+    orders = [named_order(it, id, number, order)
+              for id, it in sorted(office.intersections.items())
+              for number, order in records_of(office.register.orders, id) if not order.closed]
+    stock = [f"<tr>{word(isolated(it['part']))}{cell(it['count'])}</tr>\n"
+             for it in office.register.stock()]
+    head = INDEX_HEAD.format(title="Intersections", style=INDEX_STYLE, note=note)
+    return "".join([head, table("Intersections", INTERSECTIONS, rows),
+                    table("Open orders", NAMED_ORDERS, orders), table("Stock", STOCK, stock), END])

@@ -36,6 +36,7 @@ abbrev pub filed_in : Seen → Result CabinetShown Fault
 filed_in (seen.Reply (reply.Cabinet cabinet)) = Ok cabinet
 filed_in other = Err told.Store
 
+-- what a look at one cabinet may see of tables
 abbrev pub SeesCabinet : Content → ℕ → Result CabinetShown Fault → Type 0
 SeesCabinet tables id =
     SeesAs (λ office. cabinet_shown office.register id) (λ _. ¬ MeetsDamage tables (command.Cabinet id)) (MeetsDamage tables (command.Cabinet id)) tables
@@ -44,12 +45,15 @@ SeesCabinet tables id =
 abbrev pub with_cabinet : ListedIntersection → CabinetShown → ListedCabinet
 with_cabinet listed cabinet = record { listed = listed; cabinet = cabinet }
 
+-- an intersection of a list with its cabinet in an office
 abbrev pub listed_cabinet_of : Office → ListedIntersection → ListedCabinet
 listed_cabinet_of office listed = with_cabinet listed (cabinet_shown office.register listed.id)
 
+-- no cabinet of a list meets a damaged row
 abbrev pub AreWhole : Content → List ListedIntersection → Type 0
 AreWhole tables = AllByRecursion (λ (listed : ListedIntersection). ¬ MeetsDamage tables (command.Cabinet listed.id))
 
+-- what a look at the cabinets of a list may see of tables
 abbrev pub SeesCabinets : Content → List ListedIntersection → Result (List ListedCabinet) Fault → Type 0
 SeesCabinets tables list =
     SeesAs (λ office. map (listed_cabinet_of office) list) (λ _. AreWhole tables list) ((id : ℕ) × MeetsDamage tables (command.Cabinet id)) tables

@@ -11,7 +11,7 @@ use Rattle.signal_office_reports.specs.Reports.{index_shown}
 use Rattle.signal_office_reports.specs.Seen.{cabinet_listed}
 use Rattle.signal_index.specs.declared.shown.IndexShown.{IndexShown}
 
--- its intersections by their numbers, their open orders, and the stock
+-- what the index of an office shows: its intersections by their numbers, their open orders, and the stock
 abbrev pub index_from : Office → IndexShown
 index_from office = index_shown (map (cabinet_listed office) (entries office.intersections)) (stock_of office.register)
 

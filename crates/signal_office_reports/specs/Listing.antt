@@ -22,15 +22,19 @@ use Rattle.office_tables_shelf.specs.OpenOrders.{orders_in}
 abbrev pub list_written : Bool → List ListedIntersection → List ℕ
 list_written csv list = if csv then intersections_csv_text list else intersections_listing list
 
+-- the stock as CSV or as a text
 abbrev pub stock_written : Bool → List (List ℕ × ℕ) → List ℕ
 stock_written csv parts = if csv then stock_csv_text parts else stock_listing parts
 
+-- open orders with names as CSV or as a text
 abbrev pub named_written : Bool → List NamedOrder → List ℕ
 named_written csv orders = if csv then orders_csv_text orders else named_orders_listing orders
 
+-- used parts as CSV or as a text
 abbrev pub used_written : Bool → List UsedPart → List ℕ
 used_written csv list = if csv then used_csv_text list else used_listing list
 
+-- the overdue on a day as CSV or as a report
 abbrev pub overdue_written : Bool → ℕ → List OverdueRow → List ℕ
 overdue_written csv day rows = if csv then overdue_csv_text rows else overdue_report day rows
 

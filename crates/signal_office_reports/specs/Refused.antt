@@ -19,6 +19,7 @@ of_records =
 abbrev pub with_number : ℕ → List Refusal → Option Refusal
 with_number number = find (λ r. (line_of r).number == number)
 
+-- the refusal of records by its number
 abbrev pub record_refusal : ℕ → Option Refusal
 record_refusal number = with_number number of_records
 

@@ -51,11 +51,13 @@ orders_queries None csv = query.OpenOrders ∷ []
 orders_queries (Some id) true = query.State id ∷ query.Cabinet id ∷ []
 orders_queries (Some id) false = query.Cabinet id ∷ []
 
+-- the queries of an export
 abbrev pub export_queries : ℕ → View → List Query
 export_queries id view.Timing = query.Timing id ∷ []
 export_queries id view.Draft = query.Draft id ∷ []
 export_queries id view.Cabinet = query.Cabinet id ∷ []
 
+-- the queries of a report
 abbrev pub queries_of : Shown → List Query
 queries_of (shown.Sheet id) = query.Timing id ∷ []
 queries_of (shown.Overdue day most csv) = query.Overdue day most ∷ []
@@ -70,16 +72,19 @@ queries_of (shown.Index day) = query.Cabinets ∷ query.Stock ∷ []
 
 -- ---- what a query showed, or the fault of its refusal
 
+-- the state of an intersection that was seen, or the fault
 abbrev pub state_in : Seen → Result IntersectionState Fault
 state_in (seen.Reply (reply.State state)) = Ok state
 state_in (seen.Reply (reply.Refused why)) = Err (fault_of why)
 state_in other = Err told.Store
 
+-- the committed plan that was seen, or the fault
 abbrev pub timing_in : Seen → Result RunningTiming Fault
 timing_in (seen.Reply (reply.Timing timing)) = Ok timing
 timing_in (seen.Reply (reply.Refused why)) = Err (fault_of why)
 timing_in other = Err told.Store
 
+-- the draft that was seen, or the fault
 abbrev pub draft_in : Seen → Result Rows Fault
 draft_in (seen.Reply (reply.Draft draft)) = Ok draft.rows
 draft_in (seen.Reply (reply.Refused why)) = Err (fault_of why)
@@ -92,28 +97,34 @@ open_draft_in (seen.Reply (reply.Refused (refusal.Draft draft.NotTransaction))) 
 open_draft_in (seen.Reply (reply.Refused why)) = Err (fault_of why)
 open_draft_in other = Err told.Store
 
+-- the register of a cabinet that was seen, or the fault
 abbrev pub cabinet_in : Seen → Result CabinetShown Fault
 cabinet_in (seen.Reply (reply.Cabinet cabinet)) = Ok cabinet
 cabinet_in (seen.Reply (reply.Refused why)) = Err (fault_of why)
 cabinet_in other = Err told.Store
 
+-- the stock that was seen, or the fault
 abbrev pub stock_in : Seen → Result (List (List ℕ × ℕ)) Fault
 stock_in (seen.Reply (reply.Stock parts)) = Ok parts
 stock_in (seen.Reply (reply.Refused why)) = Err (fault_of why)
 stock_in other = Err told.Store
 
+-- the list of the overdue that was seen, or the fault
 abbrev pub overdue_in : Seen → Result (List Listed) Fault
 overdue_in (seen.Reply (reply.Overdue listed)) = Ok listed
 overdue_in other = Err told.Store
 
+-- the list of intersections that was seen, or the fault
 abbrev pub intersections_in : Seen → Result (List ListedIntersection) Fault
 intersections_in (seen.Intersections list) = Ok list
 intersections_in other = Err told.Store
 
+-- the open orders that were seen, or the fault
 abbrev pub orders_seen : Seen → Result (List NamedOrder) Fault
 orders_seen (seen.Orders orders) = Ok orders
 orders_seen other = Err told.Store
 
+-- the cabinets that were seen, or the fault
 abbrev pub cabinets_in : Seen → Result (List ListedCabinet) Fault
 cabinets_in (seen.Cabinets cabinets) = Ok cabinets
 cabinets_in other = Err told.Store
@@ -123,6 +134,7 @@ abbrev pub first_seen : List Seen → Seen
 first_seen [] = seen.Reply (reply.Refused refusal.Unavailable)
 first_seen (it ∷ rest) = it
 
+-- what was seen after the first answer
 abbrev pub rest_of : List Seen → List Seen
 rest_of [] = []
 rest_of (it ∷ rest) = rest
@@ -131,6 +143,7 @@ rest_of (it ∷ rest) = rest
 
 -- what comes next, where a step gave a value; else its fault
 infixl 10 ◌>>=◌
+-- a result that is used further, or its fault
 abbrev pub ◌>>=◌ : {A B : Type 0} → Result A Fault → (A → Result B Fault) → Result B Fault
 (Ok x) >>= f = f x
 (Err e) >>= f = Err e
@@ -142,6 +155,7 @@ register_of state cabinet = do
   holds ← cabinet_in cabinet
   Ok (known, holds)
 
+-- the state and the register among what was seen
 abbrev pub register_in : List Seen → Result (IntersectionState × CabinetShown) Fault
 register_in found = register_of (first_seen found) (first_seen (rest_of found))
 
@@ -152,6 +166,7 @@ plans_of timing draft = do
   drafted ← draft_in draft
   Ok (runs.rows, drafted)
 
+-- the two plans among what was seen
 abbrev pub plans_in : List Seen → Result (Rows × Rows) Fault
 plans_in found = plans_of (first_seen found) (first_seen (rest_of found))
 
@@ -159,6 +174,7 @@ plans_in found = plans_of (first_seen found) (first_seen (rest_of found))
 abbrev pub if_with : ℕ → Rows → Result Rows Fault
 if_with pattern plan = if is_some (pattern_at plan pattern) then Ok plan else Err told.UnknownPattern
 
+-- the plan that was seen, if it has the pattern
 abbrev pub pattern_in : ℕ → Seen → Result Rows Fault
 pattern_in pattern it = do
   timing ← timing_in it
@@ -173,6 +189,7 @@ page_of state timing draft cabinet = do
   holds ← cabinet_in cabinet
   Ok (record { state = known; committed = runs.rows; draft = drafted; cabinet = holds })
 
+-- what the page of an intersection shows, among what was seen
 abbrev pub page_in : List Seen → Result IntersectionShown Fault
 page_in found =
     page_of (first_seen found) (first_seen (rest_of found)) (first_seen (rest_of (rest_of found))) (first_seen (rest_of (rest_of (rest_of found))))
@@ -181,18 +198,22 @@ page_in found =
 abbrev pub index_entry_of : ListedCabinet → IndexEntry
 index_entry_of it = index_entry it.listed it.cabinet
 
+-- the open orders of a listed cabinet with its name
 abbrev pub named_of : ListedCabinet → List NamedOrder
 named_of it = named_orders it.listed.name it.cabinet
 
+-- what the index shows of cabinets and a stock
 abbrev pub index_shown : List ListedCabinet → List (List ℕ × ℕ) → IndexShown
 index_shown cabinets stock = record { entries = map index_entry_of cabinets; orders = flat_map named_of cabinets; stock = stock }
 
+-- the cabinets and the stock that were seen
 abbrev pub index_of : (cabinets stock : Seen) → Result (List ListedCabinet × List (List ℕ × ℕ)) Fault
 index_of cabinets stock = do
   all ← cabinets_in cabinets
   parts ← stock_in stock
   Ok (all, parts)
 
+-- the cabinets and the stock among what was seen
 abbrev pub index_in : List Seen → Result (List ListedCabinet × List (List ℕ × ℕ)) Fault
 index_in found = index_of (first_seen found) (first_seen (rest_of found))
 
@@ -200,6 +221,7 @@ index_in found = index_of (first_seen found) (first_seen (rest_of found))
 abbrev pub parts_used_in : Option (List ℕ) → ListedCabinet → List UsedPart
 parts_used_in part it = used_on part it.cabinet
 
+-- what was used in cabinets: all, or of a part
 abbrev pub used_among : Option (List ℕ) → List ListedCabinet → List UsedPart
 used_among part cabinets = flat_map (parts_used_in part) cabinets
 
@@ -211,11 +233,13 @@ IsTextOf text (Ok it) (Ok bytes) = text it bytes
 IsTextOf text (Err cause) (Ok bytes) = ⊥
 IsTextOf text it (Err why) = (why ≡ told.Memory) ⊎ (it ≡ Err why)
 
+-- the text of the open orders, of all or of one intersection, is made of what was seen
 abbrev pub IsOrdersMade : Option ℕ → (csv : Bool) → List Seen → Result (List ℕ) Fault → Type 0
 IsOrdersMade None csv found = IsTextOf (λ orders text. text ≡ named_written csv orders) (orders_seen (first_seen found))
 IsOrdersMade (Some id) true found = IsTextOf (λ it text. text ≡ orders_csv_text (named_orders it.0.name it.1)) (register_in found)
 IsOrdersMade (Some id) false found = IsTextOf (λ cabinet text. text ≡ orders_listing (open_orders cabinet)) (cabinet_in (first_seen found))
 
+-- the text of an export is made of what was seen
 abbrev pub IsExportMade : View → List Seen → Result (List ℕ) Fault → Type 0
 IsExportMade view.Timing found = IsTextOf (λ t text. text ≡ timing_csv_text t.rows) (timing_in (first_seen found))
 IsExportMade view.Draft found = IsTextOf (λ rows text. text ≡ timing_csv_text rows) (draft_in (first_seen found))
@@ -243,5 +267,6 @@ IsShown it tables result = IsMadeOfAnswers (queries_of it) (IsMade it) tables re
 abbrev pub IsUsedMade : (part : Option (List ℕ)) → (csv : Bool) → List Seen → Result (List ℕ) Fault → Type 0
 IsUsedMade part csv found = IsTextOf (λ cabinets text. text ≡ used_written csv (used_among part cabinets)) (cabinets_in (first_seen found))
 
+-- the text of the used parts is what tables show
 abbrev pub IsUsedShown : (part : Option (List ℕ)) → (csv : Bool) → Content → Result (List ℕ) Fault → Type 0
 IsUsedShown part csv tables result = IsMadeOfAnswers (query.Cabinets ∷ []) (IsUsedMade part csv) tables result

@@ -57,6 +57,7 @@ Meets tables query.Intersections = HasAnyDamagedIntersection tables
 Meets tables query.OpenOrders = HasAnyDamagedIntersection tables ⊎ HasAnyDamagedOrder tables
 Meets tables query.Cabinets = HasAnyDamagedIntersection tables ⊎ ((id : ℕ) × MeetsDamage tables (command.Cabinet id))
 
+-- one of some queries meets a damaged row
 abbrev pub MeetsAny : Content → List Query → Type 0
 MeetsAny tables [] = ⊥
 MeetsAny tables (q ∷ qs) = Meets tables q ⊎ MeetsAny tables qs
@@ -68,6 +69,7 @@ abbrev pub IsNamedRefusal : Command → Seen → Type 0
 IsNamedRefusal asked (seen.Reply reply) = RefusesBy (numbers_of asked) reply
 IsNamedRefusal asked other = ⊥
 
+-- an answer that tables may give to a command that was asked
 abbrev pub IsAnswer : Content → Command → Seen → Type 0
 IsAnswer tables asked it = (¬ MeetsDamage tables asked) × IsNamedRefusal asked it
 
@@ -94,6 +96,7 @@ Passes tables query.Intersections it = ¬ Meets tables query.Intersections
 Passes tables query.OpenOrders it = ¬ Meets tables query.OpenOrders
 Passes tables query.Cabinets it = ¬ Meets tables query.Cabinets
 
+-- each query passes with its answer
 abbrev pub PassEach : Content → List Query → List Seen → Type 0
 PassEach tables [] [] = Unit {0}
 PassEach tables [] (it ∷ found) = ⊥
@@ -131,9 +134,11 @@ abbrev pub SeesAs : {A : Type 0} → (shown : Office → A) → (passes : A → 
 SeesAs shown passes damaged tables (Ok it) = OfOffice tables (λ office. it ≡ shown office) × passes it
 SeesAs shown passes damaged tables (Err why) = IsUnseen damaged why
 
+-- what a look with a query may see of tables
 abbrev pub Sees : Content → Query → Result Seen Fault → Type 0
 Sees tables q it = SeesAs (λ office. query_answer office q) (Passes tables q) (Meets tables q) tables it
 
+-- nobody holds a draft in this state
 abbrev pub is_state_normal : DbState → Bool
 is_state_normal Normal = true
 is_state_normal other = false
