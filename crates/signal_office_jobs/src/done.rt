@@ -101,7 +101,7 @@ impl Done {
         Ok(Done::Text { text, status })
     }
 
-    /// The same, each with its reason.
+    /// The violations of a plan that was checked, each with its reason.
     pub fn explaining(alloc: Global, found: &[Explained]) -> Result<Done, Fault>
         ensures { TellsAs (explained_text_of found.now) (explained_status found.now) result }
     {
