@@ -1,126 +1,104 @@
-//! A reader of bytes that are there already, after which it ends, fails, waits or goes on; a writer
-//! that has room for so many bytes; and an end that moves no byte and counts its calls.
+//! A reader of bytes that are there already, after which it ends, fails, waits or goes on; and a
+//! writer that has room for so many bytes.
 
-ghost use Rattle.std.specs.Prelude.{◌≡◌, ◌≤◌, length, IfOk};
+ghost use Rattle.std.specs.Prelude.{◌≤◌, length};
 
-use crate::asking::Bench;
+use office_http::{FromRead, ToWrite};
+use std::alloc::Global;
 use std::cell::Cell;
 use std::io;
 use std::io::{ErrorKind, Read, Write};
-use std::process::Abort;
+
+/// What the two ends of a stream saw.
+#[derive(Drop)]
+pub(crate) struct Seen {
+    /// The calls of both.
+    pub(crate) calls: Cell<usize>,
+    /// The bytes that the writer took.
+    pub(crate) taken: Cell<usize>,
+}
+
+impl Seen {
+    pub(crate) fn none() -> Seen {
+        Seen {
+            calls: Cell::new(0),
+            taken: Cell::new(0),
+        }
+    }
+
+    fn count(&self) {
+        self.calls.set(self.calls.get().saturating_add(1));
+    }
+}
 
 /// What comes after the bytes of a reader.
 #[derive(Clone, Copy)]
 pub(crate) enum After<'a> {
     End,
     Failure,
-    /// All bytes of the reader once more, and so on.
-    Again,
-    /// These bytes, once a writer took an answer. A read before that is early, and fails.
-    Answer(&'a [u8], &'a Patience),
-}
-
-/// How long a reader waits: until a writer took so many bytes. It counts the reads that came
-/// before.
-#[derive(Drop)]
-pub(crate) struct Patience {
-    pub(crate) taken: Cell<usize>,
-    pub(crate) wanted: usize,
-    pub(crate) early: Cell<usize>,
-}
-
-impl Patience {
-    /// Whether the bytes were taken; else the read is counted as early.
-    fn is_over(&self) -> bool {
-        if self.taken.get() < self.wanted {
-            self.early.set(self.early.get().saturating_add(1));
-            return false;
-        }
-        true
-    }
+    /// These bytes, again and again.
+    Again(&'a [u8]),
+    /// These bytes, once the writer took so many. A read before that fails.
+    Answer(&'a [u8], usize),
 }
 
 /// A reader of bytes, of which one read gives so many at most.
 #[derive(Drop)]
 pub(crate) struct Feed<'a> {
     bytes: &'a [u8],
-    rest: &'a [u8],
     most: usize,
     after: After<'a>,
+    seen: &'a Seen,
 }
 
-impl<'a> Feed<'a> {
-    pub(crate) fn new(bytes: &'a [u8], most: usize, after: After<'a>) -> Feed<'a> {
-        Feed {
-            bytes,
-            rest: bytes,
-            most,
-            after,
-        }
-    }
-
+impl Feed<'_> {
     /// Copies as many bytes as there is room for, and as a read gives.
     fn give(&mut self, buf: &mut [u8]) -> usize
         ensures { result ≤ length buf.new }
     {
-        let all = self.rest;
+        let all = self.bytes;
         let n = all.len().min(buf.len()).min(self.most);
         buf[..n].copy_from_slice(&all[..n]);
-        self.rest = &all[n..];
+        self.bytes = &all[n..];
         n
     }
 }
 
 impl Read for Feed<'_> {
     fn read(&mut self, buf: &mut [u8]) -> io::Result<usize> {
+        self.seen.count();
         match self.after {
-            _ if !self.rest.is_empty() => {}
+            _ if !self.bytes.is_empty() => {}
             After::End => {}
-            After::Again => self.rest = self.bytes,
-            After::Answer(next, patience) if patience.is_over() => {
-                self.rest = next;
+            After::Again(bytes) => self.bytes = bytes,
+            After::Answer(bytes, wanted) if self.seen.taken.get() >= wanted => {
+                self.bytes = bytes;
                 self.after = After::End;
             }
-            _ => return Err(io::Error::from(ErrorKind::Other)),
+            _ => return Err(io::Error::from(ErrorKind::Interrupted)),
         }
         Ok(self.give(buf))
     }
 }
 
-/// A writer that keeps what it takes, and tells a cell how many bytes that are. Without room it
-/// takes none, or fails.
+/// A writer that keeps what it takes. Without room it takes none, or fails.
 #[derive(Drop)]
 pub(crate) struct Taker<'a> {
     pub(crate) bytes: Vec<u8>,
     room: usize,
     fails: bool,
-    taken: &'a Cell<usize>,
-}
-
-impl<'a> Taker<'a> {
-    pub(crate) fn new(
-        rt: &Bench<impl Abort>,
-        room: usize,
-        fails: bool,
-        taken: &'a Cell<usize>,
-    ) -> Taker<'a> {
-        Taker {
-            bytes: Vec::new(rt.1),
-            room,
-            fails,
-            taken,
-        }
-    }
+    seen: &'a Seen,
 }
 
 impl Write for Taker<'_> {
     fn write(&mut self, buf: &[u8]) -> io::Result<usize> {
+        self.seen.count();
         let n = buf.len().min(self.room.saturating_sub(self.bytes.len()));
         let is_kept = self.bytes.extend_from_slice(&buf[..n]).is_ok();
         if !is_kept || n == 0 && self.fails {
-            return Err(io::Error::from(ErrorKind::Other));
+            return Err(io::Error::from(ErrorKind::Interrupted));
         }
-        self.taken.set(self.bytes.len());
+        self.seen.taken.set(self.bytes.len());
         Ok(n)
     }
 
@@ -129,37 +107,26 @@ impl Write for Taker<'_> {
     }
 }
 
-/// A reader and a writer that counts its calls. The first is interrupted, and each later one moves
-/// no byte.
-#[derive(Drop)]
-pub(crate) struct Reluctant<'a> {
-    pub(crate) calls: &'a Cell<usize>,
-}
-
-impl Reluctant<'_> {
-    fn move_none(&self) -> io::Result<usize>
-        ensures { IfOk result (λ n. n ≡ 0) }
-    {
-        self.calls.set(self.calls.get().saturating_add(1));
-        if self.calls.get() == 1 {
-            return Err(io::Error::from(ErrorKind::Interrupted));
-        }
-        Ok(0)
-    }
-}
-
-impl Read for Reluctant<'_> {
-    fn read(&mut self, _buf: &mut [u8]) -> io::Result<usize> {
-        self.move_none()
-    }
-}
-
-impl Write for Reluctant<'_> {
-    fn write(&mut self, _buf: &[u8]) -> io::Result<usize> {
-        self.move_none()
-    }
-
-    fn flush(&mut self) -> io::Result<()> {
-        Ok(())
-    }
+/// Both ends of a stream: a reader of bytes by reads of so many at most, and of what comes after
+/// them, and a writer with so much room, which fails without or takes none.
+pub(crate) fn ends<'a>(
+    alloc: Global,
+    (bytes, most, after): (&'a [u8], usize, After<'a>),
+    (room, fails): (usize, bool),
+    seen: &'a Seen,
+) -> (FromRead<Feed<'a>>, ToWrite<Taker<'a>>) {
+    let source = FromRead::new(Feed {
+        bytes,
+        most,
+        after,
+        seen,
+    });
+    let bytes = Vec::new(alloc);
+    let sink = ToWrite::new(Taker {
+        bytes,
+        room,
+        fails,
+        seen,
+    });
+    (source, sink)
 }

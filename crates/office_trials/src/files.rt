@@ -5,8 +5,10 @@ ghost use Rattle.sqlite.specs.Files.{file_state};
 ghost use Rattle.sqlite.specs.Held.{state};
 ghost use Rattle.office_tables_open.specs.Promises.{IsArrangedIfClean};
 
-use crate::asking::{Bench, Step, shown};
-use crate::streams::stream;
+use crate::asking::{Bench, state_of};
+use crate::script::Script;
+use crate::streams::count_served;
+use crate::worked::play_all;
 use office_desk::office::Office;
 use office_tables::open::{Left, OpenFault};
 use office_tables::sql_shelf::SqlShelf;
@@ -39,7 +41,7 @@ pub(crate) fn stopping(rt: &Bench<impl Abort>, db: &[u8], is_log: bool, calls: u
 }
 
 /// The files once more, with all that was written to them.
-pub(crate) fn found(rt: &Bench<impl Abort>, left: &Pair) -> Pair {
+pub(crate) fn reread(rt: &Bench<impl Abort>, left: &Pair) -> Pair {
     Files {
         log: file(rt, left.log.inner().bytes(), u64::MAX),
         db: file(rt, left.db.inner().bytes(), u64::MAX),
@@ -47,7 +49,7 @@ pub(crate) fn found(rt: &Bench<impl Abort>, left: &Pair) -> Pair {
 }
 
 /// The files after a crash, which loses all that was not synced.
-pub(crate) fn crashed<D: Crash>(left: Files<D>) -> Files<D> {
+pub(crate) fn crash<D: Crash>(left: Files<D>) -> Files<D> {
     let Files { mut log, mut db } = left;
     log.crash();
     db.crash();
@@ -57,8 +59,12 @@ pub(crate) fn crashed<D: Crash>(left: Files<D>) -> Files<D> {
 /// What is done over files.
 #[derive(Clone, Copy)]
 pub(crate) enum Work<'a> {
-    /// An office makes these steps by one stream.
-    Steps(&'a [Step<'a>]),
+    /// New tables are made.
+    Open,
+    /// An office serves these requests as one stream.
+    Stream(&'a Script),
+    /// An office makes the script in each way, by reads of so many bytes at most.
+    Script(&'a Script, usize),
     /// An office shows what it holds.
     Show,
     /// The tables of a new office become such of version 1, with rows.
@@ -80,21 +86,7 @@ INSERT INTO intersection VALUES (12, 'Main St', 365, 1, 1, 'Ana');
 INSERT INTO timing VALUES (12, 1, 2, 0, 'phase,2,1,8,20,40,40,15,,7,12,490,60,0');
 INSERT INTO draft VALUES (12, 1, 2, 0, 'phase,2,1,8,20,40,40,15,,7,12,480,60,0')";
 
-/// Brings tables to today's version, for which both rows are written anew.
-fn migrate<S: Alter>(rt: &Bench<impl Abort>, conn: &mut Connection<S>) -> usize
-    requires { IsArrangedIfClean (state S.Store conn.old) }
-{
-    let Ok(rows) = SqlShelf::migrate(rt.1, conn) else {
-        return 0;
-    };
-    assert!(rt;
-        rows.timing == 1 && rows.draft == 1,
-        "the rows of a migration"
-    );
-    1
-}
-
-/// Makes steps by the office over these tables, or has it show what it holds.
+/// Serves a stream by the office over these tables, or has it show what it holds.
 fn work_over<S: Alter + Drop>(
     rt: &Bench<impl Abort>,
     conn: Connection<S>,
@@ -108,8 +100,9 @@ fn work_over<S: Alter + Drop>(
             let mut office = Office::new(shelf);
             let mut done = 0;
             match work {
-                Work::Steps(steps) => done = stream(rt, &mut office, steps),
-                _ => shows = shown(rt, &mut office),
+                Work::Stream(script) => done = count_served(rt, &mut office, script),
+                Work::Script(script, most) => shows = play_all(rt, &mut office, script, most),
+                _ => shows = state_of(rt, &mut office),
             }
             ((done, shows), Ok(office.into_shelf().into_conn()))
         }
@@ -122,6 +115,12 @@ fn work_over<S: Alter + Drop>(
     }
 }
 
+/// A database in which new tables are made.
+fn with_tables<S: Alter + Drop>(rt: &Bench<impl Abort>, conn: Connection<S>) -> Connection<S> {
+    let shelf = SqlShelf::open(rt.1, conn).ok();
+    shelf.expect(rt, "new tables").into_conn()
+}
+
 /// Does work over the tables of a database.
 fn done_over<S: Alter + Drop>(
     rt: &Bench<impl Abort>,
@@ -131,15 +130,16 @@ fn done_over<S: Alter + Drop>(
     requires { IsArrangedIfClean (state S.Store conn) }
 {
     let done = match work {
+        Work::Open => return ((0, Vec::new(rt.1)), Ok(with_tables(rt, conn))),
         Work::Age => usize::from(conn.execute_batch(AGE).is_ok()),
-        Work::Migrate => migrate(rt, &mut conn),
+        Work::Migrate => usize::from(SqlShelf::migrate(rt.1, &mut conn).is_ok()),
         _ => return work_over(rt, conn, work),
     };
     ((done, Vec::new(rt.1)), Ok(conn))
 }
 
 /// The database in these files, which is made where they are empty, or the files.
-pub(crate) fn database<D: Disk + Drop>(
+fn database<D: Disk + Drop>(
     rt: &Bench<impl Abort>,
     files: Files<D>,
 ) -> Result<Connection<FileStore<D>>, Files<D>>
@@ -172,4 +172,12 @@ pub(crate) fn over_files<D: Disk + Drop>(
         },
         (done, Err(store)) => (done, false, store.close()),
     }
+}
+
+/// Files with what this work makes of a database of these bytes.
+pub(crate) fn files_after(rt: &Bench<impl Abort>, start: &[u8], work: Work<'_>) -> Pair {
+    let files = stopping(rt, start, true, u64::MAX);
+    let (_, is_closed, files) = over_files(rt, files, work);
+    assert!(rt; is_closed, "files that are closed");
+    files
 }

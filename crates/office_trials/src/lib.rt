@@ -11,14 +11,12 @@ mod ends;
 #[cfg(test)]
 mod files;
 #[cfg(test)]
-mod lists;
-#[cfg(test)]
-mod packed;
-#[cfg(test)]
 mod refusing;
 #[cfg(test)]
-mod rows;
+mod script;
 #[cfg(test)]
 mod stops;
 #[cfg(test)]
 mod streams;
+#[cfg(test)]
+mod worked;

@@ -1,9 +1,9 @@
 //! Work over files that stop at each of their calls, first at those of the log and then at those of
 //! the database, and what is found after it.
 
-use crate::asking::{Bench, same, states};
-use crate::files::{OLD, Pair, Work, crashed, found, over_files, stopping};
-use crate::rows::{LIST, rows, steps};
+use crate::asking::{Bench, same};
+use crate::files::{OLD, Pair, Work, crash, files_after, over_files, reread, stopping};
+use crate::script::script_of;
 use std::process::Abort;
 
 /// The files hold what they did before the step that was stopped, or after it.
@@ -30,8 +30,8 @@ fn stop_each(
     for calls in 0..10_000u64 {
         let files = stopping(rt, start, is_log, calls);
         let ((done, _), is_closed, left) = over_files(rt, files, work);
-        are_whole(rt, found(rt, &left), states, done);
-        are_whole(rt, crashed(left), states, done);
+        are_whole(rt, reread(rt, &left), states, done);
+        are_whole(rt, crash(left), states, done);
         if is_closed && done.saturating_add(1) == states.len() {
             break;
         }
@@ -40,23 +40,13 @@ fn stop_each(
     assert!(rt; stopped > 0 && stopped < 10_000, "{stopped} stops");
 }
 
-/// Files with what this work makes of a database of these bytes.
-fn made(rt: &Bench<impl Abort>, start: &[u8], work: Work<'_>) -> Pair {
-    let files = stopping(rt, start, true, u64::MAX);
-    let (_, is_closed, files) = over_files(rt, files, work);
-    assert!(rt; is_closed, "files that are closed");
-    files
-}
-
 /// Stops a stream that adds and shows an intersection and begins a transaction, from files that are
 /// empty; and from new tables one that commits a plan too, abandons a draft, and imports records.
 fn stop_streams(rt: &Bench<impl Abort>, is_log: bool) {
-    let rows = rows(rt);
-    let steps = steps(rt, rows.as_str(), LIST);
-    let new = made(rt, b"", Work::Show);
-    for (count, start) in [(3, b"".as_slice()), (16, new.db.inner().bytes())] {
-        let steps = steps.get(..count).unwrap_or(&[]);
-        stop_each(rt, start, Work::Steps(steps), &states(rt, steps), is_log);
+    let new = files_after(rt, b"", Work::Open);
+    for (count, start) in [(3, b"".as_slice()), (14, new.db.inner().bytes())] {
+        let script = script_of(rt, count);
+        stop_each(rt, start, Work::Stream(&script), &script.states, is_log);
     }
 }
 
@@ -73,10 +63,10 @@ fn streams_are_stopped_at_the_database(host: HostRuntime) {
 #[test]
 fn a_migration_is_stopped(host: HostRuntime) {
     let rt = (&host, host.alloc());
-    let new = made(&rt, b"", Work::Show);
-    let old = made(&rt, new.db.inner().bytes(), Work::Age);
+    let new = files_after(&rt, b"", Work::Open);
+    let old = files_after(&rt, new.db.inner().bytes(), Work::Age);
     let start = old.db.inner().bytes();
-    let migrated = made(&rt, start, Work::Migrate);
+    let migrated = files_after(&rt, start, Work::Migrate);
     let ((_, seen), ..) = over_files(&rt, migrated, Work::Show);
     let mut former = Vec::new(rt.1);
     former.extend_from_slice(OLD).expect(&rt, "memory");

@@ -1,67 +1,62 @@
 //! Streams of bytes by `serve`: worked ones over maps and over a database, and ends that fail, are
 //! full, wait or never stop, and connections.
 
-use crate::asking::{
-    Bench, Step, UNAVAILABLE, Work, in_maps, same, told, whole, words, work_in_both,
-};
-use crate::ends::{After, Feed, Patience, Reluctant, Taker};
-use crate::rows::{LIST, rows, steps};
+use crate::asking::{Bench, UNAVAILABLE, in_maps, same};
+use crate::ends::{After, Seen, ends};
+use crate::script::{Script, request_words, requests};
 use office_desk::office::Office;
-use office_http::{
-    FromListener, FromRead, ServeFault, Served, Sink, Source, ToWrite, serve, serve_each, serve_on,
-};
+use office_http::{FromListener, ServeFault, Served, Sink, Source, serve, serve_each, serve_on};
+use office_http_framing::laws::{one_front, one_list_of_requests};
 use office_tables_shelf::shelf::Shelf;
-use std::cell::Cell;
 use std::io;
 use std::io::Write;
 use std::net::{Ipv4Addr, Shutdown, SocketAddr, TcpListener, TcpStream};
 use std::process::Abort;
-use std::test::Fail;
 
-/// Adds intersection 12, shows it, and begins a transaction: requests of 93, 34 and 76 bytes.
-const STREAM: &[u8; 203] = b"POST /intersections HTTP/1.1\r\nContent-Length: 41\r\n\r\n\
-    {\"id\":12,\"interval\":365,\"name\":\"Main St\"}\
-    GET /intersections/12 HTTP/1.1\r\n\r\n\
-    POST /intersections/12/begin HTTP/1.1\r\nContent-Length: 15\r\n\r\n\
-    {\"clerk\":\"Ana\"}";
+/// What must be answered to the first requests, of 93, 53 and 76 bytes: 89, 184 and 126 bytes.
+static ANSWERS: [&str; 7] = [
+    r#"200 OK {"result":"added"}"#,
+    "200 OK {\"id\":12,\"interval\":365,\"name\":\"Main St\",\"owner\":null,\"revision\":0,\
+    \"rows\":0,\"state\":\"normal\",\"verify\":\"notDone\"}",
+    r#"200 OK {"revision":0,"state":"transaction","verify":"notDone"}"#,
+    r#"200 OK {"revision":0,"state":"transaction","verify":"notDone"}"#,
+    r#"200 OK {"revision":0,"state":"verify","verify":"notDone"}"#,
+    r#"200 OK {"revision":0,"state":"done","verify":"doneWithNoError"}"#,
+    r#"200 OK {"revision":1,"state":"normal","verify":"notDone"}"#,
+];
 
-/// Its answers, of 89, 184 and 126 bytes.
-const ANSWERS: &[u8; 399] =
-    b"HTTP/1.1 200 OK\r\nContent-Type: application/json\r\nContent-Length: 18\r\n\r\n\
-    {\"result\":\"added\"}\
-    HTTP/1.1 200 OK\r\nContent-Type: application/json\r\nContent-Length: 112\r\n\r\n\
-    {\"id\":12,\"interval\":365,\"name\":\"Main St\",\"owner\":null,\"revision\":0,\"rows\":0,\
-    \"state\":\"normal\",\"verify\":\"notDone\"}\
-    HTTP/1.1 200 OK\r\nContent-Type: application/json\r\nContent-Length: 55\r\n\r\n\
-    {\"revision\":0,\"state\":\"transaction\",\"verify\":\"notDone\"}";
-
-/// Two equal lengths, and behind them the first request.
+/// Two equal lengths, and behind them a request that would add an intersection.
 const TWO_LENGTHS: &[u8] =
     b"POST /import HTTP/1.1\r\nContent-Length: 2\r\nContent-Length: 2\r\n\r\n{}\
     POST /intersections HTTP/1.1\r\nContent-Length: 41\r\n\r\n\
     {\"id\":12,\"interval\":365,\"name\":\"Main St\"}";
 
-/// The one answer to them.
-const REFUSED: &str = r#"400 Bad Request {"error":"Length","number":3}"#;
+/// The one answer to them, and the answer where there is no such intersection.
+static REFUSED: [&str; 1] = [r#"400 Bad Request {"error":"Length","number":3}"#];
 
-/// The answer where there is no such intersection.
-const UNKNOWN: &str = r#"404 Not Found {"error":"UnknownIntersection","number":10}"#;
+static UNKNOWN: [&str; 1] = [r#"404 Not Found {"error":"UnknownIntersection","number":10}"#];
 
-/// The bytes of the stream from one place to another.
-fn sent(from: usize, to: usize) -> &'static [u8] {
-    STREAM.get(from..to).unwrap_or(b"")
-}
-
-/// The bytes of its answers from one place to another.
-fn answered(from: usize, to: usize) -> &'static [u8] {
-    ANSWERS.get(from..to).unwrap_or(b"")
+/// The bytes of answers, with their heads.
+fn bytes_of_answers(rt: &Bench<impl Abort>, answers: &[&str]) -> String {
+    let mut bytes = String::new(rt.1);
+    for answer in answers {
+        let (status, rest) = answer.split_once(" {").unwrap_or((answer, ""));
+        let length = rest.len().saturating_add(1);
+        write!(
+            bytes,
+            "HTTP/1.1 {status}\r\nContent-Type: application/json\r\n\
+            Content-Length: {length}\r\n\r\n{{{rest}"
+        )
+        .expect(rt, "memory");
+    }
+    bytes
 }
 
 /// The bytes of requests.
-fn bytes_of(rt: &Bench<impl Abort>, steps: &[Step<'_>]) -> String {
+fn bytes_of(rt: &Bench<impl Abort>, requests: &[&str]) -> String {
     let mut bytes = String::new(rt.1);
-    for (request, _) in steps {
-        let (method, path, body) = words(request);
+    for request in requests {
+        let (method, path, body) = request_words(request);
         let length = body.len();
         write!(
             bytes,
@@ -72,150 +67,130 @@ fn bytes_of(rt: &Bench<impl Abort>, steps: &[Step<'_>]) -> String {
     bytes
 }
 
-/// Serves a stream that ends in so many requests, by reads of so many bytes at most, and gives the
-/// answers.
-fn serves<S: Shelf>(
-    rt: &Bench<impl Abort>,
-    office: &mut Office<S>,
-    (stream, requests): (&[u8], u32),
-    most: usize,
-) -> Vec<u8> {
-    let taken = Cell::new(0);
-    let mut source = FromRead::new(Feed::new(stream, most, After::End));
-    let mut sink = ToWrite::new(Taker::new(rt, usize::MAX, true, &taken));
-    let served = serve(rt.1, office, &mut source, &mut sink, 10_000);
-    assert!(rt; served == Ok(Served { requests }), "the end of a stream");
-    sink.writer.bytes
+/// How a stream ended, and after how many requests.
+fn end_of(outcome: Result<Served, ServeFault>) -> (&'static str, u32) {
+    match outcome {
+        Ok(Served { requests }) => ("end", requests),
+        Err(ServeFault::Read { requests }) => ("read", requests),
+        Err(ServeFault::Write { requests }) => ("write", requests),
+        Err(ServeFault::NoMemory) => ("memory", 0),
+    }
 }
 
-/// Makes steps by one stream, and tells how many are answered before one that is unavailable.
-pub(crate) fn stream<S: Shelf>(
+/// The room of a writer that takes all.
+const ANY: (usize, bool) = (usize::MAX, true);
+
+/// Serves so many requests at most of these bytes, by reads of so many at most, and of what comes
+/// after them. Tells how the stream ended, and what a writer took that has so much room.
+fn serve_ends<S: Shelf>(
     rt: &Bench<impl Abort>,
     office: &mut Office<S>,
-    all: &[Step<'_>],
+    stream: (&[u8], usize, After<'_>),
+    room: (usize, bool),
+    limit: u32,
+) -> ((&'static str, u32), Vec<u8>) {
+    let seen = Seen::none();
+    let (mut source, mut sink) = ends(rt.1, stream, room, &seen);
+    let outcome = serve(rt.1, office, &mut source, &mut sink, limit);
+    (end_of(outcome), sink.writer.bytes)
+}
+
+/// Makes the requests of a script by one stream, and tells how many are answered before one that is
+/// unavailable.
+pub(crate) fn count_served<S: Shelf>(
+    rt: &Bench<impl Abort>,
+    office: &mut Office<S>,
+    script: &Script,
 ) -> usize {
-    let requests = u32::try_from(all.len()).ok().expect(rt, "a count");
-    let bytes = bytes_of(rt, all);
-    let answers = serves(rt, office, (bytes.as_bytes(), requests), usize::MAX);
+    let bytes = bytes_of(rt, &script.requests);
+    let stream = (bytes.as_bytes(), usize::MAX, After::End);
+    let (_, answers) = serve_ends(rt, office, stream, ANY, 10_000);
     let mut rest = answers.as_slice();
-    for (n, (_, answer)) in all.iter().enumerate() {
+    for (n, answer) in script.answers.iter().enumerate() {
         if rest.starts_with(UNAVAILABLE) {
             return n;
         }
-        let told = whole(rt, answer);
-        rest = rest.strip_prefix(told.as_slice()).expect(rt, "an answer");
+        rest = rest.strip_prefix(answer.as_slice()).expect(rt, "an answer");
     }
-    all.len()
+    script.answers.len()
 }
 
-/// Serves a stream, whose answers must be these.
-fn serves_as<S: Shelf>(
+/// Serves a stream that ends in so many requests, by reads of so many bytes at most. Its answers
+/// must be these.
+fn serve_as<S: Shelf>(
     rt: &Bench<impl Abort>,
     office: &mut Office<S>,
-    sent: (&[u8], u32),
+    bytes: &[u8],
+    requests: u32,
     most: usize,
-    wanted: &[u8],
+    answers: &[&str],
 ) {
-    let came = serves(rt, office, sent, most);
-    same(rt, "a worked stream", wanted, &came);
+    let stream = (bytes, most, After::End);
+    let (ended, came) = serve_ends(rt, office, stream, ANY, 10_000);
+    assert!(rt; ended == ("end", requests), "the end of a stream");
+    let wanted = bytes_of_answers(rt, answers);
+    same(rt, "a worked stream", wanted.as_bytes(), &came);
 }
 
-/// Reads of so many bytes at most: two requests, none, and these steps, which commit a plan.
-#[derive(Clone, Copy)]
-struct Plan<'a, 'b>(usize, &'a [Step<'b>]);
-
-impl Work for Plan<'_, '_> {
-    fn work<S: Shelf>(&self, rt: &Bench<impl Abort>, office: &mut Office<S>) {
-        serves_as(rt, office, (sent(0, 127), 2), self.0, answered(0, 273));
-        serves_as(rt, office, (b"", 0), self.0, b"");
-        let (bytes, answers) = (bytes_of(rt, self.1), told(rt, self.1));
-        serves_as(rt, office, (bytes.as_bytes(), 5), self.0, &answers);
-    }
-}
-
-/// Reads of so many bytes at most: two equal lengths end a stream, so that nothing is added.
-#[derive(Clone, Copy)]
-struct TwoLengths(usize);
-
-impl Work for TwoLengths {
-    fn work<S: Shelf>(&self, rt: &Bench<impl Abort>, office: &mut Office<S>) {
-        let (refused, unknown) = (whole(rt, REFUSED), whole(rt, UNKNOWN));
-        serves_as(rt, office, (TWO_LENGTHS, 0), self.0, &refused);
-        serves_as(rt, office, (sent(93, 127), 1), self.0, &unknown);
-    }
-}
-
-#[test]
-fn worked_streams_are_answered(host: HostRuntime) {
-    let rt = (&host, host.alloc());
-    let rows = rows(&rt);
-    let steps = steps(&rt, rows.as_str(), LIST);
-    let plan = steps.get(2..7).unwrap_or(&[]);
-    for most in [usize::MAX, 1] {
-        work_in_both(&rt, &Plan(most, plan));
-        work_in_both(&rt, &TwoLengths(most));
-    }
-}
-
-/// How a stream ended.
-type Outcome = Result<Served, ServeFault>;
-
-fn done(requests: u32) -> Outcome {
-    Ok(Served { requests })
-}
-
-fn unread(requests: u32) -> Outcome {
-    Err(ServeFault::Read { requests })
-}
-
-fn unwritten(requests: u32) -> Outcome {
-    Err(ServeFault::Write { requests })
-}
-
-/// Serves up to 9 requests of a reader that gives so many bytes of the stream, and of what comes
-/// after them, to a writer that has room for so many, and fails without. Tells how the stream ends,
-/// and how many bytes of its answers were taken.
-fn serve_ends(
+/// Serves a stream of these requests, if there are some.
+fn serve_some<S: Shelf>(
     rt: &Bench<impl Abort>,
-    (end, after): (usize, After<'_>),
-    (room, fails): (usize, bool),
-    taken: &Cell<usize>,
-) -> (Outcome, usize) {
-    taken.set(0);
-    let mut source = FromRead::new(Feed::new(sent(0, end), usize::MAX, after));
-    let mut sink = ToWrite::new(Taker::new(rt, room, fails, taken));
-    let served = serve(rt.1, &mut in_maps(rt), &mut source, &mut sink, 9);
-    let bytes = sink.writer.bytes;
-    assert!(rt;
-        bytes.starts_with(answered(0, bytes.len())),
-        "bytes that are taken"
-    );
-    (served, bytes.len())
+    office: &mut Office<S>,
+    requests: Option<&[&'static str]>,
+    most: usize,
+    answers: &[&str],
+) {
+    let requests = requests.unwrap_or(&[]);
+    let count = u32::try_from(requests.len()).ok().expect(rt, "a count");
+    let bytes = bytes_of(rt, requests);
+    serve_as(rt, office, bytes.as_bytes(), count, most, answers);
+}
+
+/// Serves streams by reads of so many bytes at most. Two equal lengths end the first, so that
+/// nothing is added; then come two requests, none, and five that commit a plan.
+pub(crate) fn serve_worked<S: Shelf>(
+    rt: &Bench<impl Abort>,
+    office: &mut Office<S>,
+    requests: &[&'static str],
+    most: usize,
+) {
+    serve_as(rt, office, TWO_LENGTHS, 0, most, &REFUSED);
+    serve_some(rt, office, requests.get(1..2), most, &UNKNOWN);
+    serve_some(rt, office, requests.get(..2), most, &ANSWERS[..2]);
+    serve_some(rt, office, None, most, &[]);
+    serve_some(rt, office, requests.get(2..7), most, &ANSWERS[2..]);
 }
 
 /// A reader fails or ends behind so many bytes, never ends, or gives its second request only once
-/// the answer to the first was taken, and is not called before.
+/// the answer to the first was taken, and is not called before. A writer takes none; it takes 100
+/// bytes, and then none; or it fails then. So many bytes of the answers are taken.
 #[test]
-fn readers_fail_and_wait(host: HostRuntime) {
+fn ends_fail_and_wait(host: HostRuntime) {
     let rt = (&host, host.alloc());
-    let patience = Patience {
-        taken: Cell::new(0),
-        wanted: 89,
-        early: Cell::new(0),
-    };
-    for (end, after, wanted) in [
-        (0, After::Failure, (unread(0), 0)),
-        (93, After::Failure, (unread(1), 89)),
-        (100, After::Failure, (unread(1), 89)),
-        (100, After::End, (done(1), 89)),
-        (93, After::Again, (done(9), 89 + 8 * 88)),
-        (93, After::Answer(sent(93, 203), &patience), (done(3), 399)),
+    let bytes = bytes_of(&rt, &requests(&rt, 3));
+    let bytes = bytes.as_bytes();
+    let answers = bytes_of_answers(&rt, &ANSWERS[..3]);
+    let (first, others) = (
+        bytes.get(..93).unwrap_or(b""),
+        bytes.get(93..).unwrap_or(b""),
+    );
+    for (end, after, room, wanted, count) in [
+        (0, After::Failure, ANY, ("read", 0), 0),
+        (93, After::Failure, ANY, ("read", 1), 89),
+        (100, After::Failure, ANY, ("read", 1), 89),
+        (100, After::End, ANY, ("end", 1), 89),
+        (93, After::Again(first), ANY, ("end", 9), 89 + 8 * 88),
+        (93, After::Answer(others, 89), ANY, ("end", 3), 399),
+        (222, After::End, (0, false), ("write", 1), 0),
+        (222, After::End, (100, false), ("write", 2), 100),
+        (222, After::End, (100, true), ("write", 2), 100),
     ] {
-        let came = serve_ends(&rt, (end, after), (usize::MAX, false), &patience.taken);
-        assert!(rt;
-            came == wanted && patience.early.get() == 0,
-            "a reader of {end} bytes"
-        );
+        let stream = (bytes.get(..end).unwrap_or(b""), usize::MAX, after);
+        let (ended, taken) = serve_ends(&rt, &mut in_maps(&rt), stream, room, 9);
+        let is_right = ended == wanted && taken.len() == count;
+        assert!(rt; is_right, "{end} bytes: {} {}", ended.0, ended.1);
+        let begun = answers.as_bytes().get(..count).unwrap_or(b"");
+        assert!(rt; taken.starts_with(begun), "answers to {end} bytes");
     }
 }
 
@@ -224,70 +199,53 @@ fn readers_fail_and_wait(host: HostRuntime) {
 #[test]
 fn each_call_is_handed_on_once(host: HostRuntime) {
     let rt = (&host, host.alloc());
-    let calls = Cell::new(0);
-    let mut source = FromRead::new(Reluctant { calls: &calls });
     let mut buf = [0u8; 4];
-    assert!(rt; source.read(&mut buf).is_err() && calls.get() == 1);
-    assert!(rt; source.read(&mut buf).is_ok() && calls.get() == 2);
-    assert!(rt; source.read_next(&mut buf).is_ok() && calls.get() == 3);
-    calls.set(0);
-    assert!(rt; source.read_next(&mut buf).is_err() && calls.get() == 1);
-    calls.set(0);
-    let mut sink = ToWrite::new(Reluctant { calls: &calls });
-    assert!(rt; sink.write(&buf).is_err() && calls.get() == 1);
-    assert!(rt; sink.write(&buf).is_ok() && calls.get() == 2);
-}
-
-/// A writer takes none; it takes 100 bytes, and then none; or it fails then.
-#[test]
-fn writers_take_none_and_fail(host: HostRuntime) {
-    let rt = (&host, host.alloc());
-    let taken = Cell::new(0);
-    for (room, fails, wanted) in [
-        (0, false, (unwritten(1), 0)),
-        (100, false, (unwritten(2), 100)),
-        (100, true, (unwritten(2), 100)),
-    ] {
-        let came = serve_ends(&rt, (203, After::End), (room, fails), &taken);
-        assert!(rt; came == wanted, "a writer with room for {room} bytes");
+    for (after, is_done) in [(After::Failure, false), (After::End, true)] {
+        let seen = Seen::none();
+        let (mut source, mut sink) = ends(rt.1, (b"", 4, after), (0, !is_done), &seen);
+        assert!(rt; source.read(&mut buf).is_ok() == is_done && seen.calls.get() == 1);
+        assert!(rt; source.read_next(&mut buf).is_ok() == is_done && seen.calls.get() == 2);
+        assert!(rt; sink.write(&buf).is_ok() == is_done && seen.calls.get() == 3);
     }
 }
 
-/// Sends the first two requests of the stream to the listener, and closes the sending side.
-fn send(rt: &HostRuntime, listener: &TcpListener) -> io::Result<TcpStream> {
+/// Sends these bytes to the listener, and closes the sending side.
+fn send(rt: &HostRuntime, listener: &TcpListener, bytes: &[u8]) -> io::Result<TcpStream> {
     let mut wire = TcpStream::connect(rt, listener.local_addr()?)?;
-    wire.write_all(sent(0, 127))?;
+    wire.write_all(bytes)?;
     wire.shutdown(Shutdown::Write)?;
     Ok(wire)
 }
 
 /// Two connections wait, and each gets its own two answers: the first adds the intersection, and
-/// the second finds it there.
+/// the second finds it there. Two laws are there to be called.
 #[test]
-fn two_connections_are_served(host: HostRuntime) -> Result<(), Fail> {
+fn two_connections_are_served(host: HostRuntime) {
     let rt = (&host, host.alloc());
-    let listener = TcpListener::bind(&host, SocketAddr::from((Ipv4Addr::LOCALHOST, 0)))?;
-    let first = send(&host, &listener)?;
-    let second = send(&host, &listener)?;
+    one_front();
+    one_list_of_requests();
+    let address = SocketAddr::from((Ipv4Addr::LOCALHOST, 0));
+    let listener = TcpListener::bind(&host, address)
+        .ok()
+        .expect(&rt, "a listener");
+    let bytes = bytes_of(&rt, &requests(&rt, 2));
+    let first = send(&host, &listener, bytes.as_bytes())
+        .ok()
+        .expect(&rt, "a connection");
+    let second = send(&host, &listener, bytes.as_bytes())
+        .ok()
+        .expect(&rt, "a connection");
     let mut office = in_maps(&rt);
     assert!(rt; serve_on(rt.1, &listener, 1, &mut office).is_ok());
     let mut listener = FromListener::new(listener);
     assert!(rt; serve_each(rt.1, &mut listener, 1, &mut office).is_ok());
     let counts = listener.counts();
     assert!(rt; counts.accepted == 1 && counts.failures == 0);
-    let came = io::read_to_string(rt.1, first)?;
-    same(
-        &rt,
-        "the first connection",
-        answered(0, 273),
-        came.as_bytes(),
-    );
-    let came = io::read_to_string(rt.1, second)?;
-    let added = whole(&rt, r#"200 OK {"result":"same"}"#);
-    let rest = came
-        .as_bytes()
-        .strip_prefix(added.as_slice())
-        .unwrap_or(b"");
-    same(&rt, "the second connection", answered(89, 273), rest);
-    Ok(())
+    for (connection, result) in [(first, ANSWERS[0]), (second, r#"200 OK {"result":"same"}"#)] {
+        let came = io::read_to_string(rt.1, connection)
+            .ok()
+            .expect(&rt, "answers");
+        let wanted = bytes_of_answers(&rt, &[result, ANSWERS[1]]);
+        same(&rt, "a connection", wanted.as_bytes(), came.as_bytes());
+    }
 }

@@ -5,6 +5,7 @@ use crate::spelling::{changes, plan};
 use draft_core::overlay;
 use signal_records::{Change, Key, TimingSet};
 use signal_rules::*;
+use signal_street::is_fit_for_the_street;
 use std::alloc::Global;
 use std::fmt::Display;
 use std::test::Fail;
@@ -164,5 +165,21 @@ fn changes_lie_over_a_plan(rt: HostRuntime) -> Result<(), Fail> {
         assert_eq!(rt; came, rows, "{text}");
     }
     assert_eq!(rt; base.rows(alloc)?.len(), 11);
+    Ok(())
+}
+
+/// A plan of one phase is fit for the street, and one whose phase lists a phase that is not there
+/// is not.
+#[test]
+fn plans_are_fit_or_not(rt: HostRuntime) -> Result<(), Fail> {
+    let alloc = rt.alloc();
+    for (text, wanted) in [
+        ("phase,2,1,8,20,40,40,15,", true),
+        ("phase,2,1,8,20,40,40,15,6", false),
+    ] {
+        let mut set = TimingSet::new(alloc);
+        set.apply(alloc, &changes(alloc, text)?)?;
+        assert_eq!(rt; is_fit_for_the_street(alloc, &set)?, wanted, "{text}");
+    }
     Ok(())
 }

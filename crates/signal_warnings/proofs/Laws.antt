@@ -30,9 +30,9 @@ use Rattle.signal_warnings.specs.Warnings.{told_cases, warnings_of}
 use Rattle.signal_warnings.proofs.Quiet.{IsQuiet, is_quiet, phase_quiet, measured, button_quiet}
 
 -- a split fits however its walk is called, where its mode calls it or a button does
-fits_called : (phase : Phase) (ped : Ped) (split : Split) → phase.ped ≡ Some ped → fits_phase split phase ≡ true → (is_some phase.ped && (not (recalls_walk split.mode) && (not (is_omitted split.mode) && ltb (10 * split.time) (need_of phase PedestrianRecall)))) ≡ false → ServesPhase split.mode → need_of phase PedestrianRecall ≤ 10 * split.time
-fits_called phase ped split is right quiet serves = by_mode split.mode (enough split phase right serves) (ap (λ o. is_some o && (not (recalls_walk split.mode) && (not (is_omitted split.mode) && ltb (10 * split.time) (need_of phase PedestrianRecall)))) (sym is) ∙ quiet) serves where
-  by_mode : (mode : SplitMode) → need_of phase mode ≤ 10 * split.time → (not (recalls_walk mode) && (not (is_omitted mode) && ltb (10 * split.time) (need_of phase PedestrianRecall))) ≡ false → ServesPhase mode → need_of phase PedestrianRecall ≤ 10 * split.time
+fits_called : (phase : Phase) (ped : Ped) (split : Split) → phase.ped ≡ Some ped → fits_phase split phase ≡ true → (is_some phase.ped && not (recalls_walk split.mode) && not (is_omitted split.mode) && ltb (10 * split.time) (need_of phase PedestrianRecall)) ≡ false → ServesPhase split.mode → need_of phase PedestrianRecall ≤ 10 * split.time
+fits_called phase ped split is right quiet serves = by_mode split.mode (enough split phase right serves) (ap (λ o. is_some o && not (recalls_walk split.mode) && not (is_omitted split.mode) && ltb (10 * split.time) (need_of phase PedestrianRecall)) (sym is) ∙ quiet) serves where
+  by_mode : (mode : SplitMode) → need_of phase mode ≤ 10 * split.time → (is_some (Some ped) && not (recalls_walk mode) && not (is_omitted mode) && ltb (10 * split.time) (need_of phase PedestrianRecall)) ≡ false → ServesPhase mode → need_of phase PedestrianRecall ≤ 10 * split.time
   by_mode NoRecall fits quiet serves = ltb-false (10 * split.time) (need_of phase PedestrianRecall) quiet
   by_mode MinimumVehicleRecall fits quiet serves = ltb-false (10 * split.time) (need_of phase PedestrianRecall) quiet
   by_mode MaximumVehicleRecall fits quiet serves = ltb-false (10 * split.time) (need_of phase PedestrianRecall) quiet

@@ -35,13 +35,13 @@ begin_of set pattern p =
     seconds_before (seconds_of set pattern) p (own_row set pattern.seq (phase_at set p))
 
 -- the second of the cycle at which a phase is over
-abbrev pub end_of : Rows → Pattern → ℕ → ℕ
-end_of set pattern p = begin_of set pattern p + seconds_of set pattern p
+abbrev pub phase_end : Rows → Pattern → ℕ → ℕ
+phase_end set pattern p = begin_of set pattern p + seconds_of set pattern p
 
 -- two phases time together at some second: each begins before the other is over
 abbrev pub time_together : Rows → Pattern → ℕ → ℕ → Bool
 time_together set pattern p q =
-    nat_lt (begin_of set pattern p) (end_of set pattern q) && nat_lt (begin_of set pattern q) (end_of set pattern p)
+    nat_lt (begin_of set pattern p) (phase_end set pattern q) && nat_lt (begin_of set pattern q) (phase_end set pattern p)
 
 -- a phase with each of some others
 abbrev pub apart_from : Rows → Pattern → ℕ → List ℕ → Cases Advice

@@ -1,6 +1,7 @@
 use Rattle.std.proofs.Common.{ap, inr, refl, subst}
 use Rattle.office_desk_decisions.proofs.ReadLemmas.{handed_reports}
 use Rattle.office_desk_decisions.specs.RegisterDamage.{MeetsRecordDamage}
+use Rattle.office_machine.specs.Step.{cabinet_of}
 use Rattle.office_desk.proofs.TriedRecords.{cabinet_damage, checks_so}
 use Rattle.office_desk.specs.{Checking.TellsThere, Importing.register_with}
 use Rattle.office_desk.specs.declared.{importing.Taken.Taken, there.There.There}
@@ -35,7 +36,7 @@ returns-in_ok-there-in-Refused-clause-checks g c = λ honest office stands r reg
 
 pub returns-in_err-taken-clause-checks : goal.returns-in_err-taken-clause-checks
 returns-in_err-taken-clause-checks g c = handed_reports _ _ _ _ _ c.from_residual.ensures.1
-    (λ damaged honest. cabinet_damage _ c.args.command.now _ (c.in_err-taken.ensures.takes damaged honest))
+    (λ damaged honest. cabinet_damage (g.S.Shelf.content c.args.shelf.now) c.args.command.now (cabinet_of c.args.command.now) (c.in_err-taken.ensures.takes damaged honest))
 
 pub returns-in_err-there-in-Refused-clause-checks : goal.returns-in_err-there-in-Refused-clause-checks
 returns-in_err-there-in-Refused-clause-checks g c = handed_reports _ _ _ _ _ c.from_residual-in_err-there-in-Refused.ensures.1 (λ damaged honest.

@@ -1,0 +1,91 @@
+//! One script over maps and over a database, by streams, as a list of commands, and request by
+//! request: it is answered equally, and the same is there after it.
+
+use crate::asking::{Bench, ask, in_maps, request_of, same, state_of};
+use crate::files::{Work, files_after, over_files, reread};
+use crate::script::{Script, script_of};
+use crate::streams::serve_worked;
+use office_desk::office::Office;
+use office_http::{Form, answer_of, command_of};
+use office_machine::command::Command;
+use office_tables_shelf::rows::Table;
+use office_tables_shelf::shelf::Shelf;
+use std::process::Abort;
+
+/// How many requests come by streams, and how many before those that come one by one.
+const STREAMED: usize = 7;
+
+const LISTED: usize = 20;
+
+/// How many committed rows and draft rows, two digits and two, are written before the requests that
+/// come one by one, and by each of these. Plans of eleven rows, of two that are abandoned, and then
+/// of six of which four are changed; in the last draft a row is removed, put back as it is
+/// committed, twice, and removed. That no draft row is left of an intersection counts once.
+const WRITES: [u64; 14] = [11_15, 0, 4, 0, 0, 4_01, 0, 1, 1, 0, 1, 0, 0, 1_01];
+
+/// The commands that requests ask for, with the forms of their answers.
+fn commands(rt: &Bench<impl Abort>, requests: &[&'static str]) -> (Vec<Command>, Vec<Form>) {
+    let (mut commands, mut forms) = (Vec::new(rt.1), Vec::new(rt.1));
+    for request in requests {
+        let asked = command_of(rt.1, &request_of(request)).ok();
+        let asked = asked.expect(rt, "a command");
+        commands.push(asked.command).expect(rt, "memory");
+        forms.push(asked.form).expect(rt, "memory");
+    }
+    (commands, forms)
+}
+
+/// Runs some requests as one list of commands.
+fn run_list<S: Shelf>(rt: &Bench<impl Abort>, office: &mut Office<S>, script: &Script) {
+    let listed = script.requests.get(STREAMED..LISTED).unwrap_or(&[]);
+    let (commands, forms) = commands(rt, listed);
+    let replies = office.run_all(rt.1, &commands).ok().expect(rt, "memory");
+    let answers = script.answers.iter().skip(STREAMED);
+    assert!(rt; replies.len() == LISTED - STREAMED, "the replies of a list");
+    for ((reply, form), answer) in replies.iter().zip(&forms).zip(answers) {
+        let came = answer_of(rt.1, reply, *form).expect(rt, "memory");
+        same(rt, "an answer of a list", answer, &came);
+    }
+}
+
+/// Makes the other requests one by one, and counts the rows that each writes.
+fn run_counted<S: Shelf>(rt: &Bench<impl Abort>, office: &mut Office<S>, script: &Script) {
+    let mut wanted = WRITES[0];
+    let steps = script.requests.iter().zip(&script.answers).skip(LISTED);
+    for ((request, answer), writes) in steps.zip(&WRITES[1..]) {
+        same(rt, request, answer, &ask(rt, office, request));
+        wanted = wanted.saturating_add(*writes);
+        let shelf = office.shelf();
+        let timing = shelf.writes(Table::Timing).saturating_mul(100);
+        let came = timing.saturating_add(shelf.writes(Table::Draft));
+        assert!(rt; came == wanted, "the rows that {request} writes: {came}");
+    }
+}
+
+/// Makes the script by an office with new tables, by reads of so many bytes at most, and gives what
+/// is shown then.
+pub(crate) fn play_all<S: Shelf>(
+    rt: &Bench<impl Abort>,
+    office: &mut Office<S>,
+    script: &Script,
+    most: usize,
+) -> Vec<u8> {
+    serve_worked(rt, office, &script.requests, most);
+    run_list(rt, office, script);
+    run_counted(rt, office, script);
+    state_of(rt, office)
+}
+
+#[test]
+fn both_kinds_of_tables_answer_equally(host: HostRuntime) {
+    let rt = (&host, host.alloc());
+    let script = script_of(&rt, usize::MAX);
+    assert!(rt; script.requests.len() == LISTED + WRITES.len() - 1);
+    let new = files_after(&rt, b"", Work::Open);
+    for most in [usize::MAX, 1] {
+        let wanted = play_all(&rt, &mut in_maps(&rt), &script, most);
+        let files = reread(&rt, &new);
+        let ((_, came), ..) = over_files(&rt, files, Work::Script(&script, most));
+        same(&rt, "what is there", &wanted, &came);
+    }
+}
