@@ -173,6 +173,29 @@ impl Done {
         Done::Line(line)
     }
 
+    /// What is told here, with more behind it, and the status of this.
+    pub fn followed_by(self, alloc: Global, more: &[u8]) -> Result<Done, Fault>
+        ensures { TellsAs (text_of self ++ more.now) (status_of self) result }
+    {
+        let mut text = Vec::new(alloc);
+        let status = match &self {
+            Done::Text { text: own, status } => {
+                text.extend_from_slice(own)?;
+                *status
+            }
+            Done::Fixed(line) => {
+                text.extend_from_slice(line.as_bytes())?;
+                0
+            }
+            Done::Line(line) => {
+                text.extend_from_slice(line.as_str().as_bytes())?;
+                0
+            }
+        };
+        text.extend_from_slice(more)?;
+        Ok(Done::Text { text, status })
+    }
+
     /// Prints it, and gives the status.
     pub fn print<W: Sink>(&self, out: &mut W) -> Result<u8, Fault>
         ensures { Prints (text_of self.now) (status_of self.now) (W.told out.old) (W.told out.new)
