@@ -25,6 +25,7 @@ pub record Span : Type 0 where
   pub until : ℕ
   pub listing : Listing
 
+-- a phase of the set, with its phaseConcurrency
 abbrev pub listing_at : Rows → ℕ → Listing
 listing_at set p = record { phase = p; mates = the_mates (phase_at set p) }
 
@@ -45,6 +46,7 @@ abbrev pub spans_of : Rows → Pattern → List ℕ → List Span
 spans_of set pattern rings =
     flat_map (λ ring. spans_from set pattern.split 0 (ring_row set pattern.seq ring)) rings
 
+-- a span lasts at a second
 abbrev pub has_second : ℕ → Span → Bool
 has_second second span = nat_le span.from second && nat_lt second span.until
 
