@@ -1,5 +1,5 @@
 -- The lanes of a pattern as slots: what is looked up once of each phase that has any time.
-use Rattle.std.specs.Prelude.{ℕ, ◌+◌, nat_le, nat_lt, min, Bool, true, not, ◌&&◌, if◌then◌else◌, List, [], ◌∷◌, ◌++◌, map, filter}
+use Rattle.std.specs.Prelude.{ℕ, ◌+◌, nat_le, nat_lt, min, Bool, not, ◌&&◌, if◌then◌else◌, List, [], ◌∷◌, ◌++◌, map, filter}
 use Rattle.std.specs.List.{list_all, flat_map}
 use Rattle.signal_values.specs.Numbers.{numbers}
 use Rattle.signal_records.specs.declared.record.Pattern.{Pattern}
