@@ -28,8 +28,8 @@ use Rattle.signal_office_line.specs.declared.shows.View.TheVariants as view
 abbrev pub Stated : Type 0 → Type 0
 Stated A = Result A NoJob
 
--- what comes next, where something is stated
 infixl 10 ◌>>=◌
+-- what comes next, where something is stated
 abbrev pub ◌>>=◌ : {A B : Type 0} → Stated A → (A → Stated B) → Stated B
 Ok given >>= next = next given
 Err why >>= next = Err why
