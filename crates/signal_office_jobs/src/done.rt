@@ -178,22 +178,31 @@ impl Done {
         ensures { TellsAs (text_of self ++ more.now) (status_of self) result }
     {
         let mut text = Vec::new(alloc);
-        let status = match &self {
-            Done::Text { text: own, status } => {
-                text.extend_from_slice(own)?;
-                *status
-            }
-            Done::Fixed(line) => {
-                text.extend_from_slice(line.as_bytes())?;
-                0
-            }
-            Done::Line(line) => {
-                text.extend_from_slice(line.as_str().as_bytes())?;
-                0
-            }
-        };
+        text.extend_from_slice(self.bytes())?;
         text.extend_from_slice(more)?;
+        let status = self.status();
         Ok(Done::Text { text, status })
+    }
+
+    /// What is printed.
+    fn bytes(&self) -> &[u8]
+        ensures { result.now ≡ text_of self.now }
+    {
+        match self {
+            Done::Text { text, .. } => text,
+            Done::Fixed(line) => line.as_bytes(),
+            Done::Line(line) => line.as_str().as_bytes(),
+        }
+    }
+
+    /// The status with which the command ends.
+    fn status(&self) -> u8
+        ensures { result ≡ status_of self.now }
+    {
+        match self {
+            Done::Text { status, .. } => *status,
+            Done::Fixed(_) | Done::Line(_) => 0,
+        }
     }
 
     /// Prints it, and gives the status.
@@ -201,11 +210,7 @@ impl Done {
         ensures { Prints (text_of self.now) (status_of self.now) (W.told out.old) (W.told out.new)
             result }
     {
-        match self {
-            Done::Text { text, status } => print_text(text, *status, out),
-            Done::Fixed(line) => print_text(line.as_bytes(), 0, out),
-            Done::Line(line) => print_text(line.as_str().as_bytes(), 0, out),
-        }
+        print_text(self.bytes(), self.status(), out)
     }
 }
 

@@ -38,15 +38,16 @@ fn violations_told(alloc: Global, csv: &[u8], lines: &[usize], explain: bool) ->
 }
 
 /// Tells behind what was told of a plan what an engineer is warned of in it.
-fn with_warnings(alloc: Global, csv: &[u8], told: Done) -> Result<Done, Fault>
+fn add_warnings(alloc: Global, csv: &[u8], told: Done) -> Result<Done, Fault>
     ensures { AddsWarnings csv.now told result }
 {
-    let text = warnings_text(alloc, &warnings_in(alloc, csv)?)?;
+    let found = warnings_in(alloc, csv)?;
+    let text = warnings_text(alloc, &found)?;
     told.followed_by(alloc, &text)
 }
 
 /// Tells what was told of a plan, and where that is asked its warnings behind it.
-fn advised(
+fn add_warnings_if(
     alloc: Global,
     csv: &[u8],
     told: Result<Done, Fault>,
@@ -58,7 +59,7 @@ fn advised(
         return told;
     }
     match told {
-        Ok(told) => with_warnings(alloc, csv, told),
+        Ok(told) => add_warnings(alloc, csv, told),
         Err(why) => Err(why),
     }
 }
@@ -70,7 +71,7 @@ fn shown_in(alloc: Global, csv: &[u8], lines: &[usize], shown: PlanShown) -> Res
     match shown {
         PlanShown::Violations { explain, advise } => {
             let told = violations_told(alloc, csv, lines, explain);
-            advised(alloc, csv, told, advise)
+            add_warnings_if(alloc, csv, told, advise)
         }
         PlanShown::Diagram { pattern } => Ok(Done::with(diagram_in(alloc, csv, pattern)?)),
         PlanShown::Page => Ok(Done::with(page_in(alloc, csv)?)),
