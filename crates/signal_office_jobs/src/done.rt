@@ -177,31 +177,10 @@ impl Done {
     pub fn followed_by(self, alloc: Global, more: &[u8]) -> Result<Done, Fault>
         ensures { TellsAs (text_of self ++ more.now) (status_of self) result }
     {
-        let mut text = Vec::new(alloc);
-        text.extend_from_slice(self.bytes())?;
-        text.extend_from_slice(more)?;
-        let status = self.status();
-        Ok(Done::Text { text, status })
-    }
-
-    /// What is printed.
-    fn bytes(&self) -> &[u8]
-        ensures { result.now ≡ text_of self.now }
-    {
-        match self {
-            Done::Text { text, .. } => text,
-            Done::Fixed(line) => line.as_bytes(),
-            Done::Line(line) => line.as_str().as_bytes(),
-        }
-    }
-
-    /// The status with which the command ends.
-    fn status(&self) -> u8
-        ensures { result ≡ status_of self.now }
-    {
-        match self {
-            Done::Text { status, .. } => *status,
-            Done::Fixed(_) | Done::Line(_) => 0,
+        match &self {
+            Done::Text { text, status } => join_texts(alloc, text, more, *status),
+            Done::Fixed(line) => join_texts(alloc, line.as_bytes(), more, 0),
+            Done::Line(line) => join_texts(alloc, line.as_str().as_bytes(), more, 0),
         }
     }
 
@@ -210,8 +189,22 @@ impl Done {
         ensures { Prints (text_of self.now) (status_of self.now) (W.told out.old) (W.told out.new)
             result }
     {
-        print_text(self.bytes(), self.status(), out)
+        match self {
+            Done::Text { text, status } => print_text(text, *status, out),
+            Done::Fixed(line) => print_text(line.as_bytes(), 0, out),
+            Done::Line(line) => print_text(line.as_str().as_bytes(), 0, out),
+        }
     }
+}
+
+/// A text with another one behind it, and the status.
+fn join_texts(alloc: Global, first: &[u8], more: &[u8], status: u8) -> Result<Done, Fault>
+    ensures { TellsAs (first.now ++ more.now) status result }
+{
+    let mut text = Vec::new(alloc);
+    text.extend_from_slice(first)?;
+    text.extend_from_slice(more)?;
+    Ok(Done::Text { text, status })
 }
 
 /// Prints a text as a whole, and gives the status.
