@@ -74,7 +74,7 @@ def main():
         text = path.read_text()
         comment, name = first_comment(text), f"{crate}/specs/{path.stem}"
         known = " ".join([name, comment, *DEFINED.findall(text)]).lower()
-        if all(word in known for word in words):
+        if all(re.search(re.escape(word) + r"(?!\d)", known) for word in words):
             count += 1
             print(textwrap.fill(f"{name}: {comment}", COLUMNS, break_on_hyphens=False))
             print("".join(f"    {it}\n" for it in own(code.get((crate, path.stem), []), crate)),
