@@ -12,7 +12,7 @@ use Rattle.signal_records.specs.TimingSet.{Rows}
 use Rattle.signal_warnings.specs.Warnings.{warnings_of}
 use Rattle.signal_warnings.specs.declared.warning.Warning.{Warning}
 
--- they are those of the plan of a file
+-- these are the violations of the plan of a file, each with its reason
 pub record ExplainsPlan (bytes : List ℕ) (found : List Explained) : Type 0 where
   pub plan : Rows
   pub plan_is : IsPlan bytes plan
@@ -24,6 +24,6 @@ pub record WarnsOfPlan (bytes : List ℕ) (found : List Warning) : Type 0 where
   pub plan_is : IsPlan bytes plan
   pub found_is : found ≡ warnings_of plan
 
--- they are those of a draft, or this is why there are none
+-- these are the reasons of a draft's violations, or this is why there are none
 abbrev pub ExplainsDraft : Content → ℕ → Result (List Explained) Fault → Type 0
 ExplainsDraft tables id result = IsMadeOfAnswers (query.Draft id ∷ []) (λ seen. IsTextOf AreReasons (draft_in (first_seen seen))) tables result
