@@ -48,6 +48,10 @@ MEANT = {
     "what the desk does with a record, of the register and of a plan":
         "Makes WantsMemory row_change_of row_changes_of",
     "what was made: tables that were found, and a text of what was seen": "IsMade",
+    "a line of a reply and a line that a job prints; an opened file and an open draft":
+        "TellsLine TellsOpen open_line",
+    "what is called: a walk by its split mode, a file by a job; the kinds of calls and of keys":
+        "called calls_of kind_of",
     "a record under its key, in the register and in the maps":
         "IsDeliveryAt IsInspectionAt IsOrderAt",
 }

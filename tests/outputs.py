@@ -69,6 +69,7 @@ page --db office.db 12
 page --file changed.csv
 verify-file changed.csv
 verify-file --explain changed.csv
+verify-file --explain --advise warned.csv
 edit --db office.db --clerk Ana 12 changed.csv
 edit --db office.db --clerk Ana --commit --explain 12 changed.csv
 edit --db office.db --clerk Ana --commit 12 plan.csv
@@ -156,6 +157,7 @@ def make(program, folder):
     """An office with a committed plan, a draft, and records; and CSV files."""
     plan = pathlib.Path(PLAN).read_text()
     texts = {"plan.csv": plan, "changed.csv": plan.replace("split,1,2,35", "split,1,2,34"),
+             "warned.csv": plan.replace("phase,4,1,8", "phase,4,1,0"),
              "records.csv": RECORDS, "more.csv": "delivery,RELAY,2,2026-06-01,5\n"}
     for name, text in texts.items():
         pathlib.Path(folder, name).write_text(text)

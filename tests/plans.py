@@ -38,13 +38,15 @@ V5: # ft at # ft/s take # s; walk, clearance, yellow and red are # s
 V6: mate # is not in the plan
 V6: mate # is in ring # too
 V6: mate # does not list it
-V7: phase # is missing
+V7: phase # is missing in ring #
 V7: phase # stands in ring #, and is of ring #
 V7: # is not in the plan
-V8: # s, and the need is # s
+V8: # s, and the need is # s: green governs
+V8: # s, and the need is # s: walk governs
 V8: phase # is not in the plan
 V8: # s, and not omitted
 V8: # s, and omitted
+V8: # s and coordinated, and omitted
 V8: coordinated, and omitted
 V9: sequence # has no row
 V9: split # has no row for phase #

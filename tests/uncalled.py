@@ -23,9 +23,8 @@ CODE = sorted(set(drawing.crates()[0]) - drawing.TESTS)
 LAWS = "office_lives"
 MEANT = {
     "laws over two calls, and what a plan means":
-        "one_front one_list_of_requests is_fit_for_the_street",
+        "one_front one_list_of_requests is_fit_however_called",
     "a list of phases by its numbers, for a caller that has no row": "PhaseList::new",
-    "how often the rows of a table were written, of which the contracts speak": "Shelf::writes",
     "how many of a part are on hand, for those who read a shelf": "Shelf::hand",
     "commands that are run in turn whatever they are answered, of which laws speak":
         "Office::run_all",

@@ -73,7 +73,8 @@ def of_sequence(view, number):
     for it, phase in view.phases.items():
         stands = rings.get(phase.ring, ()).count(it)
         if stands != 1:
-            return f"phase {it} is missing" if stands == 0 else f"phase {it} stands twice"
+            where = f"is missing in ring {phase.ring}" if stands == 0 else "stands twice"
+            return f"phase {it} {where}"
     return None
 
 
@@ -83,10 +84,15 @@ def of_split(view, split):
     if phase is None:
         return f"phase {split.phase} is not in the plan"
     if split.mode == 7:
-        return f"{split.time} s, and omitted" if split.time else "coordinated, and omitted"
+        what = [f"{split.time} s"] * (split.time > 0) + ["coordinated"] * split.coord
+        return f"{' and '.join(what)}, and omitted"
     if split.time == 0:
         return "0 s, and not omitted"
-    return f"{split.time} s, and the need is {tenths(need(phase, split.mode))} s"
+    is_called = phase.walk is not None and split.mode in (5, 6)
+    walk_is_longer = is_called and phase.walk + phase.clear > phase.lead + phase.min_green
+    governs = "walk" if walk_is_longer else "green"
+    needed = tenths(need(phase, split.mode))
+    return f"{split.time} s, and the need is {needed} s: {governs} governs"
 
 
 def conflict(view, lanes, cycle):

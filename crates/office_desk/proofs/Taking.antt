@@ -1,7 +1,7 @@
 -- A record of an import is taken as it was decided.
-use Rattle.std.proofs.Common.{◌≡◌, ◌+◌, ◌++◌, ◌≤◌, ℕ, Bool, true, false, List, [], Option, Some, None, append-nil, refl, ap, sym, subst, subst₂, inl, inr, arith, ◌∷◌, ◌∙◌}
+use Rattle.std.proofs.Common.{◌≡◌, ◌+◌, ◌++◌, ◌≤◌, ℕ, Bool, false, List, [], Option, Some, None, append-nil, refl, ap, sym, subst, subst₂, inl, inr, arith, ◌∷◌, ◌∙◌}
 use Rattle.std.specs.Prelude.{◌⊎◌}
-use Rattle.cabinet_core.specs.{Cabinet.Line, Register.Register, Step.after_line, Step.line_at, Step.with_record, declared.command.RecordCommand.RecordCommand}
+use Rattle.cabinet_core.specs.{Cabinet.Line, Step.after_line, Step.line_at, Step.with_record, declared.command.RecordCommand.RecordCommand}
 use Rattle.office_tables_shelf.specs.{Change.changed_by, Content.Content, Counts.writes_in, RegisterStands.RegisterStandsSound}
 use Rattle.office_tables_shelf.specs.declared.{rows.RowChange.RowChange, rows.Table.Table}
 use Rattle.office_desk_decisions.specs.RegisterDamage.{KeepsDamage, MeetsRecordDamage}

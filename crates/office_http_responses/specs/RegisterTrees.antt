@@ -1,7 +1,7 @@
 -- The JSON trees of what the register shows, each object's keys in ascending order.
 use Rattle.std.specs.Prelude.{ℕ, List, [], ◌∷◌, ◌++◌, codes, option_map}
 use Rattle.std.specs.List.{filter}
-use Rattle.serde_json.specs.Data.{Data, null}
+use Rattle.serde_json.specs.Data.{Data}
 use Rattle.cabinet_core.specs.Day.{day_text}
 use Rattle.cabinet_core.specs.Overdue.{Listed}
 use Rattle.cabinet_core.specs.declared.record.Closing.{Closing}

@@ -27,9 +27,9 @@ use Rattle.signal_office_file.specs.declared.left.FileLeft.TheVariants as left
 pub data Lived : Type 1 where
   -- a stream of at most so many requests was served between these moments of its ends, and the file was closed
   in_order : (limit : ℕ) → (start end : Ends) → Result Served ServeFault → Lived
-  -- the same, and then the run was stopped, at whichever of its calls on the disk, or the disk failed
+  -- a stream of at most so many requests was served between these moments of its ends, and then the run was stopped, at whichever of its calls on the disk, or the disk failed
   to_a_stop : (limit : ℕ) → (start end : Ends) → Result Served ServeFault → Lived
-  -- the same, and the file could not be closed
+  -- a stream of at most so many requests was served between these moments of its ends, and the file could not be closed
   unclosed : (limit : ℕ) → (start end : Ends) → Lived
   -- a command did this to the tables that it found, and the file was closed
   command : (does : Content → Content → Type 0) → Lived

@@ -38,7 +38,8 @@ fn removed_by(key: &[u8]) -> RowKind
     }
 }
 
-/// The same, where a key's kind is there.
+/// The kind of a removal, by its fields after the first: the kind of the key, where there is one,
+/// stands before the others.
 fn removal_of(rest: &[&[u8]]) -> RowKind
     ensures { result ≡ removal_of (texts rest.now) }
 {

@@ -26,7 +26,7 @@ fn unpadded_record(alloc: Global, record: &ByteRecord) -> Result<ByteRecord, NoM
     ByteRecord::from_fields(alloc, unpadded(&fields))
 }
 
-/// The same of each record.
+/// The records, each without the empty fields at its end that its kind does not have.
 fn unpadded_records(alloc: Global, records: &[ByteRecord]) -> Result<Vec<ByteRecord>, NoMemory>
     ensures { IfOk result (λ rows.
         map fields_of rows.items ≡ map unpadded (map fields_of records.now)) }
@@ -38,7 +38,8 @@ fn unpadded_records(alloc: Global, records: &[ByteRecord]) -> Result<Vec<ByteRec
     Ok(rows)
 }
 
-/// The file of the records so, after a byte order mark.
+/// The file of the records of a file, after a byte order mark, each record without the empty fields
+/// at its end that its kind does not have.
 fn unpadded_file(alloc: Global, bytes: &[u8]) -> Result<Vec<u8>, NoMemory>
     ensures { IfOk result (λ text. text.items ≡ unpadded_text bytes.now) }
 {

@@ -60,7 +60,8 @@ fn key_width(kind: &[u8]) -> Option<usize>
     }
 }
 
-/// The same, where a kind is there.
+/// How many fields the removal of a key has, by its fields after the first: the kind of the key,
+/// where there is one, stands before the others.
 fn removal_width(rest: &[&[u8]]) -> Option<usize>
     ensures { result ≡ removal_width (texts rest.now) }
 {

@@ -26,7 +26,7 @@ use std::mem;
 #[derive(Drop)]
 pub struct MapShelf {
     now: Maps,
-    /// The same tables, where there is a spare.
+    /// A copy of the tables `now`, where there is a spare.
     spare: Option<Maps>,
     counts: WriteCounts,
 }
@@ -57,7 +57,7 @@ impl MapShelf {
         }
     }
 
-    /// The same tables: the spare, or a copy where there is none.
+    /// A copy of the tables `now`: the spare, or a new one where there is no spare.
     fn same(&mut self) -> Result<Maps, NoMemory>
         ensures same { IfOk result (λ same. same ≡ self.old.tables) }
         ensures unchanged { self.new ≡ self.old }

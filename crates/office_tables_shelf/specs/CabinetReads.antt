@@ -15,7 +15,7 @@ use Rattle.office_tables_shelf.specs.CabinetRows.{part_key, part_columns, inspec
 
 -- ---- parts
 
--- so many as can be on hand
+-- a count of parts that can be on hand: 0 to 999999999
 abbrev pub IsHand : ℕ → Type 0
 IsHand = IsInRange 0 999_999_999
 
@@ -23,7 +23,7 @@ IsHand = IsInRange 0 999_999_999
 abbrev pub ListsParts : Content → List (List ℕ × ℕ) → Type 0
 ListsParts tables parts = map (λ part. (part_key part.0, part_columns part.1)) parts ≡ entries tables.part
 
--- it is the code of a part, with so many as can be on hand
+-- a part's code, with a count that can be on hand
 abbrev pub IsPartWithin : List ℕ × ℕ → Type 0
 IsPartWithin part = IsPartCode part.0 × IsHand part.1
 

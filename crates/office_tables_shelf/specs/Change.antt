@@ -70,7 +70,7 @@ AddsNew tables (AddLine id line) = IsFree tables table.UsedPart (used_key id lin
 AddsNew tables (AddDelivery delivery) = IsFree tables table.Delivery (delivery_key delivery.part delivery.number)
 AddsNew tables _ = Unit {0}
 
--- so it is of each change, after those before it
+-- each of some changes in turn that adds a row finds none under its key, in the tables that the changes before it left
 abbrev pub AddNew : Content → List RowChange → Type 0
 AddNew tables [] = Unit {0}
 AddNew tables (change ∷ changes) = AddsNew tables change × AddNew (changed tables change) changes

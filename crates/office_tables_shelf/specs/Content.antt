@@ -59,7 +59,7 @@ place_at table.UsedPart = 7
 abbrev pub is_same_table : Table → Table → Bool
 is_same_table t other = place_at t == place_at other
 
--- it has these rows, and the others stay
+-- the tables, of which one now has these rows, and the others stay
 abbrev pub with_rows : Content → Table → TableRows → Content
 with_rows tables t rows = record {
   intersection = cond (is_same_table t table.Intersection) rows tables.intersection;

@@ -58,7 +58,7 @@ ListsIntersections tables rows = map (λ e. (intersection_key e.0, intersection_
 abbrev pub ListsTiming : Content → ℕ → List Row → Type 0
 ListsTiming tables id rows = map (λ row. (timing_key id (key_of row), timing_columns row)) rows ≡ rows_of id tables.timing
 
--- so many committed rows has the intersection
+-- the count is that of the committed rows of the intersection
 abbrev pub CountsTiming : Content → ℕ → ℕ → Type 0
 CountsTiming tables id count = count ≡ length (rows_of id tables.timing)
 

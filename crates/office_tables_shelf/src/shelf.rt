@@ -203,8 +203,9 @@ pub trait Shelf {
         Ok(found)
     }
 
-    /// The same, the inspections of one intersection after another. Those past the last that is
-    /// told are not read.
+    /// The first `most` of the intersections that are overdue for an inspection on a day, in the
+    /// order of their numbers. The days are those of one walk over the inspections of each in turn;
+    /// those past the last that is told are not read.
     fn overdue_of_each(
         &mut self,
         alloc: Global,

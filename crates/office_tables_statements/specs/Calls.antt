@@ -87,7 +87,7 @@ Reads sql params db rows = effect.Reads (command_of (understood office_schema sq
 abbrev pub IsWriting : List ℕ → Type 0
 IsWriting sql = IsPlain (understood office_schema sql)
 
--- that write was made, in a transaction that goes on
+-- the write of the text was made, in a transaction that goes on
 pub record Ran (sql : List ℕ) (params : Row) (old new : State) (count : ℕ) : Type 0 where
   pub was_open : IsTrue old.is_open
   pub inside : IsTrue new.in_transaction
@@ -99,7 +99,7 @@ pub record IsTurned (tables : Content) (old new : State) : Type 0 where
   pub content : content_now new ≡ tables
   pub version : new.now.trees layout.office_version.tree ≡ old.now.trees layout.office_version.tree
 
--- so a step of it does that succeeds on a clean disk
+-- a step that succeeds on a clean disk, in a transaction that was ready, leaves the eight tables with this content, and the version's as it was
 abbrev pub TurnsTo : {A E : Type 0} → Result A E → Content → State → State → Type 0
 TurnsTo result tables old new = HasCleanDisk new → OnOk result (IsReady old → IsTurned tables old new)
 

@@ -65,6 +65,6 @@ is_sound (Real x) = false
 is_sound (Text t) = true
 is_sound (Blob b) = false
 
--- so are the values of the row at these places
+-- the values of the row at these places are each a number or a text
 abbrev pub are_sound : List ℕ → Row → Bool
 are_sound places row = list_all (λ at. is_sound (column row at)) places

@@ -65,7 +65,7 @@ schema_at table.Part = schema.part_table
 schema_at table.Delivery = schema.delivery_table
 schema_at table.UsedPart = schema.used_part_table
 
--- it has a PRIMARY KEY of its own, and does not keep its key as the rowid
+-- the table has a PRIMARY KEY of its own, and does not keep its key as the rowid
 abbrev pub is_keyed : Table → Bool
 is_keyed table.Intersection = false
 is_keyed table.Timing = true
@@ -195,7 +195,7 @@ pub record IsCountText (t : Table) (sql : List ℕ) : Type 0 where
       ≡ Select (record { lets = []; body = counted_by (layout_at t) (of_first t) }) names
   pub query : IsQuery sql
 
--- these terms of the rows that pass the filter
+-- the query that shows these terms of the rows that pass the filter
 abbrev pub picked_where : Layout → List Term → List Term → Query
 picked_where t filter shown = record {
   from = inner t.tree end;
@@ -209,7 +209,7 @@ picked_where t filter shown = record {
   offset = lit (Int (pos 0));
 }
 
--- these terms of the rows whose key columns are the parameters
+-- the query that shows these terms of the rows whose key columns are the parameters
 abbrev pub picked_by : Layout → List Term → Query
 picked_by t = picked_where t (of_key t.keys t.places)
 
@@ -322,12 +322,12 @@ row_given t key columns = value_of (id_given t key) ∷ stored_beside t key colu
 
 -- the table takes the cells as they are
 pub record Fits (t : Table) (key columns : List Cell) : Type 0 where
-  -- they are what the statements read of the parameters
+  -- the cells are what the statements read of the parameters
   pub whole : IsKeyOf t (values_of (key ++ columns))
   pub named : key_given t (values_of (key ++ columns)) ≡ key
   pub given : (limit : Option ℕ) (db : Database) (rows : List Row) → Sourced limit db (stamped (schema_at t) (values_of (key ++ columns))) (source_at t) (Ok rows) → rows ≡ row_given t key columns ∷ []
   pub rest : (row : Row) → eval_all (others_given t) (values_of (key ++ columns) ∷ row ∷ []) ≡ values_of columns
-  -- the columns take them
+  -- the columns take the cells
   pub numbered : suits_kind kind.Integer (id_given t key) ≡ true
   pub suits : suit (schema_at t).columns (beside_rowid t null key ++ columns) ≡ true
   -- a row of them that is added, and one that took them, show them

@@ -184,9 +184,9 @@ pub fn diagram(
     }
 }
 
-/// The same picture to stand in a page of HTML: it is as wide and as high as its units, so that the
-/// page may scale it, and is told in words to those who don't see it. Nothing, where the set has no
-/// such pattern.
+/// The picture of a pattern to stand in a page of HTML: it is as wide and as high as its units, so
+/// that the page may scale it, and has words for those who don't see it. Nothing, where the set has
+/// no such pattern.
 pub fn figure(alloc: Global, set: &TimingSet, number: PatternNo) -> Result<Option<String>, NoMemory>
     ensures found { IfOk result (λ shown. IsSome shown ↔ IsSome (pattern_at set.now number)) }
     ensures text { IfOk result (λ shown. IfSome shown

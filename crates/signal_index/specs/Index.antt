@@ -10,6 +10,7 @@ use Rattle.signal_index.specs.Rows.{entry_rows, intersections_part, orders_part,
 use Rattle.signal_index.specs.declared.shown.IndexEntry.{IndexEntry}
 use Rattle.signal_index.specs.declared.shown.IndexShown.{IndexShown}
 
+-- the beginning of the index, up to what is overdue
 unfoldable pub index_head : List ℕ
 index_head =
     head_opening ++ codes "Intersections</title>\n<style>\n" ++ STYLE.now
@@ -21,15 +22,18 @@ unfoldable pub counts_text : ℕ → ℕ → List ℕ
 counts_text late all =
     codes "</strong>: " ++ decimal late ++ codes " of " ++ decimal all ++ codes ".</p>\n"
 
+-- how many of all intersections are overdue on a day
 unfoldable pub day_words : ℕ → ℕ → ℕ → List ℕ
 day_words day late all =
     codes "<p>Inspections overdue on <strong>" ++ day_text day ++ counts_text late all
 
+-- how many are overdue, where a day is given
 abbrev pub day_note : Option ℕ → List IndexEntry → List ℕ
 day_note None entries = []
 day_note (Some day) entries =
     day_words day (length (overdue_among (Some day) entries)) (length entries)
 
+-- the index of an office, on a day where one is given
 unfoldable pub index_text : Option ℕ → IndexShown → List ℕ
 index_text day shown =
     index_head ++ day_note day shown.entries ++ codes "</header>\n<main>\n"

@@ -18,6 +18,7 @@ is_overdue (Some day) entry = is_past_due day entry.listed.interval entry.last
 abbrev pub overdue_among : Option ℕ → List IndexEntry → List IndexEntry
 overdue_among day entries = filter (is_overdue day) entries
 
+-- the intersections of the index that are not overdue on a day
 abbrev pub others_among : Option ℕ → List IndexEntry → List IndexEntry
 others_among day entries = filter (λ entry. not (is_overdue day entry)) entries
 
@@ -45,5 +46,6 @@ abbrev pub overdue_numbers : Option ℕ → List Seen → List ℕ
 overdue_numbers None seen = []
 overdue_numbers (Some day) seen = map (λ (listed : Listed). listed.id) (overdue_list day seen)
 
+-- the number of an intersection of the index
 abbrev pub number_of_entry : IndexEntry → ℕ
 number_of_entry entry = entry.listed.id

@@ -23,6 +23,7 @@ abbrev pub holder_cell : Option Holder → List ℕ
 holder_cell None = words_cell (codes "nobody")
 holder_cell (Some holder) = text_cell holder.owner
 
+-- a cell with the day of the last inspection
 unfoldable pub last_cell : Option ℕ → List ℕ
 last_cell last = codes "<td class='d'>" ++ last_text last ++ codes "</td>"
 
@@ -30,15 +31,18 @@ last_cell last = codes "<td class='d'>" ++ last_text last ++ codes "</td>"
 abbrev pub late_mark : Bool → List ℕ
 late_mark late = if late then codes " <strong class='late'>overdue</strong>" else []
 
+-- a cell with the day on which the next inspection is due, marked where it is overdue
 unfoldable pub due_cell : ℕ → Option ℕ → Bool → List ℕ
 due_cell interval last late =
     codes "<td class='d'>" ++ due_text interval last ++ late_mark late ++ codes "</td>"
 
+-- the cells of an intersection's state, owner, revision and rows
 unfoldable pub standing_cells : IndexEntry → List ℕ
 standing_cells entry =
     words_cell (state_word entry.listed.holder) ++ holder_cell entry.listed.holder
     ++ number_cell entry.listed.revision ++ number_cell entry.listed.rows
 
+-- the cells of a cabinet: open orders, last inspection, next one
 unfoldable pub cabinet_cells : Bool → IndexEntry → List ℕ
 cabinet_cells late entry =
     number_cell entry.open_orders ++ last_cell entry.last
@@ -50,12 +54,14 @@ entry_row late entry =
     codes "<tr>" ++ link_heading entry.listed.id ++ text_cell entry.listed.name
     ++ standing_cells entry ++ cabinet_cells late entry ++ codes "</tr>\n"
 
+-- the headings of an intersection's number, name, state, owner, revision and rows
 unfoldable pub standing_headings : List ℕ
 standing_headings =
     heading (codes "No") ++ words_heading (codes "Name") ++ words_heading (codes "State")
     ++ words_heading (codes "Draft of") ++ heading (codes "Revision")
     ++ heading (codes "Committed rows")
 
+-- the headings of a cabinet's columns
 unfoldable pub due_headings : List ℕ
 due_headings =
     heading (codes "Open orders") ++ words_heading (codes "Last inspection")
@@ -69,6 +75,7 @@ row_by day entry = entry_row (is_overdue day entry) entry
 abbrev pub late_row : Option ℕ → IndexEntry → List ℕ
 late_row day entry = if is_overdue day entry then entry_row true entry else []
 
+-- the row of an intersection that is not overdue, nothing where it is
 abbrev pub other_row : Option ℕ → IndexEntry → List ℕ
 other_row day entry = if is_overdue day entry then [] else entry_row false entry
 
@@ -76,6 +83,7 @@ other_row day entry = if is_overdue day entry then [] else entry_row false entry
 abbrev pub entry_rows : Option ℕ → List IndexEntry → List ℕ
 entry_rows day entries = flat_map (late_row day) entries ++ flat_map (other_row day) entries
 
+-- the table of all intersections, those that are overdue first
 unfoldable pub intersections_part : Option ℕ → List IndexEntry → List ℕ
 intersections_part day entries =
     table_opening (codes "Intersections") [] ++ standing_headings ++ due_headings ++ table_body
@@ -83,17 +91,20 @@ intersections_part day entries =
 
 -- ---- open orders
 
+-- the row of an open order with its intersection
 unfoldable pub named_row : NamedOrder → List ℕ
 named_row named =
     codes "<tr>" ++ row_heading named.listed.id ++ text_cell named.name
     ++ number_cell named.listed.order.number ++ day_cell named.listed.order.opened
     ++ text_cell named.listed.order.clerk ++ text_cell named.listed.order.text ++ codes "</tr>\n"
 
+-- the headings of the table of open orders
 unfoldable pub named_headings : List ℕ
 named_headings =
     heading (codes "No") ++ words_heading (codes "Name") ++ heading (codes "Order")
     ++ words_heading (codes "Opened") ++ words_heading (codes "Clerk") ++ words_heading (codes "Work")
 
+-- the table of the open orders of all intersections
 unfoldable pub orders_part : List NamedOrder → List ℕ
 orders_part orders =
     table_opening (codes "Open orders") [] ++ named_headings ++ table_body
@@ -101,9 +112,11 @@ orders_part orders =
 
 -- ---- stock
 
+-- the row of a part with how many are on hand
 unfoldable pub stock_row : List ℕ × ℕ → List ℕ
 stock_row part = codes "<tr>" ++ text_cell part.0 ++ number_cell part.1 ++ codes "</tr>\n"
 
+-- the table of the stock
 unfoldable pub stock_part : List (List ℕ × ℕ) → List ℕ
 stock_part parts =
     table_opening (codes "Stock") [] ++ words_heading (codes "Part")

@@ -73,7 +73,7 @@ fn push_day_words(text: &mut String, day: Day, late: usize, all: usize) -> Resul
     push_counts(text, late, all)
 }
 
-/// The same where a day was given.
+/// Appends how many are overdue, where a day was given.
 fn push_day_note(
     text: &mut String,
     day: &Option<Day>,

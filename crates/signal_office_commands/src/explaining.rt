@@ -1,10 +1,10 @@
-//! Why plans break rules, in numbers.
+//! Why plans break rules, in numbers, and what an engineer is warned of in them.
 
 ghost use Rattle.std.specs.Prelude.{◌≡◌, ◌≢◌, Err, IfOk, IfErr};
 ghost use Rattle.office_desk.specs.Running.{TellsTables};
 ghost use Rattle.office_files.specs.Changes.{changes_of};
 ghost use Rattle.office_tables_shelf.specs.Keeps.{KeepsShelf};
-ghost use Rattle.signal_office_commands.specs.Explaining.{ExplainsDraft, ExplainsPlan};
+ghost use Rattle.signal_office_commands.specs.Explaining.{ExplainsDraft, ExplainsPlan, WarnsOfPlan};
 ghost use Rattle.signal_office_reports.specs.Reports.{IsTextOf, draft_in, first_seen};
 ghost use Rattle.signal_office_reports.specs.Seen.{Gives};
 ghost use Rattle.signal_rules.specs.Violations.{AreReasons};
@@ -16,6 +16,7 @@ use signal_office_faults::Fault;
 use signal_office_reports::{Query, Seen, draft_in, first_seen, look};
 use signal_records::InterId;
 use signal_rules::{Explained, reasons};
+use signal_warnings::{Warning, warnings};
 use std::alloc::Global;
 
 /// The violations of the plan that the records of a CSV file make of the empty set, each with its
@@ -30,7 +31,19 @@ pub fn reasons_in(alloc: Global, bytes: &[u8]) -> Result<Vec<Explained>, CsvFaul
     Ok(found)
 }
 
-/// Those of a draft that was seen.
+/// What an engineer is warned of in the plan that the records of a CSV file make of the empty set,
+/// or the first bad record.
+pub fn warnings_in(alloc: Global, bytes: &[u8]) -> Result<Vec<Warning>, CsvFault>
+    ensures found { IfOk result (λ found. WarnsOfPlan bytes.now found.items) }
+    ensures fault { IfErr result (λ fault. fault ≢ CsvFault.NoMemory →
+        changes_of bytes.now ≡ Err fault) }
+{
+    let plan = read_plan_csv(alloc, bytes)?;
+    let found = warnings(alloc, &plan)?;
+    Ok(found)
+}
+
+/// The violations of a draft that was seen, each with its reason.
 fn reasons_of(alloc: Global, seen: Vec<Seen>) -> Result<Vec<Explained>, Fault>
     ensures { Gives (IsTextOf AreReasons (draft_in (first_seen seen.items))) result }
 {

@@ -26,7 +26,7 @@ pub use comparing::{compare_files, draft_differences, running_differences};
 pub use counts::Counts;
 pub use days::check_days;
 pub use drawing::diagram_in;
-pub use explaining::{draft_reasons, reasons_in};
+pub use explaining::{draft_reasons, reasons_in, warnings_in};
 pub use importing::{Imported, import_csv};
 pub use paging::page_in;
 pub use plan::violations_in;

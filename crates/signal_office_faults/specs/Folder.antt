@@ -11,7 +11,7 @@ NamedText = List ℕ × List ℕ
 abbrev pub KnownFiles : Type 0
 KnownFiles = Option (List NamedText)
 
--- these were put besides
+-- the files that are in the folder now are those of before, and then the added ones, where they are known
 abbrev pub AddsFiles : (old new : KnownFiles) → (added : List NamedText) → Type 0
 AddsFiles None None added = ⊤
 AddsFiles (Some old) (Some new) added = new ≡ old ++ added

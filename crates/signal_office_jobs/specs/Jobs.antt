@@ -1,5 +1,5 @@
 -- What each job does, what it prints, the status or fault that comes of it, and what becomes of the office.
-use Rattle.std.specs.Prelude.{◌≡◌, ◌≢◌, ◌⊎◌, ℕ, Bool, true, false, List, Option, Some, None, Result, Ok, Err}
+use Rattle.std.specs.Prelude.{◌≡◌, ◌≢◌, ◌⊎◌, ℕ, Bool, true, false, List, [], ◌++◌, Option, Some, None, Result, Ok, Err}
 use Rattle.office_desk.specs.StandFor.{StandForSound}
 use Rattle.office_files.specs.Changes.{changes_of}
 use Rattle.office_files.specs.declared.fault.CsvFault.{CsvFault}
@@ -15,7 +15,7 @@ use Rattle.office_tables_shelf.specs.Content.{Content}
 use Rattle.signal_compare.specs.declared.difference.Difference.{Difference}
 use Rattle.signal_office_commands.specs.Comparing.{ComparesFiles, IsFirstBad}
 use Rattle.signal_office_commands.specs.Drawing.{DrawsFile, DrawsNoFile}
-use Rattle.signal_office_commands.specs.Explaining.{ExplainsPlan}
+use Rattle.signal_office_commands.specs.Explaining.{ExplainsPlan, WarnsOfPlan}
 use Rattle.signal_office_commands.specs.Paging.{IsPageOfFile}
 use Rattle.signal_office_commands.specs.Plan.{AreOfPlan}
 use Rattle.signal_office_faults.specs.Lines.{fault_of_stream}
@@ -39,6 +39,7 @@ use Rattle.signal_office_line.specs.declared.shows.PlanShown.{PlanShown}
 use Rattle.signal_office_line.specs.declared.shows.PlanShown.TheVariants as plan
 use Rattle.signal_rules.specs.declared.reason.Explained.{Explained}
 use Rattle.signal_rules.specs.declared.violation.Violation.{Violation}
+use Rattle.signal_warnings.specs.declared.warning.Warning.{Warning}
 
 -- what becomes of a stream from the start of its input and output to their ends, and the status or the fault that comes of it
 abbrev pub Exchange : Type 1
@@ -95,14 +96,33 @@ Compares csv first second (Ok done) =
     (found : List Difference) × ComparesFiles first second found × (text_of done ≡ compared_text csv found) × (status_of done ≡ compared_status found)
 Compares csv first second (Err why) = why ≢ fault.Memory → IsFirstBad first second why
 
--- What is shown of it, or why it is not. Its violations, or those with their reasons, and the status that tells whether there are any.
-abbrev pub ShowsPlan : PlanShown → (csv lines : List ℕ) → Result Done Fault → Type 0
-ShowsPlan (plan.Violations false) csv lines (Ok done) =
+-- the rules that the plan of a file breaks, or those with their reasons, and the status that tells whether there are any; or why the file gives no plan
+abbrev pub TellsViolations : (explain : Bool) → (csv lines : List ℕ) → Result Done Fault → Type 0
+TellsViolations false csv lines (Ok done) =
     (found : List Violation) × AreOfPlan csv found × (text_of done ≡ violations_text found) × (status_of done ≡ checked_status found)
-ShowsPlan (plan.Violations true) csv lines (Ok done) =
+TellsViolations true csv lines (Ok done) =
     (found : List Explained) × ExplainsPlan csv found × (text_of done ≡ explained_text_of found) × (status_of done ≡ explained_status found)
-ShowsPlan (plan.Violations false) csv lines (Err why) = why ≢ fault.Memory → IsNoPlan csv why
-ShowsPlan (plan.Violations true) csv lines (Err why) = why ≢ fault.Memory → (unread : Fault) × IsNoPlan csv unread × (why ≡ explained_file csv lines unread)
+TellsViolations false csv lines (Err why) = why ≢ fault.Memory → IsNoPlan csv why
+TellsViolations true csv lines (Err why) = why ≢ fault.Memory → (unread : Fault) × IsNoPlan csv unread × (why ≡ explained_file csv lines unread)
+
+-- what an engineer is warned of in the plan of a file follows what was told of it, with the status of that; nothing follows where there is no warning
+abbrev pub AddsWarnings : (csv : List ℕ) → (told : Done) → Result Done Fault → Type 0
+AddsWarnings csv told (Ok done) =
+    (found : List Warning) × WarnsOfPlan csv found
+    × (more : List ℕ) × (found ≡ [] → more ≡ []) × (text_of done ≡ text_of told ++ more) × (status_of done ≡ status_of told)
+AddsWarnings csv told (Err why) = why ≢ fault.Memory → IsNoPlan csv why
+
+-- what was told of the plan of a file goes on with its warnings where they are asked for
+abbrev pub Advises : (advise : Bool) → (csv : List ℕ) → (told : Result Done Fault) → Result Done Fault → Type 0
+Advises true csv (Ok told) result = AddsWarnings csv told result
+Advises true csv (Err why) result = result ≡ Err why
+Advises false csv told result = result ≡ told
+
+-- what is shown of a plan, or why it is not
+abbrev pub ShowsPlan : PlanShown → (csv lines : List ℕ) → Result Done Fault → Type 0
+-- its violations, and where that is asked its warnings behind them
+ShowsPlan (plan.Violations explain advise) csv lines result =
+    (told : Result Done Fault) × TellsViolations explain csv lines told × Advises advise csv told result
 -- the picture of a pattern; or also that the plan lacks the pattern
 ShowsPlan (plan.Diagram pattern) csv lines (Ok done) = DrawsFile csv pattern (text_of done) × (status_of done ≡ 0)
 ShowsPlan (plan.Diagram pattern) csv lines (Err why) = why ≢ fault.Memory → DrawsNoFile csv pattern why

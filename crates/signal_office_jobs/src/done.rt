@@ -101,7 +101,7 @@ impl Done {
         Ok(Done::Text { text, status })
     }
 
-    /// The same, each with its reason.
+    /// The violations of a plan that was checked, each with its reason.
     pub fn explaining(alloc: Global, found: &[Explained]) -> Result<Done, Fault>
         ensures { TellsAs (explained_text_of found.now) (explained_status found.now) result }
     {
@@ -173,6 +173,17 @@ impl Done {
         Done::Line(line)
     }
 
+    /// What is told here, with more behind it, and the status of this.
+    pub fn followed_by(self, alloc: Global, more: &[u8]) -> Result<Done, Fault>
+        ensures { TellsAs (text_of self ++ more.now) (status_of self) result }
+    {
+        match &self {
+            Done::Text { text, status } => join_texts(alloc, text, more, *status),
+            Done::Fixed(line) => join_texts(alloc, line.as_bytes(), more, 0),
+            Done::Line(line) => join_texts(alloc, line.as_str().as_bytes(), more, 0),
+        }
+    }
+
     /// Prints it, and gives the status.
     pub fn print<W: Sink>(&self, out: &mut W) -> Result<u8, Fault>
         ensures { Prints (text_of self.now) (status_of self.now) (W.told out.old) (W.told out.new)
@@ -184,6 +195,16 @@ impl Done {
             Done::Line(line) => print_text(line.as_str().as_bytes(), 0, out),
         }
     }
+}
+
+/// A text with another one behind it, and the status.
+fn join_texts(alloc: Global, first: &[u8], more: &[u8], status: u8) -> Result<Done, Fault>
+    ensures { TellsAs (first.now ++ more.now) status result }
+{
+    let mut text = Vec::new(alloc);
+    text.extend_from_slice(first)?;
+    text.extend_from_slice(more)?;
+    Ok(Done::Text { text, status })
 }
 
 /// Prints a text as a whole, and gives the status.

@@ -37,7 +37,7 @@ fn stream_status(outcome: Result<Served, ServeFault>) -> Result<u8, Fault>
     }
 }
 
-/// The same of one over a file, whose fault comes first.
+/// The status of a stream that was served over a file, whose fault comes first.
 fn status_over(outcome: Result<Result<Served, ServeFault>, Fault>) -> Result<u8, Fault>
     ensures { result ≡ status_over outcome }
 {

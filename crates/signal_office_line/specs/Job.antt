@@ -28,8 +28,8 @@ use Rattle.signal_office_line.specs.declared.shows.View.TheVariants as view
 abbrev pub Stated : Type 0 → Type 0
 Stated A = Result A NoJob
 
--- what comes next, where something is stated
 infixl 10 ◌>>=◌
+-- what comes next, where something is stated
 abbrev pub ◌>>=◌ : {A B : Type 0} → Stated A → (A → Stated B) → Stated B
 Ok given >>= next = next given
 Err why >>= next = Err why
@@ -271,11 +271,11 @@ serve_at rows = do
   db ← any_db_at rows
   Ok (job.Serve port (unwrap_or count 1_000_000) db)
 
--- `verify-file [--explain] [--padded] CSV`
+-- `verify-file [--explain] [--advise] [--padded] CSV`
 abbrev pub verify_file_at : List Row → Stated Job
 verify_file_at rows = do
   csv ← needed (csv_at (codes "CSV") rows)
-  Ok (job.ShowPlan csv (plan.Violations (flag_at (codes "explain") rows)))
+  Ok (job.ShowPlan csv (plan.Violations (flag_at (codes "explain") rows) (flag_at (codes "advise") rows)))
 
 -- `migrate --db FILE`
 abbrev pub migrate_at : List Row → Stated Job

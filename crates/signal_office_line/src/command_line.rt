@@ -38,6 +38,8 @@ const CSV: Argument<'static> = Argument("csv", Form::Flag, None);
 
 const EXPLAIN: Argument<'static> = Argument("explain", Form::Flag, None);
 
+const ADVISE: Argument<'static> = Argument("advise", Form::Flag, None);
+
 const PADDED: Argument<'static> = Argument("padded", Form::Flag, None);
 
 const FORCE: Argument<'static> = Argument("force", Form::Flag, None);
@@ -94,7 +96,7 @@ const COMMANDS: &[Usage<'static>] = &[
     Usage("used", &[DB, WAIT, CSV, PART]),
     Usage("cabinet", &[DB, WAIT, ID]),
     Usage("pages", &[DB, WAIT, ON_DAY, DIR]),
-    Usage("verify-file", &[EXPLAIN, PADDED, RECORDS]),
+    Usage("verify-file", &[EXPLAIN, ADVISE, PADDED, RECORDS]),
     Usage("migrate", &[DB, WAIT]),
     Usage("backup", &[DB, WAIT, FORCE, TO]),
     Usage("import", &[DB, WAIT, CHECK, UNTIL, PADDED, RECORDS]),

@@ -140,6 +140,7 @@ any file: The CSV file of a plan, with the pattern's number alone
 compare csv: Print the changes as CSV, as `edit` takes them
 any csv: Print as CSV, without heading or count
 any explain: Also print, for each broken rule, the numbers that break it
+any advise: Also print, after the broken rules, what breaks none and may surprise; the status stays
 any padded: Drop the empty fields with which spreadsheets pad the records of CSV
 any force: Replace the file TO
 any check: Take nothing; print each record that would be refused, with its line and what is \

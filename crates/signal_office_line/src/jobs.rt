@@ -242,13 +242,14 @@ fn serve<'a>(matches: &ArgMatches<'a>) -> Result<Job<'a>, NoJob>
     Ok(Job::Serve { port, count, db })
 }
 
-/// `verify-file [--explain] [--padded] CSV`.
+/// `verify-file [--explain] [--advise] [--padded] CSV`.
 fn verify_file<'a>(matches: &ArgMatches<'a>) -> Result<Job<'a>, NoJob>
     ensures { result ≡ verify_file_at (rows_of (found_of matches.now)) }
 {
     let csv = csv_file(matches, "CSV").ok_or(NoJob::Unstated)?;
     let explain = flag(matches, "explain");
-    let shown = PlanShown::Violations { explain };
+    let advise = flag(matches, "advise");
+    let shown = PlanShown::Violations { explain, advise };
     Ok(Job::ShowPlan { csv, shown })
 }
 

@@ -42,8 +42,9 @@ pub enum Shown {
 /// What is printed of the plan in a CSV file.
 #[derive(Clone, Copy)]
 pub enum PlanShown {
-    /// The rules that it breaks, with their reasons where that is asked.
-    Violations { explain: bool },
+    /// The rules that it breaks, with their reasons where that is asked, and where that is asked
+    /// what an engineer is warned of in it.
+    Violations { explain: bool, advise: bool },
     /// A pattern of it.
     Diagram { pattern: PatternNo },
     /// Its page.

@@ -39,12 +39,14 @@ change_rows kind runs draft (difference.Added row) = marked_row kind Added draft
 change_rows kind runs draft (difference.Changed before after) =
     marked_row kind Before runs before draft after ++ marked_row kind After draft after runs before
 
+-- the table of the rows of a kind that differ between the committed plan and its draft
 unfoldable pub whole_change_table : Kind → Rows → Rows → List Difference → List ℕ
 whole_change_table kind runs draft differences =
     table_opening (name_of kind) (codes " that change") ++ words_heading (codes "Change")
     ++ headings kind ++ table_body ++ flat_map (change_rows kind runs draft) differences
     ++ table_end
 
+-- a difference is of a row of a kind
 abbrev pub is_change_of : Kind → Difference → Bool
 is_change_of kind (difference.Removed row) = is_of_kind kind row
 is_change_of kind (difference.Added row) = is_of_kind kind row

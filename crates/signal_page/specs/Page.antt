@@ -18,11 +18,13 @@ use Rattle.signal_page.specs.Register.{register_part}
 
 -- ---- the head, with the page's title and its style
 
+-- the beginning of a page, up to the title in its head
 unfoldable pub head_opening : List ℕ
 head_opening =
     codes "<!DOCTYPE html>\n<html lang='en'>\n<head>\n<meta charset='utf-8'>\n"
     ++ codes "<meta name='viewport' content='width=device-width, initial-scale=1'>\n<title>"
 
+-- the end of a page's head, with the style, up to the title that is shown
 unfoldable pub head_end : List ℕ
 head_end =
     codes "</title>\n<style>\n" ++ STYLE.now ++ codes "</style>\n</head>\n<body>\n"
@@ -34,6 +36,7 @@ page_end = codes "</main>\n</body>\n</html>\n"
 
 -- ---- the page of an intersection
 
+-- the words of a title before the name of the intersection
 unfoldable pub title : ℕ → List ℕ
 title id = codes "Intersection " ++ decimal id ++ codes ": "
 
@@ -47,12 +50,14 @@ abbrev pub index_link : (linked : Bool) → List ℕ
 index_link true = codes "<li><a href='index.html'>All intersections</a></li>\n"
 index_link false = []
 
+-- the links to the parts of a page, and to the index where the page is linked to it
 unfoldable pub links : (linked : Bool) → Option Rows → List ℕ
 links linked draft =
     codes "<nav aria-label='Parts of this page'>\n<ul>\n" ++ index_link linked
     ++ codes "<li><a href='#plan'>The committed plan</a></li>\n"
     ++ draft_link draft ++ codes "<li><a href='#cabinet'>The cabinet</a></li>\n</ul>\n</nav>\n"
 
+-- all of a page before its parts: the head, the title, the facts, the links
 unfoldable pub header : (linked : Bool) → IntersectionShown → List ℕ
 header linked shown =
     head_opening ++ title shown.state.id ++ escaped shown.state.name ++ head_end
@@ -62,12 +67,14 @@ header linked shown =
     ++ draft_facts shown.state
     ++ codes "</dl>\n" ++ links linked shown.draft ++ codes "</header>\n<main id='main'>\n"
 
+-- the part with the committed plan
 unfoldable pub plan_section : Rows → List ℕ
 plan_section committed =
     codes "<section id='plan' aria-labelledby='plan-title'>\n"
     ++ codes "<h2 id='plan-title'>The committed plan</h2>\n" ++ plan_part (codes " of the committed plan") [] committed
     ++ codes "</section>\n"
 
+-- the part with an open draft: how many rules it breaks, what it changes, the whole draft
 unfoldable pub open_draft_section : Rows → Rows → List Difference → List Explained → List ℕ
 open_draft_section committed draft differences reasons =
     codes "<section id='draft' aria-labelledby='draft-title'>\n"
@@ -75,11 +82,13 @@ open_draft_section committed draft differences reasons =
     ++ changes_part committed draft differences ++ codes "<h3>The whole draft</h3>\n"
     ++ plan_part (codes " of the draft") reasons draft ++ codes "</section>\n"
 
+-- the part with the draft, if there is one
 abbrev pub draft_section : Rows → Option Rows → List Difference → List Explained → List ℕ
 draft_section committed None differences reasons = []
 draft_section committed (Some draft) differences reasons =
     open_draft_section committed draft differences reasons
 
+-- the part with the register of the cabinet
 unfoldable pub cabinet_section : IntersectionShown → List ℕ
 cabinet_section shown =
     codes "<section id='cabinet' aria-labelledby='cabinet-title'>\n"
@@ -117,6 +126,7 @@ pub record IsPage (linked : Bool) (shown : IntersectionShown) (text : List ℕ) 
 
 -- ---- the page of a plan
 
+-- the page of a plan without an intersection, with the reasons of the rules that it breaks
 unfoldable pub plan_page_text : Rows → List Explained → List ℕ
 plan_page_text plan reasons =
     head_opening ++ codes "Timing plan" ++ head_end

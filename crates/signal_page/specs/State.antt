@@ -13,6 +13,7 @@ use Rattle.signal_page_tables.specs.Words.{isolated}
 
 -- ---- what is told
 
+-- the verify status of a draft in words
 abbrev pub verdict_words : Verdict → List ℕ
 verdict_words NotDone = codes "not done"
 verdict_words DoneWithError = codes "done, with errors"
@@ -40,6 +41,7 @@ unfoldable pub fact : List ℕ → List ℕ → List ℕ
 fact name value =
     codes "<div><dt>" ++ name ++ codes "</dt><dd>" ++ value ++ codes "</dd></div>\n"
 
+-- the facts of an intersection's transaction: its state and the owner of its draft
 unfoldable pub draft_facts : IntersectionState → List ℕ
 draft_facts state =
     fact (codes "State") (state_name state.state)
@@ -48,6 +50,7 @@ draft_facts state =
     ++ fact (codes "Revision") (decimal state.revision)
     ++ fact (codes "Committed rows") (decimal state.rows)
 
+-- the facts of a cabinet: its last inspection, the next one, its open orders
 unfoldable pub cabinet_facts : ℕ → Option ℕ → List Order → List ℕ
 cabinet_facts interval latest orders =
     fact (codes "Last inspection") (last_text latest)

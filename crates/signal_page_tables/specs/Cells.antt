@@ -6,6 +6,7 @@ use Rattle.signal_page_tables.specs.Words.{isolated}
 unfoldable pub heading : List ℕ → List ℕ
 heading name = codes "<th scope='col'>" ++ name ++ codes "</th>"
 
+-- the heading of a column of words
 unfoldable pub words_heading : List ℕ → List ℕ
 words_heading name = codes "<th scope='col' class='w'>" ++ name ++ codes "</th>"
 
@@ -13,6 +14,7 @@ words_heading name = codes "<th scope='col' class='w'>" ++ name ++ codes "</th>"
 unfoldable pub row_heading : ℕ → List ℕ
 row_heading n = codes "<th scope='row'>" ++ decimal n ++ codes "</th>"
 
+-- a cell with a whole number
 unfoldable pub number_cell : ℕ → List ℕ
 number_cell n = codes "<td>" ++ decimal n ++ codes "</td>"
 

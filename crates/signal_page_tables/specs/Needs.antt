@@ -28,6 +28,7 @@ abbrev pub need_value : Option ℕ → CellValue
 need_value None = Nothing
 need_value (Some need) = Tenths need
 
+-- the spare time of a split, in tenths of a second: splitTime less the need, below 0 where the need is greater, nothing where there is no need
 abbrev pub spare_value : ℕ → Option ℕ → CellValue
 spare_value time None = Nothing
 spare_value time (Some need) =
@@ -37,5 +38,6 @@ spare_value time (Some need) =
 abbrev pub coordinates : Rows → ℕ → ℕ → Bool
 coordinates set n p = is_some (phase_at set p) && is_coordinated (split_at set n p)
 
+-- the phases of a set that splitCoordPhase marks in a split number, ascending
 abbrev pub coordinated : Rows → ℕ → List ℕ
 coordinated set n = filter (coordinates set n) phase_numbers

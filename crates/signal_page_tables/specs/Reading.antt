@@ -10,6 +10,7 @@ is_markup b = b == 60 || b == 62 || b == 34 || b == 39
 unfoldable pub marks : List ℕ → List ℕ
 marks text = filter is_markup text
 
+-- a text begins with another one
 abbrev pub begins_with : List ℕ → List ℕ → Bool
 begins_with [] text = true
 begins_with (p ∷ ps) [] = false

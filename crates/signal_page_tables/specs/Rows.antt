@@ -50,6 +50,7 @@ pattern_values pattern =
 
 -- ---- the cells of a row beside another row of its kind, each with its set
 
+-- the cells of a phase, each marked where it differs from that of another phase
 unfoldable pub phase_beside : ℕ → Phase → Phase → List ℕ
 phase_beside p phase other =
     row_heading p ++ cells_beside (interval_values phase) (interval_values other)
@@ -62,11 +63,13 @@ sequence_beside n ring seq other =
     row_heading n ++ row_heading ring
     ++ phases_beside seq.list other.list
 
+-- the cells of a phase's split, each marked where it differs from that of another split
 unfoldable pub split_beside : ℕ → ℕ → Rows → Split → Rows → Split → List ℕ
 split_beside n p set split other_set other =
     row_heading n ++ row_heading p
     ++ cells_beside (split_values set p split) (split_values other_set p other)
 
+-- the cells of a pattern, each marked where it differs from that of another pattern
 unfoldable pub pattern_beside : ℕ → Rows → Pattern → Rows → Pattern → List ℕ
 pattern_beside n set pattern other_set other =
     row_heading n ++ cells_beside (pattern_values pattern) (pattern_values other)
@@ -77,18 +80,22 @@ abbrev pub phase_or : Row → Phase → Phase
 phase_or (row.Phase p phase) own = phase
 phase_or other own = own
 
+-- the sequence row of a row, or another one where the row is of another kind
 abbrev pub sequence_or : Row → SeqRow → SeqRow
 sequence_or (row.Seq n ring seq) own = seq
 sequence_or other own = own
 
+-- the split of a row, or another one where the row is of another kind
 abbrev pub split_or : Row → Split → Split
 split_or (row.Split n p split) own = split
 split_or other own = own
 
+-- the pattern of a row, or another one where the row is of another kind
 abbrev pub pattern_or : Row → Pattern → Pattern
 pattern_or (row.Pattern n pattern) own = pattern
 pattern_or other own = own
 
+-- the cells of a row of a set beside a row of another set, by the kind of the first
 abbrev pub row_beside : Rows → Row → Rows → Row → List ℕ
 row_beside set (row.Phase p phase) other_set other = phase_beside p phase (phase_or other phase)
 row_beside set (row.Seq n ring seq) other_set other =
@@ -109,6 +116,7 @@ columns Sequences = 3
 columns Splits = 7
 columns Patterns = 6
 
+-- a row belongs into the table of a kind
 abbrev pub is_of_kind : Kind → Row → Bool
 is_of_kind Phases (row.Phase p phase) = true
 is_of_kind Sequences (row.Seq n ring seq) = true

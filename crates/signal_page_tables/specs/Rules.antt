@@ -7,6 +7,7 @@ use Rattle.signal_rules.specs.Texts.{rule_text}
 use Rattle.signal_rules.specs.declared.reason.Explained.{Explained}
 use Rattle.signal_rules.specs.Texts.{reason_text}
 
+-- two subjects of rules are one
 abbrev pub is_same_subject : Subject → Subject → Bool
 is_same_subject (subject.Phase p) (subject.Phase q) = p == q
 is_same_subject (subject.Seq n) (subject.Seq m) = n == m
@@ -24,6 +25,7 @@ reason_note broken =
 unfoldable pub reason_opening : ℕ → List ℕ
 reason_opening columns = codes "<tr class='why'><td colspan='" ++ decimal columns ++ codes "'>"
 
+-- a row over so many columns with a broken rule and its reason
 unfoldable pub reason_row : ℕ → Explained → List ℕ
 reason_row columns broken =
     reason_opening columns ++ reason_note broken ++ codes "</td></tr>\n"
@@ -33,5 +35,6 @@ abbrev pub reason_below : ℕ → Subject → Explained → List ℕ
 reason_below columns s broken =
     if is_same_subject s broken.violation.subject then reason_row columns broken else []
 
+-- the broken rules of a subject, each in a row over so many columns
 abbrev pub reasons_below : ℕ → List Explained → Subject → List ℕ
 reasons_below columns reasons s = flat_map (reason_below columns s) reasons

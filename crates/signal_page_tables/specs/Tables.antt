@@ -18,34 +18,40 @@ name_of Patterns = codes "Patterns"
 
 -- ---- the headings of its columns
 
+-- the headings of a phase's ring and intervals, with their units
 unfoldable pub interval_headings : List ℕ
 interval_headings =
     heading (codes "Phase") ++ heading (codes "Ring") ++ heading (codes "Min green (s)")
     ++ heading (codes "Passage (s)") ++ heading (codes "Max green (s)")
     ++ heading (codes "Yellow (s)") ++ heading (codes "Red (s)")
 
+-- the headings of a phase's pedestrian part and mates, with their units
 unfoldable pub crossing_headings : List ℕ
 crossing_headings =
     heading (codes "Walk (s)") ++ heading (codes "Pedestrian clearance (s)") ++ heading (codes "Crossing (ft)")
     ++ heading (codes "Setback (ft)") ++ words_heading (codes "Short walk")
     ++ heading (codes "Lead (s)") ++ words_heading (codes "Concurrent phases")
 
+-- the headings of the table of sequences
 unfoldable pub sequence_headings : List ℕ
 sequence_headings =
     heading (codes "Sequence") ++ heading (codes "Ring") ++ words_heading (codes "Phases in turn")
 
+-- the headings of the table of splits, with their units
 unfoldable pub split_headings : List ℕ
 split_headings =
     heading (codes "Split") ++ heading (codes "Phase") ++ heading (codes "Time (s)")
     ++ heading (codes "Need (s)") ++ heading (codes "Spare (s)") ++ words_heading (codes "Mode")
     ++ words_heading (codes "Coordinated")
 
+-- the headings of the table of patterns, with their units
 unfoldable pub pattern_headings : List ℕ
 pattern_headings =
     heading (codes "Pattern") ++ heading (codes "Cycle (s)") ++ heading (codes "Offset (s)")
     ++ heading (codes "Split") ++ heading (codes "Sequence")
     ++ words_heading (codes "Coordinated phases")
 
+-- the headings of the table of a kind
 abbrev pub headings : Kind → List ℕ
 headings Phases = interval_headings ++ crossing_headings
 headings Sequences = sequence_headings
@@ -60,9 +66,11 @@ table_opening name whose =
     codes "<div class='scroll' role='group' tabindex='0' aria-label='" ++ name ++ whose
     ++ codes "'>\n<table>\n<caption>" ++ name ++ whose ++ codes "</caption>\n<thead><tr>"
 
+-- what stands between the headings of a table and its rows
 unfoldable pub table_body : List ℕ
 table_body = codes "</tr></thead>\n<tbody>"
 
+-- what stands behind the rows of a table
 unfoldable pub table_end : List ℕ
 table_end = codes "</tbody>\n</table>\n</div>\n"
 
@@ -75,7 +83,7 @@ none_row columns =
 abbrev pub rows_or_none : ℕ → List ℕ → List ℕ
 rows_or_none columns rows = rows ++ when_empty rows (none_row columns)
 
--- the same by the length of the text with its rows, and before them
+-- what stands in a table that has no row, which shows in the length of the text before its rows and now
 abbrev pub none_since : ℕ → ℕ → ℕ → List ℕ
 none_since now before columns = if now == before then none_row columns else []
 

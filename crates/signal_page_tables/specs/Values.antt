@@ -9,6 +9,7 @@ use Rattle.signal_page_tables.specs.declared.values.CellValue.{CellValue}
 use Rattle.signal_page_tables.specs.declared.values.CellValue.TheVariants.{Number, Tenths, Below, Nothing}
 use Rattle.signal_page_tables.specs.declared.values.CellValue.TheVariants.{Flag, Mode, NoNumber, NoWords}
 
+-- splitMode in words
 abbrev pub mode_words : SplitMode → List ℕ
 mode_words mode.NoRecall = codes "none"
 mode_words mode.MinimumVehicleRecall = codes "minimum vehicle recall"
@@ -17,6 +18,7 @@ mode_words mode.PedestrianRecall = codes "pedestrian recall"
 mode_words mode.MaximumVehicleAndPedestrianRecall = codes "maximum vehicle and pedestrian recall"
 mode_words mode.PhaseOmitted = codes "phase omitted"
 
+-- a flag in words
 abbrev pub flag_words : Bool → List ℕ
 flag_words flag = if flag then codes "yes" else codes "no"
 
@@ -54,6 +56,7 @@ shows_same value other = false
 abbrev pub mark_opening : (same : Bool) → List ℕ
 mark_opening same = if same then [] else codes "<mark>"
 
+-- the end of a mark, where two cells differ
 abbrev pub mark_end : (same : Bool) → List ℕ
 mark_end same = if same then [] else codes "</mark>"
 

@@ -101,7 +101,7 @@ sequence_kept base draft n same =
       once : (p : ℕ) (o : Option Phase) → once_cases draft n p o ≡ once_cases base n p o
       once p None = refl
       once p (Some phase) = ap (λ (list : Option (List ℕ)).
-          (eqb (times_in (or_empty list) p) 0, reason.Sequence (sequence.Missing p)) ∷ (ltb 1 (times_in (or_empty list) p), reason.Sequence (sequence.Repeated p)) ∷ []) (row phase.ring)
+          (eqb (times_in (or_empty list) p) 0, reason.Sequence (sequence.Missing p phase.ring)) ∷ (ltb 1 (times_in (or_empty list) p), reason.Sequence (sequence.Repeated p)) ∷ []) (row phase.ring)
 
       cases : sequence_cases draft n ≡ sequence_cases base n
       cases = λ i. flat_map (λ ring. flat_map (λ p. place_cases ring p (phase p i)) (or_empty (row ring i))) ring_numbers

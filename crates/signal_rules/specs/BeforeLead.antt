@@ -27,7 +27,7 @@ is_of_lead _ = false
 abbrev pub no_lead : Ped → Ped
 no_lead ped = record { walk = ped.walk; clear = ped.clear; width = ped.width; setback = ped.setback; short = ped.short; lead = 0 }
 
--- a phase whose pedestrian part, if any, is so
+-- a phase whose pedestrian part, if it has one, has a lead of 0
 abbrev pub without_lead : Phase → Phase
 without_lead p = record { ring = p.ring; min_green = p.min_green; passage = p.passage; max1 = p.max1; yellow = p.yellow; red = p.red; mates = p.mates; ped = option_map no_lead p.ped }
 
@@ -42,6 +42,7 @@ findings_before set (subject.Phase p) = filter (λ f. not (is_of_lead f.0)) (fin
 findings_before set (subject.Split n p) = for_split_before set p (split_at set n p)
 findings_before set s = findings set s
 
+-- the violations of one subject in version 1
 abbrev pub violations_before_at : Rows → Subject → List Violation
 violations_before_at set s = violations_in (broken s (findings_before set s))
 

@@ -1,6 +1,7 @@
 -- A rule as a table of the reasons that break it, each with whether it is true, in the order in which they are reported.
 use Rattle.std.specs.Prelude.{Bool, true, if◌then◌else◌, List, [], ◌∷◌, Contains, Option, Some, None, is_none}
 
+-- reasons in the order in which they are reported, each with whether it is true
 abbrev pub Cases : Type 0 → Type 0
 Cases A = List (Bool × A)
 

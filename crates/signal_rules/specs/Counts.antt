@@ -28,6 +28,7 @@ entries_of set seq (ring ∷ rings) = length (ring_row set seq ring) + entries_o
 abbrev pub sequence_entries : Rows → ℕ → ℕ
 sequence_entries set seq = entries_of set seq ring_numbers
 
+-- the seconds that are compared at most for a pattern: the lengths of its sequence's rows
 abbrev pattern_seconds : Rows → Option Pattern → ℕ
 pattern_seconds set None = 0
 pattern_seconds set (Some pattern) = sequence_entries set pattern.seq
@@ -37,7 +38,7 @@ abbrev pub most_seconds : Rows → Subject → ℕ
 most_seconds set (subject.Pattern n) = pattern_seconds set (pattern_at set n)
 most_seconds set _ = 0
 
--- the same for some subjects, together
+-- the seconds that are compared at most for some subjects, together
 abbrev pub most_seconds_of : Rows → List Subject → ℕ
 most_seconds_of set [] = 0
 most_seconds_of set (s ∷ ss) = most_seconds set s + most_seconds_of set ss

@@ -25,14 +25,15 @@ lane set seq split ring = flat_map (λ p. replicate (time_of (split_at set split
 abbrev pub is_used : Rows → ℕ → Bool
 is_used set ring = list_any (λ p. in_ring ring (phase_at set p)) phase_numbers
 
+-- the rings that have a phase, ascending
 abbrev pub used_rings : Rows → List ℕ
 used_rings set = filter (is_used set) ring_numbers
 
--- the lanes of those rings
+-- the lanes of the rings that have a phase
 abbrev pub lanes : Rows → Pattern → List (List ℕ)
 lanes set pattern = map (lane set pattern.seq pattern.split) (used_rings set)
 
--- the seconds of a ring
+-- the seconds of the lane of a ring in a pattern
 abbrev pub ring_sum : Rows → Pattern → ℕ → ℕ
 ring_sum set pattern ring = length (lane set pattern.seq pattern.split ring)
 
@@ -41,10 +42,11 @@ abbrev pub rings_cases : Rows → Pattern → List ℕ → Cases Reason
 rings_cases set pattern rings =
     map (λ ring. (not (ring_sum set pattern ring == pattern.cycle), reason.Pattern (OtherSum ring (ring_sum set pattern ring) pattern.cycle))) rings
 
--- V12: so is the lane of each ring that has a phase
+-- V12: the lane of each ring that has a phase is as long as patternCycleTime
 abbrev pub sum_cases : Rows → Pattern → Cases Reason
 sum_cases set pattern = rings_cases set pattern (used_rings set)
 
+-- V12 holds: the lane of each used ring is as long as patternCycleTime
 abbrev pub lanes_fill_cycle : Rows → Pattern → Bool
 lanes_fill_cycle set pattern = holds (sum_cases set pattern)
 

@@ -12,19 +12,22 @@ use Rattle.signal_values.specs.Numbers.{numbers}
 use Rattle.signal_values.specs.declared.number.TheConstants.{PHASES, RINGS}
 use Rattle.signal_records.specs.TimingSet.{Rows}
 
--- a row under a key of its own kind holds the record of that kind
+-- the record of a phase, of a row of that kind
 abbrev pub the_phase : Option Row → Option Phase
 the_phase (Some (row.Phase p phase)) = Some phase
 the_phase _ = None
 
+-- the phases of a sequence's row, of a row of that kind
 abbrev pub the_list : Option Row → Option (List ℕ)
 the_list (Some (row.Seq n ring r)) = Some r.list
 the_list _ = None
 
+-- the record of a split, of a row of that kind
 abbrev pub the_split : Option Row → Option Split
 the_split (Some (row.Split n p split)) = Some split
 the_split _ = None
 
+-- the record of a pattern, of a row of that kind
 abbrev pub the_pattern : Option Row → Option Pattern
 the_pattern (Some (row.Pattern n pattern)) = Some pattern
 the_pattern _ = None
@@ -45,34 +48,39 @@ split_at set n p = the_split (get set (key.Split n p))
 abbrev pub pattern_at : Rows → ℕ → Option Pattern
 pattern_at set n = the_pattern (get set (key.Pattern n))
 
--- the last sequence, split and pattern of an intersection: the ends of `SeqNo`, `SplitNo` and
--- `PatternNo`
+-- the last sequence of an intersection: the end of `SeqNo`
 abbrev pub last_sequence : ℕ
 last_sequence = 20
 
+-- the last split number of an intersection: the end of `SplitNo`
 abbrev pub last_split : ℕ
 last_split = 20
 
+-- the last pattern of an intersection: the end of `PatternNo`
 abbrev pub last_pattern : ℕ
 last_pattern = 48
 
--- the numbers that a controller can have, each kind from 1 to its last; the limits of phases and
--- rings stand here alone
+-- the phases that a controller can have, ascending; the limits of phases and of rings stand here alone
 abbrev pub phase_numbers : List ℕ
 phase_numbers = numbers PHASES 1
 
+-- the rings that a controller can have, ascending
 abbrev pub ring_numbers : List ℕ
 ring_numbers = numbers RINGS 1
 
+-- the sequences that a controller can have, ascending
 abbrev pub sequence_numbers : List ℕ
 sequence_numbers = numbers last_sequence 1
 
+-- the split numbers that a controller can have, ascending
 abbrev pub split_numbers : List ℕ
 split_numbers = numbers last_split 1
 
+-- the patterns that a controller can have, ascending
 abbrev pub pattern_numbers : List ℕ
 pattern_numbers = numbers last_pattern 1
 
+-- a number is among some numbers
 abbrev pub is_in : ℕ → List ℕ → Bool
 is_in n ns = list_any (λ m. m == n) ns
 

@@ -15,6 +15,7 @@ pub use Rattle.signal_rules.specs.Lanes.{time_of, lane, is_used, used_rings, lan
 abbrev pub has_splits : Rows → ℕ → Bool
 has_splits set n = list_all (λ p. is_some (split_at set n p)) (phases set)
 
+-- a phase for which the split number has no row, in the order of some phases
 abbrev pub splits_cases : Rows → ℕ → List ℕ → Cases Reason
 splits_cases set n ps = map (λ p. (not (is_some (split_at set n p)), reason.Pattern (NoSplit n p))) ps
 
@@ -23,6 +24,7 @@ abbrev pub rows_cases : Rows → Pattern → Cases Reason
 rows_cases set pattern =
     (not (has_sequence set pattern.seq), reason.Pattern (NoSequence pattern.seq)) ∷ splits_cases set pattern.split (phases set)
 
+-- V9 holds: the pattern has its sequence and its splits
 abbrev pub has_rows : Rows → Pattern → Bool
 has_rows set pattern = holds (rows_cases set pattern)
 
@@ -30,12 +32,14 @@ has_rows set pattern = holds (rows_cases set pattern)
 abbrev pub offset_is_right : Pattern → Bool
 offset_is_right pattern = nat_lt pattern.offset pattern.cycle
 
+-- the reason that breaks V10: the offset is a cycle or more
 abbrev pub offset_cases : Pattern → Cases Reason
 offset_cases pattern = (
   not (offset_is_right pattern),
   reason.Pattern (LateOffset pattern.offset pattern.cycle),
 ) ∷ []
 
+-- splitCoordPhase of a split row; without a row a phase is not coordinated
 abbrev pub is_coordinated : Option Split → Bool
 is_coordinated None = false
 is_coordinated (Some split) = split.coord
@@ -44,5 +48,6 @@ is_coordinated (Some split) = split.coord
 abbrev pub has_coordinated : Rows → ℕ → Bool
 has_coordinated set n = list_any (λ p. is_coordinated (split_at set n p)) (phases set)
 
+-- V11: splitCoordPhase marks a phase of the set in patternSplitNumber
 abbrev pub coordination_cases : Rows → Pattern → Cases Reason
 coordination_cases set pattern = (not (has_coordinated set pattern.split), reason.Pattern (NoneCoordinated pattern.split)) ∷ []

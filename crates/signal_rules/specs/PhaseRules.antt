@@ -16,6 +16,7 @@ use Rattle.signal_rules.specs.declared.reason.MateReason.TheVariants as mate
 abbrev pub yellow_is_right : Phase → Bool
 yellow_is_right phase = nat_le 30 phase.yellow && nat_le phase.yellow 60
 
+-- the reason that breaks V1: a yellow out of its limits
 abbrev pub yellow_cases : Phase → Cases Reason
 yellow_cases phase = (not (yellow_is_right phase), reason.Interval (interval.Yellow phase.yellow)) ∷ []
 
@@ -23,6 +24,7 @@ yellow_cases phase = (not (yellow_is_right phase), reason.Interval (interval.Yel
 abbrev pub red_is_right : Phase → Bool
 red_is_right phase = nat_le phase.red 60
 
+-- the reason that breaks V2: a red over its limit
 abbrev pub red_cases : Phase → Cases Reason
 red_cases phase = (not (red_is_right phase), reason.Interval (interval.Red phase.red)) ∷ []
 
@@ -31,6 +33,7 @@ abbrev pub of_ped : Option Ped → (Ped → Cases Reason) → Cases Reason
 of_ped None cases = []
 of_ped (Some ped) cases = cases ped
 
+-- the shortest walk that a crossing may have, in seconds
 abbrev pub least_walk : Ped → ℕ
 least_walk ped = if ped.short then 4 else 7
 
@@ -38,6 +41,7 @@ least_walk ped = if ped.short then 4 else 7
 abbrev pub walk_is_long : Ped → Bool
 walk_is_long ped = nat_le (least_walk ped) ped.walk
 
+-- the reason that breaks V3: a walk that is too short
 abbrev pub walk_cases : Ped → Cases Reason
 walk_cases ped = (not (walk_is_long ped), reason.Crossing (crossing.ShortWalk ped.walk (least_walk ped))) ∷ []
 
@@ -58,6 +62,7 @@ crossing_cases phase ped =
 abbrev pub clears_setback : Phase → Ped → Bool
 clears_setback phase ped = nat_le (ped.width + ped.setback) (3 * (10 * ped.walk + clearance phase ped))
 
+-- the reason that breaks V5: what crossing from the setback takes, rounded up to a tenth of a second, and what there is
 abbrev pub setback_cases : Phase → Ped → Cases Reason
 setback_cases phase ped =
     (not (clears_setback phase ped), reason.Crossing (crossing.SlowSetback (ped.width + ped.setback) ((ped.width + ped.setback + 2) / 3) (10 * ped.walk + clearance phase ped))) ∷ []

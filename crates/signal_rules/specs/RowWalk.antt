@@ -27,10 +27,12 @@ subject_of (row.Pattern n pattern) = subject.Pattern n
 abbrev pub of_kind : ℕ → Row → List Subject
 of_kind kind r = if kind_of (key_of r) == kind then subject_of r ∷ [] else []
 
+-- the number of a row's sequence, of a row of that kind
 abbrev pub sequence_of : Row → Option ℕ
 sequence_of (row.Seq n ring r) = Some n
 sequence_of _ = None
 
+-- a number that differs from the last one
 abbrev pub other_than : ℕ → Option ℕ → Option ℕ
 other_than last None = None
 other_than last (Some n) = if n == last then None else Some n
@@ -41,6 +43,7 @@ sequences_after last [] = []
 sequences_after last (r ∷ rows) =
     cons_option (other_than last (sequence_of r)) (sequences_after (unwrap_or (other_than last (sequence_of r)) last) rows)
 
+-- a number lies in a range
 abbrev pub is_from_to : ℕ → ℕ → ℕ → Bool
 is_from_to low high n = nat_le low n && nat_le n high
 

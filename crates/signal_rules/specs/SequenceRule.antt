@@ -14,6 +14,7 @@ abbrev pub in_ring : ℕ → Option Phase → Bool
 in_ring ring None = false
 in_ring ring (Some phase) = phase.ring == ring
 
+-- the phases of a row; no row has none
 abbrev pub or_empty : Option (List ℕ) → List ℕ
 or_empty None = []
 or_empty (Some ns) = ns
@@ -39,7 +40,7 @@ times_in row p = count_by (λ m. m == p) row
 abbrev pub once_cases : Rows → ℕ → ℕ → Option Phase → Cases Reason
 once_cases set n p None = []
 once_cases set n p (Some phase) =
-    (times_in (ring_row set n phase.ring) p == 0, reason.Sequence (sequence.Missing p))
+    (times_in (ring_row set n phase.ring) p == 0, reason.Sequence (sequence.Missing p phase.ring))
     ∷ (nat_lt 1 (times_in (ring_row set n phase.ring) p), reason.Sequence (sequence.Repeated p))
     ∷ []
 

@@ -1,5 +1,5 @@
 -- The lanes of a pattern as slots: what is looked up once of each phase that has any time.
-use Rattle.std.specs.Prelude.{ℕ, ◌+◌, nat_le, nat_lt, min, Bool, true, not, ◌&&◌, if◌then◌else◌, List, [], ◌∷◌, ◌++◌, map, filter}
+use Rattle.std.specs.Prelude.{ℕ, ◌+◌, nat_le, nat_lt, min, Bool, not, ◌&&◌, if◌then◌else◌, List, [], ◌∷◌, ◌++◌, map, filter}
 use Rattle.std.specs.List.{list_all, flat_map}
 use Rattle.signal_values.specs.Numbers.{numbers}
 use Rattle.signal_records.specs.declared.record.Pattern.{Pattern}
@@ -25,6 +25,7 @@ pub record Span : Type 0 where
   pub until : ℕ
   pub listing : Listing
 
+-- a phase of the set, with its phaseConcurrency
 abbrev pub listing_at : Rows → ℕ → Listing
 listing_at set p = record { phase = p; mates = the_mates (phase_at set p) }
 
@@ -45,6 +46,7 @@ abbrev pub spans_of : Rows → Pattern → List ℕ → List Span
 spans_of set pattern rings =
     flat_map (λ ring. spans_from set pattern.split 0 (ring_row set pattern.seq ring)) rings
 
+-- a span lasts at a second
 abbrev pub has_second : ℕ → Span → Bool
 has_second second span = nat_le span.from second && nat_lt second span.until
 

@@ -46,8 +46,8 @@ need_if_called phase = split_need phase PedestrianRecall
 abbrev pub split_cases : ℕ → Option Phase → Split → Cases Reason
 split_cases p None row = (true, reason.Split (split.NotInPlan p)) ∷ []
 split_cases p (Some phase) row =
-    (is_omitted row.mode && not (row.time == 0), reason.Split (split.TimeOmitted row.time))
+    (is_omitted row.mode && not (row.time == 0), reason.Split (split.TimeOmitted row.time row.coord))
     ∷ (is_omitted row.mode && row.coord, reason.Split split.CoordinatedOmitted)
     ∷ (not (is_omitted row.mode) && row.time == 0, reason.Split split.NoTime)
-    ∷ (not (row.time == 0) && nat_lt (10 * row.time) (need_of phase row.mode), reason.Split (split.Short row.time (need_of phase row.mode)))
+    ∷ (not (row.time == 0) && nat_lt (10 * row.time) (split_need phase row.mode).tenths, reason.Split (split.Short row.time (split_need phase row.mode)))
     ∷ []

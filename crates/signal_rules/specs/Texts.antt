@@ -1,5 +1,5 @@
 -- How violations and their reasons are written.
-use Rattle.std.specs.Prelude.{ℕ, ◌/◌, ◌%◌, List, ◌++◌, codes}
+use Rattle.std.specs.Prelude.{ℕ, ◌/◌, ◌%◌, true, false, List, ◌++◌, codes}
 use Rattle.std.specs.Fmt.{decimal}
 use Rattle.signal_rules.specs.declared.violation.Rule.{Rule}
 use Rattle.signal_rules.specs.declared.violation.Rule.TheVariants as rule
@@ -21,6 +21,8 @@ use Rattle.signal_rules.specs.declared.reason.PatternReason.TheVariants as patte
 use Rattle.signal_rules.specs.declared.reason.Reason.{Reason}
 use Rattle.signal_rules.specs.declared.reason.Reason.TheVariants as reason
 use Rattle.signal_rules.specs.declared.reason.Explained.{Explained}
+use Rattle.signal_rules.specs.declared.split.NeedPart.{NeedPart}
+use Rattle.signal_rules.specs.declared.split.NeedPart.TheVariants as need_part
 
 -- 1 to 14
 abbrev pub number_of : Rule → ℕ
@@ -58,12 +60,14 @@ violation_text v = subject_text v.subject ++ codes " " ++ rule_text v.rule
 abbrev pub tenths_text : ℕ → List ℕ
 tenths_text n = decimal (n / 10) ++ (codes "." ++ decimal (n % 10))
 
+-- why a phase breaks V1 or V2
 abbrev pub interval_text : IntervalReason → List ℕ
 interval_text (interval.Yellow tenths) =
     codes "yellow is " ++ (tenths_text tenths ++ codes " s, not 3.0 to 6.0 s")
 interval_text (interval.Red tenths) =
     codes "red is " ++ (tenths_text tenths ++ codes " s, more than 6.0 s")
 
+-- why a crossing breaks V3, V4, V5 or V14
 abbrev pub crossing_text : CrossingReason → List ℕ
 crossing_text (crossing.ShortWalk seconds least) =
     codes "walk is " ++ (decimal seconds ++ (codes " s, less than " ++ (decimal least ++ codes " s")))
@@ -76,27 +80,38 @@ crossing_text (crossing.ShortLead lead) =
 crossing_text (crossing.LongLead lead walk) =
     codes "lead is " ++ (decimal lead ++ (codes " s, longer than the walk of " ++ (decimal walk ++ codes " s")))
 
+-- why a mate breaks V6
 abbrev pub mate_text : MateReason → List ℕ
 mate_text (mate.NotInPlan m) = codes "mate " ++ (decimal m ++ codes " is not in the plan")
 mate_text (mate.SameRing m ring) =
     codes "mate " ++ (decimal m ++ (codes " is in ring " ++ (decimal ring ++ codes " too")))
 mate_text (mate.NotListed m) = codes "mate " ++ (decimal m ++ codes " does not list it")
 
+-- why a sequence breaks V7
 abbrev pub sequence_text : SequenceReason → List ℕ
 sequence_text (sequence.NotInPlan p) = decimal p ++ codes " is not in the plan"
 sequence_text (sequence.OtherRing p ring own) =
     codes "phase " ++ (decimal p ++ (codes " stands in ring " ++ (decimal ring ++ (codes ", and is of ring " ++ decimal own))))
-sequence_text (sequence.Missing p) = codes "phase " ++ (decimal p ++ codes " is missing")
+sequence_text (sequence.Missing p ring) =
+    codes "phase " ++ (decimal p ++ (codes " is missing in ring " ++ decimal ring))
 sequence_text (sequence.Repeated p) = codes "phase " ++ (decimal p ++ codes " stands twice")
 
+-- the part of a phase that decides its need
+abbrev pub part_text : NeedPart → List ℕ
+part_text need_part.Green = codes "green"
+part_text need_part.Walk = codes "walk"
+
+-- why a split row breaks V8
 abbrev pub split_text : SplitReason → List ℕ
 split_text (split.NotInPlan p) = codes "phase " ++ (decimal p ++ codes " is not in the plan")
 split_text split.NoTime = codes "0 s, and not omitted"
-split_text (split.TimeOmitted time) = decimal time ++ codes " s, and omitted"
+split_text (split.TimeOmitted time true) = decimal time ++ codes " s and coordinated, and omitted"
+split_text (split.TimeOmitted time false) = decimal time ++ codes " s, and omitted"
 split_text (split.Short time need) =
-    decimal time ++ (codes " s, and the need is " ++ (tenths_text need ++ codes " s"))
+    decimal time ++ (codes " s, and the need is " ++ (tenths_text need.tenths ++ (codes " s: " ++ (part_text need.governs ++ codes " governs"))))
 split_text split.CoordinatedOmitted = codes "coordinated, and omitted"
 
+-- why a pattern breaks V9 to V13
 abbrev pub pattern_text : PatternReason → List ℕ
 pattern_text (pattern.NoSequence seq) = codes "sequence " ++ (decimal seq ++ codes " has no row")
 pattern_text (pattern.NoSplit n p) =
@@ -110,6 +125,7 @@ pattern_text (pattern.OtherSum ring sum cycle) =
 pattern_text (pattern.Conflict from until p q) =
     codes "from second " ++ (decimal from ++ (codes " to " ++ (decimal until ++ (codes " phases " ++ (decimal p ++ (codes " and " ++ (decimal q ++ codes " time together and do not list each other")))))))
 
+-- why a subject breaks a rule
 abbrev pub reason_text : Reason → List ℕ
 reason_text (reason.Interval r) = interval_text r
 reason_text (reason.Crossing r) = crossing_text r

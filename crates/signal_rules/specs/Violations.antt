@@ -24,6 +24,7 @@ use Rattle.signal_rules.specs.Slots.{conflict_cases}
 abbrev pub Findings : Type 0
 Findings = List (Rule × Cases Reason)
 
+-- the rules of a phase with the reasons that break each
 abbrev pub phase_findings : Rows → ℕ → Phase → Findings
 phase_findings set p phase =
     (rule.V1, yellow_cases phase)
@@ -49,6 +50,7 @@ pattern_findings set pattern =
     ∷ (rule.V11, coordination_cases set pattern)
     ∷ (if has_rows set pattern then lane_findings set pattern else [])
 
+-- the rules of a phase that the set has
 abbrev pub for_phase : Rows → ℕ → Option Phase → Findings
 for_phase set p None = []
 for_phase set p (Some phase) = phase_findings set p phase
@@ -58,14 +60,17 @@ abbrev pub for_sequence : Rows → ℕ → Bool → Findings
 for_sequence set n false = []
 for_sequence set n true = (rule.V7, sequence_cases set n) ∷ []
 
+-- the rule of a split row that the set has
 abbrev pub for_split : Rows → ℕ → Option Split → Findings
 for_split set p None = []
 for_split set p (Some split) = (rule.V8, split_cases p (phase_at set p) split) ∷ []
 
+-- the rules of a pattern that the set has
 abbrev pub for_pattern : Rows → Option Pattern → Findings
 for_pattern set None = []
 for_pattern set (Some pattern) = pattern_findings set pattern
 
+-- the rules of a subject; none of a subject that the set does not have
 abbrev pub findings : Rows → Subject → Findings
 findings set (subject.Phase p) = for_phase set p (phase_at set p)
 findings set (subject.Seq n) = for_sequence set n (has_sequence set n)
@@ -82,9 +87,11 @@ abbrev pub broken : Subject → Findings → List Explained
 broken s [] = []
 broken s (f ∷ fs) = explained s f.0 (first_true f.1) (broken s fs)
 
+-- the rules that a subject breaks, each with the first of its reasons
 abbrev pub explained_at : Rows → Subject → List Explained
 explained_at set s = broken s (findings set s)
 
+-- violations that were found with their reasons, without those
 abbrev pub violations_in : List Explained → List Violation
 violations_in found = map (λ e. e.violation) found
 
@@ -116,6 +123,7 @@ violations_of set = flat_map (violations_at set) (subjects set)
 unfoldable pub reasons_of : Rows → List Explained
 reasons_of set = flat_map (explained_at set) (subjects set)
 
+-- the violations of a set that were found with their reasons are all, in order
 abbrev pub AreReasons : Rows → List Explained → Type 0
 AreReasons set found = found ≡ reasons_of set
 

@@ -1,5 +1,6 @@
 //! Why a subject breaks a rule, in numbers.
 
+use crate::split::SplitNeed;
 use crate::violation::Violation;
 use signal_records::{Cycle, PhaseNo, RingNo, SeqNo, SplitNo};
 
@@ -56,6 +57,7 @@ pub enum SequenceReason {
     /// A phase of the set does not stand in the row of its ring.
     Missing {
         phase: PhaseNo,
+        ring: RingNo,
     },
     /// A phase of the set stands in the row of its ring more than once.
     Repeated {
@@ -63,18 +65,18 @@ pub enum SequenceReason {
     },
 }
 
-/// Why a split row breaks V8. Times are in seconds, the need is in tenths of a second.
+/// Why a split row breaks V8. Times are in seconds.
 #[derive(Clone, Copy)]
 pub enum SplitReason {
     /// The set does not have the phase of the row.
     NotInPlan { phase: PhaseNo },
     /// The phase has no time, and is not omitted.
     NoTime,
-    /// The phase has time, and is omitted.
-    TimeOmitted { time: u8 },
+    /// The phase has time, and is omitted; whether it is coordinated too.
+    TimeOmitted { time: u8, coord: bool },
     /// The time is less than the need of the phase.
-    Short { time: u8, need: u32 },
-    /// The phase is coordinated, and omitted.
+    Short { time: u8, need: SplitNeed },
+    /// The phase has no time, is coordinated, and is omitted.
     CoordinatedOmitted,
 }
 

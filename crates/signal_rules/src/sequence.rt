@@ -94,9 +94,10 @@ fn once_reason(set: &TimingSet, n: SeqNo, p: PhaseNo) -> Option<Reason>
     ensures { result ≡ first_true (once_cases set.now n p (phase_at set.now p)) }
 {
     let phase = phase_at(set, p)?;
-    let times = times_in(ring_row(set, n, phase.ring), p);
+    let ring = phase.ring;
+    let times = times_in(ring_row(set, n, ring), p);
     if times == 0 {
-        return Some(Reason::Sequence(SequenceReason::Missing { phase: p }));
+        return Some(Reason::Sequence(SequenceReason::Missing { phase: p, ring }));
     }
     if 1 < times {
         return Some(Reason::Sequence(SequenceReason::Repeated { phase: p }));

@@ -78,11 +78,11 @@ pub(crate) fn split_reason(set: &TimingSet, p: PhaseNo, split: Split) -> Option<
     let Some(phase) = phase_at(set, p) else {
         return Some(Reason::Split(SplitReason::NotInPlan { phase: p }));
     };
-    let time = split.time;
-    if split.mode == SplitMode::PhaseOmitted {
+    let Split { time, mode, coord } = split;
+    if mode == SplitMode::PhaseOmitted {
         return if time != 0 {
-            Some(Reason::Split(SplitReason::TimeOmitted { time }))
-        } else if split.coord {
+            Some(Reason::Split(SplitReason::TimeOmitted { time, coord }))
+        } else if coord {
             Some(Reason::Split(SplitReason::CoordinatedOmitted))
         } else {
             None
@@ -91,8 +91,8 @@ pub(crate) fn split_reason(set: &TimingSet, p: PhaseNo, split: Split) -> Option<
     if time == 0 {
         return Some(Reason::Split(SplitReason::NoTime));
     }
-    let need = need(phase, split.mode);
-    if 10 * u32::from(time) < need {
+    let need = split_need(phase, mode);
+    if 10 * u32::from(time) < need.tenths {
         return Some(Reason::Split(SplitReason::Short { time, need }));
     }
     None

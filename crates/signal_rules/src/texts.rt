@@ -4,6 +4,7 @@ use crate::reason::{
     CrossingReason, Explained, IntervalReason, MateReason, PatternReason, Reason, SequenceReason,
     SplitReason,
 };
+use crate::split::NeedPart;
 use std::fmt;
 
 /// A number of tenths, written as `13.5`.
@@ -128,8 +129,27 @@ impl fmt::Display for SequenceReason {
                     "phase {phase} stands in ring {ring}, and is of ring {own}"
                 )
             }
-            SequenceReason::Missing { phase } => write!(f, "phase {} is missing", phase.get()),
+            SequenceReason::Missing { phase, ring } => {
+                let phase = phase.get();
+                let ring = ring.get();
+                write!(f, "phase {phase} is missing in ring {ring}")
+            }
             SequenceReason::Repeated { phase } => write!(f, "phase {} stands twice", phase.get()),
+        }
+    }
+}
+
+/// Writes `green` or `walk`.
+impl fmt::Display for NeedPart {
+    ghost use Rattle.std.specs.Prelude.{Some};
+    ghost use Rattle.signal_rules.specs.Texts.{part_text};
+
+    ghost output = { λ part. Some (part_text part) };
+
+    fn fmt<W: fmt::Write>(&self, f: &mut fmt::Formatter<W>) -> fmt::Result {
+        match self {
+            NeedPart::Green => write!(f, "green"),
+            NeedPart::Walk => write!(f, "walk"),
         }
     }
 }
@@ -147,10 +167,17 @@ impl fmt::Display for SplitReason {
                 write!(f, "phase {} is not in the plan", phase.get())
             }
             SplitReason::NoTime => write!(f, "0 s, and not omitted"),
-            SplitReason::TimeOmitted { time } => write!(f, "{time} s, and omitted"),
+            SplitReason::TimeOmitted { time, coord } => {
+                if *coord {
+                    write!(f, "{time} s and coordinated, and omitted")
+                } else {
+                    write!(f, "{time} s, and omitted")
+                }
+            }
             SplitReason::Short { time, need } => {
-                let need = Tenths(*need);
-                write!(f, "{time} s, and the need is {need} s")
+                let tenths = Tenths(need.tenths);
+                let governs = need.governs;
+                write!(f, "{time} s, and the need is {tenths} s: {governs} governs")
             }
             SplitReason::CoordinatedOmitted => write!(f, "coordinated, and omitted"),
         }

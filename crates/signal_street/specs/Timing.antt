@@ -12,7 +12,7 @@ use Rattle.signal_rules.specs.{Lookup.phase_at, Lookup.split_at, Lookup.pattern_
 abbrev pub HasPhase : Rows → ℕ → Phase → Type 0
 HasPhase set p phase = IsPhaseWithin current_limits p phase × (phase_at set p ≡ Some phase)
 
--- the same of a pattern
+-- the set has the pattern, with its numbers in the ranges that they have in each row of a program
 abbrev pub HasPattern : Rows → ℕ → Pattern → Type 0
 HasPattern set n pattern = IsPatternWithin n pattern × (pattern_at set n ≡ Some pattern)
 
@@ -31,7 +31,7 @@ pub record Begins (time : ℕ → ℕ) (row : List ℕ) (p begin : ℕ) : Type 0
   pub placed : row ≡ before ++ p ∷ after
   pub over : begin ≡ sum_by time before
 
--- and times from there on, for as many seconds as its own time
+-- in a row of phases that have times, a phase times from its beginning on, for as many seconds as its time
 pub record Times (time : ℕ → ℕ) (row : List ℕ) (p second : ℕ) : Type 0 where
   pub begin : ℕ
   pub begins : Begins time row p begin

@@ -1,5 +1,7 @@
 //! How warnings are written.
 
+ghost use Rattle.std.specs.Prelude.{◌≡◌, [], IfOk};
+
 use crate::warning::{Advice, Scope, Warning};
 use signal_records::NoMemory;
 use signal_rules::{NeedPart, SplitNeed, Tenths};
@@ -97,7 +99,9 @@ impl fmt::Display for Warning {
 /// there is none. Each line ends in a line feed.
 ///
 /// `NoMemory` means that a growth was really refused.
-pub fn warnings_text(alloc: Global, found: &[Warning]) -> Result<Vec<u8>, NoMemory> {
+pub fn warnings_text(alloc: Global, found: &[Warning]) -> Result<Vec<u8>, NoMemory>
+    ensures { IfOk result (λ text. found.now ≡ [] → text.items ≡ []) }
+{
     let mut text = String::new(alloc);
     for warning in found {
         writeln!(text, "warning: {warning}")?;
