@@ -92,10 +92,10 @@ TellsOpen commit explain id tables violations (Ok done) =
     × (text_of done ≡ broken ++ open_line commit) × (status_of done ≡ open_status commit violations)
 TellsOpen commit explain id tables violations (Err why) = why ≢ fault.Memory → (explain ≡ true) × ExplainsDraft tables id (Err why)
 
--- What became of a draft is told; that it was committed, or is as it stands, whatever memory there is.
+-- What became of a draft is told; that it was committed, so that it breaks no rule, or is as it stands, whatever memory there is.
 abbrev pub TellsRevised : (commit explain : Bool) → (id : ℕ) → Content → List Violation → Outcome → Result Done Fault → Type 0
 TellsRevised commit explain id tables violations Same = TellsLine (codes "no changes\n")
-TellsRevised commit explain id tables violations Committed = TellsLine (codes "committed\n")
+TellsRevised commit explain id tables violations Committed = TellsLine (codes "no violations\ncommitted\n")
 TellsRevised commit explain id tables violations Open = TellsOpen commit explain id tables violations
 
 -- The edit is told: what became of it, or its fault, explained where that is asked.

@@ -260,7 +260,7 @@ fn tell_edit<S: Shelf>(
 {
     match revised.outcome {
         Outcome::Same => Ok(Done::telling("no changes\n")),
-        Outcome::Committed => Ok(Done::telling("committed\n")),
+        Outcome::Committed => Ok(Done::telling("no violations\ncommitted\n")),
         Outcome::Open => {
             tell_open(
                 alloc,
