@@ -111,7 +111,7 @@ def misdrawn(program, path, text):
     made = rows.plan_of(text)
     for number in sorted(rules.View(made).patterns):
         ran = subprocess.run([program, "diagram", "--file", path, str(number)], capture_output=True)
-        came = (ran.stdout + ran.stderr).decode(), ran.returncode
+        came = ran.stdout.decode(), ran.returncode
         if came != (pictures.picture(made, number), 0):
             return f"the picture of pattern {number}:\n{text}{came[0]}"
     return None

@@ -43,7 +43,7 @@ fn passed(command: &Command, reply: &Reply) -> Result<(), Fault>
     }
 }
 
-/// RunsInTurn commands in turn, up to the first that is refused, and gives the reply to the last one; where
+/// Runs commands in turn, up to the first that is refused, and gives the reply to the last one; where
 /// there is none, the one that is handed in.
 pub(crate) fn run_in_turn<S: Shelf>(
     alloc: Global,
@@ -65,7 +65,7 @@ pub(crate) fn run_in_turn<S: Shelf>(
     run_in_turn(alloc, office, rest, reply)
 }
 
-/// RunsInTurn one command.
+/// Runs one command.
 pub(crate) fn run_one<S: Shelf>(
     alloc: Global,
     office: &mut Office<S>,
