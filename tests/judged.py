@@ -22,7 +22,7 @@ from program import found
 
 RINGS, PHASES, PATTERNS = range(1, 9), range(1, 33), range(1, 49)
 TIMES, CYCLE = (14, 15, 16, 17), 62  # seconds of the phases of each ring, and their sum
-TURNS = int(os.environ.get("TURNS", "60"))  # how often the row is changed and checked
+TURNS = int(os.environ.get("TURNS", "1500"))  # how often the row is changed and checked
 RUNS = 3  # of each stream, of which the fastest counts
 CHECKED = re.compile(rb'"state":"done"')
 
