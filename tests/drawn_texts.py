@@ -26,6 +26,8 @@ from model.plan import Pattern
 from model.wire import answer
 from program import found
 
+ROOM = "/dev/shm" if os.access("/dev/shm", os.W_OK) else None  # files in memory, if there are any
+
 ASKED = 60  # requests that draw an office
 DAYS = (None, "2026-01-01", "2026-06-01", "2027-03-02", "2031-01-01")
 WORDS = ("Main St", "<b>A & 'B'</b>", '"5th" > 4th', "&lt;&amp;", "\u00d1u\u00f1oa, 3", "--><script>")
@@ -83,7 +85,7 @@ def differing(asked):
     program, empty, seed = asked
     dice = random.Random(f"texts {seed}")
     office, day, count = draw_office(dice), dice.choice(DAYS), 0
-    with tempfile.TemporaryDirectory() as folder:
+    with tempfile.TemporaryDirectory(dir=ROOM) as folder:
         path, made = str(pathlib.Path(folder) / "office.db"), pathlib.Path(folder) / "pages"
         shutil.copyfile(empty, path)
         with contextlib.closing(sqlite3.connect(path)) as db, db:
@@ -119,7 +121,7 @@ def main():
     if len(words) != 2 or not all(it.isdigit() for it in words):
         sys.exit(__doc__)
     seed, count = map(int, words)
-    with tempfile.TemporaryDirectory() as folder:
+    with tempfile.TemporaryDirectory(dir=ROOM) as folder:
         empty = str(pathlib.Path(folder) / "empty.db")
         subprocess.run([program, "batch", "--db", empty], input=b"", stdout=subprocess.DEVNULL)
         asked = [(program, empty, f"{seed} {number}") for number in range(count)]
