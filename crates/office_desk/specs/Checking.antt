@@ -33,7 +33,7 @@ use Rattle.office_tables_shelf.specs.declared.rows.RowChange.{RowChange}
 
 -- ---- what is there
 
--- where that stands which a refused record is told with: the record of its own key; but the order of a part that is used or of a closing, or what is on hand
+-- where that stands which a refused record is reported with: the record of its own key; but the order of a part that is used or of a closing, or what is on hand
 abbrev pub place_told : RecordCommand → CabinetRefusal → Place
 place_told (asks.Inspect id asked) why = place.Inspection id asked.number
 place_told (asks.OpenOrder id asked) why = place.Order id asked.number
@@ -52,7 +52,7 @@ held_in r (place.Line id order line) = get r.lines (id, (order, line))
 held_in r (place.Part code) = hand_of r code
 held_in r (place.Delivery code n) = get r.deliveries (code, n)
 
--- how it is told: nothing, or the record; or how many of a part are on hand
+-- how it is reported: nothing, or the record; or how many of a part are on hand
 abbrev pub told_there : (at : Place) → Option (RecordAt at) → There
 told_there (place.Inspection id n) None = there.Nothing
 told_there (place.Inspection id n) (Some it) = there.Inspection it
@@ -73,7 +73,7 @@ there_in r c why = there.Nothing
 abbrev pub ReadsThere : Content → List RowChange → (at : Place) → There → Type 0
 ReadsThere stored pending at it = (found : Option (RecordAt at)) × StandsAt (changed_by stored pending) at found × (it ≡ told_there at found)
 
--- what is told of it, whichever register the tables stand for then
+-- what is reported of it, whichever register the tables stand for then
 abbrev pub TellsThere : Content → List RowChange → RecordCommand → Refusal → There → Type 0
 TellsThere stored pending c why it = (r : Register) → RegisterStandsSound (changed_by stored pending) r → it ≡ there_in r c why
 

@@ -42,7 +42,7 @@ abbrev pub WasIdle : Type 0 → (old new : Content) → Command → Reply → Ty
 WasIdle is_honest old new command reply = IsIdle command reply × (is_honest → new ≡ old)
 
 -- The reply and the tables are one step of the office, and a refusal leaves the tables; it is one that is named for the command, and a row that is
--- no record is told and not passed. Where a failure has shut the database, nothing was done: the reply is still that of a step, and what an open
+-- no record is reported and not passed. Where a failure has shut the database, nothing was done: the reply is still that of a step, and what an open
 -- database holds is the office after it.
 pub record IsStepped {S : Type 0} (g : Ghosts S) (command : Command) (reply : Reply) (old new : S) : Type 0 where
   pub ends : MakesTables g old new (λ tables. AnswersAny tables command reply)

@@ -16,7 +16,7 @@ use Rattle.office_desk_cabinet.specs.RegisterStands.{RegisterStandsSound}
 use Rattle.office_desk_cabinet.specs.declared.registered.Registered.{Registered}
 use Rattle.office_desk_cabinet.specs.declared.registered.Registered.TheVariants.{Added, Same, Refused}
 
--- the line that is told
+-- the line that is reported
 abbrev pub line_told : Registered → Line
 line_told (Added changes) = added
 line_told Same = same

@@ -10,7 +10,7 @@ use Rattle.office_desk_cabinet.specs.declared.registered.Registered.{Registered}
 use Rattle.office_desk_cabinet.specs.declared.registered.Registered.TheVariants.{Same, Refused}
 use Rattle.office_desk_cabinet.specs.Registers.{line_told, rows_told}
 
--- a decision on the stock as it is told: what is added in rows, and a refusal unless it is for want of memory
+-- a decision on the stock as it is reported: what is added in rows, and a refusal unless it is for want of memory
 abbrev pub TellsStock : Result Recorded CabinetRefusal → Registered → Type 0
 TellsStock (Ok (recorded.Added changes)) told = (line_told told ≡ added) × (rows_told told ≡ stock_rows_of changes.items)
 TellsStock (Ok recorded.Same) told = told ≡ Same

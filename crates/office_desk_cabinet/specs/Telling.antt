@@ -16,7 +16,7 @@ WantsMemory (Ok (recorded.Added changes)) = Unit {0}
 WantsMemory (Ok recorded.Same) = ⊥
 WantsMemory (Err refusal) = refusal ≡ NoMemory
 
--- a decision as it is told: what is added in rows, and a refusal unless it is for want of memory
+-- a decision as it is reported: what is added in rows, and a refusal unless it is for want of memory
 abbrev pub Tells : ℕ → Result Recorded CabinetRefusal → Registered → Type 0
 Tells id (Ok (recorded.Added changes)) told = (line_told told ≡ added) × (rows_told told ≡ row_changes_of id changes.items)
 Tells id (Ok recorded.Same) told = told ≡ Same

@@ -10,6 +10,6 @@ pub enum Registered {
     Added(Vec<RowChange>),
     /// An equal record is there.
     Same,
-    /// The register refuses. Want of memory is told as a fault of the shelf.
+    /// The register refuses. Want of memory is reported as a fault of the shelf.
     Refused(CabinetRefusal),
 }

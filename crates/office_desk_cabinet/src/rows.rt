@@ -47,7 +47,7 @@ fn row_changes(
     Ok(made)
 }
 
-/// What is told of a decision on the register of an intersection. Want of memory is a fault.
+/// What is reported of a decision on the register of an intersection. Want of memory is a fault.
 pub(crate) fn registered(
     alloc: Global,
     id: InterId,

@@ -73,7 +73,7 @@ fn stock_rows(alloc: Global, changes: Vec<CabinetChange>) -> Result<Vec<RowChang
     Ok(made)
 }
 
-/// What is told of a decision on a delivery. Want of memory is a fault.
+/// What is reported of a decision on a delivery. Want of memory is a fault.
 fn received(
     alloc: Global,
     decision: Result<Recorded, CabinetRefusal>,

@@ -20,7 +20,7 @@ use Rattle.office_desk_decisions.specs.Blaming.{BlamesRightly}
 
 -- The reply and what the rows make of the tables are one step; the rows are at most those of the kind of command, and none where it is refused or only asks;
 -- where one is added, none stands under its key;
--- a refusal is one of the command's table; and a row that is no record is told as a fault, never as a reply, and none that the command reads was found to be such, unless an import was refused before it.
+-- a refusal is one of the command's table; and a row that is no record is reported as a fault, never as a reply, and none that the command reads was found to be such, unless an import was refused before it.
 pub record IsDecision (is_honest : Type 0) (tables : Content) (command : Command) (decided : Decided) : Type 0 where
   pub step : is_honest → AnswersAny tables command decided.reply (changed_by tables decided.changes.items)
   pub writes : is_honest → (table : Table) → writes_in table decided.changes.items ≤ most_writes tables command table
@@ -31,7 +31,7 @@ pub record IsDecision (is_honest : Type 0) (tables : Content) (command : Command
   pub undamaged : decided.reply ≢ Refused Damaged
   pub whole : is_honest → MeetsDamage tables command → IsImport command × IsRefused decided.reply
 
--- What is answered, where a fault is told as its refusal: Unavailable, or Damaged where a row that the command reads is no record.
+-- What is answered, where a fault is reported as its refusal: Unavailable, or Damaged where a row that the command reads is no record.
 pub record IsAnswered (is_honest : Type 0) (tables : Content) (command : Command) (decided : Decided) : Type 0 where
   pub step : is_honest → AnswersAny tables command decided.reply (changed_by tables decided.changes.items)
   pub writes : is_honest → (table : Table) → writes_in table decided.changes.items ≤ most_writes tables command table
@@ -43,7 +43,7 @@ pub record IsAnswered (is_honest : Type 0) (tables : Content) (command : Command
   pub damaged : decided.reply ≡ Refused Damaged → is_honest → MeetsDamage tables command
   pub turned_away : is_honest → MeetsDamage tables command → IsTurnedAway command decided.reply
 
--- The command is decided, or a fault is told: Damaged only where a row that it reads is no record.
+-- The command is decided, or a fault is reported: Damaged only where a row that it reads is no record.
 abbrev pub Decides : Type 0 → Content → Command → Result Decided ShelfFault → Type 0
 Decides is_honest tables command (Ok decided) = IsDecision is_honest tables command decided
 Decides is_honest tables command (Err why) = why ≡ fault.Damaged → is_honest → MeetsDamage tables command

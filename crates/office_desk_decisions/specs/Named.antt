@@ -43,7 +43,7 @@ numbers_of (command.Overdue day) = []
 abbrev pub RefusesBy : List ℕ → Reply → Type 0
 RefusesBy numbers reply = (why : Refusal) → reply ≡ Refused why → IsOneOf numbers (number_of why)
 
--- a refusal is Unavailable, or Damaged, or one that is named for the command; so want of memory, whose number no command names, is told as Unavailable
+-- a refusal is Unavailable, or Damaged, or one that is named for the command; so want of memory, whose number no command names, is reported as Unavailable
 -- alone
 abbrev pub IsNamedFor : Command → Reply → Type 0
 IsNamedFor command reply = (why : Refusal) → reply ≡ Refused why → (why ≡ Unavailable) ⊎ ((why ≡ Damaged) ⊎ IsOneOf (numbers_of command) (number_of why))

@@ -101,7 +101,7 @@ pub record AsksConnection (start end : Ends) : Type 0 where
   pub reads : end.source.counts.calls ≤ longest_request * (connection_limit + 1) + 1
 
 -- One connection was served from its first call on: between these two moments of its ends the
--- office did what `serve` says. A fault of the ends is told by them, and is no want of memory.
+-- office did what `serve` says. A fault of the ends is reported by them, and is no want of memory.
 pub record ServesConnection
     {Shelf : Type 0} (storage : Storage Shelf Office Content) (first : Shelf) (held : Content)
     (before : Office) (last : Shelf) (kept : Content) (after : Office)

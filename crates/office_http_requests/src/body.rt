@@ -33,7 +33,7 @@ fn opens_object(bytes: &[u8]) -> bool
     false
 }
 
-// What is told of a body by what the reader of JSON answered for its bytes. The reader may tell
+// What is reported of a body by what the reader of JSON answered for its bytes. The reader may tell
 // want of memory of any text: it is told on only where it was told, and only of bytes that open an
 // object.
 fn object_of(read: Result<Value, Error>, bytes: &[u8]) -> Result<Value, AskFault>
@@ -46,7 +46,7 @@ fn object_of(read: Result<Value, Error>, bytes: &[u8]) -> Result<Value, AskFault
     }
 }
 
-/// What is told of a body of a request: none is no object.
+/// What is reported of a body of a request: none is no object.
 pub(crate) fn given(alloc: Global, bytes: &[u8]) -> Result<Value, AskFault>
     ensures gives { Gives (data_of result) (body_of bytes.now) }
     ensures memory { WantsMemoryOnlyIf result (MayBeObject bytes.now) }
@@ -57,7 +57,7 @@ pub(crate) fn given(alloc: Global, bytes: &[u8]) -> Result<Value, AskFault>
     read(alloc, bytes)
 }
 
-// The object that the bytes of a body are. Want of memory is told of no bytes that can't be an
+// The object that the bytes of a body are. Want of memory is reported of no bytes that can't be an
 // object: they are Json, however many they are.
 // Reading needs a large local: a request without a body is not to pay for it.
 #[inline(never)]
@@ -109,7 +109,7 @@ pub(crate) fn words_text<const MAX: usize>(body: &Value, field: Field) -> Result
     words_parsed::<MAX>(text.as_bytes()).ok_or(AskFault::Field(field))
 }
 
-/// The words under a key. Want of memory is told of words alone.
+/// The words under a key. Want of memory is reported of words alone.
 pub(crate) fn words<const MAX: usize>(
     alloc: Global,
     body: &Value,
@@ -143,7 +143,7 @@ fn part_text(body: &Value) -> Result<&str, AskFault>
     part_parsed(text.as_bytes()).ok_or(AskFault::Field(Field::Part))
 }
 
-/// The code of a part under its key. Want of memory is told of a code alone.
+/// The code of a part under its key. Want of memory is reported of a code alone.
 pub(crate) fn part(alloc: Global, body: &Value) -> Result<PartCode, AskFault>
     ensures gives { Gives result (part_in (view body.now)) }
     ensures memory { WantsMemoryOnlyIf result (IsOk (part_in (view body.now))) }

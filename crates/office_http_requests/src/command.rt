@@ -27,7 +27,7 @@ impl Routes {
         ensures gives { Gives result
             (command_at request.now.method.now request.now.path.now request.now.body.now) }
         // A fault of the route, the method or the path is told, and so is a body that can't be an
-        // object, however long it is: want of memory is told of none of them, and of no GET.
+        // object, however long it is: want of memory is reported of none of them, and of no GET.
         ensures memory { WantsMemoryOnlyIf result
             (MayWantFor request.now.method.now request.now.path.now request.now.body.now) }
     {
@@ -40,7 +40,7 @@ impl Routes {
     }
 }
 
-// What is told of the body of a request whose route and method are known. That of a GET is not
+// What is reported of the body of a request whose route and method are known. That of a GET is not
 // looked at: whatever its bytes are, it is taken for none.
 fn told_of_body(alloc: Global, endpoint: Endpoint, bytes: &[u8]) -> Result<Value, AskFault>
     ensures gives { Gives (data_of result) (body_for endpoint bytes.now) }
@@ -62,7 +62,7 @@ pub fn command_of(alloc: Global, request: &Request) -> Result<Asked, AskFault>
     routes.command_of(alloc, request)
 }
 
-// The command of an endpoint, by what was told of the body.
+// The command of an endpoint, by what was reported of the body.
 #[tactic(auto, unfolding(crate::specs::Commands::asked_at))]
 fn asked(
     alloc: Global,

@@ -1,5 +1,5 @@
 //! The records of bodies, by the names of their keys. Every key is judged before memory is taken,
-//! so that want of memory is told of no fault.
+//! so that want of memory is reported of no fault.
 ghost use Rattle.std.specs.Prelude.{IsOk};
 ghost use Rattle.serde_json.specs.View.{view};
 ghost use Rattle.office_http_requests.specs.Asks.{Gives, WantsMemoryOnlyIf};

@@ -21,7 +21,7 @@ pub(crate) fn command_of(
     body: Result<Value, AskFault>,
 ) -> Result<RecordCommand, AskFault>
     ensures gives { Gives result (record_asked kind path.now (data_of body)) }
-    // Want of memory is told of no fault of the path, the body or a key.
+    // Want of memory is reported of no fault of the path, the body or a key.
     ensures memory { WantsMemoryOnlyIf result
         (MayWant (record_asked kind path.now (data_of body))) }
 {

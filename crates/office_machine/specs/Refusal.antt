@@ -23,7 +23,7 @@ named (ImportRow at cause) = (30, codes "ImportRow")
 named Unavailable = (90, codes "Unavailable")
 named Damaged = (91, codes "Damaged")
 
--- the status code: want of memory has that of Unavailable, wherever it is told
+-- the status code: want of memory has that of Unavailable, wherever it is reported
 abbrev pub status_of : Refusal → ℕ
 status_of UnknownIntersection = 404
 status_of (Cabinet cabinet.UnknownOrder) = 404

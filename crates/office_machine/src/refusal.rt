@@ -14,9 +14,9 @@ pub enum Refusal {
     UnknownIntersection,
     /// The intersection is there with another name or interval.
     IntersectionDiffers,
-    /// The transaction refuses. Want of memory is told as Unavailable.
+    /// The transaction refuses. Want of memory is reported as Unavailable.
     Draft(DraftRefusal),
-    /// The register refuses. Want of memory is told as Unavailable.
+    /// The register refuses. Want of memory is reported as Unavailable.
     Cabinet(CabinetRefusal),
     /// A record of an import is refused, the first that is: which one, counted from 1, and the
     /// number of its refusal.

@@ -96,7 +96,7 @@ impl Field {
     }
 }
 
-/// What a record that spells nothing is told with.
+/// What a record that spells nothing is reported with.
 #[derive(Clone, Copy)]
 pub enum Hint {
     /// Its kind, or that of the key that it removes, may be one of a few.
@@ -145,7 +145,7 @@ impl Hint {
         }
     }
 
-    /// What is told behind that: how a number is written, where a field is none.
+    /// What is reported behind that: how a number is written, where a field is none.
     #[tactic(auto, using(crate::proofs::HintLemmas::short_hint_ending))]
     pub fn ending(self) -> &'static str
         ensures value { result.now ≡ hint_ending self }
@@ -161,7 +161,7 @@ impl Hint {
     }
 }
 
-/// How many fields the records of a kind have, as it is told.
+/// How many fields the records of a kind have, as it is reported.
 fn widths(kind: RowKind) -> &'static str
     ensures { result.now ≡ widths kind }
 {

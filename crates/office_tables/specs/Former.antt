@@ -20,7 +20,7 @@ use Rattle.office_tables_shelf.specs.declared.shelf.ShelfFault.{ShelfFault}
 use Rattle.office_tables_shelf.specs.declared.shelf.ShelfFault.TheVariants as fault
 use Rattle.office_tables_statements.specs.Listed.{shown_key, shown_body}
 
--- where a row of five columns is told to be damaged, this holds of it
+-- where a row of five columns is reported to be damaged, this holds of it
 abbrev pub OnDamage : {A : Type 0} → Result A ShelfFault → SqlRow → Type 0 → Type 0
 OnDamage result row holds = result ≡ Err fault.Damaged → length row ≡ 5 → holds
 

@@ -133,17 +133,17 @@ StandsAnew result old new =
     (office : Office) → StandFormerly old.committed.trees office
     → StandAnew (content_now new) office)
 
--- Version is told only of tables without today's version and version 1
+-- Version is reported only of tables without today's version and version 1
 abbrev pub TellsVersion : {A S : Type 0} → Ghosts S → Result A OpenFault → Held S → Held S → Type 0
 TellsVersion g result old new =
     result ≡ Err fault.Version → HasCleanDisk (state g new) → HasUnknownVersion g old
 
--- Damaged is told inside the transaction only of rows that are none of version 1
+-- Damaged is reported inside the transaction only of rows that are none of version 1
 abbrev pub TellsFormerDamage : {A : Type 0} → Result A OpenFault → State → State → Type 0
 TellsFormerDamage result old new =
     result ≡ Err fault.Damaged → HasCleanDisk new → HasFormerDamage (content_now old)
 
--- Damaged is told of a call only where committed rows are none of version 1
+-- Damaged is reported of a call only where committed rows are none of version 1
 abbrev pub TellsDamage : {A : Type 0} → Result A OpenFault → State → State → Type 0
 TellsDamage result old new =
     result ≡ Err fault.Damaged → HasCleanDisk new → HasDamagedFormer old.committed.trees

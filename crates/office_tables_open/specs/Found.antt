@@ -48,7 +48,7 @@ pub record StoreOther (rows : List Row) : Type 0 where
 abbrev pub HaveNoRow : List Part → Type 0
 HaveNoRow = AllByRecursion (λ part. part.1 ≡ [])
 
--- ---- what is told of tables, by the rows of the version's and those of the eight
+-- ---- what is reported of tables, by the rows of the version's and those of the eight
 
 -- another version than today's is stored
 abbrev pub StoreAnother : List Table → List Row → Type 0

@@ -13,7 +13,7 @@ use Rattle.office_tables_statements.specs.Stored.{cells_at, rows_in}
 use Rattle.office_tables_statements.specs.Tables.{layout_at, schema_at, put_in, suits_kind}
 use Rattle.office_tables_open.specs.declared.gather.Moved.{Moved}
 
--- rows that are told by the names of their tables
+-- rows that are reported by the names of their tables
 abbrev pub Named : Type 0
 Named = List ℕ → List Row
 

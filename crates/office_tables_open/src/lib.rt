@@ -1,4 +1,4 @@
-//! How tables that are found in a database are told, taken, and made anew.
+//! How tables that are found in a database are reported, taken, and made anew.
 #![tactic(auto)]
 
 pub mod found;

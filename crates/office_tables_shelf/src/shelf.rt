@@ -205,7 +205,7 @@ pub trait Shelf {
 
     /// The first `most` of the intersections that are overdue for an inspection on a day, in the
     /// order of their numbers. The days are those of one walk over the inspections of each in turn;
-    /// those past the last that is told are not read.
+    /// those past the last that is reported are not read.
     fn overdue_of_each(
         &mut self,
         alloc: Global,

@@ -124,7 +124,7 @@ fn tell_touched(
     Ok(())
 }
 
-/// All that is told after changes of the plan.
+/// All that is reported after changes of the plan.
 fn report(alloc: Global, changed: &[Change]) -> Result<String, Fail> {
     let set = plan(alloc, changed)?;
     let keys = keys(alloc, changed)?;

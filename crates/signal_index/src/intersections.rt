@@ -222,7 +222,7 @@ fn push_rows(text: &mut String, day: &Option<Day>, entries: &[IndexEntry]) -> Re
     push_none_since(text, before, 9)
 }
 
-/// Appends the headings of what is told of the plan.
+/// Appends the headings of what is reported of the plan.
 #[tactic(auto, unfolding(crate::specs::Rows::standing_headings))]
 fn push_plan_headings(text: &mut String) -> Result<(), AllocError>
     ensures { OnOk result (string_bytes text.new
@@ -236,7 +236,7 @@ fn push_plan_headings(text: &mut String) -> Result<(), AllocError>
     push_heading(text, "Committed rows")
 }
 
-/// Appends the headings of what is told of the cabinet.
+/// Appends the headings of what is reported of the cabinet.
 #[tactic(auto, unfolding(crate::specs::Rows::due_headings))]
 fn push_cabinet_headings(text: &mut String) -> Result<(), AllocError>
     ensures { OnOk result (string_bytes text.new

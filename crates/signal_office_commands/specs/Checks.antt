@@ -1,4 +1,4 @@
--- What is told of the records of a file that an office is asked to try.
+-- What is reported of the records of a file that an office is asked to try.
 use Rattle.std.specs.Prelude.{◌≡◌, ◌⊎◌, ℕ, List, Result, Ok, Err}
 use Rattle.cabinet_core.specs.declared.command.RecordCommand.{RecordCommand}
 use Rattle.office_desk.specs.Checking.{Checks, MeetsCheckDamage}
@@ -18,8 +18,8 @@ abbrev pub check_fault : Refusal → Fault
 check_fault refusal.Damaged = fault.Damaged
 check_fault why = fault.Store
 
--- Each record of the file is tried on whichever sound office the tables stand for, and those that would be refused are told, with the counts.
--- A fault: the file's first bad record is told, memory or the database refused, or a row that some record reads is no record.
+-- Each record of the file is tried on whichever sound office the tables stand for, and those that would be refused are reported, with the counts.
+-- A fault: the file's first bad record is reported, memory or the database refused, or a row that some record reads is no record.
 abbrev pub ChecksFile : (csv : List ℕ) → (lines : List ℕ) → Content → Result Report Fault → Type 0
 ChecksFile csv lines tables (Ok report) =
     (records : List RecordCommand) × (commands_of csv ≡ Ok records)

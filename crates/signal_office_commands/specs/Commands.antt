@@ -12,7 +12,7 @@ use Rattle.signal_office_commands.specs.declared.adding.Entered.TheVariants as e
 use Rattle.signal_office_faults.specs.declared.fault.Fault.{Fault}
 use Rattle.signal_office_faults.specs.declared.fault.Fault.TheVariants as told
 
--- what is told of the reply to an intersection that is to be added
+-- what is reported of the reply to an intersection that is to be added
 abbrev pub entered_told : Reply → Result Entered Fault
 entered_told reply.Added = Ok entered.Added
 entered_told reply.Same = Ok entered.Same
@@ -23,7 +23,7 @@ abbrev pub moved_told : Reply → Result Unit Fault
 moved_told (reply.Moved revision state verdict) = Ok tt
 moved_told other = Err told.Store
 
--- the first record of the file that spells nothing is told, or want of memory, as it was read
+-- the first record of the file that spells nothing is reported, or want of memory, as it was read
 abbrev pub IsUnread : {A : Type 0} → Result A CsvFault → Fault → Type 0
 IsUnread read fault =
     (why : CsvFault) × (fault ≡ told.Csv why) × ((why ≡ file.NoMemory) ⊎ (read ≡ Err why))

@@ -25,7 +25,7 @@ pub record ComparesFiles (first second : List ℕ) (found : List Difference) : T
   pub second_is : IsPlan second after
   pub told : AreTold before after found
 
--- the first bad record of the second file is told as that
+-- the first bad record of the second file is reported as that
 abbrev pub IsOtherUnread : {A : Type 0} → Result A CsvFault → Fault → Type 0
 IsOtherUnread read fault =
     (bad : BadRow) × (fault ≡ told.OtherCsv bad) × (read ≡ Err (file.Row bad))
@@ -41,7 +41,7 @@ abbrev pub ComparesDraft : Content → ℕ → Result (List Difference) Fault �
 ComparesDraft tables id result =
     IsMadeOfAnswers (query.Timing id ∷ query.Draft id ∷ []) (λ seen. IsTextOf (λ plans found. AreTold plans.0 plans.1 found) (plans_in seen)) tables result
 
--- They are those of a timing set and the plan of a file. Where no timing set is shown, that is told; else the file was not read, or memory was refused.
+-- They are those of a timing set and the plan of a file. Where no timing set is shown, that is reported; else the file was not read, or memory was refused.
 abbrev pub IsCompared : (bytes : List ℕ) → Result RunningTiming Fault → Result (List Difference) Fault → Type 0
 IsCompared bytes (Ok timing) (Ok found) = (plan : Rows) × IsPlan bytes plan × AreTold timing.rows plan found
 IsCompared bytes (Ok timing) (Err why) = (why ≡ told.Memory) ⊎ IsUnread (changes_of bytes) why

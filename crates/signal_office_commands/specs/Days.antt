@@ -31,14 +31,14 @@ abbrev pub IsUnreadRecord : (csv : List ℕ) → Fault → Type 0
 IsUnreadRecord csv why =
     (cause : CsvFault) × (why ≡ fault.Csv cause) × ((cause ≡ file.NoMemory) ⊎ (commands_of csv ≡ Err cause))
 
--- no record of the file is of a later day; or the first that is, is told; or why they are not looked at
+-- no record of the file is of a later day; or the first that is, is reported; or why they are not looked at
 abbrev pub AreUntil : (until : ℕ) → (csv : List ℕ) → Result ⊤ Fault → Type 0
 AreUntil until csv (Ok tt) = (records : List RecordCommand) × (commands_of csv ≡ Ok records) × (first_late until records ≡ None)
 AreUntil until csv (Err why) =
     ((records : List RecordCommand) × (at : ℕ) × (commands_of csv ≡ Ok records) × (first_late until records ≡ Some at) × (why ≡ fault.Late at))
     ⊎ IsUnreadRecord csv why
 
--- no record of the file is of a later day than one that is given, or the first that is, is told; without a day nothing is looked at
+-- no record of the file is of a later day than one that is given, or the first that is, is reported; without a day nothing is looked at
 abbrev pub AreInTime : Option ℕ → (csv : List ℕ) → Result ⊤ Fault → Type 0
 AreInTime None csv result = result ≡ Ok tt
 AreInTime (Some until) csv result = AreUntil until csv result

@@ -1,4 +1,4 @@
--- The plans whose violations are explained, and whose warnings are told.
+-- The plans whose violations are explained, and whose warnings are reported.
 use Rattle.std.specs.Prelude.{◌≡◌, ℕ, List, [], ◌∷◌, Result}
 use Rattle.office_files.specs.Plan.{IsPlan}
 use Rattle.office_tables_shelf.specs.Content.{Content}

@@ -12,7 +12,7 @@ use Rattle.signal_office_commands.specs.declared.importing.Imported.{Imported}
 use Rattle.signal_office_faults.specs.declared.fault.Fault.{Fault}
 use Rattle.signal_office_faults.specs.declared.fault.Fault.TheVariants as told
 
--- what is told of the reply to an import
+-- what is reported of the reply to an import
 abbrev pub import_told : Reply → Result Imported Fault
 import_told (reply.Imported added same) = Ok (record { added = added; same = same })
 import_told other = Err told.Store

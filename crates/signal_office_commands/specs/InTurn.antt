@@ -15,7 +15,7 @@ use Rattle.signal_office_faults.specs.declared.fault.Fault.TheVariants as told
 use Rattle.signal_office_reports.specs.Refused.{fault_of}
 use Rattle.signal_office_reports.specs.Reports.{◌>>=◌}
 
--- The office answered one command. A row that the command reads and that is no record was told, and none was passed over.
+-- The office answered one command. A row that the command reads and that is no record was reported, and none was passed over.
 pub record Answered (old : Content) (asked : Command) (given : Reply) (new : Content) : Type 0 where
   pub step : AnswersAny old asked given new
   pub damaged : given ≡ reply.Refused refusal.Damaged → MeetsDamage old asked
@@ -64,6 +64,6 @@ Makes made commands old new result = (last : Result Reply Fault) × RunsInTurn r
 abbrev pub IsWant : {A : Type 0} → Content → Content → Result A Fault → Type 0
 IsWant old new result = (result ≡ Err told.Memory) × (new ≡ old)
 
--- A CHANGE of one command: what is told of its reply; out of memory is told only where nothing was changed
+-- A CHANGE of one command: what is reported of its reply; out of memory is reported only where nothing was changed
 abbrev pub Changes : {A : Type 0} → (made : Reply → Result A Fault) → Command → Content → Content → Result A Fault → Type 0
 Changes made asked old new result = Makes made (asked ∷ []) old new result ⊎ IsWant old new result

@@ -37,7 +37,7 @@ abbrev pub is_same : Outcome → Bool
 is_same Same = true
 is_same other = false
 
--- that nothing changes is told exactly where a commit is asked for and the plan is the committed set
+-- that nothing changes is reported exactly where a commit is asked for and the plan is the committed set
 abbrev pub TellsNoChange : (commit : Bool) → (committed wanted : Rows) → (told : Bool) → Type 0
 TellsNoChange false committed wanted told = told ≡ false
 TellsNoChange true committed wanted told = TellsSame committed wanted told

@@ -49,7 +49,7 @@ abbrev pub commands_due : List Violation → (more : List Command) → List Comm
 commands_due [] more = more
 commands_due (violation ∷ others) more = []
 
--- ---- what is told
+-- ---- what is reported
 
 -- rows of the timing set were written, which a commit alone does
 abbrev pub wrote_timing : (old new : WriteCounts) → Bool

@@ -22,7 +22,7 @@ standing_of timing draft = do
 abbrev pub standing_seen : List Seen → Result StandingPlan Fault
 standing_seen found = standing_of (first_seen found) (first_seen (rest_of found))
 
--- what stands of a plan is what the office shows; or the fault is told of the query that is refused
+-- what stands of a plan is what the office shows; or the fault is reported of the query that is refused
 abbrev pub StandsAs : Content → ℕ → Result StandingPlan Fault → Type 0
 StandsAs tables id result = IsMadeOfAnswers (query.Timing id ∷ query.Draft id ∷ []) (λ found it. it ≡ standing_seen found) tables result
 

@@ -1,4 +1,4 @@
--- What is told of records that are tried and not taken.
+-- What is reported of records that are tried and not taken.
 use Rattle.std.specs.Prelude.{ℕ, ◌+◌, Bool, true, false, List, [], ◌∷◌, ◌++◌, length, codes, decimal, Option, Some, None}
 use Rattle.std.specs.List.{filter}
 use Rattle.cabinet_core.specs.Day.{day_text}
@@ -86,6 +86,6 @@ counts_line n =
     codes "would add " ++ decimal n.added ++ codes ", same " ++ decimal n.same
     ++ codes ", refused " ++ decimal n.refused ++ codes "\n"
 
--- what is told of records that are tried: the lines of those that would be refused, then the counts
+-- what is reported of records that are tried: the lines of those that would be refused, then the counts
 abbrev pub checks_text : (lines : List ℕ) → List Checked → Counts → List ℕ
 checks_text lines all counts = checked_lines 0 lines all ++ counts_line counts

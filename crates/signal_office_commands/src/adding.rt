@@ -24,7 +24,7 @@ pub enum Entered {
     Same,
 }
 
-/// What is told of the reply.
+/// What is reported of the reply.
 fn entered_told(reply: &Reply) -> Result<Entered, Fault>
     ensures { result ≡ entered_told reply.now }
 {

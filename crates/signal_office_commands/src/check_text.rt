@@ -1,4 +1,4 @@
-//! What is told of records that would be refused.
+//! What is reported of records that would be refused.
 
 ghost use Rattle.std.specs.Prelude.{◌≡◌, ◌+◌, ◌++◌, OnOk, IfOk, string_bytes};
 ghost use Rattle.signal_office_commands.specs.Texts.{by_text, checked_line, checked_lines, checks_text, closed_text, order_text, there_text, refused_line, used_text};

@@ -16,7 +16,7 @@ use office_tables_shelf::shelf::Shelf;
 use signal_office_faults::Fault;
 use std::alloc::Global;
 
-/// What is told of the records of a file.
+/// What is reported of the records of a file.
 #[derive(Drop)]
 pub struct Report {
     pub text: Vec<u8>,
@@ -56,7 +56,7 @@ fn checked<S: Shelf>(
 
 /// Tries the records of a CSV file in turn, each after those before it that would be taken, and
 /// tells each that would be refused, with the line of the file on which it begins. Nothing is
-/// taken. The first record that spells nothing is told.
+/// taken. The first record that spells nothing is reported.
 pub fn check_csv<S: Shelf>(
     alloc: Global,
     office: &mut Office<S>,

@@ -19,7 +19,7 @@ use signal_office_reports::{Query, Seen, draft_in, first_seen, look, next_of, ti
 use signal_records::{InterId, TimingSet};
 use std::alloc::Global;
 
-/// The plan in the second of two files. Its first bad record is told as that of the other file.
+/// The plan in the second of two files. Its first bad record is reported as that of the other file.
 fn other_plan(alloc: Global, bytes: &[u8]) -> Result<TimingSet, Fault>
     ensures plan { IfOk result (IsPlan bytes.now) }
     ensures fault { IfErr result (λ why. why ≢ Fault.Memory →
@@ -33,7 +33,7 @@ fn other_plan(alloc: Global, bytes: &[u8]) -> Result<TimingSet, Fault>
 }
 
 /// What the plans in two CSV files differ in, in the order of their keys, or the first bad record.
-/// That of the second file is told only where the first spells a plan.
+/// That of the second file is reported only where the first spells a plan.
 pub fn compare_files(alloc: Global, first: &[u8], second: &[u8]) -> Result<Vec<Difference>, Fault>
     ensures found { IfOk result (λ found. ComparesFiles first.now second.now found.items) }
     ensures fault { IfErr result (λ why. why ≢ Fault.Memory →

@@ -24,7 +24,7 @@ pub struct Imported {
     pub same: usize,
 }
 
-/// What is told of the reply to an import.
+/// What is reported of the reply to an import.
 fn import_told(reply: &Reply) -> Result<Imported, Fault>
     ensures { result ≡ import_told reply.now }
 {
@@ -36,7 +36,7 @@ fn import_told(reply: &Reply) -> Result<Imported, Fault>
 
 /// Takes the records of a CSV file into the register in turn, each after those before it: all of
 /// them, or none. A record that was there counts as the same. The first record that spells nothing,
-/// or that the office refuses, is told.
+/// or that the office refuses, is reported.
 pub fn import_csv<S: Shelf>(
     alloc: Global,
     office: &mut Office<S>,

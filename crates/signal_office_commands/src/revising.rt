@@ -228,7 +228,7 @@ fn run_revision<S: Shelf>(
     })
 }
 
-/// What is told of a plan that is as it stands.
+/// What is reported of a plan that is as it stands.
 fn as_it_stands(alloc: Global) -> Revised
     ensures { result ≡ as_it_stands }
 {
@@ -254,7 +254,7 @@ pub fn revise_plan<S: Shelf>(
     ensures honest { S.is_honest office.new → S.is_honest office.old }
     ensures revises { MakesTables S.Shelf office.old office.new
         (λ old new. RevisesAs bytes.now edit.now.id edit.now.clerk edit.now old new result) }
-    // It is told as committed only where rows of the timing set were written.
+    // It is reported as committed only where rows of the timing set were written.
     ensures writes { MakesTables S.Shelf office.old office.new (λ old new.
         RevisesSo (wrote_timing (S.written office.old) (S.written office.new)) bytes.now
         edit.now.id edit.now.clerk edit.now old new result) }

@@ -1,4 +1,4 @@
-//! How a fault is told.
+//! How a fault is reported.
 
 ghost use Rattle.std.specs.Prelude.{◌≡◌, ◌≤◌};
 ghost use Rattle.signal_office_commands.specs.Telling.{SaysFault, SaysLine};

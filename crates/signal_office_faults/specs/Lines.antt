@@ -1,4 +1,4 @@
--- How a fault is told: its line, its status, and the faults that it stands for.
+-- How a fault is reported: its line, its status, and the faults that it stands for.
 use Rattle.std.specs.Prelude.{◌≡◌, ◌⊎◌, ℕ, List, ◌++◌, codes}
 use Rattle.std.specs.Fmt.{decimal}
 use Rattle.office_files.specs.CsvFault.{bad_row_text, fault_text}

@@ -61,13 +61,13 @@ abbrev pub told_of_outcome : Result Migrated OpenFault → Result Migrated Fault
 told_of_outcome (Ok count) = Ok count
 told_of_outcome (Err cause) = Err (told_of cause)
 
--- the fault that is told where the files could not be closed: that of the migration, or else that of closing
+-- the fault that is reported where the files could not be closed: that of the migration, or else that of closing
 abbrev pub told_unclosed : Fault → Result Migrated OpenFault → Fault
 told_unclosed closing (Ok count) = closing
 told_unclosed closing (Err cause) = told_of cause
 
 module _ {D : Type 0} (g : Disk D) where
-  -- Version and Damaged are told of what the files held.
+  -- Version and Damaged are reported of what the files held.
   pub record TellsOfFiles (files : Files D) (outcome : Result Migrated OpenFault) : Type 0 where
     pub version : outcome ≡ Err why.Version → (conn : Held (FileStore D g))
         × HasCleanDisk (file_state conn) × IsOpenedIn {g = g} files conn

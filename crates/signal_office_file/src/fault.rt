@@ -1,4 +1,4 @@
-//! How a file that the database or its tables refused is told.
+//! How a file that the database or its tables refused is reported.
 
 ghost use Rattle.std.specs.Prelude.{◌≡◌};
 ghost use Rattle.signal_office_file.specs.Told.{told_of_error, told_of};
@@ -7,7 +7,7 @@ use office_tables::open::OpenFault;
 use signal_office_faults::Fault;
 use sqlite::{Error, ErrorCode};
 
-/// The fault that is told of an error of the database.
+/// The fault that is reported of an error of the database.
 pub(crate) fn fault_of_database(error: Error) -> Fault
     ensures { result ≡ told_of_error error }
 {
@@ -17,7 +17,7 @@ pub(crate) fn fault_of_database(error: Error) -> Fault
     }
 }
 
-/// The fault that is told of tables that were refused.
+/// The fault that is reported of tables that were refused.
 pub(crate) fn fault_of_opening(fault: OpenFault) -> Fault
     ensures { result ≡ told_of fault }
 {

@@ -45,7 +45,7 @@ fn open_and_migrate<D: Disk + Drop>(
     options: Options,
 ) -> Result<Tried<D>, (Fault, Leftover<D>)>
     // What `SqlShelf::migrate` says, of a connection that found its tables in the files: the
-    // counts, when Version and Damaged are told, and what a stop leaves.
+    // counts, when Version and Damaged are reported, and what a stop leaves.
     ensures migrated { IfOk result (λ tried. MigratesIn files tried.1 tried.0) }
     ensures unopened { IfErr result (λ e. IsUnopened files e.0 e.1) }
 {

@@ -19,7 +19,7 @@ use std::alloc::Global;
 use std::hash::{BuildHasher, RandomState};
 use std::io::ErrorKind;
 
-/// The fault that is told of files that were not opened.
+/// The fault that is reported of files that were not opened.
 fn fault_of_refusal(error: &OpenError) -> Fault
     ensures { IsStoreOrMemory result }
 {

@@ -24,7 +24,7 @@ IsCalled old new call unmade = (new ≡ old ++ call ∷ []) ⊎ ((new ≡ old) �
 abbrev pub unmade : {T Left : Type 0} → Ended T Left
 unmade = Unopened fault.Memory
 
--- these calls were made; or none, and a fault is told; where there are none to be made, none was
+-- these calls were made; or none, and a fault is reported; where there are none to be made, none was
 abbrev pub AreCalled : {T : Type 0} → (old new calls : List FileCall) → Result T Fault → Type 0
 AreCalled old new [] result = new ≡ old
 AreCalled old new (call ∷ calls) result = (new ≡ old ++ call ∷ calls) ⊎ ((new ≡ old) × (why : Fault) × (result ≡ Err why))

@@ -34,7 +34,7 @@ pub record FileView (Left : Type 0) : Type 1 where
   pub unclosed : Left → Fault → Type 0
 
 -- What work over tables does where they are kept after it; what is known of it, and of what came of it, where a stop leaves such tables of it alone; that
--- nothing was done; what is so of what came of it wherever it was begun, whatever the disk did; and which fault is told where the file was not closed after it.
+-- nothing was done; what is so of what came of it wherever it was begun, whatever the disk did; and which fault is reported where the file was not closed after it.
 pub record Work (T : Type 0) : Type 1 where
   pub does : Content → T → Content → Type 0
   pub stops : Content → T → (leaves : (Content → Type 0) → Type 0) → Type 0
@@ -46,13 +46,13 @@ pub record Work (T : Type 0) : Type 1 where
 abbrev pub IsStoreOrMemory : Fault → Type 0
 IsStoreOrMemory why = (why ≡ fault.Store) ⊎ (why ≡ fault.Memory)
 
--- the fault that is told of work whose file was not closed: that of the work, or else that of closing
+-- the fault that is reported of work whose file was not closed: that of the work, or else that of closing
 abbrev pub TellsUnclosed : {T Cause : Type 0} → (fault_of : Cause → Fault) → Result T Cause → Fault → Type 0
 TellsUnclosed fault_of (Ok done) why = IsStoreOrMemory why
 TellsUnclosed fault_of (Err cause) why = why ≡ fault_of cause
 
 -- The work was done, once, over the tables that the file held, and they are kept in the file; or nothing was done, since the system did not open the file,
--- or the file was refused. Where the file could not be closed, the fault of the work is told, or that of closing, and a stop leaves of it what one leaves of
+-- or the file was refused. Where the file could not be closed, the fault of the work is reported, or that of closing, and a stop leaves of it what one leaves of
 -- the work.
 abbrev pub EndsOver : {Left T : Type 0} → FileView Left → Work T → Ended T Left → Type 0
 EndsOver view work (Unopened why) = work.untouched × IsStoreOrMemory why
@@ -88,7 +88,7 @@ pub record RunsOver (new : Content) (before after : Office) (requests : List Pla
 abbrev pub ServesStoredOffice : ℕ → Ends → Ends → Content → Result Served ServeFault → Content → Type 0
 ServesStoredOffice limit start end old outcome new = (before : Office) → StandForSound old before → (after : Office) × Did office_protocol (RunsOver new before after) limit start end outcome
 
--- a stream of requests that is answered: that reading or writing failed is told only where that end told a fault
+-- a stream of requests that is answered: that reading or writing failed is reported only where that end told a fault
 abbrev pub stream_work : ℕ → Ends → Ends → (untouched : Type 0) → Work (Result Served ServeFault)
 stream_work limit start end untouched = record {
   does = ServesStoredOffice limit start end;

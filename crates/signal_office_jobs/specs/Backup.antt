@@ -47,7 +47,7 @@ module _ {Left : Type 0} (view : FileView Left) where
     pub tells : TellsOutcome (λ _. copied_line) copied done
     pub prints : PrintsDone done start end result
 
-  -- a copy was made, and what came of it is printed; or the file is not there, or the place is not free, and that is told
+  -- a copy was made, and what came of it is printed; or the file is not there, or the place is not free, and that is reported
   abbrev pub BacksUpFile : Bool → Output
   BacksUpFile force start end result =
       BacksUp force start end result

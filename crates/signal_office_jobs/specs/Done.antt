@@ -22,12 +22,12 @@ text_of (done.Text text status) = text.items
 text_of (done.Fixed line) = line.now
 text_of (done.Line line) = line.bytes
 
--- this text is told, with this status, or memory for it was refused
+-- this text is reported, with this status, or memory for it was refused
 abbrev pub TellsAs : (text : List ℕ) → (status : ℕ) → Result Done Fault → Type 0
 TellsAs text status (Ok done) = (text_of done ≡ text) × (status_of done ≡ status)
 TellsAs text status (Err why) = why ≡ fault.Memory
 
--- this line is told, with status 0, whatever memory there is
+-- this line is reported, with status 0, whatever memory there is
 abbrev pub TellsLine : (line : List ℕ) → Result Done Fault → Type 0
 TellsLine line (Ok done) = (text_of done ≡ line) × (status_of done ≡ 0)
 TellsLine line (Err why) = ⊥
@@ -49,7 +49,7 @@ refused_status refused = if refused == 0 then 0 else 1
 abbrev pub checked_status : List Violation → ℕ
 checked_status violations = if length violations == 0 then 0 else 3
 
--- the status of a plan whose reasons are told: 3 where it breaks a rule
+-- the status of a plan whose reasons are reported: 3 where it breaks a rule
 abbrev pub explained_status : List Explained → ℕ
 explained_status found = if length found == 0 then 0 else 3
 
@@ -61,7 +61,7 @@ open_status commit violations = if commit then checked_status violations else 0
 abbrev pub compared_status : List Difference → ℕ
 compared_status differences = if length differences == 0 then 0 else 4
 
--- what is told of a draft that stays open: that it was to be committed and was not
+-- what is reported of a draft that stays open: that it was to be committed and was not
 abbrev pub open_line : (commit : Bool) → List ℕ
 open_line true = codes "not committed: the draft stays open; go on with edit, or drop it with abandon\n"
 open_line false = []
@@ -71,7 +71,7 @@ abbrev pub compared_text : (csv : Bool) → List Difference → List ℕ
 compared_text true differences = changes_csv_text (difference_changes differences)
 compared_text false differences = comparison_text differences
 
--- what is told of a copy
+-- what is reported of a copy
 abbrev pub copied_line : List ℕ
 copied_line = codes "copied\n"
 

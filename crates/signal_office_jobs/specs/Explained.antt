@@ -23,7 +23,7 @@ abbrev pub with_hint : BadRow → (line : ℕ) → Option Hint → Fault
 with_hint bad line (Some hint) = fault.Explained bad line hint
 with_hint bad line None = fault.Csv (file.Row bad)
 
--- a bad record is told with its line, and what is wrong there; each other fault as it is
+-- a bad record is reported with its line, and what is wrong there; each other fault as it is
 abbrev pub explained_file : (csv lines : List ℕ) → Fault → Fault
 explained_file csv lines (fault.Csv (file.Row bad)) = with_hint bad (line_of_record lines bad.at) (hint_of csv bad)
 explained_file csv lines why = why
@@ -38,17 +38,17 @@ IsFileExplained csv lines why told = (told ≡ explained_file csv lines why) ⊎
 abbrev pub not_owner : Fault
 not_owner = fault.Refused (refusal.Draft draft.NotOwner)
 
--- the owner of a draft is told, or that it is another clerk where the office shows none
+-- the owner of a draft is reported, or that it is another clerk where the office shows none
 abbrev pub TellsOwner : (owner : Option (List ℕ)) → Fault → Type 0
 TellsOwner (Some owner) told = (clerk : ArrayString 40) × (clerk.bytes ≡ owner) × (told ≡ fault.HeldBy clerk)
 TellsOwner None told = told ≡ not_owner
 
--- the owner of the draft of a shown intersection is told, or why it is not shown
+-- the owner of the draft of a shown intersection is reported, or why it is not shown
 abbrev pub TellsOwnerIn : Result IntersectionState Fault → Fault → Type 0
 TellsOwnerIn (Ok state) told = TellsOwner state.owner told
 TellsOwnerIn (Err why) told = told ≡ why
 
--- who owns the draft of an intersection is told, as the office shows it; or why it is not shown
+-- who owns the draft of an intersection is reported, as the office shows it; or why it is not shown
 abbrev pub IsOwnerTold : Content → (id : ℕ) → Fault → Type 0
 IsOwnerTold tables id told =
     (found : Result (List Seen) Fault) × Looks tables (query.State id ∷ []) found
@@ -61,7 +61,7 @@ abbrev pub IsEditExplained : (csv lines : List ℕ) → (id : ℕ) → Content �
 IsEditExplained csv lines id tables (fault.Refused (refusal.Draft draft.NotOwner)) told = IsOwnerTold tables id told
 IsEditExplained csv lines id tables why told = IsFileExplained csv lines why told
 
--- a refused edit is told, with its explanation where that is asked
+-- a refused edit is reported, with its explanation where that is asked
 abbrev pub IsEditRefused : (explain : Bool) → (csv lines : List ℕ) → (id : ℕ) → Content → (why told : Fault) → Type 0
 IsEditRefused true csv lines id tables why told = IsEditExplained csv lines id tables why told
 IsEditRefused false csv lines id tables why told = told ≡ why

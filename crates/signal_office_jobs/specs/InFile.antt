@@ -10,7 +10,7 @@ use Rattle.signal_office_jobs.specs.Output.{Output, PrintsDone, TellsNothing, jo
 use Rattle.signal_office_jobs.specs.declared.done.Done.{Done}
 
 -- The task was done over the tables that the file held, and what it came to is printed once the file is closed, which holds the tables after it; or the file was
--- refused or not closed, and that is told: then a stop leaves of it what one leaves of the task.
+-- refused or not closed, and that is reported: then a stop leaves of it what one leaves of the task.
 pub record WorksOver {Left : Type 0} (view : FileView Left) (effect : Effect Done) (start end : Told) (result : Result ℕ Fault) : Type 0 where
   pub ended : Ended (Result Done Fault) Left
   pub middle : Told
@@ -36,7 +36,7 @@ pub record TellsMigration {Left : Type 0} (view : FileView Left) (start end : To
   pub tells : TellsOutcome migrated_line (joined (told_by ended)) done
   pub prints : PrintsDone done start end result
 
--- a file was migrated, and that is told; or it is not there, or empty without a log, which is told as another version
+-- a file was migrated, and that is reported; or it is not there, or empty without a log, which is reported as another version
 abbrev pub MigratesFile : {Left : Type 0} → FileView Left → Output
 MigratesFile view start end result =
     TellsMigration view start end result ⊎ ((why : Fault) × IsMissing fault.Version why × TellsNothing why start end result)

@@ -51,7 +51,7 @@ Exchange = Ends → Ends → Result ℕ Fault → Type 0
 abbrev pub batch_limit : ℕ
 batch_limit = 1_000_000
 
--- a stream that was served to its end has status 0; else why it was not is told
+-- a stream that was served to its end has status 0; else why it was not is reported
 abbrev pub stream_status : Result Served ServeFault → Result ℕ Fault
 stream_status (Ok served) = Ok 0
 stream_status (Err why) = Err (fault_of_stream why)
@@ -105,14 +105,14 @@ TellsViolations true csv lines (Ok done) =
 TellsViolations false csv lines (Err why) = why ≢ fault.Memory → IsNoPlan csv why
 TellsViolations true csv lines (Err why) = why ≢ fault.Memory → (unread : Fault) × IsNoPlan csv unread × (why ≡ explained_file csv lines unread)
 
--- what an engineer is warned of in the plan of a file follows what was told of it, with the status of that; nothing follows where there is no warning
+-- what an engineer is warned of in the plan of a file follows what was reported of it, with the status of that; nothing follows where there is no warning
 abbrev pub AddsWarnings : (csv : List ℕ) → (told : Done) → Result Done Fault → Type 0
 AddsWarnings csv told (Ok done) =
     (found : List Warning) × WarnsOfPlan csv found
     × (more : List ℕ) × (found ≡ [] → more ≡ []) × (text_of done ≡ text_of told ++ more) × (status_of done ≡ status_of told)
 AddsWarnings csv told (Err why) = why ≢ fault.Memory → IsNoPlan csv why
 
--- what was told of the plan of a file goes on with its warnings where they are asked for
+-- what was reported of the plan of a file goes on with its warnings where they are asked for
 abbrev pub Advises : (advise : Bool) → (csv : List ℕ) → (told : Result Done Fault) → Result Done Fault → Type 0
 Advises true csv (Ok told) result = AddsWarnings csv told result
 Advises true csv (Err why) result = result ≡ Err why
@@ -149,7 +149,7 @@ Course = (start end : Ends) → (err said : Told) → Result ℕ Fault → Type 
 abbrev pub OnlyPrints : Output → Course
 OnlyPrints prints start end err said result = (end.source ≡ start.source) × (said ≡ err) × prints start.sink end.sink result
 
--- something was read first, and this is printed of it; or it was not, and that is told
+-- something was read first, and this is printed of it; or it was not, and that is reported
 abbrev pub ReadFirst : {T : Type 0} → (read : T → (start end err said : Told) → Type 0) → (unread : Fault → (start end err said : Told) → Type 0)
     → (T → Output) → Course
 ReadFirst {T} read unread next start end err said result =

@@ -11,7 +11,7 @@ use Rattle.signal_office_jobs.specs.declared.done.Done.{Done}
 abbrev pub Output : Type 1
 Output = Told → Told → Result ℕ Fault → Type 0
 
--- nothing was printed, and the fault is told
+-- nothing was printed, and the fault is reported
 abbrev pub TellsNothing : Fault → Output
 TellsNothing why start end result = (end ≡ start) × (result ≡ Err why)
 

@@ -41,7 +41,7 @@ abbrev pub makes_file : Request → Bool
 makes_file (request.Add id interval name) = true
 makes_file _ = false
 
--- ---- what is told
+-- ---- what is reported
 
 -- the line that tells whether an intersection was new
 abbrev pub entered_line : Entered → List ℕ
@@ -52,12 +52,12 @@ entered_line entered.Same = codes "same\n"
 abbrev pub imported_line : Imported → List ℕ
 imported_line imported = codes "added " ++ decimal imported.added ++ codes ", same " ++ decimal imported.same ++ codes "\n"
 
--- what was used is told with status 0, or why it is not
+-- what was used is reported with status 0, or why it is not
 abbrev pub TellsUsed : (part : Option (List ℕ)) → (csv : Bool) → Content → Result Done Fault → Type 0
 TellsUsed part csv old (Ok done) = IsUsedShown part csv old (Ok (text_of done)) × (status_of done ≡ 0)
 TellsUsed part csv old (Err why) = IsUsedShown part csv old (Err why)
 
--- what is shown is told with status 0, or why it is not
+-- what is shown is reported with status 0, or why it is not
 abbrev pub ShowsAs : Shown → Content → Result Done Fault → Type 0
 ShowsAs it tables (Ok done) = IsShown it tables (Ok (text_of done)) × (status_of done ≡ 0)
 ShowsAs it tables (Err why) = IsShown it tables (Err why)
@@ -74,7 +74,7 @@ ImportsAs csv old result new = TellsOf (Imports csv old new) imported_line resul
 abbrev pub AbandonsAs : (id : ℕ) → (clerk : List ℕ) → Content → Result Done Fault → Content → Type 0
 AbandonsAs id clerk old result new = TellsOf (Abandons id clerk old new) (λ _. codes "abandoned\n") result
 
--- the records of the file were tried, and those that would be refused are told, with the status whether there are any; or a fault is
+-- the records of the file were tried, and those that would be refused are reported, with the status whether there are any; or a fault is
 abbrev pub ChecksAs : (csv lines : List ℕ) → Content → Result Done Fault → Type 0
 ChecksAs csv lines old (Ok done) =
     (report : Report) × ChecksFile csv lines old (Ok report) × (text_of done ≡ report.text.items) × (status_of done ≡ refused_status report.refused)
@@ -85,30 +85,30 @@ abbrev pub IsBroken : (explain : Bool) → (id : ℕ) → Content → List Viola
 IsBroken true id tables violations text = (found : List Explained) × ExplainsDraft tables id (Ok found) × (text ≡ explained_text_of found)
 IsBroken false id tables violations text = text ≡ violations_text violations
 
--- A draft that was made is told: what it breaks, where it stays open. A fault is why one with reasons is not shown, or that memory was refused.
+-- A draft that was made is reported: what it breaks, where it stays open. A fault is why one with reasons is not shown, or that memory was refused.
 abbrev pub TellsOpen : (commit explain : Bool) → (id : ℕ) → Content → List Violation → Result Done Fault → Type 0
 TellsOpen commit explain id tables violations (Ok done) =
     (broken : List ℕ) × IsBroken explain id tables violations broken
     × (text_of done ≡ broken ++ open_line commit) × (status_of done ≡ open_status commit violations)
 TellsOpen commit explain id tables violations (Err why) = why ≢ fault.Memory → (explain ≡ true) × ExplainsDraft tables id (Err why)
 
--- What became of a draft is told; that it was committed, so that it breaks no rule, or is as it stands, whatever memory there is.
+-- What became of a draft is reported; that it was committed, so that it breaks no rule, or is as it stands, whatever memory there is.
 abbrev pub TellsRevised : (commit explain : Bool) → (id : ℕ) → Content → List Violation → Outcome → Result Done Fault → Type 0
 TellsRevised commit explain id tables violations Same = TellsLine (codes "no changes\n")
 TellsRevised commit explain id tables violations Committed = TellsLine (codes "no violations\ncommitted\n")
 TellsRevised commit explain id tables violations Open = TellsOpen commit explain id tables violations
 
--- The edit is told: what became of it, or its fault, explained where that is asked.
+-- The edit is reported: what became of it, or its fault, explained where that is asked.
 abbrev pub TellsEdit : (csv lines : List ℕ) → (commit explain : Bool) → (id : ℕ) → Content → Result Revised Fault → Result Done Fault → Type 0
 TellsEdit csv lines commit explain id tables (Ok revised) = TellsRevised commit explain id tables revised.violations revised.outcome
 TellsEdit csv lines commit explain id tables (Err why) = λ result. (told : Fault) × (result ≡ Err told) × IsEditRefused explain csv lines id tables why told
 
--- The draft was edited from the tables, and what became of it is told, by the tables after that.
+-- The draft was edited from the tables, and what became of it is reported, by the tables after that.
 abbrev pub EditsBy : (csv lines : List ℕ) → Edit → Content → Result Done Fault → Content → Type 0
 EditsBy csv lines edit old result new =
     (revised : Result Revised Fault) × RevisesAs csv edit.id edit.clerk edit old new revised × TellsEdit csv lines edit.commit edit.explain edit.id new revised result
 
--- what the draft differs in is told, and the status whether it does; a fault is what its query is refused with, or that memory was refused
+-- what the draft differs in is reported, and the status whether it does; a fault is what its query is refused with, or that memory was refused
 abbrev pub ComparesAs : ℕ → Bool → Content → Result Done Fault → Type 0
 ComparesAs id csv old (Ok done) = (found : List Difference) × ComparesDraft old id (Ok found)
     × (text_of done ≡ compared_text csv found) × (status_of done ≡ compared_status found)
@@ -120,7 +120,7 @@ ComparesWith id plan csv old (Ok done) = (found : List Difference) × ComparesRu
     × (text_of done ≡ compared_text csv found) × (status_of done ≡ compared_status found)
 ComparesWith id plan csv old (Err why) = why ≢ fault.Memory → ComparesRunning old id plan (Err why)
 
--- a folder was filled, and nothing is told; or this is why not
+-- a folder was filled, and nothing is reported; or this is why not
 abbrev pub FillsAs : Folder → Content → Result Done Fault → Type 0
 FillsAs folder tables (Ok done) = (put : List NamedText) × AreFilesOfAll folder tables put × (text_of done ≡ []) × (status_of done ≡ 0)
 FillsAs folder tables (Err why) = (put : List NamedText) × IsBeginning folder tables put × (why ≡ fault.Damaged → put ≡ []) × IsUnfilled folder tables why

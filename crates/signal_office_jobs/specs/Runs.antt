@@ -45,11 +45,11 @@ fault_of_word word.Clerk = fault.Clerk
 fault_of_word word.Name = fault.Name
 fault_of_word word.Part = fault.Part
 
--- nothing was read or printed, and this is told
+-- nothing was read or printed, and this is reported
 abbrev pub OnlyTells : Fault → Course
 OnlyTells why start end err said result = (end ≡ start) × (said ≡ err) × (result ≡ Err why)
 
--- What was found is done: the job, or the refusal is shown, or a bad word is told, or that memory ran out.
+-- What was found is done: the job, or the refusal is shown, or a bad word is reported, or that memory ran out.
 abbrev pub DoesFound : {Left : Type 0} → FileView Left → Result Job JobFault → Course
 DoesFound files (Ok job) start end err said result = JobDoes files job start end err said result
 DoesFound files (Err (Refused error)) start end err said result =

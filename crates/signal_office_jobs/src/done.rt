@@ -26,7 +26,7 @@ const HAS_VIOLATIONS: u8 = 3;
 /// The status of `compare` where the plans differ.
 const DIFFERS: u8 = 4;
 
-/// What is told of a commit that was asked for and not made.
+/// What is reported of a commit that was asked for and not made.
 const NOT_COMMITTED: &[u8] =
     b"not committed: the draft stays open; go on with edit, or drop it with abandon\n";
 
@@ -55,7 +55,7 @@ fn open_status(commit: bool, violations: &[Violation]) -> u8
 }
 
 /// What a command prints on standard output, and its status. What is told of a change is a line that
-/// needs no memory, so that no change that was made is told as a fault.
+/// needs no memory, so that no change that was made is reported as a fault.
 #[derive(Drop)]
 pub enum Done {
     /// A text, and the status.
@@ -124,7 +124,7 @@ impl Done {
         Done::Line(line)
     }
 
-    /// The records of a file that would be refused. That there are any is told by the status.
+    /// The records of a file that would be refused. That there are any is reported by the status.
     pub fn reporting(report: Report) -> Done
         ensures text { text_of result ≡ report.text.items }
         ensures status { status_of result ≡ refused_status report.refused }
@@ -173,7 +173,7 @@ impl Done {
         Done::Line(line)
     }
 
-    /// What is told here, with more behind it, and the status of this.
+    /// What is reported here, with more behind it, and the status of this.
     pub fn followed_by(self, alloc: Global, more: &[u8]) -> Result<Done, Fault>
         ensures { TellsAs (text_of self ++ more.now) (status_of self) result }
     {

@@ -47,7 +47,7 @@ fn check_each<S: Shelf>(
     Ok(())
 }
 
-/// A row that was a record when all texts were made, and is none now, is told as a fault of the
+/// A row that was a record when all texts were made, and is none now, is reported as a fault of the
 /// database.
 fn told_late(fault: Fault) -> Fault
     ensures value { result ≡ told_late fault }

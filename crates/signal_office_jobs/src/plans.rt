@@ -37,7 +37,7 @@ fn violations_told(alloc: Global, csv: &[u8], lines: &[usize], explain: bool) ->
     Done::checking(alloc, &violations_in(alloc, csv)?)
 }
 
-/// Tells behind what was told of a plan what an engineer is warned of in it.
+/// Tells behind what was reported of a plan what an engineer is warned of in it.
 fn add_warnings(alloc: Global, csv: &[u8], told: Done) -> Result<Done, Fault>
     ensures { AddsWarnings csv.now told result }
 {
@@ -46,7 +46,7 @@ fn add_warnings(alloc: Global, csv: &[u8], told: Done) -> Result<Done, Fault>
     told.followed_by(alloc, &text)
 }
 
-/// Tells what was told of a plan, and where that is asked its warnings behind it.
+/// Tells what was reported of a plan, and where that is asked its warnings behind it.
 fn add_warnings_if(
     alloc: Global,
     csv: &[u8],

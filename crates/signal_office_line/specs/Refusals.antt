@@ -45,7 +45,7 @@ IsFoundInWords words (Err (fault.Refused error)) =
     IsAmong (kind_of error) (word_refusals words) × (takes signal_app words ≡ true → job_in_words words ≡ Err Unstated)
 IsFoundInWords words (Err fault.NoMemory) = ⊤
 
--- an error of `clap` is told as it is, but out of memory by itself
+-- an error of `clap` is reported as it is, but out of memory by itself
 abbrev pub IsToldAs : Error → JobFault → Type 0
 IsToldAs error told =
     ((kind_of error ≡ kind.OutOfMemory) × (told ≡ fault.NoMemory))
@@ -55,7 +55,7 @@ IsToldAs error told =
 abbrev pub IsWrongNumber : (id : Text) → (least most : ℕ) → (word : Text) → List Row → Type 0
 IsWrongNumber id least most word rows = (first_of id rows ≡ Some word) × (number_from least most id rows ≡ None)
 
--- a refusal that `clap` was asked for is told as it is, or that it was out of memory
+-- a refusal that `clap` was asked for is reported as it is, or that it was out of memory
 abbrev pub IsRefusalTold : Result Error AllocError → JobFault → Type 0
 IsRefusalTold (Ok error) told = told ≡ fault.Refused error
 IsRefusalTold (Err no_memory) told = told ≡ fault.NoMemory
@@ -68,7 +68,7 @@ IsJobFound (Err Unstated) (Err (fault.Refused error)) = kind_of error ≡ kind.V
 IsJobFound (Err Unstated) (Err fault.NoMemory) = ⊤
 IsJobFound _ _ = ⊥
 
--- what is told of the words, by what `clap` answered to them: that, or what is found in it
+-- what is reported of the words, by what `clap` answered to them: that, or what is found in it
 abbrev pub IsJudged : Result ArgMatches Error → Result Job JobFault → Type 0
 IsJudged (Ok matches) result = IsJobFound (job_in (subcommand_rows_of matches)) result
 IsJudged (Err error) (Err told) = IsToldAs error told

@@ -82,7 +82,7 @@ pub enum Request<'a> {
     },
     /// Take the records of a CSV file in turn: all of them, or none. None is taken where one is of
     /// a later day than one that is given, or where they are only tried: then those that would be
-    /// refused are told.
+    /// refused are reported.
     Import {
         csv: CsvFile<'a>,
         until: Option<Day>,
@@ -217,7 +217,7 @@ fn stated<'a>(matches: &ArgMatches<'a>) -> Result<Job<'a>, NoJob>
     }
 }
 
-/// The refusal of a value, by what `clap` answered. Out of memory is told exactly where `clap`
+/// The refusal of a value, by what `clap` answered. Out of memory is reported exactly where `clap`
 /// told it.
 fn value_refused(answer: Result<Error, AllocError>) -> JobFault
     ensures { IsRefusalTold answer result }

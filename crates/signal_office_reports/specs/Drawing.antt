@@ -11,7 +11,7 @@ pub record Draws (plan : Rows) (pattern : ℕ) (text : List ℕ) : Type 0 where
   pub there : IsSome (pattern_at plan pattern)
   pub text_is : text ≡ diagram_text plan pattern
 
--- the plan lacks the pattern, and that is told
+-- the plan lacks the pattern, and that is reported
 abbrev pub LacksPattern : Rows → ℕ → Fault → Type 0
 LacksPattern plan pattern why = (pattern_at plan pattern ≡ None) × (why ≡ told.UnknownPattern)
 

@@ -28,7 +28,7 @@ abbrev pub fault_of_record : ℕ → ℕ → Option Refusal → Fault
 fault_of_record at cause None = told.Refused (refusal.ImportRow at cause)
 fault_of_record at cause (Some why) = told.Record at why
 
--- the fault that is told
+-- the fault that is reported
 abbrev pub fault_of : Refusal → Fault
 fault_of refusal.UnknownIntersection = told.UnknownIntersection
 fault_of refusal.Damaged = told.Damaged

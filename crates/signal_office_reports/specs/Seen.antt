@@ -77,7 +77,7 @@ IsAnswer tables asked it = (¬ MeetsDamage tables asked) × IsNamedRefusal asked
 abbrev pub no_draft : Seen
 no_draft = seen.Reply (reply.Refused (refusal.Draft draft.NotTransaction))
 
--- fewer rows than may be told
+-- fewer rows than may be reported
 abbrev pub IsShort : Seen → (most : ℕ) → Type 0
 IsShort (seen.Reply (reply.Overdue rows)) most = length rows < most
 IsShort other most = Unit {0}

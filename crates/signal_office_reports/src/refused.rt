@@ -1,4 +1,4 @@
-//! How a refusal of the office is told.
+//! How a refusal of the office is reported.
 
 ghost use Rattle.std.specs.Prelude.{◌≡◌};
 ghost use Rattle.signal_office_reports.specs.Refused.{fault_of, record_refusal, with_number};
@@ -45,7 +45,7 @@ fn record_refusal(number: u32) -> Option<Refusal>
     with_number(&OF_RECORDS, number)
 }
 
-/// The fault that is told of a refusal. A refused import tells its first refused record.
+/// The fault that is reported of a refusal. A refused import tells its first refused record.
 pub fn fault_of(refusal: Refusal) -> Fault
     ensures { result ≡ fault_of refusal }
 {

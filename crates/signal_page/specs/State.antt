@@ -11,7 +11,7 @@ use Rattle.office_machine.specs.States.{state_name}
 use Rattle.office_machine.specs.declared.reply.IntersectionState.{IntersectionState}
 use Rattle.signal_page_tables.specs.Words.{isolated}
 
--- ---- what is told
+-- ---- what is reported
 
 -- the verify status of a draft in words
 abbrev pub verdict_words : Verdict → List ℕ
@@ -34,9 +34,9 @@ abbrev pub last_text : Option ℕ → List ℕ
 last_text None = codes "none"
 last_text (Some latest) = day_text latest
 
--- ---- how it is told
+-- ---- how it is reported
 
--- what is told, and its name
+-- what is reported, and its name
 unfoldable pub fact : List ℕ → List ℕ → List ℕ
 fact name value =
     codes "<div><dt>" ++ name ++ codes "</dt><dd>" ++ value ++ codes "</dd></div>\n"

@@ -26,7 +26,7 @@ fn verdict_words(verdict: Verdict) -> &'static str
     }
 }
 
-/// Opens what is told under a name.
+/// Opens what is reported under a name.
 fn open_fact(text: &mut String, name: &str) -> Result<(), AllocError>
     ensures { OnOk result (string_bytes text.new ≡ string_bytes text.old
         ++ (codes "<div><dt>" ++ name.now ++ codes "</dt><dd>")) }

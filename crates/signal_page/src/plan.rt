@@ -220,7 +220,7 @@ fn push_plan_rows(
     }
 }
 
-/// Appends a plan, with what its tables are of and the reasons that are told of it.
+/// Appends a plan, with what its tables are of and the reasons that are reported of it.
 pub(crate) fn push_plan(
     alloc: Global,
     text: &mut String,

@@ -28,7 +28,7 @@ pub(crate) fn coordination_advice(
     Ok(or_all(is_all, phases.len(), apart))
 }
 
-/// What is told of a pattern with coordinated phases that are apart.
+/// What is reported of a pattern with coordinated phases that are apart.
 fn or_all(is_all: bool, phases: usize, apart: Option<Advice>) -> Option<Advice>
     ensures { result ≡ or_all is_all phases apart }
 {
