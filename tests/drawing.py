@@ -22,7 +22,7 @@ LAYERS = {
     "wire": (1, 1, "reads requests (2), writes answers (4)", "machine, no rows",
              ("office_http",)),
     "texts": (0, 2, "CSV, lists, pictures, pages", "plans and replies", (
-        "office_files", "office_spreadsheets", "office_listings", "signal_page", "signal_index",
+        "office_files", "office_spreadsheets", "office_listings", "signal_page",
         "signal_diagram", "signal_compare")),
     "desk": (1, 2, "reads, decides, gives changes (3)", "machine and tables", ("office_desk",)),
     "tables": (1, 3, "eight maps: memory or SQL (5)", "rows and records", ("office_tables",)),

@@ -28,7 +28,7 @@ fn stage_word(stage: Stage) -> &'static str
 }
 
 /// The word for the state of a transaction.
-pub fn state_word(holder: &Option<Holder>) -> &str
+pub fn state_word(holder: &Option<Holder>) -> &'static str
     ensures { result.now ≡ state_word holder.now }
 {
     match holder {

@@ -1,2 +1,9 @@
-pub mod Markup
-pub mod Newest
+mod Alike
+pub mod EntryLemmas
+mod Escaping
+mod Filtered
+mod Newest
+mod Parts
+mod Restored
+mod TableLemmas
+mod Tags
