@@ -21,7 +21,7 @@ cabinet_title id name interval =
 abbrev pub next_line : ℕ → List ℕ
 next_line day = codes "Next inspection due " ++ day_text day ++ codes "\n"
 
--- it is so many days after the latest, whichever was recorded last
+-- the due day: so many days after the latest inspection, whichever was recorded last
 abbrev pub due_line : ℕ → Option ℕ → List ℕ
 due_line interval None = codes "Never inspected\n"
 due_line interval (Some latest) = next_line (latest + interval)
@@ -31,6 +31,7 @@ abbrev pub record_line : (number day : ℕ) → (clerk text : List ℕ) → List
 record_line number day clerk text =
     number_in 6 number ++ codes "  " ++ day_text day ++ codes "  " ++ left_aligned 12 clerk ++ codes "  " ++ text ++ codes "\n"
 
+-- the line of an inspection
 abbrev pub inspection_line : Inspection → List ℕ
 inspection_line r = record_line r.number r.day r.clerk r.text
 
@@ -43,7 +44,7 @@ used_line used =
 abbrev pub closed_line : Closing → List ℕ
 closed_line closing = codes "         closed  " ++ day_text closing.day ++ last_column closing.closer
 
--- where there is one
+-- the line of a closing, where there is one
 abbrev pub closing_line : Option Closing → List ℕ
 closing_line None = []
 closing_line (Some closing) = closed_line closing
@@ -54,11 +55,12 @@ order_lines lines r =
     record_line r.number r.opened r.clerk r.text ++ flat_map used_line (filter (is_line_of r.number) lines)
     ++ closing_line r.closing
 
--- the two sections, each with its heading
+-- the section of inspections with its heading
 abbrev pub inspections_section : List Inspection → List ℕ
 inspections_section inspections =
     codes "Inspections\n    No  Day         Clerk         Text\n" ++ flat_map inspection_line inspections
 
+-- the section of orders with its heading
 abbrev pub orders_section : List UsedLine → List Order → List ℕ
 orders_section lines orders =
     codes "Orders\n    No  Day         Clerk         Text\n" ++ flat_map (order_lines lines) orders

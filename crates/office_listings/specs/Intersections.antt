@@ -7,22 +7,23 @@ use Rattle.office_files.specs.Csv.{csv_text}
 use Rattle.office_machine.specs.declared.intersections.ListedIntersection.{ListedIntersection}
 use Rattle.office_listings.specs.Columns.{left_aligned, number_in, count_line}
 
--- the state of its transaction
+-- the state in which a clerk holds a draft
 abbrev pub stage_word : Stage → List ℕ
 stage_word Transaction = codes "transaction"
 stage_word Verify = codes "verify"
 stage_word Done = codes "done"
 
+-- the state of the transaction of an intersection by who holds its draft
 abbrev pub state_word : Option Holder → List ℕ
 state_word None = codes "normal"
 state_word (Some holder) = stage_word holder.stage
 
--- who holds its draft, or a dash
+-- who holds the draft of an intersection, or a dash
 abbrev pub owner_word : Option Holder → List ℕ
 owner_word None = codes "-"
 owner_word (Some holder) = holder.owner
 
--- in a record nothing stands for nobody, since a clerk may be called by a dash
+-- who holds a draft, in a record: nothing stands for nobody, since a clerk may be called by a dash
 abbrev pub owner_field : Option Holder → List ℕ
 owner_field None = []
 owner_field (Some holder) = holder.owner
@@ -44,11 +45,11 @@ intersections_listing list =
     codes "    No     Rev  State        Owner         Rows  Days  Name\n" ++ flat_map intersection_line list
     ++ count_line (length list)
 
--- the fields of one
+-- the fields of an intersection
 abbrev pub intersection_fields : ListedIntersection → List (List ℕ)
 intersection_fields i =
     decimal i.id ∷ decimal i.revision ∷ state_word i.holder ∷ owner_field i.holder ∷ decimal i.rows ∷ i.name ∷ decimal i.interval ∷ []
 
--- a record for each
+-- the CSV file: a record for each
 abbrev pub intersections_csv_text : List ListedIntersection → List ℕ
 intersections_csv_text list = csv_text (map intersection_fields list)

@@ -12,6 +12,7 @@ greatest_of (n ∷ ns) = max n (greatest_of ns)
 abbrev pub next_after : ℕ → Option ℕ
 next_after greatest = if nat_lt greatest 999_999 then Some (greatest + 1) else None
 
+-- the next free number of records with these numbers
 abbrev pub next_number : List ℕ → Option ℕ
 next_number numbers = next_after (greatest_of numbers)
 

@@ -17,10 +17,11 @@ order_on id order = record { id = id; order = order }
 abbrev pub open_orders : CabinetShown → List OpenOrder
 open_orders cabinet = map (order_on cabinet.id) (filter is_open cabinet.view.orders)
 
--- the same with the name of their intersection
+-- an order with the number and the name of its intersection
 abbrev pub order_named : List ℕ → ℕ → Order → NamedOrder
 order_named name id order = record { name = name; listed = order_on id order }
 
+-- the open orders of a cabinet by their numbers, with the name of its intersection
 abbrev pub named_orders : List ℕ → CabinetShown → List NamedOrder
 named_orders name cabinet = map (order_named name cabinet.id) (filter is_open cabinet.view.orders)
 
@@ -40,21 +41,22 @@ orders_listing orders =
     codes "    No   Order  Opened      Clerk         Text\n" ++ flat_map open_order_line orders
     ++ count_line (length orders)
 
--- the same with names, left in 24 places
+-- the line of an order with the name of its intersection, left in 24 places
 abbrev pub named_order_line : NamedOrder → List ℕ
 named_order_line o =
     open_order_columns o.listed ++ codes "  " ++ left_aligned 24 o.name ++ codes "  " ++ o.listed.order.text ++ codes "\n"
 
+-- the heading, a line with the name for each order, and their count
 abbrev pub named_orders_listing : List NamedOrder → List ℕ
 named_orders_listing orders =
     codes "    No   Order  Opened      Clerk         Name                      Text\n"
     ++ flat_map named_order_line orders ++ count_line (length orders)
 
--- the fields of one
+-- the fields of an order
 abbrev pub named_order_fields : NamedOrder → List (List ℕ)
 named_order_fields o =
     decimal o.listed.id ∷ o.name ∷ decimal o.listed.order.number ∷ day_text o.listed.order.opened ∷ o.listed.order.clerk ∷ o.listed.order.text ∷ []
 
--- a record for each
+-- the CSV file: a record for each
 abbrev pub orders_csv_text : List NamedOrder → List ℕ
 orders_csv_text orders = csv_text (map named_order_fields orders)

@@ -4,7 +4,7 @@ use Rattle.cabinet_core.specs.Day.{day_text}
 use Rattle.cabinet_core.specs.declared.overdue_inspections.OverdueRow.{OverdueRow}
 use Rattle.office_files.specs.Csv.{csv_text}
 
--- the day on which one fell due; nothing where there never was one
+-- the day on which an inspection fell due; nothing where there never was one
 abbrev pub due_field : Option ℕ → List ℕ
 due_field None = []
 due_field (Some due) = day_text due
@@ -13,6 +13,6 @@ due_field (Some due) = day_text due
 abbrev pub overdue_fields : OverdueRow → List (List ℕ)
 overdue_fields row = decimal row.id ∷ row.name ∷ due_field row.due ∷ []
 
--- a record for each
+-- the CSV file: a record for each
 abbrev pub overdue_csv_text : List OverdueRow → List ℕ
 overdue_csv_text rows = csv_text (map overdue_fields rows)

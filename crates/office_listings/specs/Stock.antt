@@ -16,6 +16,6 @@ stock_listing parts =
 abbrev pub part_fields : List ℕ × ℕ → List (List ℕ)
 part_fields part = part.0 ∷ decimal part.1 ∷ []
 
--- a record for each
+-- the CSV file: a record for each
 abbrev pub stock_csv_text : List (List ℕ × ℕ) → List ℕ
 stock_csv_text parts = csv_text (map part_fields parts)

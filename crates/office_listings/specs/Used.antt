@@ -31,6 +31,7 @@ used_in_order part id lines order = map (used_for id order) (filter (is_used_in 
 abbrev pub used_by : Option (List ℕ) → ℕ → List UsedLine → List Order → List UsedPart
 used_by part id lines orders = flat_map (used_in_order part id lines) orders
 
+-- what was used on the orders of a cabinet: all, or of a part
 abbrev pub used_on : Option (List ℕ) → CabinetShown → List UsedPart
 used_on part cabinet = used_by part cabinet.id cabinet.view.lines cabinet.view.orders
 
@@ -49,11 +50,11 @@ used_listing list =
     codes "Part                    No   Order  Opened       Line   Count  Clerk\n" ++ flat_map used_part_line list
     ++ count_line (length list)
 
--- the fields of one
+-- the fields of a used part
 abbrev pub used_part_fields : UsedPart → List (List ℕ)
 used_part_fields u =
     u.used.part ∷ decimal u.id ∷ decimal u.used.order ∷ day_text u.opened ∷ decimal u.used.line ∷ decimal u.used.count ∷ u.clerk ∷ []
 
--- a record for each
+-- the CSV file: a record for each
 abbrev pub used_csv_text : List UsedPart → List ℕ
 used_csv_text list = csv_text (map used_part_fields list)

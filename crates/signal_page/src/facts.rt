@@ -5,7 +5,7 @@ ghost use Rattle.cabinet_core.specs.Overdue.{latest_day};
 ghost use Rattle.signal_page.specs.Facts.{cabinet_facts, draft_facts, due_day, fact, owner_node, verdict_words};
 ghost use Rattle.signal_page.specs.Nodes.{html, shown_by};
 
-use crate::nodes::{Node, push_nodes};
+use crate::nodes::{Node, push_node, push_own};
 use cabinet_core::{Date, Day, Inspection, Order, due, latest, open_count};
 use draft_core::state::Verdict;
 use office_machine::reply::{IntersectionState, state_name};
@@ -53,21 +53,15 @@ pub(crate) fn due_day(interval: Interval, latest: Option<Day>) -> Option<Date>
 }
 
 /// Appends what is told, and its name.
-#[tactic(auto, unfolding(crate::specs::Facts::fact))]
-fn push_fact(text: &mut String, name: &'static str, told: Node<'_>) -> Result<(), AllocError>
+fn push_fact(text: &mut String, name: &'static str, told: &Node<'_>) -> Result<(), AllocError>
     ensures { OnOk result (string_bytes text.new
-        ≡ string_bytes text.old ++ html (fact name.now (shown_by told))) }
+        ≡ string_bytes text.old ++ html (fact name.now (shown_by told.now))) }
 {
-    push_nodes(
-        text,
-        &[
-            Node::Own("<div><dt>"),
-            Node::Own(name),
-            Node::Own("</dt><dd>"),
-            told,
-            Node::Own("</dd></div>\n"),
-        ],
-    )
+    push_own(text, "<div><dt>")?;
+    push_own(text, name)?;
+    push_own(text, "</dt><dd>")?;
+    push_node(text, told)?;
+    push_own(text, "</dd></div>\n")
 }
 
 /// Appends how the plan and its draft stand.
@@ -79,19 +73,19 @@ pub(crate) fn push_draft_facts(
     ensures { OnOk result (string_bytes text.new
         ≡ string_bytes text.old ++ html (draft_facts state.now)) }
 {
-    push_fact(text, "State", Node::Own(state_name(state.state)))?;
-    push_fact(text, "Draft of", owner_node(&state.owner))?;
+    push_fact(text, "State", &Node::Own(state_name(state.state)))?;
+    push_fact(text, "Draft of", &owner_node(&state.owner))?;
     push_fact(
         text,
         "Verify status",
-        Node::Own(verdict_words(state.verify)),
+        &Node::Own(verdict_words(state.verify)),
     )?;
     push_fact(
         text,
         "Revision",
-        Node::Number(u64::from(state.revision.get())),
+        &Node::Number(u64::from(state.revision.get())),
     )?;
-    push_fact(text, "Committed rows", Node::Number(state.rows as u64))
+    push_fact(text, "Committed rows", &Node::Number(state.rows as u64))
 }
 
 /// Appends how the cabinet stands.
@@ -106,11 +100,15 @@ pub(crate) fn push_cabinet_facts(
         ++ html (cabinet_facts interval (latest_day inspections.now) orders.now)) }
 {
     let latest = latest(inspections);
-    push_fact(text, "Last inspection", Node::Last(date_of(latest)))?;
+    push_fact(text, "Last inspection", &Node::Last(date_of(latest)))?;
     push_fact(
         text,
         "Next inspection due",
-        Node::Due(due_day(interval, latest), false),
+        &Node::Due(due_day(interval, latest), false),
     )?;
-    push_fact(text, "Open orders", Node::Number(open_count(orders) as u64))
+    push_fact(
+        text,
+        "Open orders",
+        &Node::Number(open_count(orders) as u64),
+    )
 }

@@ -15,7 +15,11 @@ use signal_records::{Interval, NoMemory};
 use std::alloc::AllocError;
 
 /// Appends the row of an open order.
-fn push_open(text: &mut String, lines: &[UsedLine], order: &Order) -> Result<(), AllocError>
+fn push_open<'a>(
+    text: &mut String,
+    lines: &'a [UsedLine],
+    order: &'a Order,
+) -> Result<(), AllocError>
     ensures { OnOk result (string_bytes text.new
         ≡ string_bytes text.old ++ html (line_nodes (open_row lines.now order.now))) }
 {
@@ -32,11 +36,11 @@ fn push_open(text: &mut String, lines: &[UsedLine], order: &Order) -> Result<(),
 }
 
 /// Appends the row of an order with its closing.
-fn push_closed(
+fn push_closed<'a>(
     text: &mut String,
-    lines: &[UsedLine],
-    order: &Order,
-    closing: &Closing,
+    lines: &'a [UsedLine],
+    order: &'a Order,
+    closing: &'a Closing,
 ) -> Result<(), AllocError>
     ensures { OnOk result (string_bytes text.new ≡ string_bytes text.old
         ++ html (line_nodes (Row (order_cells lines.now order.now
