@@ -1,4 +1,5 @@
 mod Alike
+mod Chains
 pub mod EntryLemmas
 mod Escaping
 mod Filtered

@@ -1,5 +1,5 @@
 -- A plan in the page: the pictures of its patterns, and its tables.
-use Rattle.std.specs.Prelude.{ℕ, ◌+◌, ◌&&◌, nat_lt, Bool, if◌then◌else◌, List, [], ◌∷◌, ◌++◌, flat_map, length, codes, Option, Some}
+use Rattle.std.specs.Prelude.{ℕ, ◌+◌, ◌==◌, ◌&&◌, nat_lt, Bool, if◌then◌else◌, List, [], ◌∷◌, ◌++◌, flat_map, length, codes, Option, Some}
 use Rattle.std.specs.FinMap.{values}
 use Rattle.signal_diagram.specs.Diagram.{figure_text}
 use Rattle.signal_records.specs.declared.record.Pattern.{Pattern}
@@ -57,9 +57,9 @@ pictures set rows = flat_map (picture_for set rows) rows
 
 -- a plan of some rows, with what its tables are of
 abbrev pub plan_rows : List ℕ → List Explained → Rows → List Row → List Shown
-plan_rows whose reasons set [] = Own (codes "<p class='none'>It has no rows.</p>\n") ∷ []
-plan_rows whose reasons set (row ∷ rows) =
-    pictures set (row ∷ rows) ++ plan_tables whose set reasons (row ∷ rows)
+plan_rows whose reasons set rows =
+    if length rows == 0 then Own (codes "<p class='none'>It has no rows.</p>\n") ∷ []
+    else pictures set rows ++ plan_tables whose set reasons rows
 
 -- a plan, with the reasons of the rules that it breaks
 abbrev pub plan_part : List ℕ → List Explained → Rows → List Shown
@@ -67,7 +67,7 @@ plan_part whose reasons set = plan_rows whose reasons set (values set)
 
 -- how many rules are broken
 abbrev pub reasons_note : List Explained → List Shown
-reasons_note [] = Own (codes "<p class='sound'>It breaks no rule.</p>\n") ∷ []
-reasons_note (broken ∷ more) =
-    Own (codes "<p class='broken'>Broken rules: ") ∷ Number (length (broken ∷ more))
+reasons_note reasons =
+    if length reasons == 0 then Own (codes "<p class='sound'>It breaks no rule.</p>\n") ∷ []
+    else Own (codes "<p class='broken'>Broken rules: ") ∷ Number (length reasons)
     ∷ Own (codes ". Each stands below its row, with the reason.</p>\n") ∷ []

@@ -36,20 +36,19 @@ pub(crate) const BODY: &str = "\
 <h1>";
 
 /// Appends the head of a page, by its title and what stands after the style.
-#[tactic(auto, unfolding(crate::specs::Page::page_head))]
 pub(crate) fn push_head(
     text: &mut String,
     title: &[Node<'_>],
-    after: &str,
+    after: &'static str,
 ) -> Result<(), AllocError>
     ensures { OnOk result (string_bytes text.new
         ≡ string_bytes text.old ++ html (page_head (shown_of title.now) after.now)) }
 {
-    text.push_str(HEAD)?;
+    push_own(text, HEAD)?;
     push_nodes(text, title)?;
-    text.push_str("</title>\n<style>\n")?;
-    text.push_str(STYLE)?;
-    text.push_str(after)
+    push_own(text, "</title>\n<style>\n")?;
+    push_own(text, STYLE)?;
+    push_own(text, after)
 }
 
 /// Ends a page.
@@ -68,7 +67,6 @@ fn link_if(wanted: bool, link: &'static str) -> &'static str
 }
 
 /// Appends links to the index, where that is wanted, and to the parts of the page.
-#[tactic(auto, unfolding(crate::specs::Page::links))]
 fn push_links(text: &mut String, linked: bool, drafted: bool) -> Result<(), AllocError>
     ensures { OnOk result (string_bytes text.new
         ≡ string_bytes text.old ++ html (links linked drafted)) }
@@ -90,7 +88,6 @@ fn push_links(text: &mut String, linked: bool, drafted: bool) -> Result<(), Allo
 }
 
 /// Appends the head of the page of an intersection, and its heading.
-#[tactic(auto, unfolding(crate::specs::Page::heading))]
 fn push_heading(text: &mut String, shown: &IntersectionShown) -> Result<(), AllocError>
     ensures { OnOk result (string_bytes text.new ≡ string_bytes text.old
         ++ html (heading shown.now)) }
@@ -120,7 +117,6 @@ fn push_heading(text: &mut String, shown: &IntersectionShown) -> Result<(), Allo
 }
 
 /// Appends what stands above the plan.
-#[tactic(auto, unfolding(crate::specs::Page::header))]
 fn push_header(text: &mut String, linked: bool, shown: &IntersectionShown) -> Result<(), AllocError>
     ensures { OnOk result (string_bytes text.new
         ≡ string_bytes text.old ++ html (header linked shown.now)) }
@@ -134,7 +130,6 @@ fn push_header(text: &mut String, linked: bool, shown: &IntersectionShown) -> Re
 }
 
 /// Appends the committed plan.
-#[tactic(auto, unfolding(crate::specs::Page::plan_section))]
 fn push_plan_section(
     alloc: Global,
     text: &mut String,
@@ -143,11 +138,12 @@ fn push_plan_section(
     ensures { OnOk result (string_bytes text.new
         ≡ string_bytes text.old ++ html (plan_section committed.now)) }
 {
-    text.push_str(
+    push_own(
+        text,
         "<section id='plan' aria-labelledby='plan-title'>\n<h2 id='plan-title'>The committed plan</h2>\n",
     )?;
     push_plan(alloc, text, " of the committed plan", &[], committed)?;
-    text.push_str("</section>\n")
+    push_own(text, "</section>\n")
 }
 
 /// Appends a draft, how many rules it breaks, and what it changes.
@@ -192,16 +188,16 @@ fn push_draft_section(
 }
 
 /// Appends the register of the cabinet.
-#[tactic(auto, unfolding(crate::specs::Page::cabinet_section))]
 fn push_cabinet_section(text: &mut String, shown: &IntersectionShown) -> Result<(), AllocError>
     ensures { OnOk result (string_bytes text.new
         ≡ string_bytes text.old ++ html (cabinet_section shown.now)) }
 {
-    text.push_str(
+    push_own(
+        text,
         "<section id='cabinet' aria-labelledby='cabinet-title'>\n<h2 id='cabinet-title'>The cabinet</h2>\n",
     )?;
     push_register(text, shown.state.interval, &shown.cabinet.view)?;
-    text.push_str("</section>\n")
+    push_own(text, "</section>\n")
 }
 
 /// What the draft changes of the committed plan; nothing where there is none.

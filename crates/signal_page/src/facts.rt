@@ -100,12 +100,9 @@ pub(crate) fn push_cabinet_facts(
         ++ html (cabinet_facts interval (latest_day inspections.now) orders.now)) }
 {
     let latest = latest(inspections);
+    let next = Node::Due(due_day(interval, latest), false);
     push_fact(text, "Last inspection", &Node::Last(date_of(latest)))?;
-    push_fact(
-        text,
-        "Next inspection due",
-        &Node::Due(due_day(interval, latest), false),
-    )?;
+    push_fact(text, "Next inspection due", &next)?;
     push_fact(
         text,
         "Open orders",

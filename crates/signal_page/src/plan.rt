@@ -5,7 +5,7 @@ ghost use Rattle.signal_diagram.specs.Diagram.{figure_text};
 ghost use Rattle.signal_page.specs.Nodes.{html};
 ghost use Rattle.signal_page.specs.Plan.{cut_note, cut_note_of, cut_words, is_cut, picture_for, pictures, plan_part, plan_rows, reasons_note, whole_figure};
 
-use crate::nodes::{Node, push_nodes};
+use crate::nodes::{Node, push_nodes, push_own};
 use crate::rows::push_plan_tables;
 use signal_diagram::figure;
 use signal_records::{NoMemory, Pattern, PatternNo, Ped, PhaseNo, Row, Split, TimingSet};
@@ -97,7 +97,6 @@ fn push_cut_notes(
 }
 
 /// Appends the picture of a pattern, and what it cannot show.
-#[tactic(auto, unfolding(crate::specs::Plan::whole_figure))]
 fn push_whole_figure(
     alloc: Global,
     text: &mut String,
@@ -109,10 +108,10 @@ fn push_whole_figure(
     ensures { OnOk result (string_bytes text.new
         ≡ string_bytes text.old ++ html (whole_figure set.now rows.now n pattern.now)) }
 {
-    text.push_str("<figure tabindex='0'>\n")?;
+    push_own(text, "<figure tabindex='0'>\n")?;
     push_figure(alloc, text, set, n)?;
     push_cut_notes(text, set, pattern, rows)?;
-    text.push_str("</figure>\n")
+    push_own(text, "</figure>\n")
 }
 
 /// Appends the pictures of all patterns.

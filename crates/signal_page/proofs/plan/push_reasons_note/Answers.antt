@@ -1,0 +1,5 @@
+use Rattle.std.proofs.Common.{sym, ◌∙◌}
+use Rattle.signal_page.proofs.plan.push_reasons_note.Goals as goal
+
+pub returns : goal.returns
+returns c = rw (sym c.is_empty.ensures ∙ c.if-is_empty.false) c.push_nodes.ensures
