@@ -2,10 +2,10 @@
 
 ghost use Rattle.std.specs.Prelude.{◌≡◌, ◌++◌, OnOk, string_bytes};
 ghost use Rattle.cabinet_core.specs.Overdue.{latest_day};
-ghost use Rattle.signal_page.specs.Facts.{cabinet_facts, draft_facts, due_day, fact, owner_node, verdict_words};
+ghost use Rattle.signal_page.specs.Facts.{cabinet_facts, draft_facts, due_day, owner_node, verdict_words};
 ghost use Rattle.signal_page.specs.Nodes.{html, shown_by};
 
-use crate::nodes::{Node, push_node, push_own};
+use crate::nodes::{Node, push_nodes};
 use cabinet_core::{Date, Day, Inspection, Order, due, latest, open_count};
 use draft_core::state::Verdict;
 use office_machine::reply::{IntersectionState, state_name};
@@ -52,20 +52,7 @@ pub(crate) fn due_day(interval: Interval, latest: Option<Day>) -> Option<Date>
     }
 }
 
-/// Appends what is told, and its name.
-fn push_fact(text: &mut String, name: &'static str, told: &Node<'_>) -> Result<(), AllocError>
-    ensures { OnOk result (string_bytes text.new
-        ≡ string_bytes text.old ++ html (fact name.now (shown_by told.now))) }
-{
-    push_own(text, "<div><dt>")?;
-    push_own(text, name)?;
-    push_own(text, "</dt><dd>")?;
-    push_node(text, told)?;
-    push_own(text, "</dd></div>\n")
-}
-
 /// Appends how the plan and its draft stand.
-#[tactic(auto, unfolding(crate::specs::Facts::draft_facts))]
 pub(crate) fn push_draft_facts(
     text: &mut String,
     state: &IntersectionState,
@@ -73,23 +60,25 @@ pub(crate) fn push_draft_facts(
     ensures { OnOk result (string_bytes text.new
         ≡ string_bytes text.old ++ html (draft_facts state.now)) }
 {
-    push_fact(text, "State", &Node::Own(state_name(state.state)))?;
-    push_fact(text, "Draft of", &owner_node(&state.owner))?;
-    push_fact(
+    push_nodes(
         text,
-        "Verify status",
-        &Node::Own(verdict_words(state.verify)),
-    )?;
-    push_fact(
-        text,
-        "Revision",
-        &Node::Number(u64::from(state.revision.get())),
-    )?;
-    push_fact(text, "Committed rows", &Node::Number(state.rows as u64))
+        &[
+            Node::Own("<div><dt>State</dt><dd>"),
+            Node::Own(state_name(state.state)),
+            Node::Own("</dd></div>\n<div><dt>Draft of</dt><dd>"),
+            owner_node(&state.owner),
+            Node::Own("</dd></div>\n<div><dt>Verify status</dt><dd>"),
+            Node::Own(verdict_words(state.verify)),
+            Node::Own("</dd></div>\n<div><dt>Revision</dt><dd>"),
+            Node::Number(u64::from(state.revision.get())),
+            Node::Own("</dd></div>\n<div><dt>Committed rows</dt><dd>"),
+            Node::Number(state.rows as u64),
+            Node::Own("</dd></div>\n"),
+        ],
+    )
 }
 
 /// Appends how the cabinet stands.
-#[tactic(auto, unfolding(crate::specs::Facts::cabinet_facts))]
 pub(crate) fn push_cabinet_facts(
     text: &mut String,
     interval: Interval,
@@ -99,13 +88,18 @@ pub(crate) fn push_cabinet_facts(
     ensures { OnOk result (string_bytes text.new ≡ string_bytes text.old
         ++ html (cabinet_facts interval (latest_day inspections.now) orders.now)) }
 {
-    let latest = latest(inspections);
-    let next = Node::Due(due_day(interval, latest), false);
-    push_fact(text, "Last inspection", &Node::Last(date_of(latest)))?;
-    push_fact(text, "Next inspection due", &next)?;
-    push_fact(
+    let last = date_of(latest(inspections));
+    let due = due_day(interval, latest(inspections));
+    push_nodes(
         text,
-        "Open orders",
-        &Node::Number(open_count(orders) as u64),
+        &[
+            Node::Own("<div><dt>Last inspection</dt><dd>"),
+            Node::Last(last),
+            Node::Own("</dd></div>\n<div><dt>Next inspection due</dt><dd>"),
+            Node::Due(due, false),
+            Node::Own("</dd></div>\n<div><dt>Open orders</dt><dd>"),
+            Node::Number(open_count(orders) as u64),
+            Node::Own("</dd></div>\n"),
+        ],
     )
 }
