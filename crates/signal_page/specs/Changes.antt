@@ -32,7 +32,7 @@ kind_changes runs draft differences kind =
     flat_map (change_lines runs draft) (filter (is_change_of kind) differences)
 
 -- the table of a kind, where a row of the kind changes
-abbrev pub change_table : Rows → Rows → List Difference → Kind → List Shown
+unfoldable pub change_table : Rows → Rows → List Difference → Kind → List Shown
 change_table runs draft differences kind =
     if list_any (is_change_of kind) differences
     then table (name_of kind) (codes " that change") (Words (codes "Change") ∷ columns kind)
@@ -40,7 +40,7 @@ change_table runs draft differences kind =
     else []
 
 -- that nothing changes, where that is so
-abbrev pub no_changes : List Difference → List Shown
+unfoldable pub no_changes : List Difference → List Shown
 no_changes [] = Own (codes "<p>It changes nothing of the committed plan.</p>\n") ∷ []
 no_changes (difference ∷ more) = []
 

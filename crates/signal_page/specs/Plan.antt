@@ -56,7 +56,7 @@ pictures set rows = flat_map (picture_for set rows) rows
 -- ---- the plan
 
 -- a plan of some rows, with what its tables are of
-abbrev pub plan_rows : List ℕ → List Explained → Rows → List Row → List Shown
+unfoldable pub plan_rows : List ℕ → List Explained → Rows → List Row → List Shown
 plan_rows whose reasons set rows =
     if length rows == 0 then Own (codes "<p class='none'>It has no rows.</p>\n") ∷ []
     else pictures set rows ++ plan_tables whose set reasons rows
@@ -66,7 +66,7 @@ abbrev pub plan_part : List ℕ → List Explained → Rows → List Shown
 plan_part whose reasons set = plan_rows whose reasons set (values set)
 
 -- how many rules are broken
-abbrev pub reasons_note : List Explained → List Shown
+unfoldable pub reasons_note : List Explained → List Shown
 reasons_note reasons =
     if length reasons == 0 then Own (codes "<p class='sound'>It breaks no rule.</p>\n") ∷ []
     else Own (codes "<p class='broken'>Broken rules: ") ∷ Number (length reasons)

@@ -134,6 +134,7 @@ fn push_whole_change_table(
 }
 
 /// Appends the table of the changes of a kind, where there are any.
+#[tactic(auto, unfolding(crate::specs::Changes::change_table))]
 fn push_change_table(
     alloc: Global,
     text: &mut String,
@@ -153,6 +154,7 @@ fn push_change_table(
 }
 
 /// Appends that there is no change, where that is so.
+#[tactic(auto, unfolding(crate::specs::Changes::no_changes))]
 fn push_no_changes(text: &mut String, differences: &[Difference]) -> Result<(), AllocError>
     ensures { OnOk result (string_bytes text.new ≡ string_bytes text.old
         ++ html (no_changes differences.now)) }

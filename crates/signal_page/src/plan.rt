@@ -133,6 +133,7 @@ fn push_pictures(
 }
 
 /// Appends a plan by its rows.
+#[tactic(auto, unfolding(crate::specs::Plan::plan_rows))]
 fn push_plan_rows(
     alloc: Global,
     text: &mut String,
@@ -167,6 +168,7 @@ pub(crate) fn push_plan(
 }
 
 /// Appends how many rules are broken.
+#[tactic(auto, unfolding(crate::specs::Plan::reasons_note))]
 pub(crate) fn push_reasons_note(text: &mut String, reasons: &[Explained]) -> Result<(), AllocError>
     ensures { OnOk result (string_bytes text.new
         ≡ string_bytes text.old ++ html (reasons_note reasons.now)) }
