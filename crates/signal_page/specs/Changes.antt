@@ -45,9 +45,14 @@ no_changes [] = Own (codes "<p>It changes nothing of the committed plan.</p>\n")
 no_changes (difference ∷ more) = []
 
 -- the tables of changes, or that there is none
+unfoldable pub change_tables : Rows → Rows → List Difference → List Shown
+change_tables runs draft differences =
+    no_changes differences ++ change_table runs draft differences Patterns
+    ++ change_table runs draft differences Sequences ++ change_table runs draft differences Splits
+    ++ change_table runs draft differences Phases
+
+-- what a draft changes, in a box with its heading
 unfoldable pub changes_part : Rows → Rows → List Difference → List Shown
 changes_part runs draft differences =
-    Own (codes "<div class='changes'>\n<h3>What it changes</h3>\n") ∷ [] ++ no_changes differences
-    ++ change_table runs draft differences Patterns ++ change_table runs draft differences Sequences
-    ++ change_table runs draft differences Splits ++ change_table runs draft differences Phases
-    ++ Own (codes "</div>\n") ∷ []
+    Own (codes "<div class='changes'>\n<h3>What it changes</h3>\n")
+    ∷ (change_tables runs draft differences ++ Own (codes "</div>\n") ∷ [])

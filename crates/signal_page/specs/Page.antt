@@ -66,13 +66,17 @@ plan_section committed =
     Own (codes "<section id='plan' aria-labelledby='plan-title'>\n<h2 id='plan-title'>The committed plan</h2>\n")
     ∷ (plan_part (codes " of the committed plan") [] committed ++ Own (codes "</section>\n") ∷ [])
 
--- a draft, how many rules it breaks, and what it changes
+-- how many rules a draft breaks, what it changes, and the whole of it
+unfoldable pub draft_body : Rows → Rows → List Difference → List Explained → List Shown
+draft_body committed draft differences reasons =
+    reasons_note reasons ++ changes_part committed draft differences
+    ++ Own (codes "<h3>The whole draft</h3>\n") ∷ [] ++ plan_part (codes " of the draft") reasons draft
+
+-- a draft, in a section with its heading
 unfoldable pub open_draft : Rows → Rows → List Difference → List Explained → List Shown
 open_draft committed draft differences reasons =
-    Own (codes "<section id='draft' aria-labelledby='draft-title'>\n<h2 id='draft-title'>The draft</h2>\n") ∷ []
-    ++ reasons_note reasons ++ changes_part committed draft differences
-    ++ Own (codes "<h3>The whole draft</h3>\n") ∷ [] ++ plan_part (codes " of the draft") reasons draft
-    ++ Own (codes "</section>\n") ∷ []
+    Own (codes "<section id='draft' aria-labelledby='draft-title'>\n<h2 id='draft-title'>The draft</h2>\n")
+    ∷ (draft_body committed draft differences reasons ++ Own (codes "</section>\n") ∷ [])
 
 -- the draft, where there is one
 abbrev pub draft_section : Rows → Option Rows → List Difference → List Explained → List Shown

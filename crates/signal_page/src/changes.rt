@@ -2,7 +2,7 @@
 
 ghost use Rattle.std.specs.Prelude.{◌≡◌, ◌∷◌, ◌++◌, OnOk, codes, string_bytes};
 ghost use Rattle.std.specs.List.{list_any};
-ghost use Rattle.signal_page.specs.Changes.{change_lines, change_table, changes_part, is_change_of, kind_changes, no_changes};
+ghost use Rattle.signal_page.specs.Changes.{change_lines, change_table, change_tables, changes_part, is_change_of, kind_changes, no_changes};
 ghost use Rattle.signal_page.specs.Nodes.{html};
 ghost use Rattle.signal_page.specs.Rows.{cells_of, columns, name_of};
 ghost use Rattle.signal_page.specs.Tables.{cells_beside, change_opening, headings, lines_nodes, row_of, rows_beginning, table, table_beginning, Words};
@@ -167,6 +167,24 @@ fn push_no_changes(text: &mut String, differences: &[Difference]) -> Result<(), 
 }
 
 /// Appends the tables of changes, or that there is none.
+fn push_change_tables(
+    alloc: Global,
+    text: &mut String,
+    runs: &TimingSet,
+    draft: &TimingSet,
+    differences: &[Difference],
+) -> Result<(), NoMemory>
+    ensures { OnOk result (string_bytes text.new ≡ string_bytes text.old
+        ++ html (change_tables runs.now draft.now differences.now)) }
+{
+    push_no_changes(text, differences)?;
+    push_change_table(alloc, text, Kind::Patterns, runs, draft, differences)?;
+    push_change_table(alloc, text, Kind::Sequences, runs, draft, differences)?;
+    push_change_table(alloc, text, Kind::Splits, runs, draft, differences)?;
+    push_change_table(alloc, text, Kind::Phases, runs, draft, differences)
+}
+
+/// Appends what a draft changes, in a box with its heading.
 pub(crate) fn push_changes_part(
     alloc: Global,
     text: &mut String,
@@ -178,10 +196,6 @@ pub(crate) fn push_changes_part(
         ++ html (changes_part runs.now draft.now differences.now)) }
 {
     push_own(text, "<div class='changes'>\n<h3>What it changes</h3>\n")?;
-    push_no_changes(text, differences)?;
-    push_change_table(alloc, text, Kind::Patterns, runs, draft, differences)?;
-    push_change_table(alloc, text, Kind::Sequences, runs, draft, differences)?;
-    push_change_table(alloc, text, Kind::Splits, runs, draft, differences)?;
-    push_change_table(alloc, text, Kind::Phases, runs, draft, differences)?;
+    push_change_tables(alloc, text, runs, draft, differences)?;
     push_own(text, "</div>\n")
 }

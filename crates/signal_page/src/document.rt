@@ -2,7 +2,7 @@
 
 ghost use Rattle.std.specs.Prelude.{◌≡◌, ◌++◌, ℕ, List, OnOk, IfOk, is_some, string_bytes};
 ghost use Rattle.signal_page.specs.Nodes.{IsHtml, html, shown_of};
-ghost use Rattle.signal_page.specs.Page.{AreChanges, AreDraftReasons, IsPage, IsPlanPage, cabinet_section, draft_section, page_head, header, heading, link_if, links, open_draft, page, page_end, plan_page, plan_section};
+ghost use Rattle.signal_page.specs.Page.{AreChanges, AreDraftReasons, IsPage, IsPlanPage, cabinet_section, draft_body, draft_section, page_head, header, heading, link_if, links, open_draft, page, page_end, plan_page, plan_section};
 ghost use Rattle.signal_page.specs.Words.{escaped, unescaped};
 
 use crate::changes::push_changes_part;
@@ -146,7 +146,25 @@ fn push_plan_section(
     push_own(text, "</section>\n")
 }
 
-/// Appends a draft, how many rules it breaks, and what it changes.
+/// Appends how many rules a draft breaks, what it changes, and the whole of it.
+fn push_draft_body(
+    alloc: Global,
+    text: &mut String,
+    committed: &TimingSet,
+    draft: &TimingSet,
+    differences: &[Difference],
+    reasons: &[Explained],
+) -> Result<(), NoMemory>
+    ensures { OnOk result (string_bytes text.new ≡ string_bytes text.old
+        ++ html (draft_body committed.now draft.now differences.now reasons.now)) }
+{
+    push_reasons_note(text, reasons)?;
+    push_changes_part(alloc, text, committed, draft, differences)?;
+    push_own(text, "<h3>The whole draft</h3>\n")?;
+    push_plan(alloc, text, " of the draft", reasons, draft)
+}
+
+/// Appends a draft, in a section with its heading.
 fn push_open_draft(
     alloc: Global,
     text: &mut String,
@@ -162,10 +180,7 @@ fn push_open_draft(
         text,
         "<section id='draft' aria-labelledby='draft-title'>\n<h2 id='draft-title'>The draft</h2>\n",
     )?;
-    push_reasons_note(text, reasons)?;
-    push_changes_part(alloc, text, committed, draft, differences)?;
-    push_own(text, "<h3>The whole draft</h3>\n")?;
-    push_plan(alloc, text, " of the draft", reasons, draft)?;
+    push_draft_body(alloc, text, committed, draft, differences, reasons)?;
     push_own(text, "</section>\n")
 }
 

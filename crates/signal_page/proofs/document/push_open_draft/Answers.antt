@@ -5,5 +5,5 @@ use Rattle.signal_page.proofs.document.push_open_draft.Goals as goal
 pub returns : goal.returns
 unfolding open_draft
 returns c =
-    let whole = rw (c.in_ok-push_plan.ensures, c.in_ok-push_own-2.ensures, c.in_ok-push_changes_part.ensures, c.in_ok-push_reasons_note.ensures, c.in_ok-push_own.ensures) at c.push_own-3.ensures in
+    let whole = rw (c.in_ok-push_draft_body.ensures, c.in_ok-push_own.ensures) at c.push_own-2.ensures in
     simp joined (simp joined at whole)
