@@ -32,7 +32,7 @@ holder_node None = owner_node None
 holder_node (Some holder) = owner_node (Some holder.owner)
 
 -- the row of an intersection, which begins with the link to its page and marks it where it is overdue
-abbrev pub entry_line : Option ℕ → IndexEntry → TableLine
+unfoldable pub entry_line : Option ℕ → IndexEntry → TableLine
 entry_line day entry =
     Row (Link entry.listed.id ∷ Name entry.listed.name ∷ Own (state_word entry.listed.holder)
     ∷ holder_node entry.listed.holder

@@ -70,6 +70,7 @@ fn holder_node(holder: &Option<Holder>) -> Node<'_>
 }
 
 /// Appends the row of an intersection.
+#[tactic(auto, unfolding(crate::specs::Index::entry_line))]
 fn push_entry(text: &mut String, day: &Option<Day>, entry: &IndexEntry) -> Result<(), AllocError>
     ensures { OnOk result (string_bytes text.new
         ≡ string_bytes text.old ++ html (line_nodes (entry_line day.now entry.now))) }
