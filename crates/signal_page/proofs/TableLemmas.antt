@@ -36,7 +36,7 @@ table_written name whose columns lines start opened rows done before count h1 hb
     let ended = rw none at h3 in
     grind (arith, common_steps, h1, h2, ended)
 
--- likewise a table that is opened as a whole
+-- a table is written by its opening as one part, its rows and its end
 pub opened_written : (name whose : List ℕ) (columns : List Heading) (lines : List TableLine) (start opened rows done : List ℕ) (before count : ℕ)
     → opened ≡ start ++ html (table_opening name whose columns)
     → before ≡ length opened → count ≡ length columns → rows ≡ opened ++ html (lines_nodes lines)
