@@ -3,11 +3,11 @@ use Rattle.std.proofs.Common.{◌≡◌, ◌≤◌, ℕ, List, [], ◌∷◌, �
 use Rattle.std.proofs.lemmas.{Bool.eq-eqb, Bool.ne_eqb, Grind.common_steps, Grind.flat_map-append, List.length-append}
 use Rattle.signal_page.specs.declared.tables.Mark.TheVariants.{Removed, Added, Before, After}
 use Rattle.signal_page.specs.Nodes.{Shown, html}
-use Rattle.signal_page.specs.Tables.{Heading, TableLine, Row, Change, Broken, broken_row, line_nodes, lines_nodes, none_in, none_since, headings, rows_beginning, table_beginning, table_end, table}
+use Rattle.signal_page.specs.Tables.{Heading, TableLine, Row, Change, Broken, broken_row, line_nodes, lines_nodes, none_in, none_since, headings, rows_beginning, table_beginning, table_end, table_opening, table, plain_row}
 
 -- a row has a text
 longer : (line : TableLine) (rest : List Shown) → 1 ≤ length (html (line_nodes line ++ rest))
-unfolding broken_row
+unfolding broken_row plain_row
 longer (Row cells) rest = omega arith
 longer (Change Removed cells others) rest = omega arith
 longer (Change Added cells others) rest = omega arith
@@ -35,3 +35,12 @@ table_written name whose columns lines start opened rows done before count h1 hb
     let none : none_since (length rows) before count ≡ none_in lines (length columns) = rw (hb, hc, h2) (none_is lines opened (length columns)) in
     let ended = rw none at h3 in
     grind (arith, common_steps, h1, h2, ended)
+
+-- a table is written by its opening as one part, its rows and its end
+pub opened_written : (name whose : List ℕ) (columns : List Heading) (lines : List TableLine) (start opened rows done : List ℕ) (before count : ℕ)
+    → opened ≡ start ++ html (table_opening name whose columns)
+    → before ≡ length opened → count ≡ length columns → rows ≡ opened ++ html (lines_nodes lines)
+    → done ≡ rows ++ html (none_since (length rows) before count) ++ html table_end
+    → done ≡ start ++ html (table name whose columns lines)
+unfolding table_opening
+opened_written = table_written

@@ -32,7 +32,7 @@ holder_node None = owner_node None
 holder_node (Some holder) = owner_node (Some holder.owner)
 
 -- the row of an intersection, which begins with the link to its page and marks it where it is overdue
-abbrev pub entry_line : Option ℕ → IndexEntry → TableLine
+unfoldable pub entry_line : Option ℕ → IndexEntry → TableLine
 entry_line day entry =
     Row (Link entry.listed.id ∷ Name entry.listed.name ∷ Own (state_word entry.listed.holder)
     ∷ holder_node entry.listed.holder
@@ -74,19 +74,27 @@ stock_part parts =
 
 -- ---- the page
 
+-- how many of all intersections are overdue on a day
+unfoldable pub overdue_note : ℕ → ℕ → ℕ → List Shown
+overdue_note day overdue all =
+    Own (codes "<p>Inspections overdue on <strong>") ∷ Day day ∷ Own (codes "</strong>: ")
+    ∷ Number overdue ∷ Own (codes " of ") ∷ Number all ∷ Own (codes ".</p>\n") ∷ []
+
 -- how many of the intersections are overdue on a day, if one is given
 abbrev pub day_note : Option ℕ → List IndexEntry → List Shown
 day_note None entries = []
 day_note (Some day) entries =
-    Own (codes "<p>Inspections overdue on <strong>") ∷ Day day ∷ Own (codes "</strong>: ")
-    ∷ Number (length (overdue_among (Some day) entries)) ∷ Own (codes " of ")
-    ∷ Number (length entries) ∷ Own (codes ".</p>\n") ∷ []
+    overdue_note day (length (overdue_among (Some day) entries)) (length entries)
+
+-- what stands between the header of the index and its tables
+unfoldable pub main_opening : List Shown
+main_opening = Own (codes "</header>\n<main>\n") ∷ []
 
 -- the index
 unfoldable pub index : Option ℕ → IndexShown → List Shown
 index day shown =
     page_head (Own (codes "Intersections") ∷ []) INDEX_BODY.now ++ day_note day shown.entries
-    ++ Own (codes "</header>\n<main>\n") ∷ [] ++ intersections_part day shown.entries
+    ++ main_opening ++ intersections_part day shown.entries
     ++ named_orders_part shown.orders ++ stock_part shown.stock ++ page_end
 
 -- The text is the index. Its intersections are those that were given, each as often as there, and

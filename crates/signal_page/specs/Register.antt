@@ -90,11 +90,14 @@ due_words interval (Some latest) =
     Own (codes "<p>The next inspection is due on <strong>") ∷ Day (latest + interval)
     ∷ Own (codes "</strong>.") ∷ []
 
+-- the days from one inspection to the next
+unfoldable pub interval_note : ℕ → List Shown
+interval_note days =
+    Own (codes " Days from one inspection to the next: ") ∷ Number days ∷ Own (codes ".</p>\n") ∷ []
+
 -- the due day, and the days from one inspection to the next
 unfoldable pub due_note : ℕ → Option ℕ → List Shown
-due_note interval latest =
-    due_words interval latest
-    ++ Own (codes " Days from one inspection to the next: ") ∷ Number interval ∷ Own (codes ".</p>\n") ∷ []
+due_note interval latest = due_words interval latest ++ interval_note interval
 
 -- the next free numbers
 unfoldable pub next_note : CabinetView → List Shown

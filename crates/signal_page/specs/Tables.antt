@@ -81,6 +81,10 @@ change_opening After = codes "<tr class='after'><td class='w'>changed to</td>"
 abbrev pub row_of : List ℕ → List Shown → List Shown
 row_of opening cells = Own opening ∷ (cells ++ Own (codes "</tr>\n") ∷ [])
 
+-- a row of cells with nothing beside them
+unfoldable pub plain_row : List Shown → List Shown
+plain_row cells = row_of (codes "<tr>") (cells_beside cells [])
+
 -- a broken rule with its reason: `V12: ring 1 adds up to 59 s, the cycle is 60 s`
 unfoldable pub broken_row : ℕ → Explained → List Shown
 broken_row columns broken =
@@ -90,7 +94,7 @@ broken_row columns broken =
 
 -- what stands in a row
 abbrev pub line_nodes : TableLine → List Shown
-line_nodes (Row cells) = row_of (codes "<tr>") (cells_beside cells [])
+line_nodes (Row cells) = plain_row cells
 line_nodes (Change mark cells others) = row_of (change_opening mark) (cells_beside cells others)
 line_nodes (Broken columns broken) = broken_row columns broken
 
@@ -134,6 +138,11 @@ table_beginning name whose =
 -- what stands between the headings of a table and its rows
 unfoldable pub rows_beginning : List Shown
 rows_beginning = Own (codes "</tr></thead>\n<tbody>") ∷ []
+
+-- a table up to its rows, by its name and what it is of, and its columns
+unfoldable pub table_opening : List ℕ → List ℕ → List Heading → List Shown
+table_opening name whose columns =
+    table_beginning name whose ++ headings columns ++ rows_beginning
 
 -- what stands in a table of so many columns that has no row
 unfoldable pub none_row : ℕ → List Shown

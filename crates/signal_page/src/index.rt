@@ -2,7 +2,7 @@
 
 ghost use Rattle.std.specs.Prelude.{◌≡◌, ◌++◌, IfOk, List, OnOk, length, map, string_bytes, ℕ};
 ghost use Rattle.office_listings.specs.Intersections.{state_word};
-ghost use Rattle.signal_page.specs.Index.{IsIndex, day_note, entry_line, holder_node, index, intersections_part, named_line, named_orders_part, stock_line, stock_part};
+ghost use Rattle.signal_page.specs.Index.{IsIndex, day_note, entry_line, holder_node, index, intersections_part, main_opening, named_line, named_orders_part, overdue_note, stock_line, stock_part};
 ghost use Rattle.signal_page.specs.Nodes.{IsHtml, html, shown_by};
 ghost use Rattle.signal_page.specs.Overdue.{is_overdue, is_past_due, others_among, overdue_among, overdue_before};
 ghost use Rattle.signal_page.specs.Tables.{line_nodes, lines_nodes};
@@ -14,7 +14,7 @@ use crate::facts::{date_of, due_day};
 use crate::index_shown::{IndexEntry, IndexShown};
 use crate::nodes::{Node, push_nodes};
 use crate::tables::{end_table, open_table, push_row};
-use cabinet_core::{Day, Hand, PartCode, due};
+use cabinet_core::{Date, Day, Hand, PartCode, due};
 use office_listings::{NamedOrder, stage_word};
 use signal_records::state::Holder;
 use signal_records::{Interval, NoMemory};
@@ -70,6 +70,7 @@ fn holder_node(holder: &Option<Holder>) -> Node<'_>
 }
 
 /// Appends the row of an intersection.
+#[tactic(auto, unfolding(crate::specs::Index::entry_line))]
 fn push_entry(text: &mut String, day: &Option<Day>, entry: &IndexEntry) -> Result<(), AllocError>
     ensures { OnOk result (string_bytes text.new
         ≡ string_bytes text.old ++ html (line_nodes (entry_line day.now entry.now))) }
@@ -139,7 +140,6 @@ fn push_entries(
 }
 
 /// Appends the table of the intersections.
-#[tactic(auto, using(crate::proofs::TableLemmas::table_written))]
 fn push_intersections(
     text: &mut String,
     day: &Option<Day>,
@@ -184,7 +184,6 @@ fn push_each_named(text: &mut String, orders: &[NamedOrder]) -> Result<(), Alloc
 }
 
 /// Appends the table of the open orders of all.
-#[tactic(auto, using(crate::proofs::TableLemmas::table_written))]
 fn push_named_orders(text: &mut String, orders: &[NamedOrder]) -> Result<(), AllocError>
     ensures { OnOk result (string_bytes text.new
         ≡ string_bytes text.old ++ html (named_orders_part orders.now)) }
@@ -220,7 +219,7 @@ fn push_each_part(text: &mut String, parts: &[(PartCode, Hand)]) -> Result<(), A
 }
 
 /// Appends the table of the stock.
-#[tactic(auto, using(crate::proofs::TableLemmas::table_written))]
+#[tactic(auto, using(crate::proofs::TableLemmas::opened_written))]
 fn push_stock(text: &mut String, parts: &[(PartCode, Hand)]) -> Result<(), AllocError>
     ensures { OnOk result (string_bytes text.new
         ≡ string_bytes text.old ++ html (stock_part parts.now)) }
@@ -244,6 +243,31 @@ fn overdue_count(day: &Option<Day>, entries: &[IndexEntry]) -> usize
     count
 }
 
+/// Appends how many of all intersections are overdue on a day.
+#[tactic(auto, unfolding(crate::specs::Index::overdue_note))]
+fn push_overdue_note(
+    text: &mut String,
+    day: Date,
+    overdue: usize,
+    all: usize,
+) -> Result<(), AllocError>
+    ensures { OnOk result (string_bytes text.new
+        ≡ string_bytes text.old ++ html (overdue_note day overdue all)) }
+{
+    push_nodes(
+        text,
+        &[
+            Node::Own("<p>Inspections overdue on <strong>"),
+            Node::Day(day),
+            Node::Own("</strong>: "),
+            Node::Number(overdue as u64),
+            Node::Own(" of "),
+            Node::Number(all as u64),
+            Node::Own(".</p>\n"),
+        ],
+    )
+}
+
 /// Appends how many intersections are overdue on a day, if one is given.
 fn push_day_note(
     text: &mut String,
@@ -253,38 +277,45 @@ fn push_day_note(
     ensures { OnOk result (string_bytes text.new
         ≡ string_bytes text.old ++ html (day_note day.now entries.now)) }
 {
+    let overdue = overdue_count(day, entries);
     match day {
         None => Ok(()),
-        Some(given) => push_nodes(
-            text,
-            &[
-                Node::Own("<p>Inspections overdue on <strong>"),
-                Node::Day(given.date()),
-                Node::Own("</strong>: "),
-                Node::Number(overdue_count(day, entries) as u64),
-                Node::Own(" of "),
-                Node::Number(entries.len() as u64),
-                Node::Own(".</p>\n"),
-            ],
-        ),
+        Some(given) => push_overdue_note(text, given.date(), overdue, entries.len()),
     }
+}
+
+/// Appends what stands between the header of the index and its tables.
+#[tactic(auto, unfolding(crate::specs::Index::main_opening))]
+fn push_main_opening(text: &mut String) -> Result<(), AllocError>
+    ensures { OnOk result (string_bytes text.new ≡ string_bytes text.old ++ html main_opening) }
+{
+    text.push_str("</header>\n<main>\n")
+}
+
+/// Appends the index.
+#[tactic(auto, unfolding(crate::specs::Index::index))]
+fn push_index(text: &mut String, day: &Option<Day>, shown: &IndexShown) -> Result<(), AllocError>
+    ensures { OnOk result (string_bytes text.new
+        ≡ string_bytes text.old ++ html (index day.now shown.now)) }
+{
+    let entries = shown.entries.as_slice();
+    let orders = shown.orders.as_slice();
+    let stock = shown.stock.as_slice();
+    push_head(text, &[Node::Own("Intersections")], INDEX_BODY)?;
+    push_day_note(text, day, entries)?;
+    push_main_opening(text)?;
+    push_intersections(text, day, entries)?;
+    push_named_orders(text, orders)?;
+    push_stock(text, stock)?;
+    end_page(text)
 }
 
 /// The page by its definition.
 fn whole_index(alloc: Global, shown: &IndexShown, day: &Option<Day>) -> Result<Vec<u8>, NoMemory>
     ensures { IfOk result (λ text. IsHtml (index day.now shown.now) text.items) }
 {
-    let entries = shown.entries.as_slice();
-    let orders = shown.orders.as_slice();
-    let stock = shown.stock.as_slice();
     let mut text = String::new(alloc);
-    push_head(&mut text, &[Node::Own("Intersections")], INDEX_BODY)?;
-    push_day_note(&mut text, day, entries)?;
-    push_nodes(&mut text, &[Node::Own("</header>\n<main>\n")])?;
-    push_intersections(&mut text, day, entries)?;
-    push_named_orders(&mut text, orders)?;
-    push_stock(&mut text, stock)?;
-    end_page(&mut text)?;
+    push_index(&mut text, day, shown)?;
     Ok(text.into_bytes())
 }
 

@@ -3,7 +3,7 @@
 
 ghost use Rattle.std.specs.Prelude.{◌≡◌, ◌∷◌, ◌++◌, [], OnOk, string_bytes};
 ghost use Rattle.signal_page.specs.Nodes.{html, Day as day_node, Name};
-ghost use Rattle.signal_page.specs.Register.{closed_lines, closed_orders_part, due_note, due_words, inspection_row, inspection_lines, inspections_part, next_note, open_row, open_lines, open_orders_part, order_cells, register};
+ghost use Rattle.signal_page.specs.Register.{closed_lines, closed_orders_part, due_note, due_words, inspection_row, inspection_lines, inspections_part, interval_note, next_note, open_row, open_lines, open_orders_part, order_cells, register};
 ghost use Rattle.signal_page.specs.Tables.{line_nodes, lines_nodes, Row};
 
 use crate::columns::{CLOSED_COLUMNS, INSPECTION_COLUMNS, OPEN_COLUMNS};
@@ -74,7 +74,6 @@ fn push_each_open(text: &mut String, lines: &[UsedLine], orders: &[Order]) -> Re
 }
 
 /// Appends the table of open orders.
-#[tactic(auto, using(crate::proofs::TableLemmas::table_written))]
 fn push_open_orders(
     text: &mut String,
     lines: &[UsedLine],
@@ -107,7 +106,6 @@ fn push_each_closed(
 }
 
 /// Appends the table of closed orders.
-#[tactic(auto, using(crate::proofs::TableLemmas::table_written))]
 fn push_closed_orders(
     text: &mut String,
     lines: &[UsedLine],
@@ -150,7 +148,6 @@ fn push_each_inspection(text: &mut String, inspections: &[Inspection]) -> Result
 }
 
 /// Appends the table of inspections.
-#[tactic(auto, using(crate::proofs::TableLemmas::table_written))]
 fn push_inspections(text: &mut String, inspections: &[Inspection]) -> Result<(), AllocError>
     ensures { OnOk result (string_bytes text.new
         ≡ string_bytes text.old ++ html (inspections_part inspections.now)) }
@@ -183,6 +180,22 @@ fn push_due_words(
     }
 }
 
+/// Appends how many days there are from one inspection to the next.
+#[tactic(auto, unfolding(crate::specs::Register::interval_note))]
+fn push_interval_note(text: &mut String, days: u64) -> Result<(), AllocError>
+    ensures { OnOk result (string_bytes text.new
+        ≡ string_bytes text.old ++ html (interval_note days)) }
+{
+    push_nodes(
+        text,
+        &[
+            Node::Own(" Days from one inspection to the next: "),
+            Node::Number(days),
+            Node::Own(".</p>\n"),
+        ],
+    )
+}
+
 /// Appends when the next inspection is due, and how many days there are from one to the next.
 #[tactic(auto, unfolding(crate::specs::Register::due_note))]
 fn push_due_note(
@@ -194,14 +207,7 @@ fn push_due_note(
         ≡ string_bytes text.old ++ html (due_note interval latest)) }
 {
     push_due_words(text, interval, latest)?;
-    push_nodes(
-        text,
-        &[
-            Node::Own(" Days from one inspection to the next: "),
-            Node::Number(u64::from(interval.get())),
-            Node::Own(".</p>\n"),
-        ],
-    )
+    push_interval_note(text, u64::from(interval.get()))
 }
 
 /// Appends the next free numbers.

@@ -300,6 +300,7 @@ fn push_broken_rows(
 }
 
 /// Appends a row, and below it the rules that it breaks.
+#[tactic(auto, unfolding(crate::specs::Tables::plain_row))]
 fn push_row_and_reasons(
     alloc: Global,
     text: &mut String,
@@ -337,7 +338,7 @@ fn push_rows(
 }
 
 /// Appends the table of a kind, with what it is of.
-#[tactic(auto, using(crate::proofs::TableLemmas::table_written))]
+#[tactic(auto, using(crate::proofs::TableLemmas::opened_written))]
 fn push_kind_table(
     alloc: Global,
     text: &mut String,

@@ -3,7 +3,7 @@
 ghost use Rattle.std.specs.Prelude.{◌≡◌, ◌++◌, [], OnOk, length, true, string_bytes};
 ghost use Rattle.std.specs.Str.{bytes_eq};
 ghost use Rattle.signal_page.specs.Nodes.{html, node_text, shown_by, shown_of};
-ghost use Rattle.signal_page.specs.Tables.{cell, cell_end, cell_opening, cells_beside, change_opening, heading, heading_by, headings, headings_by, line_nodes, none_row, none_since, rows_beginning, shows_same, table_beginning, table_end, unless_same, Broken, Row};
+ghost use Rattle.signal_page.specs.Tables.{cell, cell_end, cell_opening, cells_beside, change_opening, heading, heading_by, headings, headings_by, line_nodes, none_row, none_since, rows_beginning, shows_same, table_beginning, table_end, table_opening, unless_same, Broken, Row};
 
 use crate::nodes::{Node, push_node};
 use signal_records::PhaseNo;
@@ -125,6 +125,7 @@ pub(crate) fn push_cells(
 }
 
 /// Appends a row of cells.
+#[tactic(auto, unfolding(crate::specs::Tables::plain_row))]
 pub(crate) fn push_row(text: &mut String, cells: &[Node<'_>]) -> Result<(), AllocError>
     ensures { OnOk result (string_bytes text.new
         ≡ string_bytes text.old ++ html (line_nodes (Row (shown_of cells.now)))) }
@@ -197,6 +198,7 @@ pub(crate) fn begin_rows(text: &mut String) -> Result<(), AllocError>
 }
 
 /// Opens a table up to its rows, by its name, what it is of, and its columns.
+#[tactic(auto, unfolding(crate::specs::Tables::table_opening))]
 pub(crate) fn open_table(
     text: &mut String,
     name: &str,
@@ -204,7 +206,7 @@ pub(crate) fn open_table(
     columns: &[Column],
 ) -> Result<(), AllocError>
     ensures { OnOk result (string_bytes text.new ≡ string_bytes text.old
-        ++ html (table_beginning name.now whose.now ++ headings (headings_by columns.now) ++ rows_beginning)) }
+        ++ html (table_opening name.now whose.now (headings_by columns.now))) }
 {
     begin_table(text, name, whose)?;
     push_headings(text, columns)?;
