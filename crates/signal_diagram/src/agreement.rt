@@ -61,7 +61,8 @@ fn add_phase_in(
     second: u32,
 ) -> Result<(), NoMemory>
     ensures { OnOk result (phases.new.items ≡ phases.old.items ++ listed
-        (phase_in (times set.now pattern.now.split) (ring_row set.now pattern.now.seq ring) second)) }
+        (phase_in (times set.now pattern.now.split)
+        (ring_row set.now pattern.now.seq ring) second)) }
 {
     if let Some(p) = phase_in(set, pattern, ring_row(set, pattern.seq, ring), second) {
         phases.push(p)?;

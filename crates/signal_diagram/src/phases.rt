@@ -83,7 +83,8 @@ fn add_yellow_and_red(
     bar: &Bar,
     phase: &Phase,
 ) -> Result<(), AllocError>
-    ensures { OnOk result (shapes.new.items ≡ shapes.old.items ++ yellow_and_red lane bar.now phase.now) }
+    ensures { OnOk result (shapes.new.items
+        ≡ shapes.old.items ++ yellow_and_red lane bar.now phase.now) }
 {
     let to = bar.to;
     let red_from = tenth_before(bar, u16::from(phase.red));

@@ -43,8 +43,8 @@ fn passed(command: &Command, reply: &Reply) -> Result<(), Fault>
     }
 }
 
-/// Runs commands in turn, up to the first that is refused, and gives the reply to the last one; where
-/// there is none, the one that is handed in.
+/// Runs commands in turn, up to the first that is refused, and gives the reply to the last one;
+/// where there is none, the one that is handed in.
 pub(crate) fn run_in_turn<S: Shelf>(
     alloc: Global,
     office: &mut Office<S>,

@@ -57,8 +57,8 @@ pub enum Fault {
     },
     /// A record of the CSV file spells nothing; where two are compared, of the first.
     Csv(CsvFault),
-    /// A record of the CSV file spells nothing: where it is, the line of the file on which it begins,
-    /// and what is wrong there.
+    /// A record of the CSV file spells nothing: where it is, the line of the file on which it
+    /// begins, and what is wrong there.
     Explained {
         bad: BadRow,
         line: usize,

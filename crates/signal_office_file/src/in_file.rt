@@ -129,8 +129,8 @@ fn noted<T, L>(rt: &HostRuntime, path: &str, ended: Ended<T, L>) -> Ended<T, L>
     ended
 }
 
-/// The tables of databases in files of the system, and the calls that were made. What a file held as
-/// it was opened is `Wary`'s: no clause ties that to the path.
+/// The tables of databases in files of the system, and the calls that were made. What a file held
+/// as it was opened is `Wary`'s: no clause ties that to the path.
 #[derive(Drop)]
 pub struct TablesInFile {
     calls: Vec<Call>,

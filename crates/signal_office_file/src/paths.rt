@@ -63,8 +63,8 @@ fn options(rt: &HostRuntime) -> Result<Options, Fault>
 }
 
 /// The two files at a path, and how their database is kept. The call is noted before they are
-/// opened; where memory for that is refused, they are not. Where another run has them open, they are
-/// tried again for `wait` seconds.
+/// opened; where memory for that is refused, they are not. Where another run has them open, they
+/// are tried again for `wait` seconds.
 pub(crate) fn files_at<S: Begin>(
     rt: &HostRuntime,
     alloc: Global,

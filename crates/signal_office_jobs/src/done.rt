@@ -54,8 +54,8 @@ fn open_status(commit: bool, violations: &[Violation]) -> u8
     }
 }
 
-/// What a command prints on standard output, and its status. What is told of a change is a line that
-/// needs no memory, so that no change that was made is reported as a fault.
+/// What a command prints on standard output, and its status. What is reported of a change is a line
+/// that needs no memory, so that no change that was made is reported as a fault.
 #[derive(Drop)]
 pub enum Done {
     /// A text, and the status.

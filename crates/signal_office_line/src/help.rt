@@ -54,9 +54,9 @@ pub(crate) fn ending_of(command: &str) -> &'static str {
     }
 }
 
-/// What the help says of the commands and of their arguments: a line for each, `COMMAND itself: TEXT`
-/// or `COMMAND ARGUMENT: TEXT`; what is said of an argument of `any` command holds where it has no
-/// line of its own.
+/// What the help says of the commands and of their arguments: a line for each,
+/// `COMMAND itself: TEXT` or `COMMAND ARGUMENT: TEXT`; what is said of an argument of `any` command
+/// holds where it has no line of its own.
 const HELP: &str = "\
 batch itself: Reads HTTP requests from standard input, at most 1,000,000, and writes the answers \
 to standard output

@@ -20,7 +20,8 @@ use std::alloc::Global;
 pub fn is_fit_however_called(alloc: Global, set: &TimingSet) -> Result<bool, NoMemory>
     ensures told { IfOk result (λ fit.
         IsTrue fit ↔ ((violations_of set.now ≡ []) × (warnings_of set.now ≡ []))) }
-    ensures laws { IfOk result (λ fit. IsTrue fit → StreetLaws set.now × LawsHoweverCalled set.now) }
+    ensures laws { IfOk result (λ fit.
+        IsTrue fit → StreetLaws set.now × LawsHoweverCalled set.now) }
 {
     let is_fit = is_fit_for_the_street(alloc, set)?;
     if !is_fit {
