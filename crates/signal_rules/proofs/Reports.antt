@@ -1,7 +1,6 @@
 -- Findings that are reported one after the other.
 use Rattle.std.proofs.Common.{◌≡◌, ℕ, zero, suc, ◌<◌, Bool, true, false, not, if◌then◌else◌, List, [], ◌∷◌, ◌++◌, map, length, get_or, Contains, Option, Some, None, is_some, is_none, refl, sym, ap, subst, ◌∙◌, append_assoc, arith}
-use Rattle.std.proofs.lemmas.List.{append-nil, map-append, map-id}
-use Rattle.std.specs.List.{flat_map}
+use Rattle.std.proofs.lemmas.List.{append-nil, map-append}
 use Rattle.signal_records.specs.{declared.record.Pattern.Pattern, TimingSet.Rows}
 use Rattle.signal_rules.specs.declared.{reason.Explained.Explained, reason.Reason.Reason, violation.Rule.Rule, violation.Subject.Subject}
 use Rattle.signal_rules.specs.declared.violation.Rule.TheVariants as rule
@@ -9,7 +8,7 @@ use Rattle.signal_rules.specs.Cases.{Cases, first_true, holds, IsTrueIn}
 use Rattle.signal_rules.specs.PatternRules.{rows_cases, has_rows, offset_cases, coordination_cases}
 use Rattle.signal_rules.specs.Lanes.{used_rings, rings_cases, sum_cases, lanes_fill_cycle, lanes_agree}
 use Rattle.signal_rules.specs.Slots.{Span, spans_of, agree_where_begun, conflicts_in, conflict_cases}
-use Rattle.signal_rules.specs.Violations.{Findings, findings, explained, explained_at, broken, lane_findings, pattern_findings, violations_in, violations_at, subjects, reasons_of, IsReason}
+use Rattle.signal_rules.specs.Violations.{Findings, findings, explained, broken, lane_findings, pattern_findings, violations_in, violations_at, IsReason}
 use Rattle.signal_rules.proofs.{Cases.true_shows, Slots.agree_of_slots, Slots.conflicts_of_slots}
 
 onto : (s : Subject) (r : Rule) (o : Option Reason) (others : List Explained) → explained s r o [] ++ others ≡ explained s r o others
@@ -24,11 +23,6 @@ reported of s r cs why fs old new w e =
     ∙ ap (λ l. old ++ l) (sym (map-append of (explained s r why []) (broken s fs)))
     ∙ ap (λ l. old ++ map of l) (onto s r why (broken s fs))
     ∙ ap (λ o. old ++ map of (explained s r o (broken s fs))) w
-
--- a walk that keeps each finding as it is
-pub all_told : (set : Rows) → flat_map (λ s. map (λ (e : Explained). e) (explained_at set s)) (subjects set) ≡ reasons_of set
-unfolding reasons_of
-all_told set = λ i. flat_map (λ s. map-id (explained_at set s) i) (subjects set)
 
 -- a test for none
 pub none_is : {A : Type 0} (o : Option A) (r b : Bool) → is_some o ≡ not r → is_none o ≡ b → r ≡ b

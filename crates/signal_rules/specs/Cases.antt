@@ -10,6 +10,16 @@ abbrev pub first_true : {A : Type 0} → Cases A → Option A
 first_true [] = None
 first_true (c ∷ cs) = if c.0 then Some c.1 else first_true cs
 
+-- the reasons that are true, in their order
+abbrev pub all_true : {A : Type 0} → Cases A → List A
+all_true [] = []
+all_true (c ∷ cs) = if c.0 then c.1 ∷ all_true cs else all_true cs
+
+-- the reasons that are true after the first one that is
+abbrev pub further : {A : Type 0} → Cases A → List A
+further [] = []
+further (c ∷ cs) = if c.0 then all_true cs else further cs
+
 -- a rule holds where no reason is true
 abbrev pub holds : {A : Type 0} → Cases A → Bool
 holds cs = is_none (first_true cs)

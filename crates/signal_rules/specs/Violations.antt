@@ -12,7 +12,7 @@ use Rattle.signal_rules.specs.declared.violation.Subject.{Subject}
 use Rattle.signal_rules.specs.declared.violation.Subject.TheVariants as subject
 use Rattle.signal_rules.specs.declared.violation.Violation.{Violation}
 use Rattle.signal_rules.specs.Lookup.{phase_at, split_at, pattern_at, phases, phase_numbers, sequence_numbers, split_numbers, pattern_numbers, has_sequence}
-use Rattle.signal_rules.specs.Cases.{Cases, first_true, IsTrueIn}
+use Rattle.signal_rules.specs.Cases.{Cases, first_true, further, IsTrueIn}
 use Rattle.signal_rules.specs.PhaseRules.{yellow_cases, red_cases, walk_cases, crossing_cases, setback_cases, lead_cases, of_ped, mates_cases}
 use Rattle.signal_rules.specs.SequenceRule.{sequence_cases}
 use Rattle.signal_rules.specs.SplitRule.{split_cases}
@@ -91,6 +91,22 @@ broken s (f ∷ fs) = explained s f.0 (first_true f.1) (broken s fs)
 abbrev pub explained_at : Rows → Subject → List Explained
 explained_at set s = broken s (findings set s)
 
+-- V12 of a pattern, with the reason for one of its rings
+abbrev pub broken_sum : ℕ → Reason → Explained
+broken_sum n why = record { violation = record { subject = subject.Pattern n; rule = rule.V12 }; reason = why }
+
+-- V12 with each ring after the first that does not fill the cycle either
+abbrev pub further_sums : Rows → ℕ → Option Pattern → List Explained
+further_sums set n None = []
+further_sums set n (Some pattern) =
+    if has_rows set pattern then map (broken_sum n) (further (sum_cases set pattern)) else []
+
+-- the rules that a subject breaks, each with the first of its reasons, and V12 with each ring
+abbrev pub reasons_at : Rows → Subject → List Explained
+reasons_at set (subject.Pattern n) =
+    explained_at set (subject.Pattern n) ++ further_sums set n (pattern_at set n)
+reasons_at set s = explained_at set s
+
 -- violations that were found with their reasons, without those
 abbrev pub violations_in : List Explained → List Violation
 violations_in found = map (λ e. e.violation) found
@@ -121,7 +137,7 @@ violations_of set = flat_map (violations_at set) (subjects set)
 
 -- the violations of a set with their reasons: those of its subjects, in order
 unfoldable pub reasons_of : Rows → List Explained
-reasons_of set = flat_map (explained_at set) (subjects set)
+reasons_of set = flat_map (reasons_at set) (subjects set)
 
 -- the violations of a set that were found with their reasons are all, in order
 abbrev pub AreReasons : Rows → List Explained → Type 0

@@ -1,16 +1,13 @@
-//! The violations of a timing set and their reasons, subject by subject.
+//! The violations of a timing set, subject by subject.
 
-ghost use Rattle.std.specs.Prelude.{◌≡◌, Contains, [], ◌++◌, false, map, length, Some, OnOk, IfOk};
-ghost use Rattle.std.specs.List.{flat_map};
+ghost use Rattle.std.specs.Prelude.{◌≡◌, [], ◌++◌, false, map, length, Some, OnOk, IfOk};
 ghost use Rattle.signal_rules.specs.declared.reason.Explained.{Explained as ExplainedOf};
 ghost use Rattle.signal_rules.specs.declared.reason.Reason.{Reason as ReasonOf};
-ghost use Rattle.signal_rules.specs.declared.violation.Rule.{Rule as RuleOf};
-ghost use Rattle.signal_rules.specs.declared.violation.Subject.{Subject as SubjectOf};
 ghost use Rattle.signal_rules.specs.Cases.{first_true, holds};
 ghost use Rattle.signal_rules.specs.Counts.{RisesAtMost, sequence_entries, most_seconds};
 ghost use Rattle.signal_rules.specs.Lookup as set_has;
 ghost use Rattle.signal_rules.specs.Slots.{agree_where_begun, conflicts_in};
-ghost use Rattle.signal_rules.specs.Violations.{violations_of, violations_at, explained, explained_at, broken, phase_findings, subjects, lane_findings, pattern_findings, AreReasons, IsReason};
+ghost use Rattle.signal_rules.specs.Violations.{violations_of, explained, explained_at, broken, phase_findings, lane_findings, pattern_findings};
 
 use crate::lanes::Slot;
 use crate::lookup::{pattern_at, phase_at, phases_of, split_at};
@@ -72,25 +69,6 @@ impl Finding for Explained {
 #[tactic(auto, unfolding(crate::specs::Violations::violations_of))]
 pub fn violations(alloc: Global, set: &TimingSet) -> Result<Vec<Violation>, NoMemory>
     ensures { IfOk result (λ found. found.items ≡ violations_of set.now) }
-{
-    judge_all(alloc, set)
-}
-
-/// The violations of a set in their order, each with the first of its reasons. Whatever reason is
-/// true of a rule on a subject shows that the subject breaks the rule.
-///
-/// `NoMemory` means that a growth was really refused.
-pub fn reasons(alloc: Global, set: &TimingSet) -> Result<Vec<Explained>, NoMemory>
-    ensures told { IfOk result (λ found. AreReasons set.now found.items) }
-    ensures shows { (s : SubjectOf) (r : RuleOf) (why : ReasonOf) → IsReason set.now s r why →
-        Contains (violations_at set.now s) (record { subject = s; rule = r }) }
-{
-    judge_all(alloc, set)
-}
-
-fn judge_all<F: Finding>(alloc: Global, set: &TimingSet) -> Result<Vec<F>, NoMemory>
-    ensures { IfOk result (λ found. found.items ≡
-        flat_map (λ s. map F.of (explained_at set.now s)) (subjects set.now)) }
 {
     let mut found = Vec::new(alloc);
     let mut ticks = 0;

@@ -7,6 +7,7 @@
 #![tactic(auto)]
 
 mod counting;
+mod explaining;
 mod judging;
 mod lanes;
 mod lookup;
@@ -21,7 +22,8 @@ mod texts;
 mod violation;
 
 pub use counting::{Judge, Tally, violations_touched};
-pub use judging::{reasons, violations};
+pub use explaining::{reasons, reasons_at};
+pub use judging::violations;
 pub use lanes::{lane_seconds, lists, time_of};
 pub use lookup::{has_phase, pattern_at, phase_at, phases_of, ring_row, split_at};
 pub use pattern::{is_coordinated, used_rings, without_split};
