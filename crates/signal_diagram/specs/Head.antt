@@ -2,8 +2,7 @@
 use Rattle.std.specs.Prelude.{ℕ, if◌then◌else◌, List, [], ◌++◌, codes, decimal, Option, Some, None}
 use Rattle.signal_records.specs.declared.record.Pattern.{Pattern}
 use Rattle.signal_records.specs.TimingSet.{Rows}
-use Rattle.signal_rules.specs.PatternRules.{has_rows, lanes_fill_cycle}
-use Rattle.signal_rules.specs.Lanes.{lanes_agree}
+use Rattle.signal_rules.specs.PatternRules.{has_rows, lanes_fill_cycle, lanes_agree}
 use Rattle.signal_diagram.specs.Svg.{words_from, words_end}
 use Rattle.signal_diagram.specs.declared.head.Broken.{Broken}
 use Rattle.signal_diagram.specs.declared.head.Broken.TheVariants as broken

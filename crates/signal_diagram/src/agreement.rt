@@ -4,7 +4,8 @@
 ghost use Rattle.std.specs.Prelude.{◌≡◌, ◌++◌, true, IfOk, OnOk, map};
 ghost use Rattle.std.specs.List.{list_all};
 ghost use Rattle.signal_rules.specs.CutPoints.{listed, phase_in, phases_in};
-ghost use Rattle.signal_rules.specs.Lanes.{all_list_each_other, lanes_agree, lanes_fill_cycle, list_each_other, used_rings};
+ghost use Rattle.signal_rules.specs.Lanes.{all_list_each_other, list_each_other, used_rings};
+ghost use Rattle.signal_rules.specs.PatternRules.{lanes_agree, lanes_fill_cycle};
 ghost use Rattle.signal_rules.specs.SequenceRule.{ring_row};
 ghost use Rattle.signal_rules.specs.Starts.{agree_at, agree_at_row, agree_at_starts, times};
 

@@ -5,9 +5,9 @@ use Rattle.signal_records.specs.{declared.record.Pattern.Pattern, TimingSet.Rows
 use Rattle.signal_rules.specs.declared.{reason.Explained.Explained, reason.Reason.Reason, violation.Rule.Rule, violation.Subject.Subject}
 use Rattle.signal_rules.specs.declared.violation.Rule.TheVariants as rule
 use Rattle.signal_rules.specs.Cases.{Cases, first_true, holds, IsTrueIn}
-use Rattle.signal_rules.specs.PatternRules.{rows_cases, has_rows, offset_cases, coordination_cases}
-use Rattle.signal_rules.specs.Lanes.{used_rings, rings_cases, sum_cases, lanes_fill_cycle, lanes_agree}
-use Rattle.signal_rules.specs.Slots.{Span, spans_of, agree_where_begun, conflicts_in, conflict_cases}
+use Rattle.signal_rules.specs.PatternRules.{rows_cases, has_rows, offset_cases, coordination_cases, rings_cases, sum_cases, lanes_fill_cycle, lanes_agree, conflict_cases}
+use Rattle.signal_rules.specs.Lanes.{used_rings}
+use Rattle.signal_rules.specs.Slots.{Span, spans_of, agree_where_begun, conflicts_in}
 use Rattle.signal_rules.specs.Violations.{Findings, findings, explained, broken, lane_findings, pattern_findings, violations_in, violations_at, IsReason}
 use Rattle.signal_rules.proofs.{Cases.true_shows, Slots.agree_of_slots, Slots.conflicts_of_slots}
 

@@ -7,7 +7,8 @@ use Rattle.std.specs.{Prelude.cond, List.list_all}
 use Rattle.signal_records.specs.{declared.record.Pattern.Pattern, TimingSet.Rows}
 use Rattle.signal_values.specs.Numbers.{numbers}
 use Rattle.signal_rules.specs.{SequenceRule.ring_row, CutPoints.start_of, CutPoints.starts, CutPoints.phase_in, CutPoints.listed, CutPoints.phases_in, Starts.times, Starts.agree_at, Counts.RisesAtMost, Counts.entries_of, Counts.sequence_entries, Slots.Span, Slots.Listing, Cases.holds}
-use Rattle.signal_rules.specs.Lanes.{lanes, used_rings, all_list_each_other, phases_at, lanes_fill_cycle, lanes_agree}
+use Rattle.signal_rules.specs.Lanes.{lanes, used_rings, all_list_each_other, phases_at}
+use Rattle.signal_rules.specs.PatternRules.{lanes_fill_cycle, lanes_agree}
 use Rattle.signal_rules.specs.Slots.{listing_at, spans_at, spans_from, spans_of, spans_in, has_second, are_mates, later_cases, pair_cases, conflicts_in, agree_where_begun}
 use Rattle.signal_rules.specs.declared.reason.Reason.TheVariants as reason
 use Rattle.signal_rules.specs.declared.reason.PatternReason.TheVariants.{Conflict}

@@ -4,7 +4,8 @@ use Rattle.std.proofs.lemmas.List.Folds.{list_all-map}
 use Rattle.std.specs.{Prelude.cond, List.list_all}
 use Rattle.signal_records.specs.{declared.record.Pattern.Pattern, TimingSet.Rows}
 use Rattle.signal_rules.specs.{SequenceRule.ring_row, Lookup.ring_numbers, Lanes.lane, Lanes.is_used, Lanes.used_rings, CutPoints.timed, CutPoints.starts, Starts.times, Starts.agree_at, Starts.agree_at_starts, Starts.rings_fill}
-use Rattle.signal_rules.specs.Lanes.{ring_sum, lanes, lanes_fill_cycle, lanes_agree, agree_throughout, all_list_each_other, phases_at}
+use Rattle.signal_rules.specs.Lanes.{ring_sum, lanes, all_list_each_other, phases_at}
+use Rattle.signal_rules.specs.PatternRules.{lanes_fill_cycle, lanes_agree, agree_throughout}
 use Rattle.signal_rules.specs.declared.reason.Reason.TheVariants as reason
 use Rattle.signal_rules.specs.declared.reason.PatternReason.TheVariants.{OtherSum}
 use Rattle.signal_rules.specs.Counts.{RisesAtMost, entries_of, sequence_entries}

@@ -8,7 +8,7 @@ use Rattle.signal_records.specs.declared.{key.Key.Key, record.Phase.Phase, recor
 use Rattle.signal_records.specs.declared.key.Key.TheVariants as key
 use Rattle.signal_records.specs.{TimingSet.Rows, declared.record.Pattern.Pattern}
 use Rattle.signal_values.specs.Numbers.{numbers}
-use Rattle.signal_rules.specs.{declared.violation.Subject.Subject, Difference.DiffersAtMost, PhaseRules.mate_cases, PhaseRules.mates_cases, SplitRule.split_cases, CutPoints.start_of, Slots.spans_from, Slots.spans_of, Slots.conflicts_in, Slots.conflict_cases}
+use Rattle.signal_rules.specs.{declared.violation.Subject.Subject, Difference.DiffersAtMost, PhaseRules.mate_cases, PhaseRules.mates_cases, SplitRule.split_cases, CutPoints.start_of, Slots.spans_from, Slots.spans_of, Slots.conflicts_in, PatternRules.conflict_cases}
 use Rattle.signal_rules.specs.declared.reason.Reason.{Reason}
 use Rattle.signal_rules.specs.declared.reason.Reason.TheVariants as reason
 use Rattle.signal_rules.specs.declared.reason.SequenceReason.TheVariants as sequence
@@ -19,8 +19,8 @@ use Rattle.signal_rules.specs.Cases.{Cases, holds}
 use Rattle.signal_rules.specs.Touched.{reaches, reaches_any, uses_sequence, uses_split}
 use Rattle.signal_rules.specs.Lookup.{phase_at, sequence_at, split_at, the_phase, the_list, the_split, the_pattern, pattern_at, the_mates, lists, is_in, has_sequence, ring_numbers, phase_numbers}
 use Rattle.signal_rules.specs.SequenceRule.{or_empty, in_ring, place_cases, times_in, once_cases, sequence_cases}
-use Rattle.signal_rules.specs.PatternRules.{rows_cases, offset_cases, is_coordinated, has_coordinated}
-use Rattle.signal_rules.specs.Lanes.{time_of, lane, used_rings, sum_cases, all_list_each_other, phases_at, lanes_agree}
+use Rattle.signal_rules.specs.PatternRules.{rows_cases, offset_cases, is_coordinated, has_coordinated, sum_cases, lanes_agree}
+use Rattle.signal_rules.specs.Lanes.{time_of, lane, used_rings, all_list_each_other, phases_at}
 use Rattle.signal_rules.specs.Violations.{Findings, broken, violations_in, violations_at, for_phase, for_sequence, for_split, for_pattern, pattern_findings}
 
 -- a key among the keys reaches what it reaches

@@ -1,15 +1,18 @@
--- V9 to V11, the rules of a pattern that look at no lane. V12 and V13 stand in `Lanes`.
-use Rattle.std.specs.Prelude.{ℕ, nat_lt, Bool, false, not, List, [], ◌∷◌, map, Option, Some, None, is_some}
+-- V9 to V13, the rules of a pattern.
+use Rattle.std.specs.Prelude.{◌==◌, ℕ, nat_lt, Bool, false, not, if◌then◌else◌, List, [], ◌∷◌, map, Option, Some, None, is_some}
 use Rattle.std.specs.List.{list_any, list_all}
 use Rattle.signal_records.specs.declared.record.Split.{Split}
 use Rattle.signal_records.specs.declared.record.Pattern.{Pattern}
 use Rattle.signal_records.specs.TimingSet.{Rows}
+use Rattle.signal_values.specs.Numbers.{numbers}
 use Rattle.signal_rules.specs.Cases.{Cases, holds}
 use Rattle.signal_rules.specs.Lookup.{split_at, phases, has_sequence}
 use Rattle.signal_rules.specs.declared.reason.Reason.{Reason}
 use Rattle.signal_rules.specs.declared.reason.Reason.TheVariants as reason
-use Rattle.signal_rules.specs.declared.reason.PatternReason.TheVariants.{NoSequence, NoSplit, LateOffset, NoneCoordinated}
-pub use Rattle.signal_rules.specs.Lanes.{time_of, lane, is_used, used_rings, lanes_fill_cycle}
+use Rattle.signal_rules.specs.declared.reason.PatternReason.TheVariants.{NoSequence, NoSplit, LateOffset, NoneCoordinated, OtherSum}
+pub use Rattle.signal_rules.specs.Lanes.{time_of, lane, is_used, used_rings}
+use Rattle.signal_rules.specs.Lanes.{ring_sum, lanes, phases_at, all_list_each_other}
+use Rattle.signal_rules.specs.Slots.{spans_of, conflicts_in}
 
 -- the split number has a row for each phase of the set
 abbrev pub has_splits : Rows → ℕ → Bool
@@ -51,3 +54,29 @@ has_coordinated set n = list_any (λ p. is_coordinated (split_at set n p)) (phas
 -- V11: splitCoordPhase marks a phase of the set in patternSplitNumber
 abbrev pub coordination_cases : Rows → Pattern → Cases Reason
 coordination_cases set pattern = (not (has_coordinated set pattern.split), reason.Pattern (NoneCoordinated pattern.split)) ∷ []
+
+-- the lane of each of some rings is as long as patternCycleTime
+abbrev pub rings_cases : Rows → Pattern → List ℕ → Cases Reason
+rings_cases set pattern rings =
+    map (λ ring. (not (ring_sum set pattern ring == pattern.cycle), reason.Pattern (OtherSum ring (ring_sum set pattern ring) pattern.cycle))) rings
+
+-- V12: the lane of each ring that has a phase is as long as patternCycleTime
+abbrev pub sum_cases : Rows → Pattern → Cases Reason
+sum_cases set pattern = rings_cases set pattern (used_rings set)
+
+-- V12 holds: the lane of each used ring is as long as patternCycleTime
+abbrev pub lanes_fill_cycle : Rows → Pattern → Bool
+lanes_fill_cycle set pattern = holds (sum_cases set pattern)
+
+-- at each second of a cycle, the phases of any two lanes list each other
+abbrev pub agree_throughout : Rows → List (List ℕ) → ℕ → Bool
+agree_throughout set lanes cycle = list_all (λ second. all_list_each_other set (phases_at lanes second)) (numbers cycle 0)
+
+-- V13: at each second of patternCycleTime, the phases of any two lanes list each other
+abbrev pub lanes_agree : Rows → Pattern → Bool
+lanes_agree set pattern = agree_throughout set (lanes set pattern) pattern.cycle
+
+-- V13: the lanes agree; where they do not, the first second at which two phases time together that do not list each other
+abbrev pub conflict_cases : Rows → Pattern → Cases Reason
+conflict_cases set pattern =
+    if lanes_agree set pattern then [] else conflicts_in pattern.cycle (spans_of set pattern (used_rings set))

@@ -9,7 +9,6 @@ use Rattle.signal_rules.specs.SequenceRule.{ring_row}
 use Rattle.signal_rules.specs.CutPoints.{start_of}
 use Rattle.signal_rules.specs.Starts.{times}
 use Rattle.signal_rules.specs.Cases.{Cases, holds}
-use Rattle.signal_rules.specs.Lanes.{used_rings, lanes_agree}
 use Rattle.signal_rules.specs.declared.reason.Reason.{Reason}
 use Rattle.signal_rules.specs.declared.reason.Reason.TheVariants as reason
 use Rattle.signal_rules.specs.declared.reason.PatternReason.TheVariants.{Conflict}
@@ -82,8 +81,3 @@ agree_where_begun spans begun = list_all (λ span. holds (pair_cases span.from (
 -- second by second, and at each the spans in their order
 abbrev pub conflicts_in : ℕ → List Span → Cases Reason
 conflicts_in cycle spans = flat_map (λ second. pair_cases second (spans_in second spans)) (numbers cycle 0)
-
--- V13: the lanes agree; where they do not, the first second at which two phases time together that do not list each other
-abbrev pub conflict_cases : Rows → Pattern → Cases Reason
-conflict_cases set pattern =
-    if lanes_agree set pattern then [] else conflicts_in pattern.cycle (spans_of set pattern (used_rings set))

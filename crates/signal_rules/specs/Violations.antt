@@ -16,9 +16,7 @@ use Rattle.signal_rules.specs.Cases.{Cases, first_true, further, IsTrueIn}
 use Rattle.signal_rules.specs.PhaseRules.{yellow_cases, red_cases, walk_cases, crossing_cases, setback_cases, lead_cases, of_ped, mates_cases}
 use Rattle.signal_rules.specs.SequenceRule.{sequence_cases}
 use Rattle.signal_rules.specs.SplitRule.{split_cases}
-use Rattle.signal_rules.specs.PatternRules.{rows_cases, has_rows, offset_cases, coordination_cases}
-use Rattle.signal_rules.specs.Lanes.{sum_cases, lanes_fill_cycle}
-use Rattle.signal_rules.specs.Slots.{conflict_cases}
+use Rattle.signal_rules.specs.PatternRules.{rows_cases, has_rows, offset_cases, coordination_cases, sum_cases, lanes_fill_cycle, conflict_cases}
 
 -- the rules on a subject with the reasons that break each, ascending
 abbrev pub Findings : Type 0

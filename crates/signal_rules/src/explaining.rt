@@ -5,13 +5,13 @@ ghost use Rattle.signal_rules.specs.declared.reason.Reason.{Reason as ReasonOf};
 ghost use Rattle.signal_rules.specs.declared.violation.Rule.{Rule as RuleOf};
 ghost use Rattle.signal_rules.specs.declared.violation.Subject.{Subject as SubjectOf};
 ghost use Rattle.signal_rules.specs.Cases.{all_true, further};
-ghost use Rattle.signal_rules.specs.Lanes.{rings_cases};
+ghost use Rattle.signal_rules.specs.PatternRules.{rings_cases};
 ghost use Rattle.signal_rules.specs.Violations.{violations_at, broken_sum, further_sums, reasons_at, AreReasons, IsReason};
 
 use crate::judging::judge;
-use crate::lanes::lane_seconds;
+use crate::lanes::{lane_seconds, rings_of};
 use crate::lookup::{pattern_at, phases_of};
-use crate::pattern::{rings_of, rows_reason};
+use crate::pattern::rows_reason;
 use crate::reason::{Explained, PatternReason, Reason};
 use crate::subjects::subjects_of;
 use crate::violation::{Rule, Subject, Violation};

@@ -9,14 +9,14 @@ ghost use Rattle.signal_rules.specs.Lookup as set_has;
 ghost use Rattle.signal_rules.specs.Slots.{agree_where_begun, conflicts_in};
 ghost use Rattle.signal_rules.specs.Violations.{violations_of, explained, explained_at, broken, phase_findings, lane_findings, pattern_findings};
 
-use crate::lanes::Slot;
+use crate::lanes::{Slot, rings_of};
 use crate::lookup::{pattern_at, phase_at, phases_of, split_at};
 use crate::reason::{Explained, Reason};
 use crate::sequence::{has_sequence, sequence_reason};
 use crate::split::split_reason;
 use crate::subjects::subjects_of;
 use crate::violation::{Rule, Subject, Violation};
-use crate::{lanes, pattern, phase};
+use crate::{pattern, phase};
 use signal_records::{Cycle, NoMemory, Pattern, PatternNo, Phase, PhaseNo, SeqNo, TimingSet};
 use std::alloc::Global;
 
@@ -55,7 +55,7 @@ impl Finding for Explained {
     }
 
     fn of_conflict(violation: Violation, slots: &[Slot<'_>], cycle: Cycle) -> Explained {
-        let Some(reason) = lanes::conflict_reason(slots, cycle) else {
+        let Some(reason) = pattern::conflict_reason(slots, cycle) else {
             unreachable!();
         };
         Explained { violation, reason }
@@ -232,9 +232,9 @@ fn judge_lanes<F: Finding>(
     ensures found { OnOk result (found.new.items ≡ found.old.items
         ++ map F.of (broken (Subject.Pattern n) (lane_findings set.now pattern.now))) }
 {
-    let rings = pattern::rings_of(alloc, set, phases)?;
+    let rings = rings_of(alloc, set, phases)?;
     let mut slots = Vec::new(alloc);
-    let sum = lanes::sum_reason(set, pattern, &rings, &mut slots)?;
+    let sum = pattern::sum_reason(set, pattern, &rings, &mut slots)?;
     let fill = sum.is_none();
     report(sum, Subject::Pattern(n), Rule::V12, found)?;
     if fill {
@@ -256,7 +256,7 @@ fn judge_slots<F: Finding>(
     ensures found { OnOk result (found.new.items ≡ found.old.items
         ++ map F.of (explained subject Rule.V13 (first_true (conflicts_in cycle slots.now)) [])) }
 {
-    if !lanes::rings_agree(slots, ticks) {
+    if !pattern::rings_agree(slots, ticks) {
         let rule = Rule::V13;
         found.push(F::of_conflict(Violation { subject, rule }, slots, cycle))?;
     }

@@ -1,25 +1,27 @@
-//! V12 and V13, the rules on the lanes of a pattern. No lane is built second by second: its length
+//! The lanes of a pattern, of which V12 and V13 are. No lane is built second by second: its length
 //! is a sum of splits, and the rings are compared only at the seconds at which one of them starts a
 //! phase. What that takes of the set is looked up once for each ring and for each phase of its row.
 
-ghost use Rattle.std.specs.Prelude.{◌≡◌, ◌<◌, ◌≤◌, ◌+◌, ◌*◌, ◌^◌, ◌++◌, ◌==◌, true, false, IfOk, OnOk, is_some, length};
+ghost use Rattle.std.specs.Prelude.{◌≡◌, ◌<◌, ◌≤◌, ◌+◌, ◌*◌, ◌^◌, ◌++◌, ◌==◌, true, IfOk, OnOk, length};
 ghost use Rattle.signal_rules.specs.Cases.{first_true};
+ghost use Rattle.signal_rules.specs.Lookup as set_has;
 ghost use Rattle.signal_rules.specs.Lookup.{phase_at, the_mates, lists};
-ghost use Rattle.signal_rules.specs.Lanes.{time_of, lane, rings_cases};
+ghost use Rattle.signal_rules.specs.Lanes.{time_of, lane, used_rings};
+ghost use Rattle.signal_rules.specs.OnePass.{rings_at};
 ghost use Rattle.signal_rules.specs.CutPoints.{timed};
 ghost use Rattle.signal_rules.specs.Starts.{times};
-ghost use Rattle.signal_rules.specs.Slots.{spans_at, spans_from, spans_of, has_second, are_mates, spans_in, later_cases, pair_cases, conflicts_in, slot_cases, agree_where_begun};
-ghost use Rattle.signal_rules.specs.Counts.{RisesAtLeast, RisesAtMost};
+ghost use Rattle.signal_rules.specs.Slots.{spans_at, spans_from, has_second, are_mates, spans_in, later_cases, pair_cases, slot_cases};
 
-use crate::lookup::{phase_at, ring_row, split_at};
+use crate::lookup::{phase_at, phases_of, ring_row, split_at};
 use crate::reason::{PatternReason, Reason};
-use signal_records::{Cycle, NoMemory, Pattern, PhaseNo, RingNo, Split, TimingSet};
+use signal_records::{NoMemory, Pattern, PhaseNo, RingNo, Split, TimingSet};
+use std::alloc::Global;
 use std::marker::Model;
 
 /// A phase that has its ring's lane from a second up to another one, and the phases that it lists.
 #[derive(Drop)]
 pub(crate) struct Slot<'s> {
-    from: u32,
+    pub(crate) from: u32,
     until: u32,
     phase: PhaseNo,
     mates: &'s [PhaseNo],
@@ -37,36 +39,9 @@ impl<'s> Model for Slot<'s> {
     } };
 }
 
-/// V12: the splits of each ring's row sum up to the cycle; else the first ring whose splits do not.
-/// Where they do, the slots of the rows are added.
-pub(crate) fn sum_reason<'s>(
-    set: &'s TimingSet,
-    pattern: &Pattern,
-    rings: &[RingNo],
-    slots: &mut Vec<Slot<'s>>,
-) -> Result<Option<Reason>, NoMemory>
-    ensures reason { IfOk result (λ reason.
-        reason ≡ first_true (rings_cases set.now pattern.now rings.now)) }
-    ensures slots { IfOk result (λ reason. is_some reason ≡ false →
-        slots.new.items ≡ slots.old.items ++ spans_of set.now pattern.now rings.now) }
-{
-    for ring in rings {
-        let row = ring_row(set, pattern.seq, *ring);
-        if !row_fills(set, pattern, row, slots)? {
-            let sum = lane_seconds(set, pattern, *ring);
-            return Ok(Some(Reason::Pattern(PatternReason::OtherSum {
-                ring: *ring,
-                sum,
-                cycle: pattern.cycle,
-            })));
-        }
-    }
-    Ok(None)
-}
-
 /// Whether the splits of a row sum up to the cycle. The row is left where it passes the cycle, so
 /// that no sum grows past it.
-fn row_fills<'s>(
+pub(crate) fn row_fills<'s>(
     set: &'s TimingSet,
     pattern: &Pattern,
     row: &[PhaseNo],
@@ -136,36 +111,8 @@ fn push_slot<'s>(
     Ok(())
 }
 
-/// V13, where the rings fill the cycle: they agree at each second at which one of them starts a
-/// phase, and so at each second. Each comparison is a tick: where they agree, one for each slot.
-pub(crate) fn rings_agree(slots: &[Slot<'_>], ticks: &mut u64) -> bool
-    ensures agree { result ≡ agree_where_begun slots.now slots.now }
-    ensures ticks { RisesAtMost (length slots.now) ticks.old ticks.new }
-    ensures counted { result ≡ true → RisesAtLeast (length slots.now) ticks.old ticks.new }
-{
-    for slot in slots {
-        *ticks = ticks.saturating_add(1);
-        if pair_reason(slots, slot.from).is_some() {
-            return false;
-        }
-    }
-    true
-}
-
-/// The first second of a cycle at which two phases time together that do not list each other.
-pub(crate) fn conflict_reason(slots: &[Slot<'_>], cycle: Cycle) -> Option<Reason>
-    ensures { result ≡ first_true (conflicts_in cycle slots.now) }
-{
-    for second in 0..cycle.get() {
-        if let Some(reason) = pair_reason(slots, second) {
-            return Some(reason);
-        }
-    }
-    None
-}
-
 /// The first two slots, in their order, that have a second and whose phases do not list each other.
-fn pair_reason(slots: &[Slot<'_>], second: u32) -> Option<Reason>
+pub(crate) fn pair_reason(slots: &[Slot<'_>], second: u32) -> Option<Reason>
     ensures { result ≡ first_true (pair_cases second (spans_in second slots.now)) }
 {
     let [slot, later @ ..] = slots else {
@@ -233,4 +180,51 @@ fn mates_of(set: &TimingSet, p: PhaseNo) -> &[PhaseNo]
         Some(phase) => phase.mates.as_slice(),
         None => &[],
     }
+}
+
+/// The rings that have a phase, in ascending order: no more than an intersection has.
+pub fn used_rings(alloc: Global, set: &TimingSet) -> Result<Vec<RingNo>, NoMemory>
+    ensures rings { IfOk result (λ rings. rings.items ≡ used_rings set.now) }
+    ensures few { IfOk result (λ rings. length rings.items ≤ 8) }
+{
+    let phases = phases_of(alloc, set)?;
+    rings_of(alloc, set, &phases)
+}
+
+/// The rings that have one of the phases, which are those of the set, in ascending order.
+pub(crate) fn rings_of(
+    alloc: Global,
+    set: &TimingSet,
+    phases: &[PhaseNo],
+) -> Result<Vec<RingNo>, NoMemory>
+    requires { phases.now ≡ set_has.phases set.now }
+    ensures { IfOk result (λ rings. rings.items ≡ used_rings set.now) }
+{
+    let used = each_ring(alloc, set, phases)?;
+    let mut rings = Vec::new(alloc);
+    for ring in RingNo::all() {
+        if is_among(&used, ring) {
+            rings.push(ring)?;
+        }
+    }
+    Ok(rings)
+}
+
+fn is_among(rings: &[RingNo], ring: RingNo) -> bool
+    ensures { result ≡ set_has.is_in ring rings.now }
+{
+    rings.contains(&ring)
+}
+
+/// The ring of each of the phases, in their order.
+fn each_ring(alloc: Global, set: &TimingSet, phases: &[PhaseNo]) -> Result<Vec<RingNo>, NoMemory>
+    ensures { IfOk result (λ rings. rings.items ≡ rings_at set.now phases.now) }
+{
+    let mut rings = Vec::new(alloc);
+    for p in phases {
+        if let Some(phase) = phase_at(set, *p) {
+            rings.push(phase.ring)?;
+        }
+    }
+    Ok(rings)
 }

@@ -24,9 +24,9 @@ mod violation;
 pub use counting::{Judge, Tally, violations_touched};
 pub use explaining::{reasons, reasons_at};
 pub use judging::violations;
-pub use lanes::{lane_seconds, lists, time_of};
+pub use lanes::{lane_seconds, lists, time_of, used_rings};
 pub use lookup::{has_phase, pattern_at, phase_at, phases_of, ring_row, split_at};
-pub use pattern::{is_coordinated, used_rings, without_split};
+pub use pattern::{is_coordinated, without_split};
 pub use phase::clearance;
 pub use reach::touched;
 pub use reason::{

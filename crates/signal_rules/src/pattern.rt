@@ -1,18 +1,18 @@
-//! V9 to V11, the rules of a pattern that look at no lane.
+//! V9 to V13, the rules of a pattern.
 
-ghost use Rattle.std.specs.Prelude.{◌≡◌, ◌≤◌, true, false, length, IfOk, IfSome, IfNone};
+ghost use Rattle.std.specs.Prelude.{◌≡◌, ◌++◌, true, false, is_some, length, IfOk, IfSome, IfNone};
 ghost use Rattle.signal_rules.specs.Lookup as set_has;
 ghost use Rattle.signal_rules.specs.Lookup.{split_at};
-ghost use Rattle.signal_rules.specs.OnePass.{rings_at};
 ghost use Rattle.signal_rules.specs.Cases.{first_true};
-ghost use Rattle.signal_rules.specs.PatternRules.{has_splits, splits_cases, rows_cases, offset_cases, coordination_cases, is_coordinated, has_coordinated};
-ghost use Rattle.signal_rules.specs.Lanes.{used_rings};
+ghost use Rattle.signal_rules.specs.Counts.{RisesAtLeast, RisesAtMost};
+ghost use Rattle.signal_rules.specs.PatternRules.{has_splits, splits_cases, rows_cases, offset_cases, coordination_cases, is_coordinated, has_coordinated, rings_cases};
+ghost use Rattle.signal_rules.specs.Slots.{spans_of, conflicts_in, agree_where_begun};
 
-use crate::lookup::{has_phase, has_split, phase_at, phases_of, split_at};
+use crate::lanes::{Slot, lane_seconds, pair_reason, row_fills};
+use crate::lookup::{has_phase, has_split, ring_row, split_at};
 use crate::reason::{PatternReason, Reason};
 use crate::sequence::has_sequence;
-use signal_records::{NoMemory, Pattern, PhaseNo, RingNo, Split, SplitNo, TimingSet};
-use std::alloc::Global;
+use signal_records::{Cycle, NoMemory, Pattern, PhaseNo, RingNo, Split, SplitNo, TimingSet};
 
 /// V9, of `patternSequenceNumber` and `patternSplitNumber`. The phases are those of the set.
 pub(crate) fn rows_reason(set: &TimingSet, phases: &[PhaseNo], pattern: &Pattern) -> Option<Reason>
@@ -106,49 +106,57 @@ pub fn is_coordinated(split: Option<Split>) -> bool
     }
 }
 
-/// The rings that have a phase, in ascending order: no more than an intersection has.
-pub fn used_rings(alloc: Global, set: &TimingSet) -> Result<Vec<RingNo>, NoMemory>
-    ensures rings { IfOk result (λ rings. rings.items ≡ used_rings set.now) }
-    ensures few { IfOk result (λ rings. length rings.items ≤ 8) }
+/// V12: the splits of each ring's row sum up to the cycle; else the first ring whose splits do not.
+/// Where they do, the slots of the rows are added.
+pub(crate) fn sum_reason<'s>(
+    set: &'s TimingSet,
+    pattern: &Pattern,
+    rings: &[RingNo],
+    slots: &mut Vec<Slot<'s>>,
+) -> Result<Option<Reason>, NoMemory>
+    ensures reason { IfOk result (λ reason.
+        reason ≡ first_true (rings_cases set.now pattern.now rings.now)) }
+    ensures slots { IfOk result (λ reason. is_some reason ≡ false →
+        slots.new.items ≡ slots.old.items ++ spans_of set.now pattern.now rings.now) }
 {
-    let phases = phases_of(alloc, set)?;
-    rings_of(alloc, set, &phases)
-}
-
-/// The rings that have one of the phases, which are those of the set, in ascending order.
-pub(crate) fn rings_of(
-    alloc: Global,
-    set: &TimingSet,
-    phases: &[PhaseNo],
-) -> Result<Vec<RingNo>, NoMemory>
-    requires { phases.now ≡ set_has.phases set.now }
-    ensures { IfOk result (λ rings. rings.items ≡ used_rings set.now) }
-{
-    let used = each_ring(alloc, set, phases)?;
-    let mut rings = Vec::new(alloc);
-    for ring in RingNo::all() {
-        if is_among(&used, ring) {
-            rings.push(ring)?;
+    for ring in rings {
+        let row = ring_row(set, pattern.seq, *ring);
+        if !row_fills(set, pattern, row, slots)? {
+            let sum = lane_seconds(set, pattern, *ring);
+            return Ok(Some(Reason::Pattern(PatternReason::OtherSum {
+                ring: *ring,
+                sum,
+                cycle: pattern.cycle,
+            })));
         }
     }
-    Ok(rings)
+    Ok(None)
 }
 
-fn is_among(rings: &[RingNo], ring: RingNo) -> bool
-    ensures { result ≡ set_has.is_in ring rings.now }
+/// V13, where the rings fill the cycle: they agree at each second at which one of them starts a
+/// phase, and so at each second. Each comparison is a tick: where they agree, one for each slot.
+pub(crate) fn rings_agree(slots: &[Slot<'_>], ticks: &mut u64) -> bool
+    ensures agree { result ≡ agree_where_begun slots.now slots.now }
+    ensures ticks { RisesAtMost (length slots.now) ticks.old ticks.new }
+    ensures counted { result ≡ true → RisesAtLeast (length slots.now) ticks.old ticks.new }
 {
-    rings.contains(&ring)
-}
-
-/// The ring of each of the phases, in their order.
-fn each_ring(alloc: Global, set: &TimingSet, phases: &[PhaseNo]) -> Result<Vec<RingNo>, NoMemory>
-    ensures { IfOk result (λ rings. rings.items ≡ rings_at set.now phases.now) }
-{
-    let mut rings = Vec::new(alloc);
-    for p in phases {
-        if let Some(phase) = phase_at(set, *p) {
-            rings.push(phase.ring)?;
+    for slot in slots {
+        *ticks = ticks.saturating_add(1);
+        if pair_reason(slots, slot.from).is_some() {
+            return false;
         }
     }
-    Ok(rings)
+    true
+}
+
+/// The first second of a cycle at which two phases time together that do not list each other.
+pub(crate) fn conflict_reason(slots: &[Slot<'_>], cycle: Cycle) -> Option<Reason>
+    ensures { result ≡ first_true (conflicts_in cycle slots.now) }
+{
+    for second in 0..cycle.get() {
+        if let Some(reason) = pair_reason(slots, second) {
+            return Some(reason);
+        }
+    }
+    None
 }

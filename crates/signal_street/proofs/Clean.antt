@@ -9,9 +9,9 @@ use Rattle.signal_rules.specs.Cases.{Cases, first_true, holds}
 use Rattle.signal_rules.specs.PhaseRules.{yellow_cases, red_cases, walk_cases, crossing_cases, setback_cases, lead_cases, of_ped, mates_cases}
 use Rattle.signal_rules.specs.SequenceRule.{sequence_cases}
 use Rattle.signal_rules.specs.SplitRule.{split_cases}
-use Rattle.signal_rules.specs.PatternRules.{rows_cases, has_rows, offset_cases, coordination_cases}
-use Rattle.signal_rules.specs.Lanes.{used_rings, sum_cases, lanes_fill_cycle, lanes_agree}
-use Rattle.signal_rules.specs.Slots.{spans_of, conflicts_in, conflict_cases}
+use Rattle.signal_rules.specs.PatternRules.{rows_cases, has_rows, offset_cases, coordination_cases, sum_cases, lanes_fill_cycle, lanes_agree, conflict_cases}
+use Rattle.signal_rules.specs.Lanes.{used_rings}
+use Rattle.signal_rules.specs.Slots.{spans_of, conflicts_in}
 use Rattle.signal_rules.specs.Violations.{Findings, explained, broken, violations_in, phase_findings, pattern_findings, for_phase, for_sequence, for_split, for_pattern, violations_at, violations_of, split_rows, split_subjects}
 use Rattle.signal_rules.specs.declared.violation.Rule.TheVariants as rule
 use Rattle.signal_rules.specs.declared.violation.Subject.TheVariants as subject

@@ -7,9 +7,10 @@ use Rattle.signal_records.specs.declared.record.Pattern.{Pattern}
 use Rattle.signal_values.specs.{declared.number.TheConstants.PHASES, declared.number.TheConstants.RINGS}
 use Rattle.signal_records.specs.{declared.record.Phase.Phase, declared.record.Split.Split, TimingSet.Rows}
 use Rattle.signal_values.specs.Numbers.{numbers}
-use Rattle.signal_rules.specs.{Lookup.phase_at, Lookup.split_at, Lookup.phases, Lookup.has_sequence, Lookup.sequence_numbers, Lookup.split_numbers, Lookup.pattern_numbers, PatternRules.has_splits, Cases.holds, PatternRules.has_rows, PatternRules.offset_cases, PatternRules.coordination_cases, Lanes.all_list_each_other, Lanes.phases_at, Lanes.lanes_agree, SequenceRule.in_ring}
+use Rattle.signal_rules.specs.{Lookup.phase_at, Lookup.split_at, Lookup.phases, Lookup.has_sequence, Lookup.sequence_numbers, Lookup.split_numbers, Lookup.pattern_numbers, PatternRules.has_splits, Cases.holds, PatternRules.has_rows, PatternRules.offset_cases, PatternRules.coordination_cases, Lanes.all_list_each_other, Lanes.phases_at, PatternRules.lanes_agree, SequenceRule.in_ring}
 use Rattle.signal_rules.specs.Lookup.{is_in, lists, the_mates, phase_numbers, ring_numbers, last_sequence, last_split, last_pattern}
-use Rattle.signal_rules.specs.Lanes.{lane, is_used, used_rings, lanes, lanes_fill_cycle, list_each_other}
+use Rattle.signal_rules.specs.Lanes.{lane, is_used, used_rings, lanes, list_each_other}
+use Rattle.signal_rules.specs.PatternRules.{lanes_fill_cycle}
 use Rattle.signal_rules.specs.SequenceRule.{ring_row, place_cases, row_cases, times_in, once_cases}
 use Rattle.signal_rules.proofs.{CutPoints.at_number, Among.in_numbers, Among.in_filter, Among.all_at, Among.any_at, Among.contains, Cases.holds-append, Cases.holds-flat_map, Cases.test_holds, Parts.rows_by_parts, Starts.fill_by_rings}
 use Rattle.signal_street.specs.Timing.{HasPhase, HasPattern, order, split_time, TimesIn}

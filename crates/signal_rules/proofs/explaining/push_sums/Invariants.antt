@@ -1,5 +1,5 @@
 use Rattle.std.proofs.Common.{◌≡◌, ◌++◌, drop, map}
-use Rattle.signal_rules.specs.{Cases.all_true, Lanes.rings_cases, Violations.broken_sum}
+use Rattle.signal_rules.specs.{Cases.all_true, PatternRules.rings_cases, Violations.broken_sum}
 use Rattle.signal_rules.proofs.explaining.push_sums.Given as goal
 
 -- what was found, and what the rings that are left have

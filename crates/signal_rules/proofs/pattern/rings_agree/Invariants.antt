@@ -1,6 +1,6 @@
 use Rattle.std.proofs.Common.{◌≡◌, ◌+◌, ◌≤◌, drop}
 use Rattle.signal_rules.specs.{Slots.agree_where_begun, Counts.greatest, Counts.RisesAtLeast}
-use Rattle.signal_rules.proofs.lanes.rings_agree.Given as goal
+use Rattle.signal_rules.proofs.pattern.rings_agree.Given as goal
 
 abbrev pub invariant-loop-slot : goal.invariant-loop-slot
 invariant-loop-slot l = record {

@@ -4,7 +4,7 @@ use Rattle.signal_values.specs.Numbers.{numbers}
 use Rattle.signal_rules.specs.declared.reason.Reason.{Reason}
 use Rattle.signal_rules.specs.{Cases.Cases, Cases.first_true, Slots.Span, Slots.pair_cases, Slots.spans_in}
 use Rattle.signal_rules.proofs.Cases.{flat_here, flat_past}
-use Rattle.signal_rules.proofs.lanes.conflict_reason.Goals as goal
+use Rattle.signal_rules.proofs.pattern.conflict_reason.Goals as goal
 
 abbrev at_second : List Span → ℕ → Cases Reason
 at_second slots second = pair_cases second (spans_in second slots)

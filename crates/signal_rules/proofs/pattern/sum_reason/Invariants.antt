@@ -1,6 +1,6 @@
 use Rattle.std.proofs.Common.{◌≡◌, ◌++◌, drop}
-use Rattle.signal_rules.specs.{Cases.first_true, Lanes.rings_cases, Slots.spans_of}
-use Rattle.signal_rules.proofs.lanes.sum_reason.Given as goal
+use Rattle.signal_rules.specs.{Cases.first_true, PatternRules.rings_cases, Slots.spans_of}
+use Rattle.signal_rules.proofs.pattern.sum_reason.Given as goal
 
 abbrev pub invariant-loop-ring : goal.invariant-loop-ring
 invariant-loop-ring l = record {

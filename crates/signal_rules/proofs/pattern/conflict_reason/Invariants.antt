@@ -2,7 +2,7 @@ use Rattle.std.proofs.Common.{◌≡◌, ◌-◌}
 use Rattle.std.specs.List.{flat_map}
 use Rattle.signal_values.specs.Numbers.{numbers}
 use Rattle.signal_rules.specs.{Cases.first_true, Slots.pair_cases, Slots.spans_in, Slots.conflicts_in}
-use Rattle.signal_rules.proofs.lanes.conflict_reason.Given as goal
+use Rattle.signal_rules.proofs.pattern.conflict_reason.Given as goal
 
 abbrev pub invariant-loop-second : goal.invariant-loop-second
 invariant-loop-second l =

@@ -1,5 +1,5 @@
 use Rattle.signal_rules.proofs.OnePass.{rings_used}
-use Rattle.signal_rules.proofs.pattern.rings_of.Goals as goal
+use Rattle.signal_rules.proofs.lanes.rings_of.Goals as goal
 
 pub loop-ring-init : goal.loop-ring-init
 loop-ring-init c =

@@ -1,6 +1,6 @@
 use Rattle.std.proofs.Common.{◌≡◌, ◌++◌, drop}
 use Rattle.signal_rules.specs.OnePass.{rings_at}
-use Rattle.signal_rules.proofs.pattern.each_ring.Given as goal
+use Rattle.signal_rules.proofs.lanes.each_ring.Given as goal
 
 -- the rings so far, and those of the phases that are left
 abbrev pub invariant-loop-p : goal.invariant-loop-p
