@@ -1,4 +1,4 @@
-pub mod Asks
+pub mod FaultsInOrder
 pub mod Ends
 pub mod Fields
 pub mod Front

@@ -13,7 +13,7 @@ use Rattle.office_http_faults.specs.declared.field.Field.TheVariants.{Rows as Fi
 use Rattle.office_files.specs.CsvFault.{bad_row as bad_record, told_at}
 use Rattle.office_files.specs.{CsvRow.csv_rows, declared.fault.CsvFault.CsvFault}
 use Rattle.office_files.specs.declared.fault.CsvFault.TheVariants as file
-use Rattle.office_http_requests.specs.Asks.{◌>>=◌, or_bad_row, or_field, MayWant, WantsMemoryOnlyIf}
+use Rattle.office_http_requests.specs.FaultsInOrder.{◌>>=◌, or_bad_row, or_field, MayWant, WantsMemoryOnlyIf}
 use Rattle.office_http_requests.specs.Rows.{list_of, list_in, each, texts_in, rows_in, changes_spelled, changes_in}
 
 -- what is done, before what the rest gives

@@ -14,7 +14,7 @@ use Rattle.office_http_faults.specs.declared.fault.AskFault.{AskFault}
 use Rattle.office_http_faults.specs.declared.fault.AskFault.TheVariants.{Json, NoMemory}
 use Rattle.office_http_faults.specs.declared.field.Field.{Field}
 use Rattle.office_http_faults.specs.declared.field.Field.TheVariants.{Day, Id, Interval, Part}
-use Rattle.office_http_requests.specs.Asks.{or_fault, or_field}
+use Rattle.office_http_requests.specs.FaultsInOrder.{or_fault, or_field}
 use Rattle.office_http_faults.specs.Fields.{field_name}
 use Rattle.signal_records.specs.Reading.{within}
 

@@ -12,7 +12,7 @@ use Rattle.office_http_faults.specs.declared.field.Field.TheVariants.{Clerk, Nam
 use Rattle.office_http_faults.specs.declared.form.Form.TheVariants.{Json, Csv}
 use Rattle.office_http_requests.specs.declared.route.Endpoint.{Endpoint}
 use Rattle.office_http_requests.specs.declared.route.Endpoint.TheVariants.{AddIntersection, State, Timing, TimingCsv, Draft, Begin, Edit, EditCsv, Verify, Check, Commit, Reopen, Abandon, Record, Import, Cabinet, CabinetCsv, OpenOrders, Stock, Overdue}
-use Rattle.office_http_requests.specs.Asks.{◌>>=◌, or_no_route, MayWant}
+use Rattle.office_http_requests.specs.FaultsInOrder.{◌>>=◌, or_no_route, MayWant}
 use Rattle.office_http_requests.specs.Bodies.{MayBeObject, body_of, id_in, interval_in, words_in}
 use Rattle.office_http_requests.specs.Paths.{day_at, id_at}
 use Rattle.office_http_requests.specs.CsvBodies.{csv_changes_in, csv_records_in}

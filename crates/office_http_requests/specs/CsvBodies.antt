@@ -6,7 +6,7 @@ use Rattle.cabinet_core.specs.declared.command.RecordCommand.{RecordCommand}
 use Rattle.signal_records.specs.declared.record.Change.{Change}
 use Rattle.office_files.specs.Changes.{changes_of}
 use Rattle.office_files.specs.Records.{commands_of}
-use Rattle.office_http_requests.specs.Asks.{◌>>=◌, or_bad_row, or_field}
+use Rattle.office_http_requests.specs.FaultsInOrder.{◌>>=◌, or_bad_row, or_field}
 use Rattle.office_http_requests.specs.Bodies.{text_in}
 use Rattle.office_http_faults.specs.declared.fault.AskFault.{AskFault}
 use Rattle.office_http_faults.specs.declared.fault.AskFault.TheVariants.{NoMemory}

@@ -1,4 +1,4 @@
-pub mod Asks
+pub mod FaultsInOrder
 pub mod Bodies
 pub mod Commands
 pub mod CsvBodies

@@ -10,7 +10,7 @@ use Rattle.signal_records.specs.declared.record.Change.{Change}
 use Rattle.office_files.specs.CsvRow.{csv_rows}
 use Rattle.office_http_faults.specs.declared.fault.AskFault.{AskFault}
 use Rattle.office_http_faults.specs.declared.field.Field.TheVariants.{Rows}
-use Rattle.office_http_requests.specs.Asks.{◌>>=◌, or_bad_row, or_field}
+use Rattle.office_http_requests.specs.FaultsInOrder.{◌>>=◌, or_bad_row, or_field}
 use Rattle.office_http_faults.specs.Fields.{field_name}
 
 -- the items of an array, as a list

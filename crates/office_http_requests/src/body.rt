@@ -2,7 +2,7 @@
 ghost use Rattle.std.specs.Prelude.{◌≡◌, option_map, IfErr, IfOk, IsOk};
 ghost use Rattle.serde_json.specs.View.{view};
 ghost use Rattle.json.specs.Word.{is_space as space_byte};
-ghost use Rattle.office_http_requests.specs.Asks.{Gives, WantsMemoryOnlyIf, lent};
+ghost use Rattle.office_http_requests.specs.FaultsInOrder.{Gives, WantsMemoryOnlyIf, lent};
 ghost use Rattle.office_http_requests.specs.Bodies.{number_in, text_in, ranged_in, words_in, day_in, part_in, body_of, data_of, opens_object as opens, IsBodyTold, MayBeObject};
 ghost use Rattle.cabinet_core.specs.Part.{IsPartCode};
 ghost use Rattle.signal_values.specs.Words.{AreWords};

@@ -1,6 +1,6 @@
 //! A table of routes that is kept from one request to the next.
 ghost use Rattle.std.specs.Prelude.{◌≡◌, None, OnOk, IsSome};
-ghost use Rattle.office_http_requests.specs.Asks.{Gives, WantsMemoryOnlyIf};
+ghost use Rattle.office_http_requests.specs.FaultsInOrder.{Gives, WantsMemoryOnlyIf};
 ghost use Rattle.office_http_requests.specs.Commands.{MayWantFor, command_at};
 
 use crate::asked::Asked;

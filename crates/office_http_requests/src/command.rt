@@ -1,7 +1,7 @@
 //! From a request to a command.
 ghost use Rattle.std.specs.Prelude.{◌≡◌, Err, codes, false};
 ghost use Rattle.serde_json.specs.View.{view};
-ghost use Rattle.office_http_requests.specs.Asks.{Gives, MayWant, WantsMemoryOnlyIf};
+ghost use Rattle.office_http_requests.specs.FaultsInOrder.{Gives, MayWant, WantsMemoryOnlyIf};
 ghost use Rattle.office_http_requests.specs.Bodies.{data_of, MayBeObject};
 ghost use Rattle.office_http_requests.specs.Routes.{method_of, takes_body};
 ghost use Rattle.office_http_requests.specs.Commands.{MayWantFor, added_intersection, asked_at, body_for, clerk_and_csv_in, clerk_and_rows_in, asked_in_csv, asked_in_json, command_at, edited_by_csv, edited_in, id_and_clerk_in, imported_in};

@@ -1,7 +1,7 @@
 //! The CSV text of a body, and what its records spell.
 ghost use Rattle.std.specs.Prelude.{◌≡◌};
 ghost use Rattle.serde_json.specs.View.{view};
-ghost use Rattle.office_http_requests.specs.Asks.{MayWant, WantsMemoryOnlyIf, lent};
+ghost use Rattle.office_http_requests.specs.FaultsInOrder.{MayWant, WantsMemoryOnlyIf, lent};
 ghost use Rattle.office_http_requests.specs.CsvBodies.{csv_in, csv_changes_in, csv_records_in, GivesList};
 
 use crate::body;

@@ -2,7 +2,7 @@
 //! so that want of memory is reported of no fault.
 ghost use Rattle.std.specs.Prelude.{IsOk};
 ghost use Rattle.serde_json.specs.View.{view};
-ghost use Rattle.office_http_requests.specs.Asks.{Gives, WantsMemoryOnlyIf};
+ghost use Rattle.office_http_requests.specs.FaultsInOrder.{Gives, WantsMemoryOnlyIf};
 ghost use Rattle.office_http_requests.specs.Recording.{inspection_in, opening_in, used_in, closing_in, delivery_in};
 
 use crate::body as keys;

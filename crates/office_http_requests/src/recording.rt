@@ -1,5 +1,5 @@
 //! From a request to a command of the register.
-ghost use Rattle.office_http_requests.specs.Asks.{Gives, MayWant, WantsMemoryOnlyIf};
+ghost use Rattle.office_http_requests.specs.FaultsInOrder.{Gives, MayWant, WantsMemoryOnlyIf};
 ghost use Rattle.office_http_requests.specs.Bodies.{data_of};
 ghost use Rattle.office_http_requests.specs.Recording.{received_in, record_asked};
 ghost use Rattle.office_http_requests.specs.declared.kind.RecordKind.TheVariants as kind;

@@ -1,7 +1,7 @@
 //! The routes of the office, and the table that finds the route of a path.
 ghost use Rattle.std.specs.Prelude.{◌≡◌, bytes_eq, IfOk, IfErr};
 ghost use Rattle.matchit.specs.declared.error.InsertError.TheVariants.{OutOfMemory};
-ghost use Rattle.office_http_requests.specs.Asks.{or_no_route};
+ghost use Rattle.office_http_requests.specs.FaultsInOrder.{or_no_route};
 ghost use Rattle.office_http_requests.specs.Routes.{route_rows, route_text, record_route_text, method_of, takes_body, endpoint_of};
 
 use crate::kind::RecordKind;

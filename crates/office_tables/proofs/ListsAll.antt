@@ -11,7 +11,7 @@ use Rattle.office_tables_statements.specs.Tables.{places_from}
 use Rattle.office_tables_schema.specs.Schema.{office_schema}
 use Rattle.office_tables_shelf.proofs.{ListLemmas.stands, ListLemmas.where_all, RowLemmas.same_row}
 use Rattle.office_tables_statements.proofs.{ListedLemmas.is_in, StoredLists.lists, StoredLists.width}
-use Rattle.office_tables.specs.{Former.shown_cells, Listing.ListsAll}
+use Rattle.office_tables.specs.{Rewritten.shown_cells, Listing.ListsAll}
 use Rattle.signal_records.specs.{Row.key_of, Within.IsRowWithin, Within.IsChangeWithin, Within.version_1_limits, declared.record.Change.Change, declared.record.Change.TheVariants.Put, declared.record.Change.TheVariants.Remove, declared.record.Row.Row}
 use Rattle.signal_records.proofs.RowLaws.{are_version_1}
 use Rattle.signal_records.specs.ChangedRows.{left_by}

@@ -12,7 +12,7 @@ use Rattle.office_tables_statements.specs.{Calls.IsHonest, Calls.IsReady, Calls.
 use Rattle.sqlite_rules.proofs.ListLemmas.{fails_has}
 use Rattle.office_tables_shelf.proofs.ListLemmas.{stands, where_all}
 use Rattle.office_tables_statements.proofs.{ListedLemmas.is_in, CallLemmas.survives_on}
-use Rattle.office_tables.specs.Former.{AreKept, HasNoFormer, HasNoFormerRow, is_row, timing_puts, draft_puts}
+use Rattle.office_tables.specs.Rewritten.{AreKept, HasNoFormer, HasNoFormerRow, is_row, timing_puts, draft_puts}
 use Rattle.office_tables.specs.{Migration.IsMigrated, Migration.StandAnew, Migration.kept_key, declared.rewritten.Migrated.Migrated}
 use Rattle.sqlite.proofs.StateLemmas.{survives_then}
 use Rattle.office_machine.specs.Office.{Office}

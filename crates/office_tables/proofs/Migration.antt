@@ -21,7 +21,7 @@ use Rattle.office_machine.specs.Office.{Office, Intersection, side_at, side_of, 
 use Rattle.office_tables_standing.specs.StandFor.{IsTimingKey, HasTimingKeys, IsSaidIn, said_columns_in, StandForSoundIn}
 use Rattle.office_tables_shelf.proofs.CellLemmas.{cells_total, cells_exact, is_under, find_entry, get_by, tied}
 use Rattle.office_tables_shelf.proofs.{ListLemmas.less, ListLemmas.parts, RowLemmas.same_left}
-use Rattle.office_tables.specs.Former.{former_cells, AreKept, has_ped, is_row, timing_puts, draft_puts}
+use Rattle.office_tables.specs.Rewritten.{former_cells, AreKept, has_ped, is_row, timing_puts, draft_puts}
 use Rattle.office_tables.specs.Migration.{respelled, kept_key, kept_columns, IsSpelledAnew, IsMigrated, StandAnew}
 use Rattle.office_tables.specs.declared.rewritten.Migrated.{Migrated}
 

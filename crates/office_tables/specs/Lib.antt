@@ -1,4 +1,4 @@
-pub mod Former
+pub mod Rewritten
 pub mod Listing
 pub mod Migrate
 pub mod Migration

@@ -12,7 +12,7 @@ use Rattle.office_tables_shelf.specs.declared.shelf.ShelfFault.{ShelfFault}
 use Rattle.office_tables_shelf.specs.declared.shelf.ShelfFault.TheVariants as fault
 use Rattle.office_tables_statements.specs.Calls.{IsHonest}
 use Rattle.office_tables_statements.specs.Tables.{IsListText, layout_at}
-use Rattle.office_tables.specs.Former.{AreKept, HasNoFormer}
+use Rattle.office_tables.specs.Rewritten.{AreKept, HasNoFormer}
 use Rattle.office_tables.specs.declared.listing.TheConstants.{TIMING, DRAFT}
 
 -- the text lists all rows of a table that is keyed as `timing` is, in the order of their keys

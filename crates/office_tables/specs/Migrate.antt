@@ -16,7 +16,7 @@ use Rattle.office_tables_standing.specs.StandFor.{StandForSoundIn}
 use Rattle.office_tables_shelf.specs.declared.rows.RowChange.{RowChange}
 use Rattle.office_tables_statements.specs.Calls.{IsHonest, IsReady}
 use Rattle.office_tables_statements.specs.Stored.{content_now, content_of}
-use Rattle.office_tables.specs.Former.{HasNoFormer, HasNoFormerRow}
+use Rattle.office_tables.specs.Rewritten.{HasNoFormer, HasNoFormerRow}
 use Rattle.office_tables.specs.Migration.{IsMigrated, StandAnew}
 use Rattle.office_tables.specs.declared.rewritten.Migrated.{Migrated}
 use Rattle.office_tables_open.specs.declared.open.OpenFault.{OpenFault}

@@ -11,7 +11,7 @@ use Rattle.office_machine.specs.Office.{Office, side_at}
 use Rattle.office_tables_shelf.specs.Rows.{draft_key, draft_columns}
 use Rattle.office_tables_standing.specs.StandFor.{StandForSound}
 use Rattle.office_tables.specs.declared.rewritten.Migrated.{Migrated}
-use Rattle.office_tables.specs.Former.{AreKept, is_row, has_ped}
+use Rattle.office_tables.specs.Rewritten.{AreKept, is_row, has_ped}
 
 -- the key of a row or a removal, and its other cells as they are today
 abbrev pub kept_key : ℕ × Change → List Cell

@@ -3,7 +3,7 @@
 ghost use Rattle.std.specs.Prelude.{◌≡◌, IfOk};
 ghost use Rattle.signal_records.specs.Within.{IsChangeWithin, version_1_limits};
 ghost use Rattle.office_tables_statements.specs.Listed.{shown_key, shown_body};
-ghost use Rattle.office_tables.specs.Former.{former_cells, shown_cells, OnDamage, IsNoFormer};
+ghost use Rattle.office_tables.specs.Rewritten.{former_cells, shown_cells, OnDamage, IsNoFormer};
 
 use office_tables_shelf::shelf::ShelfFault;
 use office_tables_statements::body_reading::Version;

@@ -6,7 +6,7 @@ ghost use Rattle.sqlite.specs.Held.{state};
 ghost use Rattle.office_tables_statements.specs.Calls.{IsOffice, IsQuery, Keeps, TellsOpen};
 ghost use Rattle.office_tables_statements.specs.Stored.{content_now};
 ghost use Rattle.office_tables_statements.specs.Tables.{rows_at};
-ghost use Rattle.office_tables.specs.Former.{former_cells, shown_cells, AreFormer, HaveFive, ShowNoFormer};
+ghost use Rattle.office_tables.specs.Rewritten.{former_cells, shown_cells, AreFormer, HaveFive, ShowNoFormer};
 ghost use Rattle.office_tables.specs.Listing.{ListsKept, ListsEach, TellsNoFormer, TellsNoFormerOfEach};
 
 use crate::former::read;

@@ -1,7 +1,7 @@
 //! What is put in the place of the rows that are spelled otherwise today.
 
 ghost use Rattle.std.specs.Prelude.{◌≡◌, true, false, IfOk, OnOk};
-ghost use Rattle.office_tables.specs.Former.{has_ped, are_rows, timing_puts, draft_puts};
+ghost use Rattle.office_tables.specs.Rewritten.{has_ped, are_rows, timing_puts, draft_puts};
 
 use office_tables_shelf::rows::RowChange;
 use office_tables_shelf::shelf::ShelfFault;

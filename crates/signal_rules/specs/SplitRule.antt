@@ -10,9 +10,9 @@ use Rattle.signal_rules.specs.Cases.{Cases}
 use Rattle.signal_rules.specs.declared.reason.Reason.{Reason}
 use Rattle.signal_rules.specs.declared.reason.Reason.TheVariants as reason
 use Rattle.signal_rules.specs.declared.reason.SplitReason.TheVariants as split
-use Rattle.signal_rules.specs.declared.split.SplitNeed.{SplitNeed}
-use Rattle.signal_rules.specs.declared.split.NeedPart.{NeedPart}
-use Rattle.signal_rules.specs.declared.split.NeedPart.TheVariants as need_part
+use Rattle.signal_rules.specs.declared.need.SplitNeed.{SplitNeed}
+use Rattle.signal_rules.specs.declared.need.NeedPart.{NeedPart}
+use Rattle.signal_rules.specs.declared.need.NeedPart.TheVariants as need_part
 
 -- splitMode is phaseOmitted
 abbrev pub is_omitted : SplitMode → Bool

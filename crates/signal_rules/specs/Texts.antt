@@ -21,8 +21,8 @@ use Rattle.signal_rules.specs.declared.reason.PatternReason.TheVariants as patte
 use Rattle.signal_rules.specs.declared.reason.Reason.{Reason}
 use Rattle.signal_rules.specs.declared.reason.Reason.TheVariants as reason
 use Rattle.signal_rules.specs.declared.reason.Explained.{Explained}
-use Rattle.signal_rules.specs.declared.split.NeedPart.{NeedPart}
-use Rattle.signal_rules.specs.declared.split.NeedPart.TheVariants as need_part
+use Rattle.signal_rules.specs.declared.need.NeedPart.{NeedPart}
+use Rattle.signal_rules.specs.declared.need.NeedPart.TheVariants as need_part
 
 -- 1 to 14
 abbrev pub number_of : Rule → ℕ

@@ -11,6 +11,7 @@ mod explaining;
 mod judging;
 mod lanes;
 mod lookup;
+mod need;
 mod pattern;
 mod phase;
 mod reach;
@@ -26,6 +27,7 @@ pub use explaining::{reasons, reasons_at};
 pub use judging::violations;
 pub use lanes::{lane_seconds, lists, time_of, used_rings};
 pub use lookup::{has_phase, pattern_at, phase_at, phases_of, ring_row, split_at};
+pub use need::{NeedPart, SplitNeed, need_if_called, split_need};
 pub use pattern::{is_coordinated, without_split};
 pub use phase::clearance;
 pub use reach::touched;
@@ -34,7 +36,6 @@ pub use reason::{
     SplitReason,
 };
 pub use sequence::has_sequence;
-pub use split::{NeedPart, SplitNeed, need_if_called, split_need};
 pub use subjects::{subject_of, subjects_of};
 pub use texts::Tenths;
 pub use violation::{Rule, Subject, Violation};

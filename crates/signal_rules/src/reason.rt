@@ -1,6 +1,6 @@
 //! Why a subject breaks a rule, in numbers.
 
-use crate::split::SplitNeed;
+use crate::need::SplitNeed;
 use crate::violation::Violation;
 use signal_records::{Cycle, PhaseNo, RingNo, SeqNo, SplitNo};
 

@@ -1,10 +1,10 @@
 //! How reasons are written.
 
+use crate::need::NeedPart;
 use crate::reason::{
     CrossingReason, Explained, IntervalReason, MateReason, PatternReason, Reason, SequenceReason,
     SplitReason,
 };
-use crate::split::NeedPart;
 use std::fmt;
 
 /// A number of tenths, written as `13.5`.

@@ -1,7 +1,7 @@
 use Rattle.std.proofs.Common.{◌++◌, map, inl, inr, refl, rules, ap, subst, sym, ◌∙◌}
 use Rattle.std.specs.{List.AllByRecursion, Vec.Iter.into_iter_items}
 use Rattle.signal_records.specs.Within.{IsChangeWithin, version_1_limits}
-use Rattle.office_tables.specs.Former.{former_cells, shown_cells}
+use Rattle.office_tables.specs.Rewritten.{former_cells, shown_cells}
 use Rattle.office_tables_shelf.proofs.ListLemmas.{all_more}
 use Rattle.office_tables.proofs.ListsAll.{one_more}
 use Rattle.sqlite_rules.specs.Lists.{Has}

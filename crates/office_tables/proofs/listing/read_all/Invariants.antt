@@ -3,7 +3,7 @@ use Rattle.std.specs.{List.AllByRecursion, Vec.Iter.into_iter_items}
 use Rattle.sqlite.specs.Order.{Row}
 use Rattle.sqlite_rules.specs.Lists.{Has}
 use Rattle.signal_records.specs.Within.{IsChangeWithin, version_1_limits}
-use Rattle.office_tables.specs.Former.{former_cells, shown_cells}
+use Rattle.office_tables.specs.Rewritten.{former_cells, shown_cells}
 use Rattle.office_tables.proofs.listing.read_all.Given as goal
 
 -- the rows so far stood for what is kept, and the rest are rows of the query

@@ -1,6 +1,6 @@
 use Rattle.std.proofs.Common.{◌≡◌, ◌++◌}
 use Rattle.std.specs.Vec.Iter.{into_iter_items}
-use Rattle.office_tables.specs.Former.{draft_puts}
+use Rattle.office_tables.specs.Rewritten.{draft_puts}
 use Rattle.office_tables.proofs.rewritten.draft_changes.Given as goal
 
 -- the rows so far, and those of the rest

@@ -1,7 +1,7 @@
 use Rattle.std.proofs.Common.{◌≡◌, ◌++◌, ℕ}
 use Rattle.std.specs.{List.list_all, Vec.Iter.into_iter_items}
 use Rattle.signal_records.specs.declared.record.Change.{Change}
-use Rattle.office_tables.specs.Former.{is_row, timing_puts}
+use Rattle.office_tables.specs.Rewritten.{is_row, timing_puts}
 use Rattle.office_tables.proofs.rewritten.timing_changes.Given as goal
 
 -- the rows so far, and those of the rest; and what holds of all of the rest holds of all

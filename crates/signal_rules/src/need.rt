@@ -1,0 +1,67 @@
+//! What a phase needs of its split: with yellow and red the longer of its green and its walk.
+
+ghost use Rattle.std.specs.Prelude.{◌≡◌};
+ghost use Rattle.signal_rules.specs.SplitRule.{longer_part, governing_part, split_need, need_if_called};
+
+use signal_records::{Ped, Phase, SplitMode, need};
+
+/// The part of a phase that decides how long it must be: the longer one of two that begin together.
+#[derive(Clone, Copy, PartialEq, Eq)]
+pub enum NeedPart {
+    /// Lead and minimum green, one after the other.
+    Green,
+    /// Walk and clearance, one after the other.
+    Walk,
+}
+
+/// What a phase needs of its split.
+#[derive(Clone, Copy, PartialEq, Eq)]
+pub struct SplitNeed {
+    /// The part that governs with yellow and red, in tenths of a second.
+    pub tenths: u32,
+    pub governs: NeedPart,
+}
+
+/// The need of a phase in a split mode: walk, clearance and lead count where the mode calls the
+/// walk (modes 5 and 6), else the minimum green alone.
+pub fn split_need(phase: &Phase, mode: SplitMode) -> SplitNeed
+    ensures { result ≡ split_need phase.now mode }
+{
+    SplitNeed {
+        tenths: need(phase, mode),
+        governs: governing_part(phase, mode),
+    }
+}
+
+/// The need of a phase whose walk is called, whatever calls it: the split mode or a button.
+pub fn need_if_called(phase: &Phase) -> SplitNeed
+    ensures { result ≡ need_if_called phase.now }
+{
+    split_need(phase, SplitMode::PedestrianRecall)
+}
+
+fn governing_part(phase: &Phase, mode: SplitMode) -> NeedPart
+    ensures { result ≡ governing_part phase.now mode }
+{
+    match (mode, &phase.ped) {
+        (SplitMode::PedestrianRecall | SplitMode::MaximumVehicleAndPedestrianRecall, Some(ped)) =>
+            longer_part(ped, phase.min_green),
+        _ => NeedPart::Green,
+    }
+}
+
+fn longer_part(ped: &Ped, min_green: u8) -> NeedPart
+    ensures { result ≡ longer_part ped.now min_green }
+{
+    let Ped {
+        walk,
+        clear,
+        lead,
+        ..
+    } = ped;
+    if lead.get() + u32::from(min_green) < u32::from(*walk) + u32::from(*clear) {
+        NeedPart::Walk
+    } else {
+        NeedPart::Green
+    }
+}
