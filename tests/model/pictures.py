@@ -1,6 +1,7 @@
 """The picture of a pattern: its rings as lanes of an SVG, whose unit is a tenth of a second."""
 import itertools
 
+from . import reasons
 from .rules import View, of_pattern
 
 LEFT, RIGHT, LEAST, LANES_TOP, PITCH, RISE = 120, 60, 900, 140, 120, 12
@@ -16,12 +17,8 @@ BANDS = {
 OPENING = "<svg xmlns='http://www.w3.org/2000/svg'"
 LETTERS = "font-family='sans-serif' font-size='20'>"
 GROUND = "<rect width='100%' height='100%' fill='white'/>"
-# The first broken rule of these three is named in the picture.
-NOTES = {
-    "V9": "V9: the sequence has no row, or a phase has no split.",
-    "V12": "V12: the splits of a ring do not add up to the cycle.",
-    "V13": "V13: two phases that conflict time together.",
-}
+# The first broken rule of these three is named in the picture, with why it is broken.
+NAMED = ("V9", "V12", "V13")
 
 
 def box(x, y, width, height, fill, edge=1, more=""):
@@ -169,7 +166,9 @@ def elements(plan, number, in_page):
     yield words(120, 36, f"Pattern {number}: cycle {pattern.cycle} s, offset {pattern.offset} s, "
                 f"split {pattern.split}, sequence {pattern.sequence}", " font-size='28'")
     holds = dict(of_pattern(view, pattern))
-    yield from (words(LEFT, 68, text) for rule, text in NOTES.items() if not holds.get(rule, True))
+    broken = [rule for rule in NAMED if not holds.get(rule, True)]
+    yield from (words(LEFT, 68, f"{rule}: {reasons.why(view, f'pattern {number}', rule)[0]}")
+                for rule in broken[:1])
     yield from legend()
     for index, (ring, lane) in enumerate(zip(rings, lanes)):
         top = LANES_TOP + PITCH * index

@@ -120,29 +120,33 @@ def of_pattern(view, pattern, rule):
         return f"offset {pattern.offset} s, cycle {pattern.cycle} s"
     if rule == "V11":
         return f"split {pattern.split} has no coordinated phase of the plan"
-    lanes = list(view.lanes(pattern))
-    if rule == "V13":
-        return conflict(view, lanes, pattern.cycle)
+    return conflict(view, list(view.lanes(pattern)), pattern.cycle)
+
+
+def other_sums(view, pattern):
+    """Each ring whose splits add up to another time than the cycle."""
     used = sorted({phase.ring for phase in view.phases.values()})
-    ring, lane = next(it for it in zip(used, lanes, strict=True) if len(it[1]) != pattern.cycle)
-    return f"ring {ring} adds up to {len(lane)} s, the cycle is {pattern.cycle} s"
+    return [f"ring {ring} adds up to {len(lane)} s, the cycle is {pattern.cycle} s"
+            for ring, lane in zip(used, view.lanes(pattern), strict=True)
+            if len(lane) != pattern.cycle]
 
 
 def why(view, subject, rule):
-    """Why a subject breaks a rule."""
+    """Why a subject breaks a rule: one reason, but of V12 each ring."""
     kind, *numbers = subject.split(" ")
     numbers = tuple(map(int, numbers))
     if kind == "phase":
-        return of_phase(view, view.phases[numbers[0]], rule)
+        return [of_phase(view, view.phases[numbers[0]], rule)]
     if kind == "sequence":
-        return of_sequence(view, numbers[0])
+        return [of_sequence(view, numbers[0])]
     if kind == "split":
-        return of_split(view, view.splits[numbers])
-    return of_pattern(view, view.patterns[numbers[0]], rule)
+        return [of_split(view, view.splits[numbers])]
+    pattern = view.patterns[numbers[0]]
+    return other_sums(view, pattern) if rule == "V12" else [of_pattern(view, pattern, rule)]
 
 
 def explained(plan):
     """A line for each violation of a plan, with its reason."""
     view = View(plan)
-    return [f"{it['subject']} {it['rule']}: {why(view, it['subject'], it['rule'])}"
-            for it in violations(plan)]
+    return [f"{it['subject']} {it['rule']}: {reason}" for it in violations(plan)
+            for reason in why(view, it["subject"], it["rule"])]

@@ -1,11 +1,14 @@
 -- The words above the lanes: the title, a rule that the pattern breaks, and what the marks mean.
-use Rattle.std.specs.Prelude.{ℕ, if◌then◌else◌, List, [], ◌++◌, codes, decimal, Option, Some, None}
+use Rattle.std.specs.Prelude.{ℕ, Bool, true, false, List, [], ◌++◌, find, codes, decimal, Option, Some, None}
 use Rattle.signal_records.specs.declared.record.Pattern.{Pattern}
 use Rattle.signal_records.specs.TimingSet.{Rows}
-use Rattle.signal_rules.specs.PatternRules.{has_rows, lanes_fill_cycle, lanes_agree}
+use Rattle.signal_rules.specs.declared.reason.Explained.{Explained}
+use Rattle.signal_rules.specs.declared.violation.Rule.{Rule}
+use Rattle.signal_rules.specs.declared.violation.Rule.TheVariants as rule
+use Rattle.signal_rules.specs.declared.violation.Subject.TheVariants as subject
+use Rattle.signal_rules.specs.Texts.{rule_text, reason_text}
+use Rattle.signal_rules.specs.Violations.{reasons_at}
 use Rattle.signal_diagram.specs.Svg.{words_from, words_end}
-use Rattle.signal_diagram.specs.declared.head.Broken.{Broken}
-use Rattle.signal_diagram.specs.declared.head.Broken.TheVariants as broken
 
 -- `Pattern 1: cycle 120 s, offset 0 s, split 1, sequence 1`
 unfoldable pub title : ℕ → Pattern → List ℕ
@@ -15,23 +18,23 @@ title n pattern =
     ++ codes " s, split " ++ decimal pattern.split ++ codes ", sequence " ++ decimal pattern.seq
     ++ codes "</text>\n"
 
--- what the picture says of a broken rule
-abbrev pub broken_words : Broken → List ℕ
-broken_words broken.V9 = codes "V9: the sequence has no row, or a phase has no split."
-broken_words broken.V12 = codes "V12: the splits of a ring do not add up to the cycle."
-broken_words broken.V13 = codes "V13: two phases that conflict time together."
+-- a picture names the rules of what it shows
+abbrev pub is_named : Rule → Bool
+is_named rule.V9 = true
+is_named rule.V12 = true
+is_named rule.V13 = true
+is_named _ = false
 
--- the first rule of V9, V12 and V13 that the pattern breaks: V12 is evaluated only where V9 holds,
--- and V13 only where V12 does
-abbrev pub broken_rule : Rows → Pattern → Option Broken
-broken_rule set pattern =
-    if has_rows set pattern then (if lanes_fill_cycle set pattern then (if lanes_agree set pattern then None
-    else Some broken.V13) else Some broken.V12) else Some broken.V9
+-- the first of some broken rules that a picture names
+abbrev pub first_named : List Explained → Option Explained
+first_named broken = find (λ e. is_named e.violation.rule) broken
 
--- which rule is broken
-abbrev pub note : Option Broken → List ℕ
+-- which rule is broken, and why
+abbrev pub note : Option Explained → List ℕ
 note None = []
-note (Some rule) = words_from 120 68 ++ broken_words rule ++ words_end
+note (Some broken) =
+    words_from 120 68 ++ (rule_text broken.violation.rule ++ (codes ": " ++ reason_text broken.reason))
+    ++ words_end
 
 -- what the colours in a lane, the star and the lines mean
 unfoldable pub lane_legend : List ℕ
@@ -45,4 +48,4 @@ walk_legend =
 
 -- what stands above the lanes
 abbrev pub head : Rows → ℕ → Pattern → List ℕ
-head set n pattern = title n pattern ++ note (broken_rule set pattern) ++ lane_legend ++ walk_legend
+head set n pattern = title n pattern ++ note (first_named (reasons_at set (subject.Pattern n))) ++ lane_legend ++ walk_legend

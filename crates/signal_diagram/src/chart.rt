@@ -3,7 +3,7 @@
 ghost use Rattle.std.specs.Prelude.{◌≡◌, ◌≤◌, IfOk, length, map};
 ghost use Rattle.signal_rules.specs.SequenceRule.{ring_row};
 ghost use Rattle.signal_rules.specs.Starts.{times};
-ghost use Rattle.signal_diagram.specs.Chart.{bars_from, end_of, lane_of, lanes_end, longest};
+ghost use Rattle.signal_diagram.specs.Chart.{bars_from, end_of, lane_of, longest};
 
 use signal_records::{NoMemory, Pattern, PhaseNo, RingNo, TimingSet};
 use signal_rules::{ring_row, split_at, time_of};
@@ -98,13 +98,6 @@ fn end_of(lane: &Lane) -> u16
         second = bar.to;
     }
     second
-}
-
-/// Whether the lanes end with the cycle.
-pub(crate) fn lanes_end(cycle: u32, lanes: &[Lane]) -> bool
-    ensures { result ≡ lanes_end cycle lanes.now }
-{
-    lanes.iter().all(|lane| u32::from(end_of(lane)) == cycle)
 }
 
 /// The longest of some seconds and the lanes.

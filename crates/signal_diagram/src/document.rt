@@ -131,7 +131,7 @@ fn picture(
     let height = height_of(lanes.len() as u32);
     let mut text = String::new(alloc);
     push_opening(&mut text, sizing, n, width, height)?;
-    push_head(alloc, &mut text, set, n, pattern, &rings, &lanes)?;
+    push_head(alloc, &mut text, set, n, pattern)?;
     push_shapes(&mut text, &shapes)?;
     text.push_str("</svg>\n")?;
     Ok(text)

@@ -1,26 +1,13 @@
 //! The words above the lanes: the title, a rule that the pattern breaks, and what the marks mean.
 
-ghost use Rattle.std.specs.Prelude.{◌≡◌, ◌++◌, ◌&&◌, IfOk, OnOk, string_bytes};
-ghost use Rattle.signal_rules.specs.Lookup.{has_sequence};
-ghost use Rattle.signal_rules.specs.PatternRules.{has_rows, has_splits, lanes_fill_cycle, used_rings};
-ghost use Rattle.signal_diagram.specs.Chart.{lanes_of};
-ghost use Rattle.signal_diagram.specs.Head.{title, broken_words, broken_rule, note, lane_legend, walk_legend, head};
+ghost use Rattle.std.specs.Prelude.{◌≡◌, ◌++◌, OnOk, string_bytes};
+ghost use Rattle.signal_diagram.specs.Head.{title, is_named, first_named, note, lane_legend, walk_legend, head};
 
-use crate::agreement::lanes_agree;
-use crate::chart::{Lane, lanes_end};
 use crate::svg::{close_words, open_words};
-use signal_records::{NoMemory, Pattern, PatternNo, RingNo, TimingSet};
-use signal_rules::{has_sequence, without_split};
+use signal_records::{NoMemory, Pattern, PatternNo, TimingSet};
+use signal_rules::{Explained, Rule, Subject, reasons_at};
 use std::alloc::{AllocError, Global};
 use std::fmt::Write;
-
-/// A rule of a pattern that its picture names if it is broken.
-#[derive(Clone, Copy)]
-pub(crate) enum Broken {
-    V9,
-    V12,
-    V13,
-}
 
 /// Appends the title.
 fn push_title(text: &mut String, n: PatternNo, pattern: &Pattern) -> Result<(), AllocError>
@@ -38,75 +25,39 @@ fn push_title(text: &mut String, n: PatternNo, pattern: &Pattern) -> Result<(), 
     )
 }
 
-/// The two parts of V9.
-fn has_both(set: &TimingSet, pattern: &Pattern) -> bool
-    ensures { result ≡
-        (has_sequence set.now pattern.now.seq && has_splits set.now pattern.now.split) }
+/// Whether a picture names the rule: V9, V12 and V13 are of what it shows.
+fn is_named(rule: Rule) -> bool
+    ensures { result ≡ is_named rule }
 {
-    has_sequence(set, pattern.seq) && without_split(set, pattern.split).is_none()
+    match rule {
+        Rule::V9 | Rule::V12 | Rule::V13 => true,
+        _ => false,
+    }
 }
 
-/// V9: the sequence has a row, and each phase of the set has a split row.
-fn has_rows(set: &TimingSet, pattern: &Pattern) -> bool
-    ensures { result ≡ has_rows set.now pattern.now }
+/// The first of some broken rules that a picture names.
+fn first_named(broken: &[Explained]) -> Option<Explained>
+    ensures { result ≡ first_named broken.now }
 {
-    has_both(set, pattern)
-}
-
-/// V12: the splits of each ring's row add up to the cycle.
-fn lanes_fill_cycle(set: &TimingSet, pattern: &Pattern, lanes: &[Lane]) -> bool
-    requires { lanes.now ≡ lanes_of set.now pattern.now }
-    ensures { result ≡ lanes_fill_cycle set.now pattern.now }
-{
-    lanes_end(pattern.cycle.get(), lanes)
-}
-
-impl Broken {
-    /// What the picture says of it.
-    fn words(self) -> &'static str
-        ensures { result.now ≡ broken_words self }
-    {
-        match self {
-            Broken::V9 => "V9: the sequence has no row, or a phase has no split.",
-            Broken::V12 => "V12: the splits of a ring do not add up to the cycle.",
-            Broken::V13 => "V13: two phases that conflict time together.",
+    for explained in broken {
+        if is_named(explained.violation.rule) {
+            return Some(*explained);
         }
     }
+    None
 }
 
-/// The first rule of V9, V12 and V13 that the pattern breaks.
-fn broken_rule(
-    alloc: Global,
-    set: &TimingSet,
-    pattern: &Pattern,
-    rings: &[RingNo],
-    lanes: &[Lane],
-) -> Result<Option<Broken>, NoMemory>
-    requires used { rings.now ≡ used_rings set.now }
-    requires lanes { lanes.now ≡ lanes_of set.now pattern.now }
-    ensures { IfOk result (λ broken. broken ≡ broken_rule set.now pattern.now) }
-{
-    if !has_rows(set, pattern) {
-        return Ok(Some(Broken::V9));
-    }
-    if !lanes_fill_cycle(set, pattern, lanes) {
-        return Ok(Some(Broken::V12));
-    }
-    if !lanes_agree(alloc, set, pattern, rings)? {
-        return Ok(Some(Broken::V13));
-    }
-    Ok(None)
-}
-
-/// Appends which rule is broken.
-fn push_note(text: &mut String, broken: Option<Broken>) -> Result<(), AllocError>
+/// Appends which rule is broken, and why.
+fn push_note(text: &mut String, broken: Option<Explained>) -> Result<(), AllocError>
     ensures { OnOk result (string_bytes text.new ≡ string_bytes text.old ++ note broken) }
 {
     let Some(broken) = broken else {
         return Ok(());
     };
+    let rule = broken.violation.rule;
+    let reason = broken.reason;
     open_words(text, 120, 68)?;
-    text.push_str(broken.words())?;
+    write!(text, "{rule}: {reason}")?;
     close_words(text)
 }
 
@@ -163,17 +114,13 @@ pub(crate) fn push_head(
     set: &TimingSet,
     n: PatternNo,
     pattern: &Pattern,
-    rings: &[RingNo],
-    lanes: &[Lane],
 ) -> Result<(), NoMemory>
-    requires used { rings.now ≡ used_rings set.now }
-    requires lanes { lanes.now ≡ lanes_of set.now pattern.now }
     ensures { OnOk result (string_bytes text.new
         ≡ string_bytes text.old ++ head set.now n pattern.now) }
 {
-    let broken = broken_rule(alloc, set, pattern, rings, lanes)?;
+    let broken = reasons_at(alloc, set, Subject::Pattern(n))?;
     push_title(text, n, pattern)?;
-    push_note(text, broken)?;
+    push_note(text, first_named(&broken))?;
     push_lane_legend(text)?;
     push_walk_legend(text)?;
     Ok(())

@@ -7,7 +7,6 @@
 //! that all its coordinates are whole numbers.
 #![tactic(auto)]
 
-mod agreement;
 mod chart;
 mod document;
 mod head;

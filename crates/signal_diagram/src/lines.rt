@@ -6,10 +6,10 @@ ghost use Rattle.signal_rules.specs.Lanes.{list_each_other};
 ghost use Rattle.signal_diagram.specs.Chart.{changes, all_change, has_line, behind, conflicts_with_lane, conflicts_with_all, lane_conflicts, is_barrier};
 ghost use Rattle.signal_diagram.specs.Shapes.{line_shapes, scale_shapes};
 
-use crate::agreement::list_each_other;
 use crate::chart::{Bar, Lane};
 use crate::shapes::Shape;
 use signal_records::{PhaseNo, TimingSet};
+use signal_rules::lists;
 use std::alloc::AllocError;
 
 fn ends_at(second: u32, bars: &[Bar]) -> bool
@@ -56,6 +56,13 @@ fn behind(cycle: u32, second: u32) -> u32
     ensures { result ≡ behind cycle second }
 {
     if second == cycle { 0 } else { second }
+}
+
+/// Whether two phases may time together.
+fn list_each_other(set: &TimingSet, p: PhaseNo, q: PhaseNo) -> bool
+    ensures { result ≡ list_each_other set.now p q }
+{
+    lists(set, p, q) && lists(set, q, p)
 }
 
 /// Whether a phase begins at a second and may time together with another one.
