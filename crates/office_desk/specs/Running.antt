@@ -19,7 +19,7 @@ use Rattle.office_machine.specs.declared.refusal.Refusal.TheVariants.{Damaged, U
 use Rattle.office_machine.specs.declared.reply.Reply.{Reply}
 use Rattle.office_machine.specs.declared.reply.Reply.TheVariants.{Refused}
 use Rattle.office_tables_standing.specs.StandFor.{StandForSound}
-use Rattle.signal_street.specs.StreetLaws.{StreetLaws}
+use Rattle.signal_plans.specs.StreetLaws.{StreetLaws}
 
 -- where its database is open, the shelf holds these tables
 abbrev pub HoldsTables : {S : Type 0} → Ghosts S → S → Content → Type 0

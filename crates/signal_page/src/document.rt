@@ -16,7 +16,7 @@ use crate::plan::{push_plan, push_reasons_note};
 use crate::register::push_register;
 use crate::shown::IntersectionShown;
 use crate::style::STYLE;
-use signal_compare::{Difference, compare};
+use signal_plans::{Difference, compare};
 use signal_page_tables::{push_escaped, push_isolated, push_markup};
 use signal_records::{InterId, NoMemory, TimingSet};
 use signal_rules::{Explained, reasons};
