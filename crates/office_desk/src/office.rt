@@ -23,7 +23,7 @@ ghost use Rattle.office_machine.specs.Step.{overdue_on};
 use crate::checking::{Checked, check_records};
 use crate::deciding::{refused, try_decide};
 use cabinet_core::{Day, Order, OverdueRow, RecordCommand};
-use office_desk_decisions::decided::Decided;
+use office_tables_decisions::decided::Decided;
 use office_desk_timing::list_intersections;
 use office_machine::command::Command;
 use office_machine::intersections::ListedIntersection;

@@ -3,7 +3,7 @@ use Rattle.std.proofs.Common.{◌≡◌, Result, Ok, Err, IsErrAnd, refl, sym, s
 use Rattle.office_tables_shelf.specs.{Keeps.AnswersShelf, Keeps.KeepsShelf, Shelf.IsTold, declared.shelf.Shelf.Ghosts, declared.shelf.ShelfFault.ShelfFault}
 use Rattle.office_tables_shelf.specs.declared.shelf.ShelfFault.TheVariants.{Damaged}
 use Rattle.office_tables_shelf.proofs.KeptLemmas.{kept_on}
-use Rattle.office_desk_decisions.specs.Reads.{OnlyReads, Reports}
+use Rattle.office_tables_decisions.specs.Reads.{OnlyReads, Reports}
 
 -- a fault that is handed on is told as it was
 pub handed_told : {A B : Type 0} (result : Result A ShelfFault) (given : Result B ShelfFault) (fault : ShelfFault) → given ≡ Err fault → IsErrAnd result (λ told. told ≡ fault) → IsTold result → IsTold given

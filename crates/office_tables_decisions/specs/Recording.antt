@@ -7,7 +7,7 @@ use Rattle.office_tables_shelf.specs.Content.{Content}
 use Rattle.office_tables_shelf.specs.Damage.{HasDamagedIntersection}
 use Rattle.office_tables_shelf.specs.Rows.{intersection_key}
 use Rattle.office_machine.specs.Office.{Office}
-use Rattle.office_tables_standing.specs.StandFor.{StandForSound}
+use Rattle.office_tables_decisions.specs.StandFor.{StandForSound}
 use Rattle.office_machine.specs.Step.{is_known}
 
 -- in whichever sound office the tables stand for

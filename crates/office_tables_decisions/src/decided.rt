@@ -15,7 +15,7 @@ pub struct Decided {
 
 impl Decided {
     ghost use Rattle.std.specs.Prelude.{◌≡◌, []};
-    ghost use Rattle.office_desk_decisions.specs.Changes.{IsRefused};
+    ghost use Rattle.office_tables_decisions.specs.Changes.{IsRefused};
 
     /// A refusal, for which nothing is to be written.
     pub fn refused(alloc: Global, refusal: Refusal) -> Decided

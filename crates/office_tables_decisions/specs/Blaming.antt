@@ -6,11 +6,11 @@ use Rattle.cabinet_core.specs.declared.refusal.CabinetRefusal.{CabinetRefusal}
 use Rattle.office_tables_shelf.specs.Change.{changed_by}
 use Rattle.office_tables_shelf.specs.Content.{Content}
 use Rattle.office_tables_shelf.specs.declared.rows.RowChange.{RowChange}
-use Rattle.office_desk_decisions.specs.Lines.{TellsLine}
-use Rattle.office_desk_decisions.specs.RecordBounds.{IsOneOf}
-use Rattle.office_desk_decisions.specs.Damage.{MeetsImportDamage}
-use Rattle.office_desk_decisions.specs.Named.{number_of, numbers_of}
-use Rattle.office_desk_decisions.specs.Recording.{TellsAbout}
+use Rattle.office_tables_decisions.specs.Lines.{TellsLine}
+use Rattle.office_tables_decisions.specs.RecordBounds.{IsOneOf}
+use Rattle.office_tables_decisions.specs.Damage.{MeetsImportDamage}
+use Rattle.office_tables_decisions.specs.Named.{number_of, numbers_of}
+use Rattle.office_tables_decisions.specs.Recording.{TellsAbout}
 use Rattle.office_machine.specs.Step.{cabinet_of, refusal_of_record}
 use Rattle.office_machine.specs.declared.command.Command.{Command}
 use Rattle.office_machine.specs.declared.command.Command.TheVariants.{Import, Record}

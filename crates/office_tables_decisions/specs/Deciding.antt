@@ -8,15 +8,15 @@ use Rattle.office_tables_shelf.specs.declared.shelf.ShelfFault.{ShelfFault}
 use Rattle.office_tables_shelf.specs.declared.shelf.ShelfFault.TheVariants as fault
 use Rattle.office_machine.specs.declared.command.Command.{Command}
 use Rattle.office_machine.specs.declared.command.Command.TheVariants.{Import}
-use Rattle.office_desk_decisions.specs.declared.decided.Decided.{Decided}
+use Rattle.office_tables_decisions.specs.declared.decided.Decided.{Decided}
 use Rattle.office_machine.specs.declared.refusal.Refusal.TheVariants.{Damaged, Unavailable}
 use Rattle.office_machine.specs.declared.reply.Reply.{Reply}
 use Rattle.office_machine.specs.declared.reply.Reply.TheVariants.{Imported, Refused}
-use Rattle.office_desk_decisions.specs.Answers.{AnswersAny}
-use Rattle.office_desk_decisions.specs.Changes.{IsRefused, IsQueryCommand, most_writes}
-use Rattle.office_desk_decisions.specs.Damage.{IsImport, IsTurnedAway, MeetsDamage}
-use Rattle.office_desk_decisions.specs.Named.{IsNamedFor, RefusesBy, numbers_of}
-use Rattle.office_desk_decisions.specs.Blaming.{BlamesRightly}
+use Rattle.office_tables_decisions.specs.Answers.{AnswersAny}
+use Rattle.office_tables_decisions.specs.Changes.{IsRefused, IsQueryCommand, most_writes}
+use Rattle.office_tables_decisions.specs.Damage.{IsImport, IsTurnedAway, MeetsDamage}
+use Rattle.office_tables_decisions.specs.Named.{IsNamedFor, RefusesBy, numbers_of}
+use Rattle.office_tables_decisions.specs.Blaming.{BlamesRightly}
 
 -- The reply and what the rows make of the tables are one step; the rows are at most those of the kind of command, and none where it is refused or only asks;
 -- where one is added, none stands under its key;

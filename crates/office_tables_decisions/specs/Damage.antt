@@ -14,8 +14,8 @@ use Rattle.office_tables_shelf.specs.declared.rows.IntersectionRow.{Intersection
 use Rattle.office_tables_shelf.specs.Damage.{HasDamagedIntersection, HasDamagedTiming, HasDamagedDraft}
 use Rattle.office_tables_shelf.specs.CabinetReads.{HasDamagedOrder, HasDamagedPart}
 use Rattle.cabinet_core.specs.declared.command.RecordCommand.{RecordCommand}
-use Rattle.office_desk_decisions.specs.RegisterDamage.{HasDamagedCabinet, MeetsRecordDamage}
-use Rattle.office_desk_decisions.specs.Changes.{IsRefused}
+use Rattle.office_tables_decisions.specs.RegisterDamage.{HasDamagedCabinet, MeetsRecordDamage}
+use Rattle.office_tables_decisions.specs.Changes.{IsRefused}
 use Rattle.office_machine.specs.Step.{cabinet_of}
 use Rattle.office_machine.specs.declared.command.Command.{Command}
 use Rattle.office_machine.specs.declared.command.Command.TheVariants as command

@@ -9,7 +9,7 @@ use Rattle.office_tables_shelf.specs.Places as place
 use Rattle.office_tables_shelf.specs.Places.{ReadsAt}
 use Rattle.office_tables_shelf.specs.declared.rows.RowChange.{RowChange}
 use Rattle.office_tables_shelf.specs.declared.rows.RowChange.TheVariants.{AddInspection, AddOrder}
-use Rattle.office_desk_decisions.specs.RegisterRows.{row_changes_of, stock_rows_of}
+use Rattle.office_tables_decisions.specs.RegisterRows.{row_changes_of, stock_rows_of}
 
 -- the rows that a line writes: only what is added writes any
 abbrev pub rows_for : Line → List RowChange → List RowChange

@@ -5,7 +5,7 @@ use Rattle.office_machine.specs.declared.command.Command.{Command}
 use Rattle.office_machine.specs.declared.reply.Reply.{Reply}
 use Rattle.office_machine.specs.Office.{Office}
 use Rattle.office_machine.specs.Step.{Step, answered}
-use Rattle.office_tables_standing.specs.StandFor.{StandForSound}
+use Rattle.office_tables_decisions.specs.StandFor.{StandForSound}
 
 -- From an office, the reply is that of a step, and the tables stand for a sound office after it.
 pub record Answers (office : Office) (command : Command) (reply : Reply) (tables : Content) : Type 0 where

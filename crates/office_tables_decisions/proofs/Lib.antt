@@ -1,3 +1,4 @@
+pub mod DraftLemmas
 pub mod ReadLemmas
 pub mod RowsTell
 pub mod Decisions

@@ -1,6 +1,6 @@
 -- Which refusals are named for a command, by their numbers in the table.
 use Rattle.std.specs.Prelude.{◌≡◌, ◌⊎◌, ℕ, List, [], ◌∷◌, map, Option, Some, None}
-use Rattle.office_desk_decisions.specs.RecordBounds.{IsOneOf, refusals_of}
+use Rattle.office_tables_decisions.specs.RecordBounds.{IsOneOf, refusals_of}
 use Rattle.office_machine.specs.Refusal.{line_of}
 use Rattle.office_machine.specs.Step.{cabinet_of, refusal_of_record}
 use Rattle.office_machine.specs.declared.command.Command.{Command}

@@ -7,7 +7,7 @@ use Rattle.office_tables_shelf.specs.declared.counts.WriteCounts.{WriteCounts}
 use Rattle.office_tables_shelf.specs.declared.rows.Table.{Table}
 use Rattle.office_tables_shelf.specs.declared.rows.Table.TheVariants as table
 use Rattle.cabinet_core.specs.declared.command.RecordCommand.{RecordCommand}
-use Rattle.office_desk_decisions.specs.RecordBounds.{most_record_writes}
+use Rattle.office_tables_decisions.specs.RecordBounds.{most_record_writes}
 use Rattle.office_machine.specs.declared.command.Command.{Command}
 use Rattle.office_machine.specs.declared.command.Command.TheVariants as command
 use Rattle.office_machine.specs.declared.reply.Reply.{Reply}

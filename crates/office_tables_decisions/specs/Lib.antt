@@ -1,3 +1,4 @@
+pub mod StandFor
 pub mod Open
 pub mod Reads
 pub mod Committed

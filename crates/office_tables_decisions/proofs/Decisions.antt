@@ -4,8 +4,8 @@ use Rattle.std.specs.Prelude.{IsErrAnd}
 use Rattle.office_tables_shelf.specs.{Change.AddNew, Change.changed_by, Content.Content, Counts.writes_in}
 use Rattle.office_tables_shelf.specs.declared.{rows.RowChange.RowChange, rows.Table.Table, shelf.ShelfFault.ShelfFault}
 use Rattle.office_tables_shelf.specs.declared.shelf.ShelfFault.TheVariants.{Damaged}
-use Rattle.office_desk_decisions.specs.{RecordBounds.IsOneOf, Answers.Answers, Answers.AnswersAny, Changes.IsQueryCommand, Changes.IsRefused, Changes.most_writes, Damage.IsImport, Damage.MeetsDamage, Deciding.Decides, Deciding.IsDecision, Named.RefusesBy, Named.number_of, Named.numbers_of, declared.decided.Decided.Decided}
-use Rattle.office_tables_standing.specs.StandFor.{StandForSound}
+use Rattle.office_tables_decisions.specs.{RecordBounds.IsOneOf, Answers.Answers, Answers.AnswersAny, Changes.IsQueryCommand, Changes.IsRefused, Changes.most_writes, Damage.IsImport, Damage.MeetsDamage, Deciding.Decides, Deciding.IsDecision, Named.RefusesBy, Named.number_of, Named.numbers_of, declared.decided.Decided.Decided}
+use Rattle.office_tables_decisions.specs.StandFor.{StandForSound}
 use Rattle.office_machine.specs.{Office.Office, Step.answered}
 use Rattle.office_machine.specs.declared.{command.Command.Command, refusal.Refusal.Refusal, reply.Reply.Reply, reply.Reply.TheVariants.Refused}
 use Rattle.office_machine.specs.declared.refusal.Refusal.TheVariants as refusal

@@ -9,7 +9,7 @@ use Rattle.draft_core.specs.DraftRows.{Said, silent, leaves, removes, said_by, l
 use Rattle.office_tables_shelf.specs.{Content.Content, Rows.timing_key, Rows.draft_columns, Shelf.ListsDraft}
 use Rattle.office_tables_shelf.proofs.CellLemmas.{tied}
 use Rattle.office_tables_shelf.proofs.KeyLemmas.{first_at, none_above, get_listed, draft_keys_rise}
-use Rattle.office_tables_standing.specs.StandFor.{said_columns}
+use Rattle.office_tables_decisions.specs.StandFor.{said_columns}
 
 -- what a change says of its key, where there is one
 abbrev any_said : Option Change → Said
