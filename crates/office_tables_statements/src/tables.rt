@@ -2,8 +2,8 @@
 
 ghost use Rattle.std.specs.Prelude.{◌≡◌, ◌<◌, ◌^◌, map};
 ghost use Rattle.std.specs.List.{AllByRecursion};
-ghost use Rattle.office_tables_schema.specs.Schema.{office_schema};
-ghost use Rattle.office_tables_schema.specs.Wanted.{table_wanted, indexes_wanted};
+ghost use Rattle.office_tables_statements.specs.Schema.{office_schema};
+ghost use Rattle.office_tables_statements.specs.Wanted.{table_wanted, indexes_wanted};
 
 use crate::parts::{WantedCheck, WantedColumn, WantedKey, WantedReference, WantedTable};
 use sqlite_schema::schema::Kind;

@@ -1,17 +1,13 @@
 //! The schema of the office in SQL: the texts that make its tables, and whether a database has
 //! them.
-#![tactic(auto)]
 
 ghost use Rattle.std.specs.Prelude.{◌≡◌, IsTrue};
 ghost use Rattle.std.specs.List.{AllByRecursion};
-ghost use Rattle.office_tables_schema.specs.Schema.{office_schema, IsOffices};
+ghost use Rattle.office_tables_statements.specs.Schema.{office_schema, IsOffices};
 
-mod parts;
-mod tables;
-
-use parts::{are_indexes, are_tables, is_one_of};
+use crate::parts::{are_indexes, are_tables, is_one_of};
+use crate::tables::{self, all_tables};
 use sqlite_schema::schema::{Schema, Table};
-use tables::all_tables;
 
 /// The texts that make the tables, in the order of their numbers.
 pub const CREATES: [&str; 9] = [

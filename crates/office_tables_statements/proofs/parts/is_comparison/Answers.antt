@@ -1,7 +1,7 @@
 use Rattle.std.proofs.Common.{sym, ap, ap₂, ◌∙◌, arith}
 use Rattle.sqlite_schema.specs.Code.{terms_in}
-use Rattle.office_tables_schema.proofs.CheckLemmas.{compared, comparing, one_root}
-use Rattle.office_tables_schema.proofs.parts.is_comparison.Goals as goal
+use Rattle.office_tables_statements.proofs.CheckLemmas.{compared, comparing, one_root}
+use Rattle.office_tables_statements.proofs.parts.is_comparison.Goals as goal
 
 pub returns-then-nodes-gt1-clause-is : goal.returns-then-nodes-gt1-clause-is
 returns-then-nodes-gt1-clause-is c true =

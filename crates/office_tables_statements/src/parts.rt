@@ -5,8 +5,8 @@ ghost use Rattle.std.specs.List.{AllByRecursion};
 ghost use Rattle.sqlite_value.specs.declared.value.Value.TheVariants.{Int};
 ghost use Rattle.sqlite_value.specs.Keys.{plain};
 ghost use Rattle.sqlite_schema.specs.declared.code.Op.TheVariants.{Column as AColumn, Literal as ALiteral};
-ghost use Rattle.office_tables_schema.specs.Schema.{numbered, IsAlikeOne};
-ghost use Rattle.office_tables_schema.specs.Wanted.{column_wanted, reference_wanted, ComparesAt, checks_wanted, key_of, primary_of, uniques_of, orders_of, table_wanted, index_wanted, indexes_wanted};
+ghost use Rattle.office_tables_statements.specs.Schema.{numbered, IsAlikeOne};
+ghost use Rattle.office_tables_statements.specs.Wanted.{column_wanted, reference_wanted, ComparesAt, checks_wanted, key_of, primary_of, uniques_of, orders_of, table_wanted, index_wanted, indexes_wanted};
 
 use sqlite_items::Items;
 use sqlite_schema::code::{Op, Terms};

@@ -6,7 +6,7 @@ use Rattle.sqlite_value.specs.declared.keys.Collation.TheVariants as collation
 use Rattle.sqlite_sql.specs.{Term.Term, Term.lit, Term.col, Term.op2, declared.ops.BinaryOp.TheVariants.Compare}
 use Rattle.sqlite_schema.specs.{Code.op_term, Code.term_to, Code.term_in, Code.terms_in, declared.code.Op.Op}
 use Rattle.sqlite_schema.specs.declared.code.Op.TheVariants.{Literal, Column, Unary, Binary, Case}
-use Rattle.office_tables_schema.specs.{Wanted.ComparesAt, declared.parts.WantedCheck.WantedCheck}
+use Rattle.office_tables_statements.specs.{Wanted.ComparesAt, declared.parts.WantedCheck.WantedCheck}
 
 module _ (ops : List Op) where
   node_there : (at : ℕ) (op : Op) → slice_index_or ops at (Literal Null) ≡ op → op ≢ Literal Null → slice_get ops at ≡ Some op

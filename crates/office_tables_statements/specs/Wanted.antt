@@ -12,13 +12,13 @@ use Rattle.sqlite_schema.specs.declared.code.Op.TheVariants as op
 use Rattle.sqlite_schema.specs.declared.schema.Column.{Column}
 use Rattle.sqlite_schema.specs.declared.schema.Index.{Index}
 use Rattle.sqlite_schema.specs.declared.schema.Reference.{Reference}
-use Rattle.office_tables_schema.specs.Schema.{column_of, refers_to}
-use Rattle.office_tables_schema.specs.declared.parts.WantedColumn.{WantedColumn}
-use Rattle.office_tables_schema.specs.declared.parts.WantedReference.{WantedReference}
-use Rattle.office_tables_schema.specs.declared.parts.WantedCheck.{WantedCheck}
-use Rattle.office_tables_schema.specs.declared.parts.WantedKey.{WantedKey}
-use Rattle.office_tables_schema.specs.declared.parts.WantedKey.TheVariants.{Rowid, Places}
-use Rattle.office_tables_schema.specs.declared.parts.WantedTable.{WantedTable}
+use Rattle.office_tables_statements.specs.Schema.{column_of, refers_to}
+use Rattle.office_tables_statements.specs.declared.parts.WantedColumn.{WantedColumn}
+use Rattle.office_tables_statements.specs.declared.parts.WantedReference.{WantedReference}
+use Rattle.office_tables_statements.specs.declared.parts.WantedCheck.{WantedCheck}
+use Rattle.office_tables_statements.specs.declared.parts.WantedKey.{WantedKey}
+use Rattle.office_tables_statements.specs.declared.parts.WantedKey.TheVariants.{Rowid, Places}
+use Rattle.office_tables_statements.specs.declared.parts.WantedTable.{WantedTable}
 
 -- the column that a description wants
 abbrev pub column_wanted : WantedColumn → Column
