@@ -13,9 +13,9 @@ ghost use Rattle.signal_office_reports.specs.Seen.{Gives};
 use office_desk::office::Office;
 use office_files::{CsvFault, read_plan_csv};
 use office_tables_shelf::shelf::Shelf;
-use signal_plans::{Difference, compare};
 use signal_office_faults::Fault;
 use signal_office_reports::{Query, Seen, draft_in, first_seen, look, next_of, timing_in};
+use signal_plans::{Difference, compare};
 use signal_records::{InterId, TimingSet};
 use std::alloc::Global;
 
