@@ -4,7 +4,7 @@ use Rattle.std.proofs.Common.{◌≡◌, ◌≢◌, ◌+◌, ◌++◌, ℕ, List
 use Rattle.cabinet_core.specs.declared.command.RecordCommand.{RecordCommand}
 use Rattle.office_tables_shelf.specs.Content.{Content}
 use Rattle.office_tables_shelf.specs.declared.{shelf.ShelfFault.ShelfFault, shelf.ShelfFault.TheVariants.Damaged, rows.RowChange.RowChange}
-use Rattle.office_desk_decisions.specs.RecordBounds.{IsOneOf}
+use Rattle.office_tables_decisions.specs.RecordBounds.{IsOneOf}
 use Rattle.office_desk.specs.Blaming.{AreTaken, BlamesRightly, IsFirstRefused, IsTakenAfter}
 use Rattle.office_desk.specs.{Damage.MeetsCabinetDamage, Damage.MeetsImportDamage, Importing.IsNamedTaken, Importing.TakesLine, Named.number_of, Named.numbers_of, declared.importing.Taken.Taken}
 use Rattle.office_desk_timing.specs.Decisions.{refusal_of}

@@ -5,9 +5,9 @@ use Rattle.std.specs.Prelude.{◌⊎◌}
 use Rattle.cabinet_core.specs.{Cabinet.Line, Cabinet.added as added_line, Cabinet.same as same_line, Cabinet.refused as refused_line, Register.Register, Step.line_at, Step.with_record, declared.command.RecordCommand.RecordCommand}
 use Rattle.office_tables_shelf.specs.{Change.AddNew, Change.changed_by, Content.Content, Counts.writes_in, Shelf.IsTold}
 use Rattle.office_tables_shelf.proofs.KeptLemmas.{kept_on}
-use Rattle.office_desk_decisions.proofs.ReadLemmas.{HasRead}
+use Rattle.office_tables_decisions.proofs.ReadLemmas.{HasRead}
 use Rattle.office_tables_shelf.specs.declared.{shelf.Shelf.Ghosts, shelf.ShelfFault.ShelfFault, rows.RowChange.RowChange, rows.Table.Table}
-use Rattle.office_desk_decisions.specs.{Reads.OnlyReads, RegisterDamage.KeepsDamage, RegisterDamage.MeetsRecordDamage, RecordBounds.most_record_writes, declared.decided.Decided.Decided}
+use Rattle.office_tables_decisions.specs.{Reads.OnlyReads, RegisterDamage.KeepsDamage, RegisterDamage.MeetsRecordDamage, RecordBounds.most_record_writes, declared.decided.Decided.Decided}
 use Rattle.office_desk_cabinet.proofs.{KeptDamage.kept_after, KeptDamage.meets_still, KeptDamage.nothing_kept, News.news_after, News.tells_new}
 use Rattle.office_desk.specs.Importing.{ImportsAny, LeavesAnyTiming, TakesInTurn, TakesLine, TakesWhole, goes_on, register_with, taken_by}
 use Rattle.office_desk.specs.{Answers.AnswersAny, Changes.most_import_writes, Damage.MeetsCabinetDamage, Damage.MeetsImportDamage, Deciding.IsDecision, Recording.TellsAbout, StandFor.StandForSound, Named.number_of, Blaming.AreTaken, Blaming.IsFirstRefused, Blaming.IsTakenAfter, declared.importing.Taken.Taken}
@@ -18,7 +18,7 @@ use Rattle.office_machine.specs.declared.reply.Reply.TheVariants.{Imported, Refu
 use Rattle.office_machine.specs.declared.command.Command.TheVariants as command
 use Rattle.office_desk.specs.declared.importing.Taken.TheVariants as taken
 use Rattle.office_desk.proofs.{Recorded.gone_whole, Recorded.record_whole, Recorded.register_of, Recorded.stands_after, Blames.WentOn, Blames.none_met, Blames.taken_next, Writes.import_writes}
-use Rattle.office_desk_decisions.proofs.Decisions.{accepted_decides, idle_decides, refuses_so}
+use Rattle.office_tables_decisions.proofs.Decisions.{accepted_decides, idle_decides, refuses_so}
 
 -- ---- the records that are left
 

@@ -7,8 +7,8 @@ use Rattle.cabinet_core.specs.declared.refusal.CabinetRefusal.TheVariants as cab
 use Rattle.office_tables_shelf.specs.{Cells.Cell, Cells.TableRows, Change.AddNew, Change.changed_by, Content.Content, Counts.writes_in, Shelf.ReadsIntersection, Rows.intersection_columns, Rows.intersection_key, Rows.timing_key}
 use Rattle.office_tables_shelf.specs.declared.{rows.IntersectionRow.IntersectionRow, rows.RowChange.RowChange}
 use Rattle.office_tables_shelf.specs.RegisterStands.{RegisterStandsSound}
-use Rattle.office_desk_decisions.specs.RecordBounds.{IsNamed, IsOneOf, most_record_writes, refusals_of}
-use Rattle.office_desk_decisions.specs.{RegisterDamage.MeetsRecordDamage, declared.decided.Decided.Decided}
+use Rattle.office_tables_decisions.specs.RecordBounds.{IsNamed, IsOneOf, most_record_writes, refusals_of}
+use Rattle.office_tables_decisions.specs.{RegisterDamage.MeetsRecordDamage, declared.decided.Decided.Decided}
 use Rattle.office_desk_cabinet.specs.Registers.{LeavesTiming, RegistersFrom, ShowsCabinet, line_told, rows_told}
 use Rattle.office_desk_cabinet.specs.{Decides.DecidesRecord, declared.registered.Registered.Registered}
 use Rattle.office_desk_cabinet.specs.declared.registered.Registered.TheVariants.{Added, Same, Refused}
@@ -20,7 +20,7 @@ use Rattle.office_machine.specs.declared.{reply.CabinetShown.CabinetShown, refus
 use Rattle.office_machine.specs.declared.command.Command.TheVariants as command
 use Rattle.office_machine.specs.declared.refusal.Refusal.TheVariants as refusal
 use Rattle.office_machine.specs.declared.reply.Reply.TheVariants as reply
-use Rattle.office_desk_decisions.proofs.Decisions.{refuses_so}
+use Rattle.office_tables_decisions.proofs.Decisions.{refuses_so}
 use Rattle.office_desk_timing.proofs.Stands.{row_read}
 use Rattle.office_desk.proofs.Writes.{record_writes}
 

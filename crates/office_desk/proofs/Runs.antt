@@ -13,7 +13,7 @@ use Rattle.office_desk.specs.Deciding.{AddsNothing, DecidesIdly, IsAnswered, IsD
 use Rattle.office_desk.specs.Damage.{HasDamageIn, IsTurnedAway, MeetsAfter, MeetsCabinetDamage, MeetsImportDamage, MeetsDamage}
 use Rattle.office_desk.specs.{Blaming.BlamesRightly, Changes.IsRefused, Changes.most_writes, Running.AreRun, Running.HoldsTables, Running.IsRun, Running.MakesTables, Running.RunsAny, Running.RunsTo, Running.TellsTables, Named.IsNamedFor, Named.RefusesBy, Named.numbers_of, StandFor.StandForSound}
 use Rattle.office_desk_timing.specs.Decisions.{refusal_of}
-use Rattle.office_desk_decisions.specs.declared.decided.Decided.{Decided}
+use Rattle.office_tables_decisions.specs.declared.decided.Decided.{Decided}
 use Rattle.cabinet_core.specs.declared.command.RecordCommand.{RecordCommand}
 use Rattle.office_desk_cabinet.proofs.Undamaged.{no_damaged_inspection, no_damaged_order, no_damaged_used, no_damaged_part, undamaged_record}
 use Rattle.office_machine.specs.Step.{AreSound, Step, Run, answered, cabinet_of}

@@ -5,7 +5,7 @@ use Rattle.office_desk.proofs.EmptySet.{no_violations}
 use Rattle.office_desk.specs.Running.{KeepsTheStreet}
 use Rattle.office_machine.specs.Office.{Intersection, IsSoundIntersection, side_at, side_of}
 use Rattle.signal_rules.specs.Violations.{violations_of}
-use Rattle.signal_street.proofs.Laws.{street_laws}
+use Rattle.signal_plans.proofs.Laws.{street_laws}
 
 breaks_none : (there : Option Intersection) → IfSome there IsSoundIntersection → violations_of (side_of there).committed ≡ []
 breaks_none None sound = no_violations

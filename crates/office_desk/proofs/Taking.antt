@@ -4,7 +4,7 @@ use Rattle.std.specs.Prelude.{◌⊎◌}
 use Rattle.cabinet_core.specs.{Cabinet.Line, Step.after_line, Step.line_at, Step.with_record, declared.command.RecordCommand.RecordCommand}
 use Rattle.office_tables_shelf.specs.{Change.changed_by, Content.Content, Counts.writes_in, RegisterStands.RegisterStandsSound}
 use Rattle.office_tables_shelf.specs.declared.{rows.RowChange.RowChange, rows.Table.Table}
-use Rattle.office_desk_decisions.specs.RegisterDamage.{KeepsDamage, MeetsRecordDamage}
+use Rattle.office_tables_decisions.specs.RegisterDamage.{KeepsDamage, MeetsRecordDamage}
 use Rattle.office_desk_cabinet.specs.declared.registered.Registered.{Registered}
 use Rattle.office_desk_cabinet.specs.declared.registered.Registered.TheVariants as registered
 use Rattle.office_desk_cabinet.proofs.{KeptDamage.nothing_kept, PendingLemmas.changed_append}

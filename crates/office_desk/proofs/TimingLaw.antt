@@ -11,7 +11,7 @@ use Rattle.office_machine.specs.{Office.Office, Office.Intersection, Office.side
 use Rattle.office_machine.specs.declared.command.Command.TheVariants as command
 use Rattle.office_desk_timing.proofs.Stands.{same_id, other_id, side_after}
 use Rattle.office_desk.proofs.Walks.{HoldsOfEach, records_so, step_so}
-use Rattle.office_desk_decisions.specs.Asking.{asking_command}
+use Rattle.office_tables_decisions.specs.Asking.{asking_command}
 use Rattle.draft_core.specs.declared.step.{Step.Step as DraftStep, Step.TheVariants.Begin, Step.TheVariants.Commit, Step.TheVariants.Abandon}
 
 -- ---- the lines of the table

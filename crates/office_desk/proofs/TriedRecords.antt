@@ -8,10 +8,10 @@ use Rattle.cabinet_core.specs.declared.refusal.CabinetRefusal.TheVariants as cab
 use Rattle.office_tables_shelf.specs.{Change.changed_by, Content.Content, declared.rows.RowChange.RowChange, RegisterStands.RegisterStandsSound}
 use Rattle.office_tables_shelf.specs.declared.{shelf.ShelfFault.ShelfFault, shelf.ShelfFault.TheVariants.Damaged}
 use Rattle.office_tables_shelf.specs.Places as place
-use Rattle.office_desk_decisions.specs.Reads.{Reports}
+use Rattle.office_tables_decisions.specs.Reads.{Reports}
 use Rattle.office_tables_shelf.specs.Places.{DamagedAt, Place}
 use Rattle.office_desk_cabinet.proofs.Found.{standing_at, stands_at}
-use Rattle.office_desk_decisions.specs.RegisterDamage.{MeetsRecordDamage}
+use Rattle.office_tables_decisions.specs.RegisterDamage.{MeetsRecordDamage}
 use Rattle.office_desk.specs.Checking.{ChecksRecord, MeetsCheckDamage, ReadsThere, TellsThere, checked_by, checked_from, held_in, office_with, place_told, taken_in, there_in, told_there}
 use Rattle.office_desk.specs.{Damage.MeetsCabinetDamage, Importing.register_with, Importing.taken_by, Recording.HasDamagedAbout, StandFor.StandForSound}
 use Rattle.office_desk.specs.declared.{checking.Checked.Checked, importing.Taken.Taken, there.There.There}

@@ -15,7 +15,7 @@ use Rattle.office_machine.specs.declared.{command.Command.Command, refusal.Refus
 use Rattle.office_machine.specs.declared.command.Command.TheVariants as command
 use Rattle.office_machine.specs.declared.refusal.Refusal.TheVariants as refusal
 use Rattle.office_machine.specs.declared.reply.Reply.TheVariants as reply
-use Rattle.office_desk_decisions.specs.Asking.{asking_command}
+use Rattle.office_tables_decisions.specs.Asking.{asking_command}
 
 -- ---- one command
 

@@ -7,7 +7,7 @@ use Rattle.office_tables_shelf.specs.Counts.{count_of, count_at, next_count, cou
 use Rattle.office_tables_shelf.specs.{Change.table_of, Content.Content}
 use Rattle.office_tables_shelf.specs.declared.{counts.WriteCounts.WriteCounts, rows.RowChange.RowChange, rows.Table.Table}
 use Rattle.office_tables_shelf.specs.declared.rows.Table.TheVariants as table
-use Rattle.office_desk_decisions.specs.RecordBounds.{most_record_writes}
+use Rattle.office_tables_decisions.specs.RecordBounds.{most_record_writes}
 use Rattle.office_desk.specs.Changes.{RiseAtMost, most_import_writes, most_writes}
 use Rattle.office_machine.specs.declared.command.Command.{Command}
 use Rattle.office_machine.specs.declared.command.Command.TheVariants as command

@@ -19,7 +19,7 @@ use Rattle.office_desk.specs.declared.there.There.{There}
 use Rattle.office_desk.specs.declared.there.There.TheVariants as there
 use Rattle.office_desk.specs.StandFor.{StandForSound}
 use Rattle.office_desk_cabinet.specs.Puts.{StandsAt}
-use Rattle.office_desk_decisions.specs.RegisterDamage.{MeetsRecordDamage}
+use Rattle.office_tables_decisions.specs.RegisterDamage.{MeetsRecordDamage}
 use Rattle.office_machine.specs.Office.{Office}
 use Rattle.office_machine.specs.Step.{cabinet_of, is_known}
 use Rattle.office_machine.specs.declared.refusal.Refusal.{Refusal}

@@ -9,14 +9,14 @@ use Rattle.cabinet_core.specs.Step.{line_at, with_record}
 use Rattle.cabinet_core.specs.Cabinet.{Line, added as added_line, same as same_line, refused as refused_line}
 use Rattle.office_tables_shelf.specs.Counts.{writes_in}
 use Rattle.office_tables_shelf.specs.declared.rows.Table.{Table}
-use Rattle.office_desk_decisions.specs.RecordBounds.{IsOneOf, most_record_writes}
+use Rattle.office_tables_decisions.specs.RecordBounds.{IsOneOf, most_record_writes}
 use Rattle.office_desk_cabinet.specs.Decides.{DecidesRecord}
 use Rattle.office_desk_cabinet.specs.Registers.{LeavesTiming, rows_told}
 use Rattle.office_desk_cabinet.specs.declared.registered.Registered.{Registered}
 use Rattle.office_desk_cabinet.specs.declared.registered.Registered.TheVariants as registered
 use Rattle.office_tables_shelf.specs.RegisterStands.{RegisterStandsSound}
 use Rattle.office_machine.specs.Office.{Office}
-use Rattle.office_desk_decisions.specs.RegisterDamage.{KeepsDamage, MeetsRecordDamage}
+use Rattle.office_tables_decisions.specs.RegisterDamage.{KeepsDamage, MeetsRecordDamage}
 use Rattle.office_desk.specs.Blaming.{FollowsRegisterLine, IsRefusedAfter}
 use Rattle.office_desk.specs.Named.{number_of, numbers_of}
 use Rattle.office_desk.specs.Recording.{HasDamagedAbout, TellsAbout, TellsIntersection}

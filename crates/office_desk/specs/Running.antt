@@ -18,8 +18,8 @@ use Rattle.office_machine.specs.declared.refusal.Refusal.{Refusal}
 use Rattle.office_machine.specs.declared.refusal.Refusal.TheVariants.{Damaged, Unavailable}
 use Rattle.office_machine.specs.declared.reply.Reply.{Reply}
 use Rattle.office_machine.specs.declared.reply.Reply.TheVariants.{Refused}
-use Rattle.office_tables_standing.specs.StandFor.{StandForSound}
-use Rattle.signal_street.specs.StreetLaws.{StreetLaws}
+use Rattle.office_tables_decisions.specs.StandFor.{StandForSound}
+use Rattle.signal_plans.specs.StreetLaws.{StreetLaws}
 
 -- where its database is open, the shelf holds these tables
 abbrev pub HoldsTables : {S : Type 0} → Ghosts S → S → Content → Type 0

@@ -1,10 +1,10 @@
 //! Records of the register that are tried in turn and not taken.
 ghost use Rattle.std.specs.Prelude.{◌≡◌, ◌⊎◌, ◌++◌, [], ◌∷◌, IfOk, OnOk};
 ghost use Rattle.office_tables_shelf.specs.Keeps.{KeepsShelf};
-ghost use Rattle.office_desk_decisions.specs.Reads.{Reports};
+ghost use Rattle.office_tables_decisions.specs.Reads.{Reports};
 ghost use Rattle.office_desk.specs.Checking.{Checks, ChecksRecord, MeetsCheckDamage, TellsThere};
 ghost use Rattle.office_desk.specs.Recording.{AreFound, HasDamagedAbout};
-ghost use Rattle.office_desk_decisions.specs.RegisterDamage.{MeetsRecordDamage};
+ghost use Rattle.office_tables_decisions.specs.RegisterDamage.{MeetsRecordDamage};
 ghost use Rattle.office_machine.specs.Step.{cabinet_of as about_of};
 
 use crate::importing::{Taken, take_record};

@@ -1,6 +1,6 @@
 //! How a command is decided over a shelf.
 ghost use Rattle.std.specs.Prelude.{◌≡◌, IfOk, ◌≢◌, [], IsOkAnd};
-ghost use Rattle.office_desk_decisions.specs.Reads.{OnlyReads};
+ghost use Rattle.office_tables_decisions.specs.Reads.{OnlyReads};
 ghost use Rattle.office_desk.specs.Blaming.{BlamesRightly};
 ghost use Rattle.office_desk.specs.Deciding.{AddsNothing, Decides};
 ghost use Rattle.office_desk_timing.specs.Decisions.{refusal_of};
@@ -10,10 +10,10 @@ use crate::overdue::decide_overdue;
 use crate::recording::decide_record_command;
 use crate::register_showing::{decide_cabinet, decide_open_orders, decide_stock};
 use draft_core::step::Step;
-use office_desk_decisions::decided::Decided;
 use office_desk_timing::{decide_add, decide_draft, decide_state, decide_timing, transact};
 use office_machine::command::Command;
 use office_machine::refusal::Refusal;
+use office_tables_decisions::decided::Decided;
 use office_tables_shelf::shelf::{Shelf, ShelfFault};
 use std::alloc::Global;
 

@@ -1,7 +1,7 @@
 //! Intersections that were found in the tables, so that the row of none is read twice.
 ghost use Rattle.std.specs.Prelude.{◌≡◌, ◌≢◌, true, false, Ok, IfOk, IsSome, IsTrue, OnErr, OnOk};
 ghost use Rattle.office_tables_shelf.specs.Content.{Content};
-ghost use Rattle.office_desk_decisions.specs.Reads.{OnlyReads, Reports};
+ghost use Rattle.office_tables_decisions.specs.Reads.{OnlyReads, Reports};
 ghost use Rattle.office_desk.specs.Recording.{AreFound, HasDamagedAbout, IsAmong, TellsIntersection};
 
 use crate::recording::is_known;

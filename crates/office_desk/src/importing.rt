@@ -1,6 +1,6 @@
 //! Imports: records of the register decided in turn, each after those before it.
 ghost use Rattle.std.specs.Prelude.{◌≡◌, ◌++◌, IfOk, ◌≢◌, [], IsOkAnd};
-ghost use Rattle.office_desk_decisions.specs.Reads.{OnlyReads, Reports};
+ghost use Rattle.office_tables_decisions.specs.Reads.{OnlyReads, Reports};
 ghost use Rattle.office_desk.specs.Blaming.{BlamesRightly};
 ghost use Rattle.office_desk.specs.Deciding.{AddsNothing, Decides};
 ghost use Rattle.office_desk.specs.Damage.{MeetsCabinetDamage};
@@ -12,11 +12,11 @@ use crate::found::is_found;
 use crate::recording::{cabinet_of, refused};
 use cabinet_core::RecordCommand;
 use office_desk_cabinet::{Pending, Registered, decide_record};
-use office_desk_decisions::decided::Decided;
 use office_machine::command::Command;
 use office_machine::records::Records;
 use office_machine::refusal::Refusal;
 use office_machine::reply::Reply;
+use office_tables_decisions::decided::Decided;
 use office_tables_shelf::shelf::{Shelf, ShelfFault};
 use signal_records::{InterId, NoMemory};
 use std::alloc::Global;

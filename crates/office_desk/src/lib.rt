@@ -13,8 +13,8 @@ mod there;
 
 pub use cabinet_core::RecordCommand;
 pub use checking::Checked;
-pub use office_desk_decisions::decided;
 pub use office_machine::command::Command;
 pub use office_machine::refusal::Refusal;
 pub use office_machine::reply::Reply;
+pub use office_tables_decisions::decided;
 pub use there::There;

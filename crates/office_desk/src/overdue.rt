@@ -1,12 +1,12 @@
 //! The query Overdue.
 ghost use Rattle.std.specs.Prelude.{⊤};
-ghost use Rattle.office_desk_decisions.specs.Reads.{OnlyReads};
+ghost use Rattle.office_tables_decisions.specs.Reads.{OnlyReads};
 ghost use Rattle.office_desk.specs.Deciding.{Decides};
 
 use cabinet_core::Day;
-use office_desk_decisions::decided::Decided;
 use office_machine::command::Command;
 use office_machine::reply::{OverdueList, Reply};
+use office_tables_decisions::decided::Decided;
 use office_tables_shelf::shelf::{Shelf, ShelfFault};
 use std::alloc::Global;
 

@@ -1,6 +1,6 @@
 //! The commands of the register.
 ghost use Rattle.std.specs.Prelude.{◌≡◌, false, IsSome, OnErr, Ok, ⊤};
-ghost use Rattle.office_desk_decisions.specs.Reads.{OnlyReads, Reports};
+ghost use Rattle.office_tables_decisions.specs.Reads.{OnlyReads, Reports};
 ghost use Rattle.office_desk_cabinet.specs.Registers.{line_told, rows_told};
 ghost use Rattle.office_desk.specs.Deciding.{Decides};
 ghost use Rattle.office_desk.specs.Recording.{HasDamagedAbout, TellsIntersection};
@@ -8,11 +8,11 @@ ghost use Rattle.office_machine.specs.Step.{cabinet_of as about_of, refusal_of_r
 
 use cabinet_core::{CabinetRefusal, RecordCommand};
 use office_desk_cabinet::{Pending, Registered, decide_record};
-use office_desk_decisions::decided::Decided;
 use office_desk_timing::intersection_row;
 use office_machine::command::Command;
 use office_machine::refusal::Refusal;
 use office_machine::reply::Reply;
+use office_tables_decisions::decided::Decided;
 use office_tables_shelf::shelf::{Shelf, ShelfFault};
 use signal_records::InterId;
 use std::alloc::Global;

@@ -1,14 +1,14 @@
 //! The queries Cabinet, OpenOrders and Stock.
 ghost use Rattle.std.specs.Prelude.{⊤};
-ghost use Rattle.office_desk_decisions.specs.Reads.{OnlyReads};
+ghost use Rattle.office_tables_decisions.specs.Reads.{OnlyReads};
 ghost use Rattle.office_desk.specs.Deciding.{Decides};
 
 use crate::recording::is_known;
 use office_desk_cabinet::{cabinet_view, open_orders, stock};
-use office_desk_decisions::decided::Decided;
 use office_machine::command::Command;
 use office_machine::refusal::Refusal;
 use office_machine::reply::{CabinetShown, OrderNumbers, Reply, Stock};
+use office_tables_decisions::decided::Decided;
 use office_tables_shelf::shelf::{Shelf, ShelfFault};
 use signal_records::InterId;
 use std::alloc::Global;

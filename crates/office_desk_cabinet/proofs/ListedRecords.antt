@@ -13,7 +13,7 @@ use Rattle.office_tables_shelf.specs.Cells.{Cell, TableRows, number, cells_cmp, 
 use Rattle.office_tables_shelf.specs.{Content.Content, OpenOrders.ReadsOpen, Shelf.is_of, Shelf.rows_of}
 use Rattle.office_tables_shelf.proofs.{CabinetLemmas.of_number, CabinetLemmas.part_order, KeyCells.record_order, KeyCells.line_order}
 use Rattle.office_tables_shelf.proofs.StoredMaps.{stored_entries}
-use Rattle.office_desk_decisions.proofs.RowsTell.{told_by_rows, rows_tell}
+use Rattle.office_tables_decisions.proofs.RowsTell.{told_by_rows, rows_tell}
 use Rattle.office_desk_cabinet.specs.RegisterStands.{inspection_cells, order_cells, line_cells, RegisterStands, RegisterStandsSound}
 use Rattle.office_desk_cabinet.proofs.Tells.{inspections_tell, orders_tell, lines_tell}
 

@@ -11,7 +11,7 @@ use Rattle.office_tables_shelf.proofs.{CabinetLemmas.part_order, KeyCells.record
 use Rattle.office_tables_shelf.specs.CabinetReads.{HasDamagedInspection, HasDamagedOrder, HasDamagedUsed, HasDamagedPart, IsHand}
 use Rattle.office_tables_shelf.specs.CabinetRows.{inspection_key, inspection_columns, order_key, order_columns, used_key, used_columns, part_key, part_columns}
 use Rattle.office_tables_shelf.specs.{Cells.TableRows, Cells.number, Content.Content, Shelf.is_of}
-use Rattle.office_desk_decisions.proofs.RowsTell.{of_tells}
+use Rattle.office_tables_decisions.proofs.RowsTell.{of_tells}
 use Rattle.office_desk_cabinet.specs.RegisterStands.{inspection_cells, order_cells, line_cells, RegisterStandsSound}
 use Rattle.office_desk_cabinet.specs.RegisterDamage.{MeetsRecordDamage}
 use Rattle.office_tables_shelf.specs.Places.{DamagedAt, Place}

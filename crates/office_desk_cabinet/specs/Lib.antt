@@ -1,7 +1,7 @@
 pub use Rattle.office_tables_shelf.specs.RegisterStands
-pub use Rattle.office_desk_decisions.specs.RegisterDamage
-pub use Rattle.office_desk_decisions.specs.Open
-pub use Rattle.office_desk_decisions.specs.Lines
+pub use Rattle.office_tables_decisions.specs.RegisterDamage
+pub use Rattle.office_tables_decisions.specs.Open
+pub use Rattle.office_tables_decisions.specs.Lines
 pub mod Puts
 pub mod Registers
 pub mod Telling

@@ -9,9 +9,9 @@ use Rattle.signal_records.specs.ChangedRows.{changed_key}
 use Rattle.draft_core.specs.declared.timing.Reach.TheVariants as reach
 use Rattle.office_tables_shelf.specs.{Change.AddNew, Change.AddsNew, Change.changed, Content.Content, Rows.timing_columns}
 use Rattle.office_tables_shelf.specs.declared.{rows.IntersectionRow.IntersectionRow, rows.RowChange.TheVariants.PutIntersection}
-use Rattle.office_tables_standing.specs.StandFor.{said_columns}
+use Rattle.office_tables_decisions.specs.StandFor.{said_columns}
 use Rattle.office_tables_shelf.proofs.KeyLemmas.{draft_keys_rise, get_timing}
-use Rattle.office_tables_standing.proofs.DraftLemmas.{get_listed_draft}
+use Rattle.office_tables_decisions.proofs.DraftLemmas.{get_listed_draft}
 use Rattle.office_desk_timing.specs.{Moving.row_change_of, Moving.row_changes_of, Reading.ListsFound, declared.reading.Found.Found}
 use Rattle.office_desk_timing.proofs.Moved.{HoldsAt, holds_then}
 

@@ -4,9 +4,9 @@ use Rattle.std.proofs.lemmas.Cmp.{nat_cmp_total}
 use Rattle.std.specs.{Int.IsInRange, FinMap.entries, FinMap.get}
 use Rattle.office_tables_shelf.specs.{Cells.Cell, Cells.TableRows, Content.Content, Damage.HasAnyDamagedIntersection, Shelf.ListsIntersections, Rows.intersection_key, Rows.intersection_columns, declared.rows.IntersectionRow.IntersectionRow}
 use Rattle.office_tables_shelf.proofs.{KeyCells.intersection_order, StoredMaps.stored_entries, StoredMaps.stored_found}
-use Rattle.office_desk_decisions.proofs.RowsTell.{rows_tell}
+use Rattle.office_tables_decisions.proofs.RowsTell.{rows_tell}
 use Rattle.office_machine.specs.Office.{Office, Intersection, IsSoundIntersection}
-use Rattle.office_tables_standing.specs.StandFor.{StandFor, StandForSound, columns_of, row_of}
+use Rattle.office_tables_decisions.specs.StandFor.{StandFor, StandForSound, columns_of, row_of}
 use Rattle.office_desk_timing.proofs.{Rows.row_from_cells, Stands.sound_row}
 
 abbrev pub Entry : Type 0

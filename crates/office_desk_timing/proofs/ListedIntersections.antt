@@ -7,7 +7,7 @@ use Rattle.office_tables_shelf.specs.{Content.Content, declared.rows.Intersectio
 use Rattle.office_machine.specs.{Listed.intersection_listed, Listed.intersections_of, Office.Office, Office.Intersection, Office.side_of}
 use Rattle.office_machine.specs.declared.intersections.ListedIntersection.{ListedIntersection}
 use Rattle.office_desk_timing.specs.Listing.{ListsEachIntersection, listed_in, row_listed}
-use Rattle.office_tables_standing.specs.StandFor.{StandForSound, row_of}
+use Rattle.office_tables_decisions.specs.StandFor.{StandForSound, row_of}
 use Rattle.office_desk_timing.proofs.{IntersectionTable.Entry, IntersectionTable.of_entry, IntersectionTable.rows_read, TimingCount.committed_counted}
 
 -- the next row comes last

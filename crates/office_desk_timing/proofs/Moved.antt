@@ -19,7 +19,7 @@ use Rattle.office_tables_shelf.specs.declared.{rows.IntersectionRow.Intersection
 use Rattle.office_tables_shelf.proofs.{CellLemmas.cells_total, CellLemmas.cells_exact, CellLemmas.tied, CabinetLemmas.of_number, TreeLemmas.timing_ties}
 use Rattle.office_tables_shelf.proofs.KeyLemmas.{of_itself, timing_key_tells}
 use Rattle.office_desk_timing.specs.declared.reading.Found.{Found}
-use Rattle.office_tables_standing.specs.StandFor.{StandFor, HasTimingKeys, IsSaid, IsTimingKey, row_of, said_columns}
+use Rattle.office_tables_decisions.specs.StandFor.{StandFor, HasTimingKeys, IsSaid, IsTimingKey, row_of, said_columns}
 use Rattle.office_desk_timing.specs.{Moving.row_change_of, Moving.row_changes_of, Moving.moved_row, Reading.FoundStands, Reading.drafts_at}
 use Rattle.office_machine.specs.{Office.Office, Office.Intersection, Office.side_of, Step.with_intersection}
 use Rattle.office_desk_timing.proofs.{KeptRegister.KeepsRegister, ReadBack.later_within, ReadBack.said_at_within, Stands.stand_after}

@@ -6,15 +6,15 @@ use Rattle.office_tables_shelf.specs.{Change.changed, Content.Content, Counts.wr
 use Rattle.office_tables_shelf.specs.declared.{rows.IntersectionRow.IntersectionRow, rows.RowChange.TheVariants.AddIntersection as AddRow}
 use Rattle.office_tables_shelf.specs.declared.rows.Table.TheVariants as table
 use Rattle.office_desk_timing.specs.Adding.{AddsRow, AreLimited}
-use Rattle.office_desk_decisions.specs.{Answers.Answers, Changes.most_writes, Deciding.IsDecision, Named.RefusesBy}
-use Rattle.office_tables_standing.specs.StandFor.{StandFor, StandForSound, row_of}
+use Rattle.office_tables_decisions.specs.{Answers.Answers, Changes.most_writes, Deciding.IsDecision, Named.RefusesBy}
+use Rattle.office_tables_decisions.specs.StandFor.{StandFor, StandForSound, row_of}
 use Rattle.office_machine.specs.Office.{Office, IsSoundIntersection, no_timing, side_of, side_at}
 use Rattle.office_machine.specs.Step.{added, new_intersection, with_intersection}
 use Rattle.office_machine.specs.declared.{command.Command.TheVariants.AddIntersection, reply.Reply.Reply}
-use Rattle.office_desk_decisions.specs.declared.decided.Decided.{Decided}
+use Rattle.office_tables_decisions.specs.declared.decided.Decided.{Decided}
 use Rattle.office_machine.specs.declared.refusal.Refusal.TheVariants as refusal
 use Rattle.office_machine.specs.declared.reply.Reply.TheVariants as reply
-use Rattle.office_desk_decisions.proofs.Decisions.{accepted_decides, refuses_so, told_decides}
+use Rattle.office_tables_decisions.proofs.Decisions.{accepted_decides, refuses_so, told_decides}
 use Rattle.office_desk_timing.proofs.EmptySet.{no_records, no_violations}
 use Rattle.office_desk_timing.proofs.{ReadBack.none_found, Shown.there, Stands.stand_after, Stands.sound_with}
 

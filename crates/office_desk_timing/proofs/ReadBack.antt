@@ -11,11 +11,11 @@ use Rattle.draft_core.specs.declared.timing.Reach.TheVariants as reach
 use Rattle.office_tables_shelf.specs.{Content.Content, Rows.timing_columns, Rows.left_columns, Shelf.ReadsIntersection, Shelf.ListsTiming, Shelf.ListsDraft, declared.rows.IntersectionRow.IntersectionRow}
 use Rattle.office_tables_shelf.proofs.KeyLemmas.{row_in, timing_keys_rise, get_set_of_rows, get_listed_timing}
 use Rattle.office_tables_shelf.proofs.{CellLemmas.tied, RowLemmas.timing_columns_tell, RowLemmas.left_columns_tell}
-use Rattle.office_tables_standing.proofs.DraftLemmas.{get_listed_draft}
+use Rattle.office_tables_decisions.proofs.DraftLemmas.{get_listed_draft}
 use Rattle.office_desk_timing.specs.declared.reading.Found.{Found}
 use Rattle.office_desk_timing.specs.Reading.{AreRowsWithin, IsMadeOf, Finds, ListsPlan, drafts_at, set_of_rows}
 use Rattle.office_machine.specs.Office.{Office, Intersection, side_at, side_of}
-use Rattle.office_tables_standing.specs.StandFor.{StandForSound, IsSaid, row_of, said_columns}
+use Rattle.office_tables_decisions.specs.StandFor.{StandForSound, IsSaid, row_of, said_columns}
 use Rattle.office_desk_timing.proofs.Stands.{row_read, records_at}
 
 -- ---- the committed set

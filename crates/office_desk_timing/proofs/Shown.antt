@@ -12,7 +12,7 @@ use Rattle.office_tables_shelf.specs.{Content.Content, Shelf.ReadsIntersection, 
 use Rattle.office_tables_shelf.specs.declared.rows.IntersectionRow.{IntersectionRow}
 use Rattle.office_desk_timing.specs.Reading.{AreRowsWithin, FoundStands, Finds, FindsAny, drafts_at, set_of_rows}
 use Rattle.office_desk_timing.specs.{Decisions.row_shown, Decisions.IsVerdictOf, Decisions.ShowsDraft, declared.reading.Found.Found}
-use Rattle.office_tables_standing.specs.StandFor.{StandForSound, row_of}
+use Rattle.office_tables_decisions.specs.StandFor.{StandForSound, row_of}
 use Rattle.office_machine.specs.{Office.Office, Office.Intersection, Office.IsSoundIntersection, Office.side_of, Step.answered, Step.shown, Step.state_shown, Step.draft_shown, Step.timing_shown, declared.reply.Reply.Reply}
 use Rattle.office_machine.specs.declared.command.Command.TheVariants as command
 use Rattle.draft_core.specs.declared.refusal.DraftRefusal.TheVariants as draft

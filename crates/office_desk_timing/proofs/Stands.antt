@@ -15,8 +15,8 @@ use Rattle.office_tables_shelf.specs.{Cells.Cell, Cells.TableRows, Cells.number,
 use Rattle.office_tables_shelf.specs.Damage.{HasDamagedIntersection, HasDamagedTiming, HasDamagedDraft}
 use Rattle.office_tables_shelf.specs.declared.rows.IntersectionRow.{IntersectionRow}
 use Rattle.draft_core.specs.declared.timing.Reach.TheVariants as reach
-use Rattle.office_tables_standing.specs.StandFor.{StandFor, StandForSound, DraftRowStands, HasTimingKeys, IsSaid, row_of, columns_of, said_columns}
-use Rattle.office_desk_decisions.specs.Damage.{HasDamageIn, HasDamagedPlan}
+use Rattle.office_tables_decisions.specs.StandFor.{StandFor, StandForSound, DraftRowStands, HasTimingKeys, IsSaid, row_of, columns_of, said_columns}
+use Rattle.office_tables_decisions.specs.Damage.{HasDamageIn, HasDamagedPlan}
 use Rattle.office_machine.specs.Office.{Office, Intersection, IsSound, IsSoundIntersection, IsSoundDraft, AreRecords, side_at, side_of}
 use Rattle.office_machine.specs.Step.{with_intersection}
 use Rattle.office_desk_timing.proofs.{EmptySet.no_records, KeptRegister.KeepsRegister, KeptRegister.still_stands, Rows.read_from_cells}

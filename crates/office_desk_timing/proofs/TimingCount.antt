@@ -9,9 +9,9 @@ use Rattle.signal_records.specs.{Key.kind_of, Key.first_of, Key.second_of, Timin
 use Rattle.office_tables_shelf.specs.Cells.{Cell, TableRows, number, cells_cmp, tree_rows}
 use Rattle.office_tables_shelf.specs.{Content.Content, Rows.timing_key, Rows.timing_columns, Shelf.is_of, Shelf.rows_of}
 use Rattle.office_tables_shelf.proofs.{KeyLemmas.of_itself, StoredMaps.get_stored, StoredMaps.stored_entries, StoredMaps.stored_found, CellLemmas.cells_total, CellLemmas.cells_exact, TreeLemmas.timing_order}
-use Rattle.office_desk_decisions.proofs.RowsTell.{of_tells}
+use Rattle.office_tables_decisions.proofs.RowsTell.{of_tells}
 use Rattle.office_machine.specs.Office.{Office, side_at}
-use Rattle.office_tables_standing.specs.StandFor.{StandForSound}
+use Rattle.office_tables_decisions.specs.StandFor.{StandForSound}
 
 module _ (tables : Content) (office : Office) (id : ℕ) (stands : StandForSound tables office) where
   abbrev committed : Rows

@@ -15,19 +15,19 @@ use Rattle.draft_core.specs.declared.timing.Reach.{Reach}
 use Rattle.office_tables_shelf.specs.{Change.changed_by, Content.Content, Shelf.ListsDraft, Shelf.rows_of, Counts.is_same_table, Counts.writes_in}
 use Rattle.office_tables_shelf.specs.declared.{rows.RowChange.RowChange, rows.RowChange.TheVariants.PutIntersection, rows.Table.Table, shelf.ShelfFault.ShelfFault, shelf.ShelfFault.TheVariants.NoMemory}
 use Rattle.office_tables_shelf.specs.declared.rows.Table.TheVariants as table
-use Rattle.office_desk_decisions.specs.{RecordBounds.IsOneOf, Asking.asking_command, Answers.Answers, Changes.IsQueryCommand, Changes.most_intersection_writes, Changes.most_writes, Named.number_of, Named.numbers_of, Damage.HasDamageIn, Damage.MeetsDamage, Deciding.Decides, Deciding.IsDecision}
+use Rattle.office_tables_decisions.specs.{RecordBounds.IsOneOf, Asking.asking_command, Answers.Answers, Changes.IsQueryCommand, Changes.most_intersection_writes, Changes.most_writes, Named.number_of, Named.numbers_of, Damage.HasDamageIn, Damage.MeetsDamage, Deciding.Decides, Deciding.IsDecision}
 use Rattle.draft_core.specs.declared.step.Step.TheVariants.{Begin, Edit, Check, Commit, Abandon}
 use Rattle.draft_core.specs.declared.step.Step.{Step}
-use Rattle.office_desk_decisions.specs.declared.decided.Decided.{Decided}
+use Rattle.office_tables_decisions.specs.declared.decided.Decided.{Decided}
 use Rattle.office_desk_timing.specs.Reading.{FoundStands, FindsAny, ListsFound, drafts_at}
 use Rattle.office_desk_timing.specs.{Moving.WritesDecision, Moving.moved_row, Moving.row_changes_of, declared.reading.Found.Found}
-use Rattle.office_tables_standing.specs.StandFor.{StandForSound}
+use Rattle.office_tables_decisions.specs.StandFor.{StandForSound}
 use Rattle.office_machine.specs.Step.{answered, transacted, moved, moved_to, refusal_of_draft, with_intersection}
 use Rattle.office_machine.specs.Office.{Office, Intersection, IsSoundIntersection}
 use Rattle.office_machine.specs.declared.reply.Reply.TheVariants.{Moved, Refused}
 use Rattle.office_machine.specs.declared.refusal.Refusal.TheVariants as refusal
 use Rattle.draft_core.proofs.OnlyChanges.{among_within}
-use Rattle.office_desk_decisions.proofs.Decisions.{accepted_decides, refuses_so, told_decides, unknown_decides}
+use Rattle.office_tables_decisions.proofs.Decisions.{accepted_decides, refuses_so, told_decides, unknown_decides}
 use Rattle.office_desk_timing.proofs.{AddedRows.move_news, Keeps.line_keeps, Keeps.side_sound, Keeps.sound_intersection, Stands.sound_with, Moved.move_stands, Moved.with_timing_side, Shown.found_none, Shown.found_there, Shown.sound_there}
 
 -- ---- the step

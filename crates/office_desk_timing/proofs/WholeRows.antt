@@ -10,7 +10,7 @@ use Rattle.office_tables_shelf.specs.{Cells.Cell, Content.Content, Damage.HasDam
 use Rattle.office_tables_shelf.proofs.ListedRows.{listed_whole}
 use Rattle.office_tables_shelf.specs.declared.rows.IntersectionRow.{IntersectionRow}
 use Rattle.office_tables_shelf.specs.declared.rows.Table.TheVariants as table
-use Rattle.office_desk_decisions.specs.Damage.{HasDamage, HasDamagedPlan, HasJudgedDamage, IsDone, MeetsAfter}
+use Rattle.office_tables_decisions.specs.Damage.{HasDamage, HasDamagedPlan, HasJudgedDamage, IsDone, MeetsAfter}
 use Rattle.office_desk_timing.specs.Reading.{AreRowsWithin, ListsPlan}
 use Rattle.office_desk_timing.proofs.Rows.{row_from_cells}
 

@@ -9,7 +9,7 @@ use Rattle.office_tables_shelf.specs.declared.rows.RowChange.TheVariants.{AddInt
 use Rattle.office_machine.specs.declared.reply.Reply.{Reply}
 use Rattle.office_machine.specs.declared.reply.Reply.TheVariants.{Added, Same, Refused}
 use Rattle.office_machine.specs.declared.refusal.Refusal.TheVariants.{IntersectionDiffers}
-use Rattle.office_tables_standing.specs.StandFor.{row_of}
+use Rattle.office_tables_decisions.specs.StandFor.{row_of}
 use Rattle.office_machine.specs.Step.{new_intersection}
 
 -- a number, a name and an interval within their limits

@@ -17,7 +17,7 @@ use Rattle.office_machine.specs.declared.reply.Reply.{Reply}
 use Rattle.office_machine.specs.declared.refusal.Refusal.{Refusal}
 use Rattle.office_machine.specs.declared.refusal.Refusal.TheVariants.{Unavailable, Damaged}
 use Rattle.office_machine.specs.Office.{Office, Intersection}
-use Rattle.office_tables_standing.specs.StandFor.{StandForSound, row_of}
+use Rattle.office_tables_decisions.specs.StandFor.{StandForSound, row_of}
 use Rattle.office_machine.specs.Step.{draft_shown}
 
 -- how a fault of the shelf is answered

@@ -15,7 +15,7 @@ use Rattle.office_tables_shelf.specs.Shelf.{ListsDraft, ListsTiming}
 use Rattle.office_tables_shelf.specs.declared.rows.IntersectionRow.{IntersectionRow}
 use Rattle.office_desk_timing.specs.declared.reading.Found.{Found}
 use Rattle.office_machine.specs.Office.{Intersection, Office}
-use Rattle.office_tables_standing.specs.StandFor.{StandFor, StandForSound}
+use Rattle.office_tables_decisions.specs.StandFor.{StandFor, StandForSound}
 
 -- each row is within its limits
 abbrev pub AreRowsWithin : List Row → Type 0

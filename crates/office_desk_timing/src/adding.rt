@@ -1,15 +1,15 @@
 //! The command AddIntersection.
 ghost use Rattle.std.specs.Prelude.{⊤, IfOk};
-ghost use Rattle.office_desk_decisions.specs.Reads.{OnlyReads};
+ghost use Rattle.office_tables_decisions.specs.Reads.{OnlyReads};
 ghost use Rattle.office_desk_timing.specs.Adding.{AddsRow};
-ghost use Rattle.office_desk_decisions.specs.Deciding.{Decides};
+ghost use Rattle.office_tables_decisions.specs.Deciding.{Decides};
 
 use crate::reading::intersection_row;
 use draft_core::revision::Revision;
-use office_desk_decisions::decided::Decided;
 use office_machine::command::Command;
 use office_machine::refusal::Refusal;
 use office_machine::reply::Reply;
+use office_tables_decisions::decided::Decided;
 use office_tables_shelf::rows::{IntersectionRow, RowChange};
 use office_tables_shelf::shelf::{Shelf, ShelfFault};
 use signal_records::{InterId, Interval, NoMemory, Words};

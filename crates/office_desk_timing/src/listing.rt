@@ -1,7 +1,7 @@
 //! All intersections, as they are listed.
 ghost use Rattle.std.specs.Prelude.{◌≡◌, [], ◌∷◌, ◌++◌, ⊤, OnOk};
 ghost use Rattle.office_tables_shelf.specs.Damage.{HasAnyDamagedIntersection};
-ghost use Rattle.office_desk_decisions.specs.Reads.{OnlyReads, ReportsWhole};
+ghost use Rattle.office_tables_decisions.specs.Reads.{OnlyReads, ReportsWhole};
 ghost use Rattle.office_desk_timing.specs.Listing.{ListsEachIntersection, row_listed};
 
 use office_machine::intersections::ListedIntersection;

@@ -5,9 +5,9 @@ ghost use Rattle.office_machine.specs.Step.{refusal_of_draft};
 
 use crate::reading::Found;
 use draft_core::{DraftRefusal, Move, TimingChange, TimingChanges, next_holder};
-use office_desk_decisions::decided::Decided;
 use office_machine::refusal::Refusal;
 use office_machine::reply::Reply;
+use office_tables_decisions::decided::Decided;
 use office_tables_shelf::rows::{IntersectionRow, RowChange};
 use office_tables_shelf::shelf::ShelfFault;
 use signal_records::{Change, InterId, NoMemory, Words};

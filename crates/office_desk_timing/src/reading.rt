@@ -2,8 +2,8 @@
 ghost use Rattle.std.specs.Prelude.{IfOk, IfSome, ⊤, ◌≢◌};
 ghost use Rattle.office_tables_shelf.specs.Damage.{HasDamagedIntersection};
 ghost use Rattle.office_tables_shelf.specs.Shelf.{ReadsIntersection};
-ghost use Rattle.office_desk_decisions.specs.Reads.{OnlyReads, Reports, ReportsWhole};
-ghost use Rattle.office_desk_decisions.specs.Damage.{HasDamageIn, HasDamagedPlan};
+ghost use Rattle.office_tables_decisions.specs.Reads.{OnlyReads, Reports, ReportsWhole};
+ghost use Rattle.office_tables_decisions.specs.Damage.{HasDamageIn, HasDamagedPlan};
 ghost use Rattle.office_desk_timing.specs.Reading.{AreRowsWithin, FindsAny, IsMadeOf, ListsFound, ListsPlan};
 
 use draft_core::changes::Changes;

@@ -1,22 +1,22 @@
 //! The queries State, Timing and Draft.
 ghost use Rattle.std.specs.Prelude.{◌≡◌, ◌≢◌, ◌∷◌, [], ⊤, IfOk};
 ghost use Rattle.draft_core.specs.Transaction.{state_of_holder};
-ghost use Rattle.office_desk_decisions.specs.Reads.{OnlyReads, ReportsWhole};
-ghost use Rattle.office_desk_decisions.specs.Deciding.{Decides};
-ghost use Rattle.office_desk_decisions.specs.Damage.{HasDamage, IsDone};
+ghost use Rattle.office_tables_decisions.specs.Reads.{OnlyReads, ReportsWhole};
+ghost use Rattle.office_tables_decisions.specs.Deciding.{Decides};
+ghost use Rattle.office_tables_decisions.specs.Damage.{HasDamage, IsDone};
 ghost use Rattle.office_desk_timing.specs.Decisions.{row_shown, IsVerdictOf, ShowsDraft};
-ghost use Rattle.office_desk_decisions.specs.Named.{RefusesBy};
+ghost use Rattle.office_tables_decisions.specs.Named.{RefusesBy};
 
 use crate::reading::{Found, find, intersection_row};
 use draft_core::refusal::DraftRefusal;
 use draft_core::state::{DbState, Holder, Stage, Verdict};
 use draft_core::timing::{Reach, Timing};
 use draft_core::verdict;
-use office_desk_decisions::committed::committed_set;
-use office_desk_decisions::decided::Decided;
 use office_machine::command::Command;
 use office_machine::refusal::Refusal;
 use office_machine::reply::{IntersectionState, OpenDraft, Reply, RunningTiming, Violations};
+use office_tables_decisions::committed::committed_set;
+use office_tables_decisions::decided::Decided;
 use office_tables_shelf::rows::IntersectionRow;
 use office_tables_shelf::shelf::{Shelf, ShelfFault};
 use signal_records::{InterId, NoMemory};

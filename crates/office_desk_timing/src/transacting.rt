@@ -1,14 +1,14 @@
 //! The steps of the transaction.
 ghost use Rattle.std.specs.Prelude.{⊤};
-ghost use Rattle.office_desk_decisions.specs.Reads.{OnlyReads};
-ghost use Rattle.office_desk_decisions.specs.Deciding.{Decides};
-ghost use Rattle.office_desk_decisions.specs.Asking.{asking_command};
+ghost use Rattle.office_tables_decisions.specs.Reads.{OnlyReads};
+ghost use Rattle.office_tables_decisions.specs.Deciding.{Decides};
+ghost use Rattle.office_tables_decisions.specs.Asking.{asking_command};
 
 use crate::moving::answer;
 use crate::reading::find;
 use draft_core::step::Step;
-use office_desk_decisions::decided::Decided;
 use office_machine::refusal::Refusal;
+use office_tables_decisions::decided::Decided;
 use office_tables_shelf::shelf::{Shelf, ShelfFault};
 use signal_records::{InterId, Words};
 use std::alloc::Global;

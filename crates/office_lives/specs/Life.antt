@@ -10,7 +10,7 @@ use Rattle.office_machine.specs.Office.{Office, version_1}
 use Rattle.office_tables.specs.Stored.{content_of}
 use Rattle.office_tables.specs.Migration.{StandAnew}
 use Rattle.office_tables_shelf.specs.Content.{Content}
-use Rattle.office_tables_standing.specs.StandFor.{StandForSoundIn}
+use Rattle.office_tables_decisions.specs.StandFor.{StandForSoundIn}
 use Rattle.office_http_framing.specs.Serve.{Ends}
 use Rattle.office_http_framing.specs.declared.engine.Served.{Served}
 use Rattle.office_http_framing.specs.declared.engine.ServeFault.{ServeFault}

@@ -12,7 +12,7 @@ use Rattle.sqlite_schema.specs.declared.schema.Table.{Table}
 use Rattle.office_tables_shelf.specs.Change.{changed_by}
 use Rattle.office_tables_shelf.specs.Content.{Content}
 use Rattle.office_machine.specs.Office.{Office, version_1}
-use Rattle.office_tables_standing.specs.StandFor.{StandForSoundIn}
+use Rattle.office_tables_decisions.specs.StandFor.{StandForSoundIn}
 use Rattle.office_tables_shelf.specs.declared.rows.RowChange.{RowChange}
 use Rattle.office_tables_statements.specs.Calls.{IsHonest, IsReady}
 use Rattle.office_tables_statements.specs.Stored.{content_now, content_of}

@@ -9,7 +9,7 @@ use Rattle.office_tables_shelf.specs.Cells.{Cell, TableRows, rows_by}
 use Rattle.office_tables_shelf.specs.Content.{Content}
 use Rattle.office_machine.specs.Office.{Office, side_at}
 use Rattle.office_tables_shelf.specs.Rows.{draft_key, draft_columns}
-use Rattle.office_tables_standing.specs.StandFor.{StandForSound}
+use Rattle.office_tables_decisions.specs.StandFor.{StandForSound}
 use Rattle.office_tables.specs.declared.rewritten.Migrated.{Migrated}
 use Rattle.office_tables.specs.Rewritten.{AreKept, is_row, has_ped}
 

@@ -16,8 +16,8 @@ use office_tables_open::open::OpenFault;
 use office_tables_open::version::{
     FIND, FIRST_VERSION, VERSION, is_version, renew_version, stored_version,
 };
-use office_tables_schema::is_office;
 use office_tables_shelf::rows::RowChange;
+use office_tables_statements::schema::is_office;
 use office_tables_statements::statement::SqlFault;
 use signal_records::NoMemory;
 use sqlite::{Alter, Connection, Row as SqlRow, Transaction, params};

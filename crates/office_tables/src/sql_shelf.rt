@@ -8,7 +8,7 @@ ghost use Rattle.office_tables.specs.Migrate.{Brings, StandsAnew, MayBecome, Sta
 ghost use Rattle.office_tables_open.specs.Promises.{KeepsCommitted, Settles, IsArrangedIfClean};
 ghost use Rattle.office_tables_open.specs.SqlShelf.{IsCurrent};
 ghost use Rattle.office_tables_open.specs.Opening.{HasOtherVersion, HasRowsAlone, StaysClean, IsOpened, IsRefused};
-ghost use Rattle.office_tables_schema.specs.Schema.{office_schema};
+ghost use Rattle.office_tables_statements.specs.Schema.{office_schema};
 
 use crate::change;
 use crate::migrate::migrate;

@@ -19,7 +19,7 @@ use Rattle.sqlite_schema.specs.declared.{schema.Index.Index, schema.Keys.TheVari
 use Rattle.sqlite_syntax.specs.declared.statement.Parsed.{Parsed}
 use Rattle.sqlite_tied.specs.Compute.{everything}
 use Rattle.sqlite_trees.specs.declared.store.Store.{Ghosts}
-use Rattle.office_tables_schema.specs.Schema.{no_schema}
+use Rattle.office_tables_statements.specs.Schema.{no_schema}
 use Rattle.office_tables_statements.specs.Calls.{command_of, statement_of}
 use Rattle.office_tables_open.proofs.MadeLemmas.{second_of}
 use Rattle.office_tables_open.specs.Found.{IsOurs}

@@ -15,7 +15,7 @@ use Rattle.office_tables_shelf.specs.Content.{Content, no_content}
 use Rattle.office_tables_statements.specs.Calls.{AreOrdered, IsOffice, IsReady, command_of, statement_of}
 use Rattle.office_tables_statements.specs.Layout as layout
 use Rattle.office_tables_statements.specs.Stored.{content_now, rows_in}
-use Rattle.office_tables_schema.specs.{Schema.no_schema, Schema.office_schema, declared.TheConstants.CREATES}
+use Rattle.office_tables_statements.specs.{Schema.no_schema, Schema.office_schema, declared.schema.TheConstants.CREATES}
 use Rattle.office_tables_open.specs.{Opening.AreRun, Opening.IsMade, Version.version_in, Version.current_version}
 
 -- in a transaction over tables without a row

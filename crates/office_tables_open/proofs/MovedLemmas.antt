@@ -11,7 +11,7 @@ use Rattle.office_tables_shelf.specs.Cells.{TableRows, number}
 use Rattle.office_tables_shelf.specs.Content.{Content, no_content}
 use Rattle.office_tables_shelf.specs.declared.rows.Table.{Table}
 use Rattle.office_tables_shelf.specs.declared.rows.Table.TheVariants as table
-use Rattle.office_tables_schema.specs.Schema.{office_schema}
+use Rattle.office_tables_statements.specs.Schema.{office_schema}
 use Rattle.office_tables_statements.specs.Stored.{cells_at, content_of, rows_in}
 use Rattle.office_tables_statements.specs.Tables.{layout_at, rows_at, schema_at, with_rows}
 use Rattle.office_tables_statements.proofs.TableLemmas.{each}

@@ -5,7 +5,7 @@ use Rattle.sqlite.specs.{Effect.Database, Effect.IsDatabase, Held.Held, Held.sta
 use Rattle.sqlite_trees.specs.{View.doubt, Objects.catalog_tree, declared.store.Store.Ghosts}
 use Rattle.sqlite_catalog.specs.Listing.{AreListed}
 use Rattle.office_tables_shelf.specs.{Content.no_content, Counts.no_writes}
-use Rattle.office_tables_schema.specs.Schema.{office_schema}
+use Rattle.office_tables_statements.specs.Schema.{office_schema}
 use Rattle.office_tables_statements.specs.{Calls.IsHonest, Calls.IsOffice, Calls.Keeps, Stored.content_now, Stored.content_of}
 use Rattle.office_tables_open.specs.Arranged.{IsArranged, IsUnchanged, IsTaken, IsCheckedAgain}
 use Rattle.office_tables_open.specs.Found.{MayBeMade, TakesOver, eight_rows, keeper_rows}

@@ -7,7 +7,7 @@ use Rattle.sqlite_tied.specs.Compute.{everything}
 use Rattle.office_tables_statements.specs.Layout as layout
 use Rattle.office_tables_shelf.specs.{Cells.number, declared.rows.Table.Table}
 use Rattle.office_tables_statements.specs.{Stored.rows_in, Stored.cells, Stored.rows_stored, Stored.content_now, Calls.Reads, Calls.IsReady, Calls.Ran, Tables.found_by, Layout.office_version}
-use Rattle.office_tables_schema.specs.Schema.{office_schema, version_table}
+use Rattle.office_tables_statements.specs.Schema.{office_schema, version_table}
 use Rattle.office_tables_open.specs.Version.{version_in, version_of, current_version}
 use Rattle.office_tables_statements.proofs.QueryLemmas.{IsRead, IsWrite, AreShaped, found_by_key, has_width}
 use Rattle.office_tables_statements.proofs.WriteLemmas.{Added, adds, IsIdle, wrote}

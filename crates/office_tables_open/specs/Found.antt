@@ -9,7 +9,7 @@ use Rattle.sqlite_schema.specs.declared.schema.Column.{Column}
 use Rattle.sqlite_schema.specs.declared.schema.Schema.{Schema}
 use Rattle.sqlite_schema.specs.declared.schema.Table.{Table}
 use Rattle.sqlite_trees.specs.Objects.{catalog_tree}
-use Rattle.office_tables_schema.specs.Schema.{IsOffices}
+use Rattle.office_tables_statements.specs.Schema.{IsOffices}
 use Rattle.office_tables_shelf.specs.Cells.{number}
 use Rattle.office_tables_shelf.specs.Content.{Content}
 use Rattle.office_tables_statements.specs.Stored.{content_of}

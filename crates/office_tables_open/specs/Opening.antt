@@ -10,7 +10,7 @@ use Rattle.sqlite_trees.specs.declared.store.Store.{Ghosts}
 use Rattle.office_tables_shelf.specs.Content.{Content, no_content}
 use Rattle.office_tables_shelf.specs.Counts.{no_writes}
 use Rattle.office_tables_statements.specs.Calls.{IsHonest, IsOffice, IsReady}
-use Rattle.office_tables_schema.specs.Schema.{office_schema}
+use Rattle.office_tables_statements.specs.Schema.{office_schema}
 use Rattle.office_tables_statements.specs.Stored.{content_now, content_of}
 use Rattle.office_tables_open.specs.SqlShelf.{SqlView}
 use Rattle.office_tables_open.specs.Found.{Hold, IsLacking, IsOurs, IsUnclaimed, MayBeTaken, TakesOver}

@@ -6,7 +6,7 @@ use Rattle.sqlite.specs.Order.{Row}
 use Rattle.sqlite.specs.Tree.{Trees}
 use Rattle.office_tables_shelf.specs.Cells.{Cell, number}
 use Rattle.office_tables_shelf.specs.Content.{Content}
-use Rattle.office_tables_schema.specs.Schema.{office_schema}
+use Rattle.office_tables_statements.specs.Schema.{office_schema}
 use Rattle.office_tables_statements.specs.Layout as layout
 use Rattle.office_tables_statements.specs.Stored.{cells, content_of, rows_in}
 

@@ -19,7 +19,7 @@ ghost use Rattle.office_tables_open.specs.Version.{version_of};
 use crate::gather::{Moved, gathered, read_named};
 use crate::open::OpenFault;
 use crate::version::VERSION;
-use office_tables_schema::are_of_office;
+use office_tables_statements::schema::are_of_office;
 use office_tables_statements::statement::SqlFault;
 use sqlite::{Alter, Connection};
 use sqlite_schema::names::same_name;

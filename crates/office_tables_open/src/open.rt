@@ -3,7 +3,7 @@
 ghost use Rattle.std.specs.Prelude.{◌≡◌, true, false, map, Err, IfOk, IfErr, OnOk};
 ghost use Rattle.sqlite.specs.State.{HasCleanDisk, Survives};
 ghost use Rattle.sqlite.specs.Held.{state};
-ghost use Rattle.office_tables_schema.specs.Schema.{no_schema};
+ghost use Rattle.office_tables_statements.specs.Schema.{no_schema};
 ghost use Rattle.office_tables_shelf.specs.Content.{no_content};
 ghost use Rattle.office_tables_statements.specs.Calls.{IsHonest, IsOffice, StandsOn, StaysOpen};
 ghost use Rattle.office_tables_open.specs.Moved.{all_put, part_moved};
@@ -15,8 +15,8 @@ use crate::found::{has_only_ours, looked};
 use crate::gather::Moved;
 use crate::refill::put_all;
 use crate::version::{is_today, put_version};
-use office_tables_schema::{CREATES, is_office};
 use office_tables_shelf::shelf::ShelfFault;
+use office_tables_statements::schema::{CREATES, is_office};
 use office_tables_statements::statement::SqlFault;
 use signal_records::NoMemory;
 use sqlite::{Alter, Connection, Transaction};

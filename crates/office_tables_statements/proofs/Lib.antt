@@ -1,3 +1,4 @@
+mod CheckLemmas
 pub mod StoredLemmas
 pub mod QueryLemmas
 pub mod SoundLemmas

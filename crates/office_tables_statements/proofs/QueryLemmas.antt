@@ -13,7 +13,7 @@ use Rattle.sqlite_trees.proofs.ListLemmas.{map-map}
 use Rattle.office_tables_statements.specs.{Layout.Layout, Layout.values_at, Layout.has_key, Tables.of_key, Tables.found_by, Tables.picked_by, Tables.picked_where, Calls.IsQuery, Calls.Reads, Calls.command_of}
 use Rattle.sqlite.specs.Effect as effect
 use Rattle.sqlite_trees.specs.declared.store.Shape.TheVariants as shape
-use Rattle.office_tables_schema.specs.Schema.{office_schema}
+use Rattle.office_tables_statements.specs.Schema.{office_schema}
 
 -- the columns at these places
 abbrev pub cols : List ℕ → List Term

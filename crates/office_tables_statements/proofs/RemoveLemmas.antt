@@ -12,7 +12,7 @@ use Rattle.sqlite_value.proofs.OrderLemmas.{value_cmp_total}
 use Rattle.sqlite_rules.specs.{Calls.ids_of, Lists.Has}
 use Rattle.sqlite_rules.proofs.ListLemmas.{all_has, all_from, has_filtered, has_kept}
 use Rattle.sqlite_rules.proofs.{ProbeLemmas.has_mapped, ProbeLemmas.mapped_has, TableLemmas.int_is, TableLemmas.without_all_has}
-use Rattle.office_tables_schema.specs.Schema.{office_schema}
+use Rattle.office_tables_statements.specs.Schema.{office_schema}
 use Rattle.office_tables_statements.specs.{Layout.Layout, Layout.values_at, Layout.has_key, Stored.cells_at, Stored.rows_in, Stored.are_sound, Calls.IsReady, Calls.Ran, Tables.found_by}
 use Rattle.office_tables_shelf.specs.Cells.{Cell, TableRows, cells_cmp}
 use Rattle.office_tables_shelf.proofs.CellLemmas.{cells_total, cells_exact, tied}

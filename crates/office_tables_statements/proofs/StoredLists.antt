@@ -12,7 +12,7 @@ use Rattle.office_tables_shelf.specs.{Cells.Cell, Cells.cells_cmp, Cells.number,
 use Rattle.office_tables_statements.specs.{Calls.AreOrdered, Calls.Reads, Layout.values_at, Layout.has_key}
 use Rattle.office_tables_statements.specs.Stored.{cells_at, rows_in, content_of, cells, cell_of}
 use Rattle.office_tables_statements.specs.Tables.{rows_at, layout_at, schema_at, key_shown, columns_shown, row_shown, width_of, filter_of, of_first, params_of, is_among, rows_among, listed_by, IsListText, IsNoRow, HasDamagedRow, places_of, key_given, IsKeyOf, IsUnder, IsFindText, counting, counted_by, IsCountText}
-use Rattle.office_tables_schema.specs.Schema.{office_schema}
+use Rattle.office_tables_statements.specs.Schema.{office_schema}
 use Rattle.office_tables_statements.specs.Layout as layout
 use Rattle.office_tables_statements.proofs.StoredLemmas.{HaveKeys, same_order, sound_rowids, agree_ties, get_columns}
 use Rattle.office_tables_statements.proofs.{SoundLemmas.sound_keys, ListedLemmas.distinct_keys, ListedLemmas.distinct_rising, ListedLemmas.is_in}

@@ -9,7 +9,7 @@ use Rattle.office_tables_shelf.proofs.CellLemmas.{cells_total}
 use Rattle.office_tables_statements.specs.{Calls.IsReady, Calls.IsTurned, Calls.Ran, Layout.has_key, Layout.values_at}
 use Rattle.office_tables_statements.specs.Stored.{cells_at, content_now, rows_in}
 use Rattle.office_tables_statements.specs.Tables.{beside_rowid, id_given, row_given, source_at, rows_at, with_rows, layout_at, schema_at, place_at, renewed_at, put_in, remove_in, key_given, values_of, IsKeyOf, IsUpdateText, IsInsertText, IsRemoveText, Fits, of_first, drop_in, picked_where, IsDropText}
-use Rattle.office_tables_schema.specs.Schema.{office_schema}
+use Rattle.office_tables_statements.specs.Schema.{office_schema}
 use Rattle.office_tables_statements.proofs.{Casts.cast_one, Casts.cast_suited, ContentLemmas.put_at, ContentLemmas.put_apart, WriteLemmas.Added, WriteLemmas.adds, WriteLemmas.went_on, WriteLemmas.same_value, WriteLemmas.wrote, QueryLemmas.picked, QueryLemmas.where_picked, RemoveLemmas.dropped_rows, RemoveLemmas.loses, RemoveLemmas.remove_keyed, UpdateLemmas.Renewed, UpdateLemmas.renews, TableLemmas.each, TableLemmas.is_placed, TableLemmas.is_low}
 use Rattle.office_tables_statements.proofs.TableLemmas.{is_uncounted, is_idle, facts, in_tree, same_tree, only_in, apart}
 use Rattle.office_tables_statements.proofs.StoredLists.{distinct, shaped, own_keys, seen}

@@ -8,7 +8,7 @@ use Rattle.sqlite_schema.specs.declared.schema.Keys.TheVariants.{Enforced}
 use Rattle.sqlite_trees.specs.declared.store.Shape.TheVariants as shape
 use Rattle.sqlite_trees.proofs.{ListLemmas.all_both, TreeLemmas.IsShaped-filter, TreeLemmas.IsShaped-put_row}
 use Rattle.office_tables_statements.specs.Calls.{IsReady, Ran, statement_of}
-use Rattle.office_tables_schema.specs.Schema.{office_schema}
+use Rattle.office_tables_statements.specs.Schema.{office_schema}
 use Rattle.office_tables_statements.proofs.QueryLemmas.{IsWrite}
 use Rattle.sqlite.proofs.Callers.{one_step}
 

@@ -19,7 +19,7 @@ use Rattle.sqlite_resolve.specs.declared.error.CompileError.{CompileError}
 use Rattle.office_tables_shelf.specs.Shelf.{IsTold}
 use Rattle.office_tables_shelf.specs.declared.shelf.ShelfFault.{ShelfFault}
 use Rattle.office_tables_shelf.specs.Content.{Content}
-use Rattle.office_tables_schema.specs.Schema.{office_schema}
+use Rattle.office_tables_statements.specs.Schema.{office_schema}
 use Rattle.office_tables_statements.specs.Layout as layout
 use Rattle.office_tables_statements.specs.Stored.{content_now}
 

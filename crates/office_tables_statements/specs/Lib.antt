@@ -1,3 +1,5 @@
+pub mod Schema
+pub mod Wanted
 pub mod Layout
 pub mod Stored
 pub mod Calls

@@ -37,8 +37,8 @@ use Rattle.office_tables_shelf.specs.declared.rows.Table.TheVariants as table
 use Rattle.office_tables_statements.specs.Calls.{IsQuery, IsWriting, command_of}
 use Rattle.office_tables_statements.specs.Layout as layout
 use Rattle.office_tables_statements.specs.Layout.{Layout}
-use Rattle.office_tables_schema.specs.Schema as schema
-use Rattle.office_tables_schema.specs.Schema.{office_schema}
+use Rattle.office_tables_statements.specs.Schema as schema
+use Rattle.office_tables_statements.specs.Schema.{office_schema}
 use Rattle.office_tables_statements.specs.Stored.{cells_at, are_sound}
 
 -- ---- where each table is

@@ -3,9 +3,9 @@
 
 use crate::spelling::{changes, plan};
 use draft_core::overlay;
+use signal_plans::is_fit_for_the_street;
 use signal_records::{Change, Key, TimingSet};
 use signal_rules::*;
-use signal_street::is_fit_for_the_street;
 use std::alloc::Global;
 use std::fmt::Display;
 use std::test::Fail;

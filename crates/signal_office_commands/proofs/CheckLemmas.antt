@@ -2,7 +2,7 @@
 use Rattle.std.proofs.Common.{◌≡◌, ◌+◌, ◌++◌, ◌<◌, ℕ, List, [], ◌∷◌, length, take, get_or, ap, sym, ◌∙◌, arith, append_assoc, append-nil}
 use Rattle.std.proofs.lemmas.List.{length-take-le, take_more}
 use Rattle.office_desk.specs.declared.checking.Checked.{Checked}
-use Rattle.office_spreadsheets.specs.Hints.{line_of_record}
+use Rattle.signal_office_faults.specs.Hints.{line_of_record}
 use Rattle.signal_office_commands.specs.Texts.{checked_line, checked_lines}
 
 -- ---- the text

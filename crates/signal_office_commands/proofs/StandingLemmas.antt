@@ -2,9 +2,9 @@
 use Rattle.std.proofs.Common.{◌≡◌, ◌≢◌, ◌==◌, false, List, [], ◌∷◌, length, Option, Some, refl, sym, ap, subst, arith}
 use Rattle.std.proofs.lemmas.Bool.{ne_eqb}
 use Rattle.std.specs.{declared.cmp.Ordering.Ordering, declared.cmp.Ordering.TheVariants.Less, declared.cmp.Ordering.TheVariants.Equal, declared.cmp.Ordering.TheVariants.Greater, FinMap.get, Ordering.ordering_reverse}
-use Rattle.signal_compare.specs.declared.difference.Difference.{Difference}
-use Rattle.signal_compare.specs.declared.difference.Difference.TheVariants.{Added, Removed, Changed}
-use Rattle.signal_compare.specs.Difference.{AreTold, Explains, difference_changes, difference_at, place_of}
+use Rattle.signal_plans.specs.declared.difference.Difference.{Difference}
+use Rattle.signal_plans.specs.declared.difference.Difference.TheVariants.{Added, Removed, Changed}
+use Rattle.signal_plans.specs.Difference.{AreTold, Explains, difference_changes, difference_at, place_of}
 use Rattle.signal_office_commands.specs.Standing.{TellsSame}
 use Rattle.signal_records.specs.{Key.key_cmp, KeyOrder.key_total}
 use Rattle.signal_records.specs.TimingSet.{Rows, after_changes}

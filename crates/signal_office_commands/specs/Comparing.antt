@@ -1,8 +1,8 @@
 -- The plans that are compared.
 use Rattle.std.specs.Prelude.{◌≡◌, ◌⊎◌, ℕ, List, [], ◌∷◌, Result, Ok, Err}
 use Rattle.signal_records.specs.TimingSet.{Rows}
-use Rattle.signal_compare.specs.declared.difference.Difference.{Difference}
-use Rattle.signal_compare.specs.Difference.{AreTold}
+use Rattle.signal_plans.specs.declared.difference.Difference.{Difference}
+use Rattle.signal_plans.specs.Difference.{AreTold}
 use Rattle.office_files.specs.Changes.{changes_of}
 use Rattle.office_files.specs.Plan.{IsPlan}
 use Rattle.office_files.specs.declared.fault.BadRow.{BadRow}

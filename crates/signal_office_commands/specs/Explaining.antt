@@ -9,8 +9,8 @@ use Rattle.signal_office_reports.specs.declared.seen.Query.TheVariants as query
 use Rattle.signal_rules.specs.Violations.{AreReasons}
 use Rattle.signal_rules.specs.declared.reason.Explained.{Explained}
 use Rattle.signal_records.specs.TimingSet.{Rows}
-use Rattle.signal_warnings.specs.Warnings.{warnings_of}
-use Rattle.signal_warnings.specs.declared.warning.Warning.{Warning}
+use Rattle.signal_plans.specs.Warnings.{warnings_of}
+use Rattle.signal_plans.specs.declared.warning.Warning.{Warning}
 
 -- these are the violations of the plan of a file, each with its reason
 pub record ExplainsPlan (bytes : List ℕ) (found : List Explained) : Type 0 where

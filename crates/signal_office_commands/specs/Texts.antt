@@ -11,7 +11,7 @@ use Rattle.office_desk.specs.declared.there.There.{There}
 use Rattle.office_desk.specs.declared.there.There.TheVariants as there
 use Rattle.office_machine.specs.Refusal.{line_of}
 use Rattle.office_machine.specs.declared.refusal.Refusal.{Refusal}
-use Rattle.office_spreadsheets.specs.Hints.{line_of_record}
+use Rattle.signal_office_faults.specs.Hints.{line_of_record}
 use Rattle.signal_office_commands.specs.declared.counts.Counts.{Counts}
 
 -- `2026-03-01 Ana Fan cleaned`

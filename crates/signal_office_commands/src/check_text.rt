@@ -7,7 +7,7 @@ use crate::counts::Counts;
 use cabinet_core::{Closing, Day, Order, UsedLine, push_date};
 use office_desk::{Checked, There};
 use office_machine::refusal::Refusal;
-use office_spreadsheets::line_of_record;
+use signal_office_faults::line_of_record;
 use signal_records::{NoMemory, Words};
 use std::alloc::{AllocError, Global};
 use std::fmt::Write;

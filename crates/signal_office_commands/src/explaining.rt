@@ -14,9 +14,9 @@ use office_files::{CsvFault, read_plan_csv};
 use office_tables_shelf::shelf::Shelf;
 use signal_office_faults::Fault;
 use signal_office_reports::{Query, Seen, draft_in, first_seen, look};
+use signal_plans::{Warning, warnings};
 use signal_records::InterId;
 use signal_rules::{Explained, reasons};
-use signal_warnings::{Warning, warnings};
 use std::alloc::Global;
 
 /// The violations of the plan that the records of a CSV file make of the empty set, each with its

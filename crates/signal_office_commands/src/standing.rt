@@ -8,9 +8,9 @@ ghost use Rattle.signal_office_commands.specs.Standing.{StandsAs, standing_of, s
 use draft_core::changes::Changes;
 use office_desk::office::Office;
 use office_tables_shelf::shelf::Shelf;
-use signal_compare::{Difference, changes, compare};
 use signal_office_faults::Fault;
 use signal_office_reports::{Query, Seen, look, next_of, open_draft_in, timing_in};
+use signal_plans::{Difference, changes, compare};
 use signal_records::{Change, InterId, NoMemory, TimingSet};
 use std::alloc::Global;
 

@@ -1,1 +1,6 @@
+mod PaddedLemmas
+mod GoodLemmas
+mod HintLemmas
+mod LineLemmas
+mod NoteLemmas
 mod Short

@@ -5,8 +5,8 @@ use Rattle.office_files.specs.CsvFault.{bad_row_text, fault_text}
 use Rattle.office_http_framing.specs.declared.engine.ServeFault.{ServeFault}
 use Rattle.office_http_framing.specs.declared.engine.ServeFault.TheVariants as stop
 use Rattle.office_machine.specs.Refusal.{line_of}
-use Rattle.office_spreadsheets.specs.Hints.{hint_text}
-use Rattle.office_spreadsheets.specs.declared.hints.Hint.{Hint}
+use Rattle.signal_office_faults.specs.Hints.{hint_text}
+use Rattle.signal_office_faults.specs.declared.hints.Hint.{Hint}
 use Rattle.signal_office_faults.specs.declared.fault.Fault.{Fault}
 use Rattle.signal_office_faults.specs.declared.fault.Fault.TheVariants as fault
 

@@ -3,12 +3,12 @@
 ghost use Rattle.std.specs.Prelude.{◌≡◌, ◌≤◌};
 ghost use Rattle.signal_office_faults.specs.Lines.{status_of};
 
+use crate::hints::Hint;
 use arrayvec::ArrayString;
 use office_files::{BadRow, CsvFault};
 use office_http_framing::ends::WriteFailed;
 use office_http_framing::engine::ServeFault;
 use office_machine::refusal::Refusal;
-use office_spreadsheets::Hint;
 use signal_records::NoMemory;
 
 /// Why the program ends with a fault, or refuses its words.

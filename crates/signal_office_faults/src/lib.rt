@@ -1,17 +1,34 @@
-//! Why the program ends with a fault, and the files of the system: the bytes of one, whether it is
+//! Files that the program reads and puts, and why it ends with a fault.
+//!
+//! CSV files come as spreadsheets leave them, with records that are padded with empty fields; their
+//! users look for the line of a record, for what is wrong with a bad one, and for the records of a
+//! plan that put or remove a key again. Of the system there are the bytes of a file, whether it is
 //! there, and a folder into which files are put by their names, of the system or in memory.
 #![tactic(auto)]
 
+mod explaining;
 mod fault;
 mod files;
 mod folder;
+mod hints;
+mod kinds;
 mod line;
+mod lines;
 mod memory;
+mod notes;
+mod padded;
 mod system;
+mod width;
 
+pub use explaining::{hint_of, line_of_record};
 pub use fault::Fault;
 pub use files::{is_missing, read_file};
 pub use folder::Folder;
+pub use hints::{Field, Hint};
+pub use kinds::RowKind;
 pub use line::line_of;
+pub use lines::record_lines;
 pub use memory::{KeptFile, MemoryFolder};
+pub use notes::notes_in;
+pub use padded::unpadded_csv;
 pub use system::SystemFolder;

@@ -4,16 +4,16 @@ ghost use Rattle.std.specs.Prelude.{◌≡◌, ◌≤◌, ◌+◌, ◌++◌, len
 ghost use Rattle.arrayvec.specs.ArrayString.{array_string_len};
 ghost use Rattle.office_files.specs.CsvFault.{bad_row_text, fault_text};
 ghost use Rattle.office_machine.specs.Refusal.{line_of};
-ghost use Rattle.office_spreadsheets.specs.Hints.{found_text};
 ghost use Rattle.signal_records.specs.RowFault.{fault_name};
+ghost use Rattle.signal_office_faults.specs.Hints.{found_text};
 ghost use Rattle.signal_office_faults.specs.Lines.{hint_line, line_text};
 
 use crate::fault::Fault;
+use crate::hints::Hint;
 use arrayvec::ArrayString;
 use itoa::Buffer;
 use office_files::{BadRow, CsvFault};
 use office_machine::refusal::Refusal;
-use office_spreadsheets::Hint;
 use signal_records::RowFault;
 
 /// The bytes of the longest lines, and more.

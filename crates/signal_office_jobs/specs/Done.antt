@@ -1,8 +1,8 @@
 -- What a command prints, and the status with which it ends.
 use Rattle.std.specs.Prelude.{◌≡◌, ◌==◌, ℕ, Bool, true, false, if◌then◌else◌, length, List, [], ◌++◌, codes, decimal, Result, Ok, Err}
-use Rattle.signal_compare.specs.declared.difference.Difference.{Difference}
-use Rattle.signal_compare.specs.Difference.{difference_changes}
-use Rattle.signal_compare.specs.Text.{comparison_text}
+use Rattle.signal_plans.specs.declared.difference.Difference.{Difference}
+use Rattle.signal_plans.specs.Difference.{difference_changes}
+use Rattle.signal_plans.specs.Comparison.{comparison_text}
 use Rattle.office_files.specs.Timing.{changes_csv_text}
 use Rattle.signal_rules.specs.declared.reason.Explained.{Explained}
 use Rattle.signal_rules.specs.declared.violation.Violation.{Violation}

@@ -6,8 +6,8 @@ use Rattle.office_files.specs.declared.fault.BadRow.{BadRow}
 use Rattle.office_files.specs.declared.fault.CsvFault.TheVariants as file
 use Rattle.office_machine.specs.declared.refusal.Refusal.TheVariants as refusal
 use Rattle.office_machine.specs.declared.reply.IntersectionState.{IntersectionState}
-use Rattle.office_spreadsheets.specs.Hints.{hint_of, line_of_record}
-use Rattle.office_spreadsheets.specs.declared.hints.Hint.{Hint}
+use Rattle.signal_office_faults.specs.Hints.{hint_of, line_of_record}
+use Rattle.signal_office_faults.specs.declared.hints.Hint.{Hint}
 use Rattle.office_tables_shelf.specs.Content.{Content}
 use Rattle.signal_office_faults.specs.declared.fault.Fault.{Fault}
 use Rattle.signal_office_faults.specs.declared.fault.Fault.TheVariants as fault

@@ -12,7 +12,7 @@ use Rattle.office_http_framing.specs.declared.engine.ServeFault.{ServeFault}
 use Rattle.office_http_framing.specs.declared.engine.Served.{Served}
 use Rattle.office_machine.specs.Office.{Office}
 use Rattle.office_tables_shelf.specs.Content.{Content}
-use Rattle.signal_compare.specs.declared.difference.Difference.{Difference}
+use Rattle.signal_plans.specs.declared.difference.Difference.{Difference}
 use Rattle.signal_office_commands.specs.Comparing.{ComparesFiles, IsFirstBad}
 use Rattle.signal_office_commands.specs.Drawing.{DrawsFile, DrawsNoFile}
 use Rattle.signal_office_commands.specs.Explaining.{ExplainsPlan, WarnsOfPlan}
@@ -39,7 +39,7 @@ use Rattle.signal_office_line.specs.declared.shows.PlanShown.{PlanShown}
 use Rattle.signal_office_line.specs.declared.shows.PlanShown.TheVariants as plan
 use Rattle.signal_rules.specs.declared.reason.Explained.{Explained}
 use Rattle.signal_rules.specs.declared.violation.Violation.{Violation}
-use Rattle.signal_warnings.specs.declared.warning.Warning.{Warning}
+use Rattle.signal_plans.specs.declared.warning.Warning.{Warning}
 
 -- what becomes of a stream from the start of its input and output to their ends, and the status or the fault that comes of it
 abbrev pub Exchange : Type 1

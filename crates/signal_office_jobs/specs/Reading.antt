@@ -3,9 +3,9 @@ use Rattle.std.specs.Prelude.{◌≡◌, ◌⊎◌, ℕ, Bool, true, false, List
 use Rattle.std.specs.Io.KnownBytes.{Appends, Consumes, IsAtEnd}
 use Rattle.std.specs.Str.{bytes_eq}
 use Rattle.office_http_framing.specs.Ends.{AppendsPart, FailsOrGivesNone, Rose, Told}
-use Rattle.office_spreadsheets.specs.Notes.{notes_in}
-use Rattle.office_spreadsheets.specs.Padded.{unpadded_text}
-use Rattle.office_spreadsheets.specs.RecordLines.{record_lines}
+use Rattle.signal_office_faults.specs.Notes.{notes_in}
+use Rattle.signal_office_faults.specs.Padded.{unpadded_text}
+use Rattle.signal_office_faults.specs.RecordLines.{record_lines}
 use Rattle.signal_office_commands.specs.Days.{AreInTime}
 use Rattle.signal_office_faults.specs.Lines.{IsUnreadFile}
 use Rattle.signal_office_faults.specs.declared.fault.Fault.{Fault}

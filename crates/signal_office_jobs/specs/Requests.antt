@@ -2,7 +2,7 @@
 use Rattle.std.specs.Prelude.{◌≡◌, ◌≢◌, ℕ, List, [], ◌++◌, codes, decimal, Bool, true, false, Option, Result, Ok, Err}
 use Rattle.office_files.specs.Violations.{violations_text, explained_text_of}
 use Rattle.office_tables_shelf.specs.Content.{Content}
-use Rattle.signal_compare.specs.declared.difference.Difference.{Difference}
+use Rattle.signal_plans.specs.declared.difference.Difference.{Difference}
 use Rattle.signal_office_commands.specs.Checks.{ChecksFile}
 use Rattle.signal_office_commands.specs.Commands.{Abandons, AddsIntersection}
 use Rattle.signal_office_commands.specs.Comparing.{ComparesDraft, ComparesRunning}

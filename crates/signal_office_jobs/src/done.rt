@@ -11,9 +11,9 @@ use arrayvec::ArrayString;
 use itoa::{Buffer, Integer};
 use office_files::{changes_csv, explained_text, violation_text};
 use office_http::{Sink, write_all};
-use signal_compare::{Difference, changes, comparison_text};
 use signal_office_commands::{Entered, Imported, Report};
 use signal_office_faults::Fault;
+use signal_plans::{Difference, changes, comparison_text};
 use signal_rules::{Explained, Violation};
 use std::alloc::Global;
 

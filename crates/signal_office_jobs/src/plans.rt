@@ -14,7 +14,7 @@ use signal_office_commands::{
 };
 use signal_office_faults::Fault;
 use signal_office_line::{CsvFile, PlanShown};
-use signal_warnings::warnings_text;
+use signal_plans::warnings_text;
 use std::alloc::Global;
 
 /// Tells the rules that a plan breaks with their reasons, and a bad record with its line.

@@ -1,16 +1,15 @@
 //! CSV files that are read before the file of an office is opened, and the notes on those of plans.
 
 ghost use Rattle.std.specs.Prelude.{◌≡◌, [], IfErr, IfOk};
-ghost use Rattle.office_spreadsheets.specs.Notes.{notes_in};
+ghost use Rattle.signal_office_faults.specs.Notes.{notes_in};
 ghost use Rattle.signal_office_faults.specs.declared.fault.Fault.TheVariants as fault;
 ghost use Rattle.signal_office_jobs.specs.Reading.{GivesFile, GivesNoFile, IsCsvRead, IsAnyPlanRead, IsAnyPlanUnread, IsPlanRead, AreRecordsRead, AreRecordsUnread, ArePlansRead, ArePlansUnread, IsPlanUnread, IsReadFor, IsUnreadFor, SaysNotes, file_text, is_input};
 
 use crate::input::read_input;
 use cabinet_core::Day;
 use office_http_framing::ends::{Sink, Source, write_all};
-use office_spreadsheets::{notes_in, record_lines, unpadded_csv};
 use signal_office_commands::check_days;
-use signal_office_faults::{Fault, read_file};
+use signal_office_faults::{Fault, notes_in, read_file, record_lines, unpadded_csv};
 use signal_office_line::{CsvFile, Request};
 use std::alloc::Global;
 

@@ -7,7 +7,7 @@ use Rattle.cabinet_core.specs.{Orders.is_open, Overdue.greater, Overdue.latest_d
 use Rattle.cabinet_core.specs.{declared.record.Closing.Closing, declared.record.Inspection.Inspection, declared.record.Order.Order}
 use Rattle.cabinet_core.specs.declared.record.UsedLine.{UsedLine}
 use Rattle.office_machine.specs.declared.reply.IntersectionState.{IntersectionState}
-use Rattle.signal_compare.specs.declared.difference.Difference.{Difference}
+use Rattle.signal_plans.specs.declared.difference.Difference.{Difference}
 use Rattle.signal_rules.specs.declared.reason.Explained.{Explained}
 use Rattle.signal_page.specs.declared.shown.IntersectionShown.{IntersectionShown}
 use Rattle.signal_page_tables.specs.{Reading.marks, Cells.row_heading}

@@ -2,8 +2,8 @@
 use Rattle.std.specs.Prelude.{ℕ, Bool, if◌then◌else◌, List, [], ◌++◌, flat_map, codes}
 use Rattle.std.specs.List.{list_any}
 use Rattle.office_files.specs.Cells.{when_empty}
-use Rattle.signal_compare.specs.declared.difference.Difference.{Difference}
-use Rattle.signal_compare.specs.declared.difference.Difference.TheVariants as difference
+use Rattle.signal_plans.specs.declared.difference.Difference.{Difference}
+use Rattle.signal_plans.specs.declared.difference.Difference.TheVariants as difference
 use Rattle.signal_records.specs.declared.record.Row.{Row}
 use Rattle.signal_records.specs.TimingSet.{Rows}
 use Rattle.signal_page.specs.declared.changes.Mark.{Mark}

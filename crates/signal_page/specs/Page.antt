@@ -1,8 +1,8 @@
 -- The page of an intersection, and that of a plan alone.
 use Rattle.std.specs.Prelude.{◌≡◌, ℕ, Bool, true, false, List, [], ◌++◌, codes, decimal, Option, Some, None}
 use Rattle.cabinet_core.specs.Overdue.{latest_day}
-use Rattle.signal_compare.specs.declared.difference.Difference.{Difference}
-use Rattle.signal_compare.specs.Difference.{AreTold}
+use Rattle.signal_plans.specs.declared.difference.Difference.{Difference}
+use Rattle.signal_plans.specs.Difference.{AreTold}
 use Rattle.signal_records.specs.TimingSet.{Rows}
 use Rattle.signal_rules.specs.declared.reason.Explained.{Explained}
 use Rattle.signal_rules.specs.Violations.{AreReasons}

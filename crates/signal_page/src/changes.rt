@@ -7,11 +7,11 @@ ghost use Rattle.signal_page.specs.Changes.{row_opening, whole_marked_row, marke
 ghost use Rattle.signal_page.specs.Changes.{change_table, whole_change_table, is_change_of};
 ghost use Rattle.signal_page.specs.Changes.{changes_part};
 
-use signal_compare::Difference;
 use signal_page_tables::{
     Kind, begin_rows, end_table, is_of, name_of, open_table, push_headings, push_markup,
     push_row_beside, push_words_heading,
 };
+use signal_plans::Difference;
 use signal_records::{NoMemory, Row, TimingSet};
 use std::alloc::{AllocError, Global};
 

@@ -1,10 +1,10 @@
 use Rattle.std.proofs.Common.{◌⊎◌, refl, subst, subst₂, sym}
-use Rattle.office_desk_decisions.specs.RegisterDamage.{MeetsRecordDamage}
+use Rattle.office_tables_decisions.specs.RegisterDamage.{MeetsRecordDamage}
 use Rattle.office_desk.specs.{Checking.ChecksRecord, Recording.AreFound, Recording.HasDamagedAbout}
 use Rattle.office_machine.specs.Step.{cabinet_of}
 use Rattle.office_tables_shelf.specs.Content.{Content}
 use Rattle.office_desk.proofs.TriedRecords.{CheckedSoFar, checked_more, damage_in_check, none_checked}
-use Rattle.office_desk_decisions.proofs.ReadLemmas.{handed_reports}
+use Rattle.office_tables_decisions.proofs.ReadLemmas.{handed_reports}
 use Rattle.office_desk.proofs.Imports.{is_next}
 use Rattle.office_desk.proofs.FoundAgain.{none_found}
 use Rattle.office_tables_shelf.proofs.KeptLemmas.{kept_on}

@@ -1,5 +1,5 @@
 use Rattle.std.proofs.Common.{◌∙◌, Bool, Ok, ap, refl, rules}
-use Rattle.office_desk_decisions.proofs.ReadLemmas.{handed_told, told_on, unread}
+use Rattle.office_tables_decisions.proofs.ReadLemmas.{handed_told, told_on, unread}
 use Rattle.office_desk.proofs.FoundAgain.{among_found}
 use Rattle.office_desk.proofs.found.is_found.Goals as goal
 

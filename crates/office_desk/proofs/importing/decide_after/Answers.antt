@@ -1,5 +1,5 @@
 use Rattle.std.proofs.Common.{◌∙◌, Bool, Ok, ap, refl}
-use Rattle.office_desk_decisions.proofs.ReadLemmas.{handed_told, told_on}
+use Rattle.office_tables_decisions.proofs.ReadLemmas.{handed_told, told_on}
 use Rattle.office_desk.proofs.Recorded.{about_tells, decides_stored}
 use Rattle.office_desk.proofs.FoundAgain.{not_told, told_there}
 use Rattle.office_desk.proofs.importing.decide_after.Goals as goal

@@ -1,11 +1,11 @@
 use Rattle.std.proofs.Common.{◌≡◌, ◌+◌, ◌≤◌, ◌∙◌, List, length, inl, inr, ap, sym, refl, subst, arith, rules}
 use Rattle.cabinet_core.specs.declared.command.RecordCommand.{RecordCommand}
-use Rattle.office_desk_decisions.proofs.ReadLemmas.{handed_told, unread}
+use Rattle.office_tables_decisions.proofs.ReadLemmas.{handed_told, unread}
 use Rattle.office_desk.specs.{Damage.MeetsCabinetDamage, Recording.AreFound, Importing.IsNamedTaken, Importing.LeavesAnyTiming}
 use Rattle.office_machine.specs.{Step.cabinet_of, declared.reply.Reply.TheVariants.Imported}
 use Rattle.office_desk.proofs.Imports.{SoFar, counted_on, damage_of_record, first_refused, import_decides, is_next, none_next, nothing_leaves, nothing_written, nothing_yet, one_more, refused_all, refused_decides, some_read, taken_reads, takes_so, writes_left, writes_whole}
 use Rattle.office_desk.proofs.{FoundAgain.none_found, Blames.WentOn, Blames.blames_next, Blames.taken_blames}
-use Rattle.office_desk_decisions.proofs.Decisions.{handed_decides}
+use Rattle.office_tables_decisions.proofs.Decisions.{handed_decides}
 use Rattle.office_desk.proofs.importing.decide_import.Goals.{in-Added, in-Same}
 use Rattle.office_desk.proofs.importing.decide_import.Goals as goal
 

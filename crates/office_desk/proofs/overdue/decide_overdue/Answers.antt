@@ -1,7 +1,7 @@
 use Rattle.std.proofs.Common.{◌∙◌, ◌<◌, ◌≤◌, List, ap, arith}
 use Rattle.cabinet_core.specs.Overdue.{Listed}
 use Rattle.office_machine.specs.declared.reply.Reply.TheVariants.{Overdue}
-use Rattle.office_desk_decisions.proofs.Decisions.{told_decides}
+use Rattle.office_tables_decisions.proofs.Decisions.{told_decides}
 use Rattle.office_desk.proofs.OverdueRows.{overdue_shows}
 use Rattle.office_desk.proofs.overdue.decide_overdue.Goals as goal
 

@@ -1,8 +1,8 @@
 use Rattle.std.proofs.Common.{◌∙◌, Bool, Ok, ap}
 use Rattle.office_machine.specs.Step.{cabinet_of}
-use Rattle.office_desk_decisions.proofs.ReadLemmas.{handed_told, told_on}
+use Rattle.office_tables_decisions.proofs.ReadLemmas.{handed_told, told_on}
 use Rattle.office_desk.proofs.Recorded.{about_tells, at_unknown, gone_whole, decides_stored, meets_record, record_decides, unknown_named}
-use Rattle.office_desk_decisions.proofs.Decisions.{fault_decides, unknown_decides}
+use Rattle.office_tables_decisions.proofs.Decisions.{fault_decides, unknown_decides}
 use Rattle.office_desk.proofs.recording.decide_record_command.Goals as goal
 
 pub returns-then-not-branch-clause-decides : goal.returns-then-not-branch-clause-decides

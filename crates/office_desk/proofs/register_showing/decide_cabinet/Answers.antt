@@ -1,6 +1,6 @@
 use Rattle.std.proofs.Common.{◌∙◌, inl, inr, refl, sym}
 use Rattle.std.specs.FinMap.{get}
-use Rattle.office_desk_decisions.proofs.Decisions.{fault_decides, told_decides, unknown_decides}
+use Rattle.office_tables_decisions.proofs.Decisions.{fault_decides, told_decides, unknown_decides}
 use Rattle.office_desk_timing.proofs.WholeRows.{row_after}
 use Rattle.office_desk.proofs.Recorded.{cabinet_shows, gone_after, none_there}
 use Rattle.office_desk.proofs.register_showing.decide_cabinet.Goals as goal

@@ -1,7 +1,7 @@
 use Rattle.std.proofs.Common.{◌∙◌, ℕ, List, ap, inl, inr, refl, sym}
 use Rattle.std.specs.FinMap.{get}
 use Rattle.office_machine.specs.declared.reply.Reply.TheVariants.{OpenOrders}
-use Rattle.office_desk_decisions.proofs.Decisions.{fault_decides, told_decides, unknown_decides}
+use Rattle.office_tables_decisions.proofs.Decisions.{fault_decides, told_decides, unknown_decides}
 use Rattle.office_desk_timing.proofs.WholeRows.{row_after}
 use Rattle.office_desk.proofs.Recorded.{gone_after, none_there, orders_show}
 use Rattle.office_desk.proofs.register_showing.decide_open_orders.Goals as goal

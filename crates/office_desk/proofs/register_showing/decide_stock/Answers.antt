@@ -1,6 +1,6 @@
 use Rattle.std.proofs.Common.{◌∙◌, ℕ, List, ap}
 use Rattle.office_machine.specs.declared.reply.Reply.TheVariants.{Stock}
-use Rattle.office_desk_decisions.proofs.Decisions.{told_decides}
+use Rattle.office_tables_decisions.proofs.Decisions.{told_decides}
 use Rattle.office_desk.proofs.Recorded.{stock_shows}
 use Rattle.office_desk.proofs.register_showing.decide_stock.Goals as goal
 

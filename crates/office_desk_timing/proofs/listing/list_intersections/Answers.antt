@@ -5,7 +5,7 @@ use Rattle.std.specs.List.{AllByRecursion}
 use Rattle.office_tables_shelf.specs.Shelf.{CountsTiming, IsIntersectionWithin, ListsIntersections, rows_of}
 use Rattle.office_tables_shelf.specs.declared.shelf.ShelfFault.{ShelfFault}
 use Rattle.office_tables_shelf.proofs.ListedRows.{intersections_whole}
-use Rattle.office_desk_decisions.proofs.ReadLemmas.{handed_reports, handed_told, reads_then}
+use Rattle.office_tables_decisions.proofs.ReadLemmas.{handed_reports, handed_told, reads_then}
 use Rattle.office_desk_timing.specs.Listing.{listed_in, row_listed}
 use Rattle.office_desk_timing.proofs.ListedIntersections.{listed_more}
 use Rattle.office_desk_timing.proofs.listing.list_intersections.Goals as goal

@@ -2,7 +2,7 @@ use Rattle.std.proofs.Common.{◌≡◌, map, take}
 use Rattle.std.specs.Prelude.{⊤}
 use Rattle.std.specs.List.{AllByRecursion}
 use Rattle.office_tables_shelf.specs.Shelf.{IsIntersectionWithin, ListsIntersections}
-use Rattle.office_desk_decisions.proofs.ReadLemmas.{HasRead}
+use Rattle.office_tables_decisions.proofs.ReadLemmas.{HasRead}
 use Rattle.office_desk_timing.specs.Listing.{listed_in}
 use Rattle.office_desk_timing.proofs.listing.list_intersections.Given as goal
 

@@ -1,5 +1,5 @@
 use Rattle.std.proofs.Common.{inr, sym}
-use Rattle.office_desk_decisions.proofs.ReadLemmas.{handed_reports}
+use Rattle.office_tables_decisions.proofs.ReadLemmas.{handed_reports}
 use Rattle.office_desk_timing.proofs.{ReadBack.finds_none, ReadBack.finds_some, WholeRows.none_after, WholeRows.plan_whole, WholeRows.row_after, WholeRows.row_there}
 use Rattle.office_desk_timing.proofs.reading.find.Goals as goal
 

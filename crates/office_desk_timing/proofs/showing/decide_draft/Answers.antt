@@ -1,7 +1,7 @@
 use Rattle.std.proofs.Common.{subst, refl, inl, inr}
 use Rattle.draft_core.specs.declared.timing.Reach.TheVariants.{Plan}
 use Rattle.office_desk_timing.specs.Reading.{FindsAny}
-use Rattle.office_desk_decisions.proofs.Decisions.{told_decides, unknown_decides}
+use Rattle.office_tables_decisions.proofs.Decisions.{told_decides, unknown_decides}
 use Rattle.office_desk_timing.proofs.Shown.{draft_answers, found_none}
 use Rattle.office_desk_timing.proofs.showing.decide_draft.Goals as goal
 

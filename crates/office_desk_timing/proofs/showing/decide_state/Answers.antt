@@ -1,6 +1,6 @@
 use Rattle.std.proofs.Common.{◌≡◌, ◌∙◌, Some, None, sym, refl, inl, inr}
 use Rattle.office_tables_shelf.specs.Rows.{intersection_columns}
-use Rattle.office_desk_decisions.proofs.Decisions.{handed_decides, told_decides, unknown_decides}
+use Rattle.office_tables_decisions.proofs.Decisions.{handed_decides, told_decides, unknown_decides}
 use Rattle.office_desk_timing.proofs.{ReadBack.none_found, Shown.state_shows, WholeRows.judged_whole}
 use Rattle.office_desk_timing.proofs.showing.decide_state.Goals as goal
 

@@ -1,6 +1,6 @@
 use Rattle.std.proofs.Common.{inr, refl, inl}
 use Rattle.office_desk_timing.proofs.WholeRows.{none_after, row_after, row_there, timing_whole}
-use Rattle.office_desk_decisions.proofs.Decisions.{handed_decides, told_decides, unknown_decides}
+use Rattle.office_tables_decisions.proofs.Decisions.{handed_decides, told_decides, unknown_decides}
 use Rattle.office_desk_timing.proofs.{ReadBack.none_found, Shown.timing_shows}
 use Rattle.office_desk_timing.proofs.showing.decide_timing.Goals as goal
 

@@ -2,7 +2,7 @@ use Rattle.std.proofs.Common.{◌∙◌, ◌∷◌, [], ap, inl, refl}
 use Rattle.signal_records.specs.TimingSet.{after_changes}
 use Rattle.draft_core.specs.declared.refusal.DraftRefusal.TheVariants.{NotTransaction}
 use Rattle.office_machine.specs.declared.refusal.Refusal.TheVariants.{Draft}
-use Rattle.office_desk_decisions.proofs.Decisions.{refuses_so}
+use Rattle.office_tables_decisions.proofs.Decisions.{refuses_so}
 use Rattle.office_desk_timing.proofs.Shown.{draft_shows, no_draft_shows}
 use Rattle.office_desk_timing.proofs.showing.draft_of.Goals as goal
 

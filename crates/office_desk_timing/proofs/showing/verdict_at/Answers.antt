@@ -3,7 +3,7 @@ use Rattle.std.specs.Option.{option_map}
 use Rattle.signal_records.specs.declared.{state.Holder.Holder, state.Stage.Stage}
 use Rattle.draft_core.specs.declared.timing.Reach.TheVariants.{Plan}
 use Rattle.office_desk_timing.specs.Reading.{FindsAny}
-use Rattle.office_desk_decisions.proofs.ReadLemmas.{handed_reports}
+use Rattle.office_tables_decisions.proofs.ReadLemmas.{handed_reports}
 use Rattle.office_desk_timing.proofs.Shown.{no_verdict, verdict_found}
 use Rattle.office_desk_timing.proofs.showing.verdict_at.Goals as goal
 

@@ -1,8 +1,8 @@
 use Rattle.std.proofs.Common.{Option, None, Some, subst}
 use Rattle.draft_core.specs.declared.timing.Reach.{Reach}
-use Rattle.office_desk_decisions.specs.Damage.{HasDamageIn}
+use Rattle.office_tables_decisions.specs.Damage.{HasDamageIn}
 use Rattle.office_desk_timing.specs.declared.reading.Found.{Found}
-use Rattle.office_desk_decisions.proofs.Decisions.{handed_decides}
+use Rattle.office_tables_decisions.proofs.Decisions.{handed_decides}
 use Rattle.office_desk_timing.proofs.Transactions.{IsFound, absent_decides, meets, transact_decides}
 use Rattle.office_desk_timing.proofs.transacting.transact.Goals as goal
 

@@ -1,5 +1,5 @@
 use Rattle.std.proofs.Common.{inl, refl, sym, subst}
-use Rattle.office_tables_standing.specs.StandFor.{StandForSound}
+use Rattle.office_tables_decisions.specs.StandFor.{StandForSound}
 use Rattle.signal_office_file.proofs.FilesLemmas.{found_tables}
 use Rattle.office_lives.proofs.lives.migrated_and_served.Goals as goal
 

@@ -1,6 +1,6 @@
 use Rattle.std.proofs.Common.{[], ◌∷◌, Err, refl}
 use Rattle.signal_office_commands.specs.Comparing.{ComparesDraft}
-use Rattle.signal_compare.specs.Difference.{AreTold}
+use Rattle.signal_plans.specs.Difference.{AreTold}
 use Rattle.signal_office_reports.proofs.LookLemmas.{made_of_seen}
 use Rattle.signal_office_reports.proofs.SeenLemmas.{handed}
 use Rattle.signal_office_reports.specs.Reports.{IsTextOf, plans_in}

@@ -1,6 +1,6 @@
 use Rattle.std.proofs.Common.{List, ap₂, ◌∙◌}
 use Rattle.std.proofs.lemmas.Result.{IfOk-weaker}
-use Rattle.signal_compare.specs.declared.difference.Difference.{Difference}
+use Rattle.signal_plans.specs.declared.difference.Difference.{Difference}
 use Rattle.signal_rules.specs.declared.reason.Explained.{Explained}
 use Rattle.signal_page.specs.Page.{page_text}
 use Rattle.signal_page_tables.proofs.Restored.{restored}

@@ -2,7 +2,7 @@ use Rattle.std.proofs.Common.{◌==◌, List, ap, length, subst, sym, ◌∙◌}
 use Rattle.signal_office_commands.proofs.StandingLemmas.{tells_same}
 use Rattle.signal_office_commands.proofs.standing.StandingPlan.stays_with.Goals as goal
 use Rattle.signal_office_commands.specs.Standing.{TellsSame}
-use Rattle.signal_compare.specs.declared.difference.Difference.{Difference}
+use Rattle.signal_plans.specs.declared.difference.Difference.{Difference}
 use Rattle.signal_records.specs.TimingSet.{after_changes}
 
 pub returns : goal.returns

@@ -1,5 +1,0 @@
-mod PaddedLemmas
-mod GoodLemmas
-mod HintLemmas
-mod LineLemmas
-mod NoteLemmas

@@ -1,4 +1,0 @@
-pub mod Padded
-pub mod RecordLines
-pub mod Hints
-pub mod Notes

@@ -1,0 +1,87 @@
+-- Decisions that write nothing.
+use Rattle.std.proofs.Common.{◌≡◌, ◌≢◌, ◌≤◌, ℕ, List, [], Result, Ok, Err, ap, inr, sym, subst, subst₂, ◌∙◌, arith}
+use Rattle.std.specs.Prelude.{IsErrAnd}
+use Rattle.office_tables_shelf.specs.{Change.AddNew, Change.changed_by, Content.Content, Counts.writes_in}
+use Rattle.office_tables_shelf.specs.declared.{rows.RowChange.RowChange, rows.Table.Table, shelf.ShelfFault.ShelfFault}
+use Rattle.office_tables_shelf.specs.declared.shelf.ShelfFault.TheVariants.{Damaged}
+use Rattle.office_tables_decisions.specs.{RecordBounds.IsOneOf, Answers.Answers, Answers.AnswersAny, Changes.IsQueryCommand, Changes.IsRefused, Changes.most_writes, Damage.IsImport, Damage.MeetsDamage, Deciding.Decides, Deciding.IsDecision, Named.RefusesBy, Named.number_of, Named.numbers_of, declared.decided.Decided.Decided}
+use Rattle.office_tables_decisions.specs.StandFor.{StandForSound}
+use Rattle.office_machine.specs.{Office.Office, Step.answered}
+use Rattle.office_machine.specs.declared.{command.Command.Command, refusal.Refusal.Refusal, reply.Reply.Reply, reply.Reply.TheVariants.Refused}
+use Rattle.office_machine.specs.declared.refusal.Refusal.TheVariants as refusal
+
+-- a refusal whose number is one of them
+pub refuses_so : (numbers : List ℕ) (told : Refusal) → IsOneOf numbers (number_of told) → RefusesBy numbers (Refused told)
+refuses_so numbers told among why e = subst (λ w. IsOneOf numbers (number_of w)) (let same : Refused told ≡ Refused why = e in let here : told ≡ why = cc in here) among
+
+-- what leaves the office is answered as the office says
+pub query_answers : (tables : Content) (office : Office) (command : Command) (said told : Reply) (changes : List RowChange)
+    → StandForSound tables office → answered office command ≡ (said, office) → told ≡ said → changes ≡ []
+    → Answers office command told (changed_by tables changes)
+query_answers tables office command said told changes stands is same none = record {
+  next = office;
+  step = inr (is ∙ (λ k. (sym same k, office)));
+  stand = subst (λ list. StandForSound (changed_by tables list) office) (sym none) stands;
+}
+
+-- a decision without a row to write, that meets a damaged row only where an import is refused
+pub idle_decides : (is_honest : Type 0) (tables : Content) (command : Command) (said : Reply) (decided : Decided) → decided.reply ≡ said → said ≢ Refused refusal.Damaged → RefusesBy (numbers_of command) said → decided.changes.items ≡ []
+    → (is_honest → MeetsDamage tables command → IsImport command × IsRefused said)
+    → (is_honest → (office : Office) → StandForSound tables office → answered office command ≡ (said, office))
+    → IsDecision is_honest tables command decided
+idle_decides is_honest tables command said decided is never named none whole answers = record {
+  step = λ honest office stands. query_answers tables office command said decided.reply
+      decided.changes.items stands (answers honest office stands) is none;
+  writes = λ honest table. subst (λ (list : List RowChange). writes_in table list ≤ most_writes tables command table) (sym none) (omega arith);
+  news = λ honest. subst (AddNew tables) (sym none) tt;
+  refused = λ _. none;
+  query = λ _. none;
+  named = λ why e. named why (sym is ∙ e);
+  undamaged = λ e. never (sym is ∙ e);
+  whole = λ honest damaged. let met = whole honest damaged in (met.0, subst IsRefused (sym is) met.1);
+}
+
+-- a refusal, or what a query shows
+pub told_decides : (is_honest : Type 0) (tables : Content) (command : Command) (said : Reply) (decided : Decided) → decided.reply ≡ said → said ≢ Refused refusal.Damaged → RefusesBy (numbers_of command) said → decided.changes.items ≡ []
+    → (is_honest → ¬ MeetsDamage tables command)
+    → (is_honest → (office : Office) → StandForSound tables office → answered office command ≡ (said, office))
+    → IsDecision is_honest tables command decided
+told_decides is_honest tables command said decided is never named none whole answers =
+    idle_decides is_honest tables command said decided is never named none (λ honest damaged. absurd (whole honest damaged)) answers
+
+-- of an intersection that is not there
+pub unknown_decides : (is_honest : Type 0) (tables : Content) (command : Command) (decided : Decided) → decided.reply ≡ Refused refusal.UnknownIntersection → IsOneOf (numbers_of command) 10 → decided.changes.items ≡ []
+    → (is_honest → ¬ MeetsDamage tables command)
+    → (is_honest → (office : Office) → StandForSound tables office → answered office command ≡ (Refused refusal.UnknownIntersection, office))
+    → IsDecision is_honest tables command decided
+unknown_decides is_honest tables command decided is known none whole answers =
+    told_decides is_honest tables command (Refused refusal.UnknownIntersection) decided is (λ e. cc) (refuses_so (numbers_of command) refusal.UnknownIntersection known) none whole answers
+
+-- a command that is accepted: its reply is no refusal, and these are its rows
+pub accepted_decides : (is_honest : Type 0) (tables : Content) (command : Command) (said : Reply) (rows : List RowChange) (decided : Decided)
+    → decided.reply ≡ said → decided.changes.items ≡ rows → ¬ IsRefused said → ¬ IsQueryCommand command
+    → (is_honest → AnswersAny tables command said (changed_by tables rows))
+    → (is_honest → (table : Table) → writes_in table rows ≤ most_writes tables command table) → (is_honest → AddNew tables rows)
+    → (is_honest → ¬ MeetsDamage tables command) → IsDecision is_honest tables command decided
+accepted_decides is_honest tables command said rows decided is same accepted asks answers few news whole = record {
+  step = λ honest. subst₂ (λ (reply : Reply) (list : List RowChange). AnswersAny tables command reply (changed_by tables list)) (sym is) (sym same) (answers honest);
+  writes = λ honest. subst (λ (list : List RowChange). (table : Table) → writes_in table list ≤ most_writes tables command table) (sym same) (few honest);
+  news = λ honest. subst (AddNew tables) (sym same) (news honest);
+  refused = λ refused. absurd (accepted (subst IsRefused is refused));
+  query = λ query. absurd (asks query);
+  named = λ why e. absurd (accepted (subst IsRefused (sym e ∙ is) tt));
+  undamaged = λ e. absurd (accepted (subst IsRefused (sym e ∙ is) tt));
+  whole = λ honest damaged. absurd (whole honest damaged);
+}
+
+-- a fault that is handed on, and reports damage only where the command meets it
+pub handed_decides : (is_honest : Type 0) (tables : Content) (command : Command) (fault : ShelfFault) (result : Result Decided ShelfFault)
+    → IsErrAnd result (λ e. e ≡ fault) → (fault ≡ Damaged → is_honest → MeetsDamage tables command) → Decides is_honest tables command result
+handed_decides is_honest tables command fault (Ok decided) is damage = absurd is
+handed_decides is_honest tables command fault (Err other) is damage = λ damaged. damage (sym is ∙ damaged)
+
+-- of a call whose clause speaks of its result
+pub fault_decides : {A : Type 0} (is_honest : Type 0) (tables : Content) (command : Command) (fault : ShelfFault) (inner : Result A ShelfFault) (result : Result Decided ShelfFault)
+    → inner ≡ Err fault → IsErrAnd result (λ e. e ≡ fault) → (inner ≡ Err Damaged → is_honest → MeetsDamage tables command) → Decides is_honest tables command result
+fault_decides is_honest tables command fault inner result was is damage =
+    handed_decides is_honest tables command fault result is (λ damaged. damage (was ∙ ap (λ (f : ShelfFault). Err f) damaged))

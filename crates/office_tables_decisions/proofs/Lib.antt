@@ -1,0 +1,4 @@
+pub mod DraftLemmas
+pub mod ReadLemmas
+pub mod RowsTell
+pub mod Decisions

@@ -1,0 +1,62 @@
+-- What every decision on a command promises.
+use Rattle.std.specs.Prelude.{◌≡◌, ◌≢◌, ◌≤◌, ◌⊎◌, [], Result, Ok, Err}
+use Rattle.office_tables_shelf.specs.Change.{AddNew, changed_by}
+use Rattle.office_tables_shelf.specs.Content.{Content}
+use Rattle.office_tables_shelf.specs.Counts.{writes_in}
+use Rattle.office_tables_shelf.specs.declared.rows.Table.{Table}
+use Rattle.office_tables_shelf.specs.declared.shelf.ShelfFault.{ShelfFault}
+use Rattle.office_tables_shelf.specs.declared.shelf.ShelfFault.TheVariants as fault
+use Rattle.office_machine.specs.declared.command.Command.{Command}
+use Rattle.office_machine.specs.declared.command.Command.TheVariants.{Import}
+use Rattle.office_tables_decisions.specs.declared.decided.Decided.{Decided}
+use Rattle.office_machine.specs.declared.refusal.Refusal.TheVariants.{Damaged, Unavailable}
+use Rattle.office_machine.specs.declared.reply.Reply.{Reply}
+use Rattle.office_machine.specs.declared.reply.Reply.TheVariants.{Imported, Refused}
+use Rattle.office_tables_decisions.specs.Answers.{AnswersAny}
+use Rattle.office_tables_decisions.specs.Changes.{IsRefused, IsQueryCommand, most_writes}
+use Rattle.office_tables_decisions.specs.Damage.{IsImport, IsTurnedAway, MeetsDamage}
+use Rattle.office_tables_decisions.specs.Named.{IsNamedFor, RefusesBy, numbers_of}
+use Rattle.office_tables_decisions.specs.Blaming.{BlamesRightly}
+
+-- The reply and what the rows make of the tables are one step; the rows are at most those of the kind of command, and none where it is refused or only asks;
+-- where one is added, none stands under its key;
+-- a refusal is one of the command's table; and a row that is no record is reported as a fault, never as a reply, and none that the command reads was found to be such, unless an import was refused before it.
+pub record IsDecision (is_honest : Type 0) (tables : Content) (command : Command) (decided : Decided) : Type 0 where
+  pub step : is_honest → AnswersAny tables command decided.reply (changed_by tables decided.changes.items)
+  pub writes : is_honest → (table : Table) → writes_in table decided.changes.items ≤ most_writes tables command table
+  pub news : is_honest → AddNew tables decided.changes.items
+  pub refused : IsRefused decided.reply → decided.changes.items ≡ []
+  pub query : IsQueryCommand command → decided.changes.items ≡ []
+  pub named : RefusesBy (numbers_of command) decided.reply
+  pub undamaged : decided.reply ≢ Refused Damaged
+  pub whole : is_honest → MeetsDamage tables command → IsImport command × IsRefused decided.reply
+
+-- What is answered, where a fault is reported as its refusal: Unavailable, or Damaged where a row that the command reads is no record.
+pub record IsAnswered (is_honest : Type 0) (tables : Content) (command : Command) (decided : Decided) : Type 0 where
+  pub step : is_honest → AnswersAny tables command decided.reply (changed_by tables decided.changes.items)
+  pub writes : is_honest → (table : Table) → writes_in table decided.changes.items ≤ most_writes tables command table
+  pub news : is_honest → AddNew tables decided.changes.items
+  pub refused : IsRefused decided.reply → decided.changes.items ≡ []
+  pub query : IsQueryCommand command → decided.changes.items ≡ []
+  pub named : IsNamedFor command decided.reply
+  pub blames : BlamesRightly is_honest tables command decided.reply
+  pub damaged : decided.reply ≡ Refused Damaged → is_honest → MeetsDamage tables command
+  pub turned_away : is_honest → MeetsDamage tables command → IsTurnedAway command decided.reply
+
+-- The command is decided, or a fault is reported: Damaged only where a row that it reads is no record.
+abbrev pub Decides : Type 0 → Content → Command → Result Decided ShelfFault → Type 0
+Decides is_honest tables command (Ok decided) = IsDecision is_honest tables command decided
+Decides is_honest tables command (Err why) = why ≡ fault.Damaged → is_honest → MeetsDamage tables command
+
+-- what an import of no records gives
+abbrev pub AddsNothing : Decided → Type 0
+AddsNothing decided = (decided.reply ≡ Imported 0 0) × (decided.changes.items ≡ [])
+
+-- No table is looked at: the reply is Unavailable, or that to an import of no records. Either is a step that leaves the office, whichever it is.
+abbrev pub IsIdle : Command → Reply → Type 0
+IsIdle command reply = (reply ≡ Refused Unavailable) ⊎ ((command ≡ Import []) × (reply ≡ Imported 0 0))
+
+-- such a reply, and no row is to be changed
+pub record DecidesIdly (command : Command) (decided : Decided) : Type 0 where
+  pub idle : IsIdle command decided.reply
+  pub no_changes : decided.changes.items ≡ []

@@ -1,0 +1,49 @@
+-- Which refusals are named for a command, by their numbers in the table.
+use Rattle.std.specs.Prelude.{◌≡◌, ◌⊎◌, ℕ, List, [], ◌∷◌, map, Option, Some, None}
+use Rattle.office_tables_decisions.specs.RecordBounds.{IsOneOf, refusals_of}
+use Rattle.office_machine.specs.Refusal.{line_of}
+use Rattle.office_machine.specs.Step.{cabinet_of, refusal_of_record}
+use Rattle.office_machine.specs.declared.command.Command.{Command}
+use Rattle.office_machine.specs.declared.command.Command.TheVariants as command
+use Rattle.office_machine.specs.declared.refusal.Refusal.{Refusal}
+use Rattle.office_machine.specs.declared.refusal.Refusal.TheVariants.{Unavailable, Damaged}
+use Rattle.office_machine.specs.declared.reply.Reply.{Reply}
+use Rattle.office_machine.specs.declared.reply.Reply.TheVariants.{Refused}
+
+-- the number of a refusal in the table
+abbrev pub number_of : Refusal → ℕ
+number_of why = (line_of why).number
+
+-- the register's own, and where the command is about an intersection, that this is not there
+abbrev pub numbers_about : Option ℕ → List ℕ → List ℕ
+numbers_about None numbers = numbers
+numbers_about (Some id) numbers = 10 ∷ numbers
+
+-- those of the command's line of its table
+abbrev pub numbers_of : Command → List ℕ
+numbers_of (command.AddIntersection id interval name) = 11 ∷ []
+numbers_of (command.Begin id clerk) = 10 ∷ 12 ∷ []
+numbers_of (command.Edit id clerk changes) = 10 ∷ 13 ∷ 14 ∷ []
+numbers_of (command.Verify id clerk) = 10 ∷ 13 ∷ 14 ∷ []
+numbers_of (command.Check id clerk) = 10 ∷ 15 ∷ 14 ∷ []
+numbers_of (command.Commit id clerk) = 10 ∷ 16 ∷ 14 ∷ 17 ∷ 18 ∷ []
+numbers_of (command.Reopen id clerk) = 10 ∷ 16 ∷ 14 ∷ []
+numbers_of (command.Abandon id clerk) = 10 ∷ 13 ∷ []
+numbers_of (command.State id) = 10 ∷ []
+numbers_of (command.Timing id) = 10 ∷ []
+numbers_of (command.Draft id) = 10 ∷ 13 ∷ []
+numbers_of (command.Record c) = numbers_about (cabinet_of c) (map (λ why. number_of (refusal_of_record why)) (refusals_of c))
+numbers_of (command.Import records) = 30 ∷ []
+numbers_of (command.Cabinet id) = 10 ∷ []
+numbers_of (command.OpenOrders id) = 10 ∷ []
+numbers_of command.Stock = []
+numbers_of (command.Overdue day) = []
+
+-- a reply that refuses gives one of these numbers
+abbrev pub RefusesBy : List ℕ → Reply → Type 0
+RefusesBy numbers reply = (why : Refusal) → reply ≡ Refused why → IsOneOf numbers (number_of why)
+
+-- a refusal is Unavailable, or Damaged, or one that is named for the command; so want of memory, whose number no command names, is reported as Unavailable
+-- alone
+abbrev pub IsNamedFor : Command → Reply → Type 0
+IsNamedFor command reply = (why : Refusal) → reply ≡ Refused why → (why ≡ Unavailable) ⊎ ((why ≡ Damaged) ⊎ IsOneOf (numbers_of command) (number_of why))

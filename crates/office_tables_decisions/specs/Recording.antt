@@ -1,0 +1,40 @@
+-- What a decision on the register rests on: that the intersection is there.
+use Rattle.std.specs.Prelude.{◌≡◌, ℕ, Bool, true, Option, Some, None, is_some}
+use Rattle.std.specs.BTreeSet.{BTreeSet}
+use Rattle.std.specs.FinMap.{get}
+use Rattle.std.specs.List.{All, Contains}
+use Rattle.office_tables_shelf.specs.Content.{Content}
+use Rattle.office_tables_shelf.specs.Damage.{HasDamagedIntersection}
+use Rattle.office_tables_shelf.specs.Rows.{intersection_key}
+use Rattle.office_machine.specs.Office.{Office}
+use Rattle.office_tables_decisions.specs.StandFor.{StandForSound}
+use Rattle.office_machine.specs.Step.{is_known}
+
+-- in whichever sound office the tables stand for
+abbrev pub IsKnownIn : Content → Option ℕ → Bool → Type 0
+IsKnownIn tables about known = (office : Office) → StandForSound tables office → known ≡ is_known office about
+
+-- the intersection's row is no record
+abbrev pub HasDamagedAbout : Content → Option ℕ → Type 0
+HasDamagedAbout tables None = ⊥
+HasDamagedAbout tables (Some id) = HasDamagedIntersection tables id
+
+-- whether a row stands under its number; nothing is wanted of a command about none
+abbrev pub TellsAbout : Content → Option ℕ → Bool → Type 0
+TellsAbout tables None known = known ≡ true
+TellsAbout tables (Some id) known = known ≡ is_some (get tables.intersection (intersection_key id))
+
+-- it is there or not, in whichever sound office the tables stand for and by its row, which is no damaged one
+pub record TellsIntersection (tables : Content) (about : Option ℕ) (is_there : Bool) : Type 0 where
+  pub known : IsKnownIn tables about is_there
+  pub told : TellsAbout tables about is_there
+  pub whole : ¬ HasDamagedAbout tables about
+
+-- each of these intersections is there, and its row is a record
+abbrev pub AreFound : Content → BTreeSet ℕ → Type 0
+AreFound tables found = All (λ id. TellsIntersection tables (Some id) true) found.keys
+
+-- one is asked for, and it is one of these
+abbrev pub IsAmong : BTreeSet ℕ → Option ℕ → Type 0
+IsAmong found None = ⊥
+IsAmong found (Some id) = Contains found.keys id

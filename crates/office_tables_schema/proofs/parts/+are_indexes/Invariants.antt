@@ -1,5 +1,0 @@
-use Rattle.std.proofs.Common.{length}
-use Rattle.office_tables_schema.proofs.parts.+are_indexes.Given as goal
-
-abbrev pub decreases-are_indexes : goal.decreases-are_indexes
-decreases-are_indexes l = length l.wanted.now

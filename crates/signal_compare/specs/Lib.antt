@@ -1,3 +1,0 @@
-pub mod Difference
-pub mod Merging
-pub mod Text

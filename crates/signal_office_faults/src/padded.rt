@@ -1,0 +1,68 @@
+//! Files whose records a spreadsheet has padded with empty fields.
+
+ghost use Rattle.std.specs.Prelude.{◌≡◌, map, IfOk, List, Ok};
+ghost use Rattle.csv.specs.Records.{fields_of};
+ghost use Rattle.cabinet_core.specs.declared.command.RecordCommand.{RecordCommand};
+ghost use Rattle.office_files.specs.Changes.{changes_of};
+ghost use Rattle.office_files.specs.Csv.{csv_records};
+ghost use Rattle.office_files.specs.Records.{commands_of};
+ghost use Rattle.signal_office_faults.specs.Padded.{unpadded, unpadded_text};
+ghost use Rattle.signal_records.specs.declared.record.Change.{Change};
+
+use crate::width::unpadded;
+use csv::ByteRecord;
+use office_files::{csv_file, fields_in, read_records};
+use signal_records::NoMemory;
+use std::alloc::Global;
+
+/// The mark that a file in UTF-8 may begin with.
+const BYTE_ORDER_MARK: &[u8] = b"\xEF\xBB\xBF";
+
+/// A record without the empty fields at its end that its kind does not have.
+fn unpadded_record(alloc: Global, record: &ByteRecord) -> Result<ByteRecord, NoMemory>
+    ensures { IfOk result (λ row. fields_of row ≡ unpadded (fields_of record.now)) }
+{
+    let fields = fields_in(alloc, record)?;
+    ByteRecord::from_fields(alloc, unpadded(&fields))
+}
+
+/// The records, each without the empty fields at its end that its kind does not have.
+fn unpadded_records(alloc: Global, records: &[ByteRecord]) -> Result<Vec<ByteRecord>, NoMemory>
+    ensures { IfOk result (λ rows.
+        map fields_of rows.items ≡ map unpadded (map fields_of records.now)) }
+{
+    let mut rows = Vec::new(alloc);
+    for record in records {
+        rows.push(unpadded_record(alloc, record)?)?;
+    }
+    Ok(rows)
+}
+
+/// The file of the records of a file, after a byte order mark, each record without the empty fields
+/// at its end that its kind does not have.
+fn unpadded_file(alloc: Global, bytes: &[u8]) -> Result<Vec<u8>, NoMemory>
+    ensures { IfOk result (λ text. text.items ≡ unpadded_text bytes.now) }
+{
+    let records = read_records(alloc, bytes)?;
+    let rows = unpadded_records(alloc, &records)?;
+    let file = csv_file(alloc, &rows)?;
+    let mut text = Vec::new(alloc);
+    text.extend_from_slice(BYTE_ORDER_MARK)?;
+    text.extend_from_slice(&file)?;
+    Ok(text)
+}
+
+/// A CSV file whose records are those of another without the empty fields at their ends that their
+/// kinds do not have, as a spreadsheet pads them. A good record stays as it is, and so does the
+/// number of each.
+pub fn unpadded_csv(alloc: Global, bytes: &[u8]) -> Result<Vec<u8>, NoMemory>
+    ensures text { IfOk result (λ text. text.items ≡ unpadded_text bytes.now) }
+    ensures records { IfOk result (λ text.
+        csv_records text.items ≡ map unpadded (csv_records bytes.now)) }
+    ensures good_plan { IfOk result (λ text. (changes : List Change) →
+        changes_of bytes.now ≡ Ok changes → changes_of text.items ≡ Ok changes) }
+    ensures good_records { IfOk result (λ text. (commands : List RecordCommand) →
+        commands_of bytes.now ≡ Ok commands → commands_of text.items ≡ Ok commands) }
+{
+    unpadded_file(alloc, bytes)
+}

@@ -1,0 +1,123 @@
+//! How many fields the record of a kind has, and those that it keeps.
+
+ghost use Rattle.std.specs.Prelude.{◌≡◌, drop, take};
+ghost use Rattle.signal_records.specs.Reading.{texts};
+ghost use Rattle.signal_office_faults.specs.Padded.{are_blank, key_width, phase_width, record_width, removal_width, unpadded, width_of};
+
+/// The fields up to a width; all, where there are no more.
+fn front<'f, 'a>(fields: &'f [&'a [u8]], width: usize) -> &'f [&'a [u8]]
+    ensures { texts result.now ≡ take width (texts fields.now) }
+{
+    if width < fields.len() {
+        &fields[..width]
+    } else {
+        fields
+    }
+}
+
+/// Whether fields have nothing.
+fn are_blank(fields: &[&[u8]]) -> bool
+    ensures { result ≡ are_blank (texts fields.now) }
+{
+    match fields {
+        [] => true,
+        [field, rest @ ..] => field.is_empty() && are_blank(rest),
+    }
+}
+
+/// Whether the fields after a width are all empty.
+fn are_blank_after(fields: &[&[u8]], width: usize) -> bool
+    ensures { result ≡ are_blank (drop width (texts fields.now)) }
+{
+    if width < fields.len() {
+        are_blank(&fields[width..])
+    } else {
+        true
+    }
+}
+
+/// How many fields a phase has: its pedestrian part is there where any of its fields has anything.
+fn phase_width(fields: &[&[u8]]) -> usize
+    ensures { result ≡ phase_width (texts fields.now) }
+{
+    if are_blank_after(fields, 9) { 9 } else { 15 }
+}
+
+/// How many fields the removal of a key has, by the kind of the key.
+fn key_width(kind: &[u8]) -> Option<usize>
+    ensures { result ≡ key_width kind.now }
+{
+    if kind == b"phase".as_slice() {
+        Some(3)
+    } else if kind == b"seq".as_slice() {
+        Some(4)
+    } else if kind == b"split".as_slice() {
+        Some(4)
+    } else if kind == b"pattern".as_slice() {
+        Some(3)
+    } else {
+        None
+    }
+}
+
+/// How many fields the removal of a key has, by its fields after the first: the kind of the key,
+/// where there is one, stands before the others.
+fn removal_width(rest: &[&[u8]]) -> Option<usize>
+    ensures { result ≡ removal_width (texts rest.now) }
+{
+    match rest {
+        [] => None,
+        [kind, ..] => key_width(kind),
+    }
+}
+
+/// How many fields a record of the register has, by its kind.
+fn record_width(kind: &[u8]) -> Option<usize>
+    ensures { result ≡ record_width kind.now }
+{
+    if kind == b"inspection".as_slice() {
+        Some(6)
+    } else if kind == b"order".as_slice() {
+        Some(6)
+    } else if kind == b"use".as_slice() {
+        Some(6)
+    } else if kind == b"close".as_slice() {
+        Some(5)
+    } else if kind == b"delivery".as_slice() {
+        Some(5)
+    } else {
+        None
+    }
+}
+
+/// How many fields a record has, by its kind, if that is one.
+fn width_of(fields: &[&[u8]]) -> Option<usize>
+    ensures { result ≡ width_of (texts fields.now) }
+{
+    let [kind, rest @ ..] = fields else {
+        return None;
+    };
+    if *kind == b"phase".as_slice() {
+        Some(phase_width(fields))
+    } else if *kind == b"seq".as_slice() {
+        Some(4)
+    } else if *kind == b"split".as_slice() {
+        Some(6)
+    } else if *kind == b"pattern".as_slice() {
+        Some(6)
+    } else if *kind == b"remove".as_slice() {
+        removal_width(rest)
+    } else {
+        record_width(kind)
+    }
+}
+
+/// The fields of a record without those that are empty at its end and that its kind does not have.
+pub(crate) fn unpadded<'f, 'a>(fields: &'f [&'a [u8]]) -> &'f [&'a [u8]]
+    ensures { texts result.now ≡ unpadded (texts fields.now) }
+{
+    match width_of(fields) {
+        Some(width) if are_blank_after(fields, width) => front(fields, width),
+        _ => fields,
+    }
+}

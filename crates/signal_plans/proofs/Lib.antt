@@ -1,0 +1,12 @@
+pub mod Members
+pub mod Places
+pub mod Clean
+pub mod Within
+pub mod Patterns
+pub mod Stretches
+pub mod Cycles
+pub mod Laws
+pub mod Quiet
+pub mod LawsHoweverCalled
+pub mod DifferenceSteps
+pub mod DifferenceSets

@@ -1,0 +1,13 @@
+pub mod Timing
+pub mod Intervals
+pub mod StreetLaws
+pub mod HoweverCalled
+pub mod PhaseWarnings
+pub mod SplitWarnings
+pub mod PatternWarnings
+pub mod PlanWarnings
+pub mod Parts
+pub mod Warnings
+pub mod Difference
+pub mod Merging
+pub mod Comparison

@@ -1,0 +1,76 @@
+-- What an engineer is warned of in a phase, by the objects of NTCIP 1202 v03, each as a case with whether it is so.
+use Rattle.std.specs.Prelude.{◌==◌, ℕ, nat_lt, Bool, false, not, ◌&&◌, List, [], ◌∷◌, filter, length, Option, Some, None}
+use Rattle.std.specs.List.{list_any, flat_map}
+use Rattle.signal_records.specs.declared.record.Ped.{Ped}
+use Rattle.signal_records.specs.declared.record.Phase.{Phase}
+use Rattle.signal_records.specs.declared.record.Pattern.{Pattern}
+use Rattle.signal_records.specs.declared.record.Split.{Split}
+use Rattle.signal_records.specs.TimingSet.{Rows}
+use Rattle.signal_rules.specs.Cases.{Cases}
+use Rattle.signal_rules.specs.Lanes.{used_rings}
+use Rattle.signal_rules.specs.Lookup.{split_at, pattern_at, pattern_numbers}
+use Rattle.signal_rules.specs.SplitRule.{is_omitted}
+use Rattle.signal_plans.specs.declared.warning.Advice.{Advice}
+use Rattle.signal_plans.specs.declared.warning.Advice.TheVariants.{MaximumBelowMinimum, NoMinimumGreen, NoConcurrentPhase, NeverServed, NoClearance, NotMeasured}
+
+-- maximum-below-minimum: phaseMaximum1 is less than phaseMinimumGreen, so that green is over before it may end
+abbrev pub maximum_case : Phase → Bool × Advice
+maximum_case phase =
+    (nat_lt phase.max1 phase.min_green, MaximumBelowMinimum phase.max1 phase.min_green)
+
+-- no-minimum-green: phaseMinimumGreen is 0, so that a phase may be served without a green
+abbrev pub minimum_case : Phase → Bool × Advice
+minimum_case phase = (phase.min_green == 0, NoMinimumGreen)
+
+-- phaseConcurrency is empty, in a plan of more than one ring
+abbrev pub is_alone : ℕ → Phase → Bool
+is_alone rings phase = length phase.mates == 0 && nat_lt 1 rings
+
+-- no-concurrent-phase: a phase may time with none in the other rings
+abbrev pub concurrency_case : Rows → Phase → Bool × Advice
+concurrency_case set phase =
+    (is_alone (length (used_rings set)) phase, NoConcurrentPhase (length (used_rings set)))
+
+-- the one pattern of a number, if the set has it
+abbrev pub listed_pattern : Option Pattern → List Pattern
+listed_pattern None = []
+listed_pattern (Some pattern) = pattern ∷ []
+
+-- the patterns of the set (patternTable), ascending
+abbrev pub patterns : Rows → List Pattern
+patterns set = flat_map (λ n. listed_pattern (pattern_at set n)) pattern_numbers
+
+-- a split row serves its phase in each cycle, unless splitMode omits it; without a row there is no service
+abbrev pub is_serving : Option Split → Bool
+is_serving None = false
+is_serving (Some split) = not (is_omitted split.mode)
+
+-- some pattern serves the phase by its patternSplitNumber
+abbrev pub is_served : Rows → ℕ → Bool
+is_served set p = list_any (λ pattern. is_serving (split_at set pattern.split p)) (patterns set)
+
+-- the plan has patterns, and none of them serves the phase
+abbrev pub is_never_served : Rows → ℕ → Bool
+is_never_served set p = not (length (patterns set) == 0) && not (is_served set p)
+
+-- never-served: a phase that no pattern serves times in free operation alone
+abbrev pub service_case : Rows → ℕ → Bool × Advice
+service_case set p = (is_never_served set p, NeverServed)
+
+-- what an engineer is warned of in a phase itself
+abbrev pub phase_cases : Rows → ℕ → Phase → Cases Advice
+phase_cases set p phase =
+    maximum_case phase ∷ minimum_case phase ∷ concurrency_case set phase ∷ service_case set p ∷ []
+
+-- no-clearance: phasePedestrianClear is 0, so that only yellow and red clear the crossing
+abbrev pub clearance_case : Ped → Bool × Advice
+clearance_case ped = (ped.clear == 0, NoClearance ped.width)
+
+-- not-measured: the crossing's width is 0, of which no rule can say whether its clearance is enough
+abbrev pub width_case : Ped → Bool × Advice
+width_case ped = (ped.width == 0, NotMeasured)
+
+-- what an engineer is warned of in the crossing of a phase; a phase without a pedestrian part has none
+abbrev pub crossing_warnings : Option Ped → Cases Advice
+crossing_warnings None = []
+crossing_warnings (Some ped) = clearance_case ped ∷ width_case ped ∷ []

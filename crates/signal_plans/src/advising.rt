@@ -1,0 +1,133 @@
+//! The warnings of a timing set, subject by subject.
+
+ghost use Rattle.std.specs.Prelude.{◌≡◌, ◌++◌, Some, OnOk, IfOk};
+ghost use Rattle.signal_plans.specs.Parts.{AreParts};
+ghost use Rattle.signal_plans.specs.Warnings.{warned, told_cases, phase_warnings, row_warnings, warnings_at, warnings_of};
+
+use crate::pattern::coordination_advice;
+use crate::phase::{crossing_cases, phase_cases};
+use crate::plan::{PlanParts, parts_of, plan_cases};
+use crate::split::split_cases;
+use crate::warning::{Advice, Scope, Warning};
+use signal_records::{NoMemory, PatternNo, Phase, PhaseNo, Split, SplitNo, TimingSet};
+use signal_rules::{Subject, pattern_at, phase_at, split_at, subjects_of};
+use std::alloc::Global;
+
+/// The warnings of a set: phases, split rows and patterns, each by ascending number, then the plan
+/// as a whole; for each what an engineer is warned of, in one order, each once.
+///
+/// `NoMemory` means that a growth was really refused.
+#[tactic(auto, unfolding(crate::specs::Warnings::warnings_of))]
+pub fn warnings(alloc: Global, set: &TimingSet) -> Result<Vec<Warning>, NoMemory>
+    ensures { IfOk result (λ found. found.items ≡ warnings_of set.now) }
+{
+    let parts = parts_of(alloc, set)?;
+    let mut found = Vec::new(alloc);
+    for subject in &subjects_of(alloc, set)? {
+        warn(alloc, set, &parts, *subject, &mut found)?;
+    }
+    tell(&Scope::Plan, &plan_cases(set, &parts), &mut found)?;
+    Ok(found)
+}
+
+/// Adds the warnings of a subject: none where the set does not have it.
+fn warn(
+    alloc: Global,
+    set: &TimingSet,
+    parts: &PlanParts,
+    subject: Subject,
+    found: &mut Vec<Warning>,
+) -> Result<(), NoMemory>
+    requires { AreParts set.now parts.now }
+    ensures { OnOk result (found.new.items ≡ found.old.items ++ warnings_at set.now subject) }
+{
+    match subject {
+        Subject::Phase(p) => match phase_at(set, p) {
+            Some(phase) => warn_phase(set, parts, p, phase, found),
+            None => Ok(()),
+        },
+        Subject::Seq(_) => Ok(()),
+        Subject::Split(n, p) => match split_at(set, n, p) {
+            Some(split) => warn_split(set, n, p, &split, found),
+            None => Ok(()),
+        },
+        Subject::Pattern(n) => match pattern_at(set, n) {
+            Some(pattern) => {
+                let advice = coordination_advice(alloc, set, &parts.phases, &pattern)?;
+                push_advice(n, advice, found)
+            }
+            None => Ok(()),
+        },
+    }
+}
+
+/// Adds the warnings of a phase, and those of its crossing.
+fn warn_phase(
+    set: &TimingSet,
+    parts: &PlanParts,
+    p: PhaseNo,
+    phase: &Phase,
+    found: &mut Vec<Warning>,
+) -> Result<(), NoMemory>
+    requires { AreParts set.now parts.now }
+    ensures { OnOk result (found.new.items ≡ found.old.items
+        ++ phase_warnings set.now p (Some phase.now)) }
+{
+    let scope = Scope::Subject(Subject::Phase(p));
+    tell(&scope, &phase_cases(set, parts, p, phase), found)?;
+    match &phase.ped {
+        Some(ped) => tell(&scope, &crossing_cases(ped), found),
+        None => Ok(()),
+    }
+}
+
+/// Adds the warnings of the split row of a phase: none where the set does not have the phase.
+fn warn_split(
+    set: &TimingSet,
+    n: SplitNo,
+    p: PhaseNo,
+    split: &Split,
+    found: &mut Vec<Warning>,
+) -> Result<(), NoMemory>
+    ensures { OnOk result (found.new.items ≡ found.old.items
+        ++ row_warnings set.now n p (Some split.now)) }
+{
+    let Some(phase) = phase_at(set, p) else {
+        return Ok(());
+    };
+    let scope = Scope::Subject(Subject::Split(n, p));
+    tell(&scope, &split_cases(phase, split), found)
+}
+
+/// Adds a piece of advice on a pattern, if there is one.
+fn push_advice(
+    n: PatternNo,
+    advice: Option<Advice>,
+    found: &mut Vec<Warning>,
+) -> Result<(), NoMemory>
+    ensures { OnOk result (found.new.items ≡ found.old.items
+        ++ warned (Scope.Subject (Subject.Pattern n)) advice) }
+{
+    if let Some(advice) = advice {
+        found.push(Warning {
+            subject: Scope::Subject(Subject::Pattern(n)),
+            advice,
+        })?;
+    }
+    Ok(())
+}
+
+/// Adds of some cases, in their order, those that are so.
+fn tell(scope: &Scope, cases: &[(bool, Advice)], found: &mut Vec<Warning>) -> Result<(), NoMemory>
+    ensures { OnOk result (found.new.items ≡ found.old.items ++ told_cases scope.now cases.now) }
+{
+    for (is_so, advice) in cases {
+        if *is_so {
+            found.push(Warning {
+                subject: *scope,
+                advice: *advice,
+            })?;
+        }
+    }
+    Ok(())
+}

@@ -1,0 +1,90 @@
+//! What an engineer is warned of in a phase.
+
+ghost use Rattle.std.specs.Prelude.{◌≡◌, Some};
+ghost use Rattle.signal_plans.specs.Parts.{AreParts};
+ghost use Rattle.signal_plans.specs.PhaseWarnings as plan_has;
+ghost use Rattle.signal_plans.specs.PhaseWarnings.{phase_cases, crossing_warnings, is_alone, is_never_served, is_serving, is_served};
+
+use crate::plan::PlanParts;
+use crate::warning::Advice;
+use signal_records::{Pattern, Ped, Phase, PhaseNo, Split, SplitMode, TimingSet};
+use signal_rules::split_at;
+
+/// What is so of a phase itself.
+pub(crate) fn phase_cases(
+    set: &TimingSet,
+    parts: &PlanParts,
+    p: PhaseNo,
+    phase: &Phase,
+) -> [(bool, Advice); 4]
+    requires { AreParts set.now parts.now }
+    ensures { result ≡ phase_cases set.now p phase.now }
+{
+    let Phase {
+        min_green: minimum,
+        max1: maximum,
+        ..
+    } = *phase;
+    let rings = parts.rings;
+    [
+        (
+            maximum < minimum,
+            Advice::MaximumBelowMinimum { maximum, minimum },
+        ),
+        (minimum == 0, Advice::NoMinimumGreen),
+        (is_alone(phase, rings), Advice::NoConcurrentPhase { rings }),
+        (
+            is_never_served(set, &parts.patterns, p),
+            Advice::NeverServed,
+        ),
+    ]
+}
+
+/// Whether a phase may time with no other, in a plan of more than one ring.
+fn is_alone(phase: &Phase, rings: usize) -> bool
+    ensures { result ≡ is_alone rings phase.now }
+{
+    phase.mates.as_slice().is_empty() && 1 < rings
+}
+
+/// Whether there are patterns, which are those of the set, and none of them serves a phase.
+fn is_never_served(set: &TimingSet, patterns: &[Pattern], p: PhaseNo) -> bool
+    requires { patterns.now ≡ plan_has.patterns set.now }
+    ensures { result ≡ is_never_served set.now p }
+{
+    !patterns.is_empty() && !is_served(set, patterns, p)
+}
+
+/// Whether one of the patterns, which are those of the set, serves a phase.
+fn is_served(set: &TimingSet, patterns: &[Pattern], p: PhaseNo) -> bool
+    requires { patterns.now ≡ plan_has.patterns set.now }
+    ensures { result ≡ is_served set.now p }
+{
+    for pattern in patterns {
+        if is_serving(split_at(set, pattern.split, p)) {
+            return true;
+        }
+    }
+    false
+}
+
+/// Whether a split row serves its phase in each cycle.
+pub(crate) fn is_serving(split: Option<Split>) -> bool
+    ensures { result ≡ is_serving split }
+{
+    match split {
+        Some(split) => split.mode != SplitMode::PhaseOmitted,
+        None => false,
+    }
+}
+
+/// What is so of a crossing.
+pub(crate) fn crossing_cases(ped: &Ped) -> [(bool, Advice); 2]
+    ensures { result ≡ crossing_warnings (Some ped.now) }
+{
+    let width = ped.width.get();
+    [
+        (ped.clear == 0, Advice::NoClearance { width }),
+        (width == 0, Advice::NotMeasured),
+    ]
+}

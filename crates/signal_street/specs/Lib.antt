@@ -1,4 +1,0 @@
-pub mod Timing
-pub mod Intervals
-pub mod StreetLaws
-pub mod HoweverCalled

@@ -1,8 +1,0 @@
-use Rattle.std.proofs.Common.{◌≡◌, drop}
-use Rattle.signal_rules.specs.{Cases.first_true}
-use Rattle.signal_warnings.specs.PatternWarnings.{apart_from}
-use Rattle.signal_warnings.proofs.pattern.apart_from.Given as goal
-
-abbrev pub invariant-loop-other : goal.invariant-loop-other
-invariant-loop-other l =
-    first_true (apart_from l.set l.pattern l.phase (drop l.other-index l.others)) ≡ first_true (apart_from l.set l.pattern l.phase l.others)
