@@ -5,7 +5,7 @@ use Rattle.std.specs.Prelude.{cond, decimal}
 use Rattle.cabinet_core.specs.declared.record.UsedLine.{UsedLine}
 use Rattle.office_files.specs.Cells.{when_empty}
 use Rattle.signal_page.specs.Words.{escaped_byte, escaped, is_markup, marks}
-use Rattle.signal_page.specs.Nodes.{Shown, Name, Title, Parts, isolated, part_text, node_text, html, blank_line, blank, IsHtml}
+use Rattle.signal_page.specs.Nodes.{Shown, Name, Title, Parts, isolated, order_line_text, node_text, html, blank_line, blank, IsHtml}
 
 -- the markup characters of two texts, one after the other
 both : (a b : List ℕ) → marks (a ++ b) ≡ marks a ++ marks b
@@ -50,14 +50,14 @@ isolated_same x y = joined _ _ (codes "</bdi>") _ (joined (codes "<bdi>") _ _ _ 
 
 -- ---- what stands in a page
 
-part_same : (line : UsedLine) → marks (part_text line) ≡ marks (part_text (blank_line line))
-unfolding part_text
+part_same : (line : UsedLine) → marks (order_line_text line) ≡ marks (order_line_text (blank_line line))
+unfolding order_line_text
 part_same line =
     joined _ _ (codes "</div>") _ (joined before before _ _ refl (isolated_same line.part [])) refl where
       before : List ℕ
       before = codes "<div>" ++ decimal line.line ++ codes ": " ++ decimal line.count ++ codes " &times; "
 
-parts_same : (lines : List UsedLine) → marks (flat_map part_text lines) ≡ marks (flat_map part_text (map blank_line lines))
+parts_same : (lines : List UsedLine) → marks (flat_map order_line_text lines) ≡ marks (flat_map order_line_text (map blank_line lines))
 parts_same [] = refl
 parts_same (line ∷ lines) = joined _ _ _ _ (part_same line) (parts_same lines)
 

@@ -63,8 +63,8 @@ unfoldable pub isolated : List ℕ → List ℕ
 isolated words = codes "<bdi>" ++ escaped words ++ codes "</bdi>"
 
 -- a line of an order: its number, and the part that was used
-unfoldable pub part_text : UsedLine → List ℕ
-part_text line =
+unfoldable pub order_line_text : UsedLine → List ℕ
+order_line_text line =
     codes "<div>" ++ decimal line.line ++ codes ": " ++ decimal line.count ++ codes " &times; "
     ++ isolated line.part ++ codes "</div>"
 
@@ -86,7 +86,7 @@ node_text (Due day late) =
     ++ (if late then codes " <strong class='late'>overdue</strong>" else [])
 node_text (Name words) = isolated words
 node_text (Title words) = escaped words
-node_text (Parts lines) = when_empty lines (codes "none") ++ flat_map part_text lines
+node_text (Parts lines) = when_empty lines (codes "none") ++ flat_map order_line_text lines
 
 -- a page as a text
 abbrev pub html : List Shown → List ℕ

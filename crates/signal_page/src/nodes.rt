@@ -4,7 +4,7 @@ ghost use Rattle.std.specs.Prelude.{◌≡◌, ◌∷◌, ◌++◌, [], OnOk, fi
 ghost use Rattle.std.specs.List.{list_any};
 ghost use Rattle.office_files.specs.Cells.{tenths};
 ghost use Rattle.office_files.specs.Records.{is_line_of};
-ghost use Rattle.signal_page.specs.Nodes.{day_or, html, isolated, node_text, part_text, shown_by, shown_of, Due, Own, Parts};
+ghost use Rattle.signal_page.specs.Nodes.{day_or, html, isolated, node_text, order_line_text, shown_by, shown_of, Due, Own, Parts};
 
 use crate::words::push_escaped;
 use cabinet_core::{Date, UsedLine, push_date};
@@ -89,7 +89,7 @@ fn push_isolated(text: &mut String, words: &str) -> Result<(), AllocError>
 /// Appends a line of an order: its number, and the part that was used.
 fn push_part(text: &mut String, line: &UsedLine) -> Result<(), AllocError>
     ensures { OnOk result (string_bytes text.new
-        ≡ string_bytes text.old ++ part_text line.now) }
+        ≡ string_bytes text.old ++ order_line_text line.now) }
 {
     let number = line.line.get();
     let count = line.count.get();
@@ -113,7 +113,7 @@ fn has_lines(order: RecordNo, lines: &[UsedLine]) -> bool
 /// Appends the lines of an order, if it has any.
 fn push_each_part(text: &mut String, lines: &[UsedLine], order: RecordNo) -> Result<(), AllocError>
     ensures { OnOk result (string_bytes text.new
-        ≡ string_bytes text.old ++ flat_map part_text (filter (is_line_of order) lines.now)) }
+        ≡ string_bytes text.old ++ flat_map order_line_text (filter (is_line_of order) lines.now)) }
 {
     for line in lines {
         if line.order.get() == order.get() {

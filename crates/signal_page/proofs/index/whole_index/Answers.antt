@@ -1,5 +1,5 @@
 use Rattle.std.proofs.Common.{string_bytes}
-use Rattle.signal_page.proofs.{Parts.from_start, Tags.is_html}
+use Rattle.signal_page.proofs.{Chains.from_start, Tags.is_html}
 use Rattle.signal_page.proofs.index.whole_index.Goals as goal
 
 pub returns : goal.returns

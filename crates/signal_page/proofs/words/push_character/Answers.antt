@@ -1,6 +1,6 @@
 use Rattle.std.proofs.Common.{arith, string_bytes}
 use Rattle.std.specs.Prelude.{encode_utf8}
-use Rattle.signal_page.proofs.{Escaping.kept_character, Parts.pushed}
+use Rattle.signal_page.proofs.{Escaping.kept_character, Chains.pushed}
 use Rattle.signal_page.proofs.words.push_character.Goals as goal
 
 pub returns-in_default : goal.returns-in_default
