@@ -1,7 +1,8 @@
 -- What a plan has beyond its rows: the need of a split and what it has to spare, and the coordinated
 -- phases of a pattern.
-use Rattle.std.specs.Prelude.{ℕ, ◌-◌, ◌&&◌, nat_lt, Bool, if◌then◌else◌, List, filter}
+use Rattle.std.specs.Prelude.{ℕ, ◌-◌, ◌&&◌, nat_lt, Bool, if◌then◌else◌, List, [], ◌∷◌, codes, filter}
 use Rattle.std.specs.Prelude.{Option, Some, None, option_map, is_some}
+use Rattle.signal_records.specs.declared.record.Ped.{Ped}
 use Rattle.signal_records.specs.declared.record.Phase.{Phase}
 use Rattle.signal_records.specs.declared.record.Split.{Split}
 use Rattle.signal_records.specs.declared.record.SplitMode.{SplitMode}
@@ -10,7 +11,11 @@ use Rattle.signal_records.specs.Need.{need_of}
 use Rattle.signal_records.specs.TimingSet.{Rows}
 use Rattle.signal_rules.specs.Lookup.{phase_at, split_at, phase_numbers}
 use Rattle.signal_rules.specs.PatternRules.{is_coordinated}
-use Rattle.signal_page.specs.Nodes.{Shown, Tenths, Below, Nothing}
+use Rattle.signal_rules.specs.SplitRule.{need_if_called}
+use Rattle.signal_rules.specs.declared.split.NeedPart.{NeedPart}
+use Rattle.signal_rules.specs.declared.split.NeedPart.TheVariants as need_part
+use Rattle.signal_rules.specs.declared.split.SplitNeed.{SplitNeed}
+use Rattle.signal_page.specs.Nodes.{Shown, Own, Tenths, Below, Dash, Nothing, Short}
 
 -- the need of a phase in a split mode, in tenths of a second; one that is omitted needs no time
 abbrev pub need_in : SplitMode → Option Phase → Option ℕ
@@ -31,6 +36,25 @@ abbrev pub spare_cell : ℕ → Option ℕ → Shown
 spare_cell time None = Nothing
 spare_cell time (Some need) =
     if nat_lt time need then Below (need - time) else Tenths (time - need)
+
+-- the part that governs a need, in a word
+abbrev pub part_word : NeedPart → List ℕ
+part_word need_part.Green = codes "green"
+part_word need_part.Walk = codes "walk"
+
+-- of a split with a time in tenths of a second, whose phase has such a pedestrian part, and of its
+-- need if the walk is called: that need, and the part that governs it with what the split is short
+abbrev pub walk_cells : ℕ → Option Ped → SplitNeed → List Shown
+walk_cells time None need = Dash ∷ Own (codes "-") ∷ []
+walk_cells time (Some ped) need =
+    Tenths need.tenths ∷ Short (part_word need.governs) (need.tenths - time) ∷ []
+
+-- the need of a split if the walk of its phase is called, by its mode or by a button, and the part
+-- that governs; one that is omitted, or whose phase the plan does not have, has none
+abbrev pub called_cells : ℕ → SplitMode → Option Phase → List Shown
+called_cells time PhaseOmitted phase = Nothing ∷ Nothing ∷ []
+called_cells time mode None = Nothing ∷ Nothing ∷ []
+called_cells time mode (Some phase) = walk_cells time phase.ped (need_if_called phase)
 
 -- splitCoordPhase marks a phase of the set in a split plan
 abbrev pub coordinates : Rows → ℕ → ℕ → Bool

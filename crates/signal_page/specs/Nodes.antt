@@ -1,5 +1,5 @@
 -- What stands in a page, and the text that is printed of it.
-use Rattle.std.specs.Prelude.{◌≡◌, ℕ, Bool, if◌then◌else◌, List, [], ◌∷◌, ◌++◌, filter, flat_map, map, codes, decimal, Option, Some, None}
+use Rattle.std.specs.Prelude.{◌≡◌, ◌==◌, ℕ, Bool, if◌then◌else◌, List, [], ◌∷◌, ◌++◌, filter, flat_map, map, codes, decimal, Option, Some, None}
 use Rattle.cabinet_core.specs.Day.{day_text}
 use Rattle.cabinet_core.specs.declared.record.UsedLine.{UsedLine}
 use Rattle.office_files.specs.Cells.{tenths, numbers_text, when_empty}
@@ -10,7 +10,7 @@ use Rattle.signal_page.specs.Words.{escaped, marks}
 
 -- What stands in a page: markup and words of its own, numbers, tenths above and below zero, a dash
 -- in place of a number, nothing; the number that heads a row, alone or as a link to the page of an
--- intersection; phases; a day, the day of the latest inspection, and the due day with the mark of
+-- intersection; phases; words with the tenths of a second by which a split is short; a day, the day of the latest inspection, and the due day with the mark of
 -- what is overdue; a name or text of others in the page and in its title; and the lines of an order.
 pub data Shown : Type 0 where
   Own : List ℕ → Shown
@@ -22,6 +22,7 @@ pub data Shown : Type 0 where
   Head : ℕ → Shown
   Link : ℕ → Shown
   Phases : List ℕ → Shown
+  Short : List ℕ → ℕ → Shown
   Day : ℕ → Shown
   Last : Option ℕ → Shown
   Due : Option ℕ → Bool → Shown
@@ -40,6 +41,7 @@ shown_by node.Nothing = Nothing
 shown_by (node.Head n) = Head n
 shown_by (node.Link n) = Link n
 shown_by (node.Phases phases) = Phases phases.now
+shown_by (node.Short words n) = Short words.now n
 shown_by (node.Day day) = Day day
 shown_by (node.Last day) = Last day
 shown_by (node.Due day late) = Due day late
@@ -68,6 +70,11 @@ order_line_text line =
     codes "<div>" ++ decimal line.line ++ codes ": " ++ decimal line.count ++ codes " &times; "
     ++ isolated line.part ++ codes "</div>"
 
+-- by how many tenths of a second a split is short, if it is
+unfoldable pub short_mark : ℕ → List ℕ
+short_mark n =
+    if n == 0 then [] else codes " <strong class='short'>" ++ tenths n ++ codes " s short</strong>"
+
 -- what is printed of each
 abbrev pub node_text : Shown → List ℕ
 node_text (Own words) = words
@@ -79,6 +86,7 @@ node_text Nothing = []
 node_text (Head n) = decimal n
 node_text (Link n) = codes "<a href='" ++ decimal n ++ codes ".html'>" ++ decimal n ++ codes "</a>"
 node_text (Phases phases) = numbers_text phases
+node_text (Short words n) = words ++ short_mark n
 node_text (Day day) = day_text day
 node_text (Last day) = day_or (codes "none") day
 node_text (Due day late) =

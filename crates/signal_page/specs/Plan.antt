@@ -1,39 +1,47 @@
 -- A plan in the page: the pictures of its patterns, and its tables.
-use Rattle.std.specs.Prelude.{ℕ, ◌+◌, ◌==◌, ◌&&◌, nat_lt, Bool, if◌then◌else◌, List, [], ◌∷◌, ◌++◌, flat_map, length, codes, Option, Some}
+use Rattle.std.specs.Prelude.{ℕ, ◌+◌, ◌-◌, ◌*◌, ◌==◌, ◌&&◌, nat_lt, Bool, if◌then◌else◌, List, [], ◌∷◌, ◌++◌, flat_map, length, codes, Option, Some}
 use Rattle.std.specs.FinMap.{values}
 use Rattle.signal_diagram.specs.Diagram.{figure_text}
 use Rattle.signal_records.specs.declared.record.Pattern.{Pattern}
 use Rattle.signal_records.specs.declared.record.Ped.{Ped}
+use Rattle.signal_records.specs.declared.record.Phase.{Phase}
 use Rattle.signal_records.specs.declared.record.Row.{Row}
 use Rattle.signal_records.specs.declared.record.Row.TheVariants as row
 use Rattle.signal_records.specs.declared.record.Split.{Split}
 use Rattle.signal_records.specs.TimingSet.{Rows}
 use Rattle.signal_rules.specs.Lookup.{split_at}
 use Rattle.signal_rules.specs.declared.reason.Explained.{Explained}
-use Rattle.signal_page.specs.Nodes.{Shown, Own, Number}
+use Rattle.signal_page.specs.Nodes.{Shown, Own, Number, Tenths}
 use Rattle.signal_page.specs.Rows.{plan_tables}
 
 -- ---- what a picture cannot show
 
--- a split that has time, and less than walk and clearance take
-abbrev pub is_cut : Split → Ped → Bool
-is_cut split ped = nat_lt 0 split.time && nat_lt split.time (ped.walk + ped.clear)
+-- the tenths of a second that a split has before yellow: less yellow and red
+abbrev pub before_yellow : Split → Phase → ℕ
+before_yellow split phase = 10 * split.time - (phase.yellow + phase.red)
 
--- the note on a phase whose walk and clearance the picture ends with its split
-unfoldable pub cut_words : ℕ → Split → Ped → List Shown
-cut_words p split ped =
+-- a split that has time, and before yellow less than walk and clearance take
+abbrev pub is_cut : Split → Phase → Ped → Bool
+is_cut split phase ped =
+    nat_lt 0 split.time && nat_lt (before_yellow split phase) (10 * (ped.walk + ped.clear))
+
+-- the note on a phase whose walk and clearance the picture ends where yellow begins
+unfoldable pub cut_words : ℕ → Split → Phase → Ped → List Shown
+cut_words p split phase ped =
     Own (codes "<p>Phase ") ∷ Number p ∷ Own (codes ": walk and pedestrian clearance take ")
-    ∷ Number (ped.walk + ped.clear) ∷ Own (codes " s, and the split is ") ∷ Number split.time
-    ∷ Own (codes " s. The picture ends them with it, at the wedge.</p>\n") ∷ []
+    ∷ Number (ped.walk + ped.clear) ∷ Own (codes " s, and the split of ") ∷ Number split.time
+    ∷ Own (codes " s has ") ∷ Tenths (before_yellow split phase)
+    ∷ Own (codes " s before yellow. The picture ends them there, at the wedge.</p>\n") ∷ []
 
--- the note on a split and a pedestrian part, where the split is too short
-abbrev pub cut_note : ℕ → Option Split → Option Ped → List Shown
-cut_note p (Some split) (Some ped) = if is_cut split ped then cut_words p split ped else []
-cut_note p _ _ = []
+-- the note on a phase with a pedestrian part and its split, where the split is too short
+abbrev pub cut_note : ℕ → Option Split → Phase → Option Ped → List Shown
+cut_note p (Some split) phase (Some ped) =
+    if is_cut split phase ped then cut_words p split phase ped else []
+cut_note p _ phase _ = []
 
 -- the note on a phase in the splits of a pattern
 abbrev pub cut_note_of : Rows → Pattern → Row → List Shown
-cut_note_of set pattern (row.Phase p phase) = cut_note p (split_at set pattern.split p) phase.ped
+cut_note_of set pattern (row.Phase p phase) = cut_note p (split_at set pattern.split p) phase phase.ped
 cut_note_of set pattern other = []
 
 -- ---- pictures

@@ -9,13 +9,14 @@ use Rattle.signal_records.specs.declared.record.Split.{Split}
 use Rattle.signal_records.specs.declared.record.SplitMode.{SplitMode}
 use Rattle.signal_records.specs.declared.record.SplitMode.TheVariants as mode
 use Rattle.signal_records.specs.TimingSet.{Rows}
+use Rattle.signal_rules.specs.Lookup.{phase_at}
 use Rattle.signal_rules.specs.RowWalk.{subject_of}
 use Rattle.signal_rules.specs.declared.reason.Explained.{Explained}
 use Rattle.signal_rules.specs.declared.violation.Subject.{Subject}
 use Rattle.signal_rules.specs.declared.violation.Subject.TheVariants as subject
 use Rattle.signal_page.specs.declared.rows.Kind.{Kind}
 use Rattle.signal_page.specs.declared.rows.Kind.TheVariants as kind
-use Rattle.signal_page.specs.Needs.{need_at, need_cell, spare_cell, coordinated}
+use Rattle.signal_page.specs.Needs.{called_cells, need_at, need_cell, spare_cell, coordinated}
 use Rattle.signal_page.specs.Nodes.{Shown, Own, Number, Tenths, Dash, Head, Phases}
 use Rattle.signal_page.specs.Tables.{Heading, Numbers, Words, TableLine, Row as row_line, Broken, table}
 
@@ -47,12 +48,14 @@ phase_cells p phase =
     Head p ∷ Number phase.ring ∷ Number phase.min_green ∷ Tenths phase.passage ∷ Number phase.max1
     ∷ Tenths phase.yellow ∷ Tenths phase.red ∷ (ped_cells phase.ped ++ Phases phase.mates ∷ [])
 
--- a split of a phase, with what the phase needs and what the split has to spare
+-- a split of a phase, with what the phase needs and what the split has to spare, and with what it
+-- needs if its walk is called
 abbrev pub split_cells : Rows → ℕ → ℕ → Split → List Shown
 split_cells set n p split =
     Head n ∷ Head p ∷ Number split.time ∷ need_cell (need_at set p split)
-    ∷ spare_cell (10 * split.time) (need_at set p split) ∷ Own (mode_words split.mode)
-    ∷ Own (flag_words split.coord) ∷ []
+    ∷ spare_cell (10 * split.time) (need_at set p split)
+    ∷ (called_cells (10 * split.time) split.mode (phase_at set p)
+    ++ Own (mode_words split.mode) ∷ Own (flag_words split.coord) ∷ [])
 
 -- a pattern, with the phases that its split plan coordinates
 abbrev pub pattern_cells : ℕ → Pattern → List ℕ → List Shown
@@ -107,8 +110,9 @@ columns kind.Sequences =
     Numbers (codes "Sequence") ∷ Numbers (codes "Ring") ∷ Words (codes "Phases in turn") ∷ []
 columns kind.Splits =
     Numbers (codes "Split") ∷ Numbers (codes "Phase") ∷ Numbers (codes "Time (s)")
-    ∷ Numbers (codes "Need (s)") ∷ Numbers (codes "Spare (s)") ∷ Words (codes "Mode")
-    ∷ Words (codes "Coordinated") ∷ []
+    ∷ Numbers (codes "Need (s)") ∷ Numbers (codes "Spare (s)")
+    ∷ Numbers (codes "Need if the walk is called (s)") ∷ Words (codes "Governed by")
+    ∷ Words (codes "Mode") ∷ Words (codes "Coordinated") ∷ []
 columns kind.Patterns =
     Numbers (codes "Pattern") ∷ Numbers (codes "Cycle (s)") ∷ Numbers (codes "Offset (s)")
     ∷ Numbers (codes "Split") ∷ Numbers (codes "Sequence") ∷ Words (codes "Coordinated phases") ∷ []

@@ -1,5 +1,5 @@
 -- The tables of a page: headings of columns, and rows of cells.
-use Rattle.std.specs.Prelude.{ℕ, ◌==◌, Bool, true, false, if◌then◌else◌, List, [], ◌∷◌, ◌++◌, flat_map, length, map, codes}
+use Rattle.std.specs.Prelude.{ℕ, ◌==◌, ◌&&◌, Bool, true, false, if◌then◌else◌, List, [], ◌∷◌, ◌++◌, flat_map, length, map, codes}
 use Rattle.std.specs.Str.{bytes_eq}
 use Rattle.signal_rules.specs.declared.reason.Explained.{Explained}
 use Rattle.signal_rules.specs.Texts.{reason_text, rule_text}
@@ -7,7 +7,7 @@ use Rattle.signal_page.specs.declared.tables.Column.{Column}
 use Rattle.signal_page.specs.declared.tables.Column.TheVariants as column
 use Rattle.signal_page.specs.declared.tables.Mark.{Mark}
 use Rattle.signal_page.specs.declared.tables.Mark.TheVariants.{Removed, Added, Before, After}
-use Rattle.signal_page.specs.Nodes.{Shown, Own, Number, Tenths, Below, Dash, Nothing, Head, Link, Phases, Day, Last, Due, Name, Parts}
+use Rattle.signal_page.specs.Nodes.{Shown, Own, Number, Tenths, Below, Dash, Nothing, Head, Link, Phases, Short, Day, Last, Due, Name, Parts}
 
 -- ---- cells
 
@@ -22,6 +22,7 @@ cell_opening (Due day late) = codes "<td class='d'>"
 cell_opening (Own words) = codes "<td class='w'>"
 cell_opening (Name words) = codes "<td class='w'>"
 cell_opening (Phases phases) = codes "<td class='w'>"
+cell_opening (Short words n) = codes "<td class='w'>"
 cell_opening (Parts lines) = codes "<td class='w'>"
 cell_opening other = codes "<td>"
 
@@ -39,6 +40,7 @@ shows_same (Tenths n) (Tenths m) = n == m
 shows_same (Below n) (Below m) = n == m
 shows_same (Head n) (Head m) = n == m
 shows_same (Phases phases) (Phases others) = bytes_eq phases others
+shows_same (Short words n) (Short others m) = bytes_eq words others && (n == m)
 shows_same Dash Dash = true
 shows_same Nothing Nothing = true
 shows_same cell other = false

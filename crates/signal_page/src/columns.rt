@@ -17,12 +17,14 @@ pub(crate) const SEQUENCE_COLUMNS: [Column; 3] = [
     Column::Words("Phases in turn"),
 ];
 
-pub(crate) const SPLIT_COLUMNS: [Column; 7] = [
+pub(crate) const SPLIT_COLUMNS: [Column; 9] = [
     Column::Numbers("Split"),
     Column::Numbers("Phase"),
     Column::Numbers("Time (s)"),
     Column::Numbers("Need (s)"),
     Column::Numbers("Spare (s)"),
+    Column::Numbers("Need if the walk is called (s)"),
+    Column::Words("Governed by"),
     Column::Words("Mode"),
     Column::Words("Coordinated"),
 ];

@@ -22,7 +22,6 @@ use std::alloc::{AllocError, Global};
 
 /// What stands between the style of the index and its note on a day.
 pub(crate) const INDEX_BODY: &str = "\
-.late { color: var(--red); }
 </style>
 </head>
 <body>

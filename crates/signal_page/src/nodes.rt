@@ -4,7 +4,7 @@ ghost use Rattle.std.specs.Prelude.{◌≡◌, ◌∷◌, ◌++◌, [], OnOk, fi
 ghost use Rattle.std.specs.List.{list_any};
 ghost use Rattle.office_files.specs.Cells.{tenths};
 ghost use Rattle.office_files.specs.Records.{is_line_of};
-ghost use Rattle.signal_page.specs.Nodes.{day_or, html, isolated, node_text, order_line_text, shown_by, shown_of, Due, Own, Parts};
+ghost use Rattle.signal_page.specs.Nodes.{day_or, html, isolated, node_text, order_line_text, short_mark, shown_by, shown_of, Due, Own, Parts};
 
 use crate::words::push_escaped;
 use cabinet_core::{Date, UsedLine, push_date};
@@ -30,6 +30,8 @@ pub(crate) enum Node<'a> {
     /// The number of an intersection that heads a row, as a link to its page.
     Link(u32),
     Phases(&'a [PhaseNo]),
+    /// Words of the page's own, and how many tenths of a second a split is short, if it is.
+    Short(&'static str, u32),
     Day(Date),
     /// The day of the latest inspection, if there was one.
     Last(Option<Date>),
@@ -51,6 +53,19 @@ fn push_tenths(text: &mut String, n: u32) -> Result<(), AllocError>
     let whole = n / 10;
     let tenth = n % 10;
     write!(text, "{whole}.{tenth}")
+}
+
+/// Appends how many tenths of a second a split is short, if it is.
+#[tactic(auto, unfolding(crate::specs::Nodes::short_mark))]
+fn push_short_mark(text: &mut String, n: u32) -> Result<(), AllocError>
+    ensures { OnOk result (string_bytes text.new ≡ string_bytes text.old ++ short_mark n) }
+{
+    if n == 0 {
+        return Ok(());
+    }
+    text.push_str(" <strong class='short'>")?;
+    push_tenths(text, n)?;
+    text.push_str(" s short</strong>")
 }
 
 /// Appends a day, or words where there is none.
@@ -152,6 +167,10 @@ pub(crate) fn push_node(text: &mut String, node: &Node<'_>) -> Result<(), AllocE
         Node::Head(n) => write!(text, "{n}"),
         Node::Link(n) => write!(text, "<a href='{n}.html'>{n}</a>"),
         Node::Phases(phases) => push_numbers(text, phases),
+        Node::Short(words, n) => {
+            text.push_str(words)?;
+            push_short_mark(text, n)
+        }
         Node::Day(day) => push_date(text, day),
         Node::Last(day) => push_day_or(text, "none", day),
         Node::Due(day, late) => push_due(text, day, late),

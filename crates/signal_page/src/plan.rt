@@ -3,12 +3,12 @@
 ghost use Rattle.std.specs.Prelude.{◌≡◌, ◌+◌, ◌++◌, OnOk, flat_map, string_bytes};
 ghost use Rattle.signal_diagram.specs.Diagram.{figure_text};
 ghost use Rattle.signal_page.specs.Nodes.{html};
-ghost use Rattle.signal_page.specs.Plan.{cut_note, cut_note_of, cut_words, is_cut, picture_for, pictures, plan_part, plan_rows, reasons_note, whole_figure};
+ghost use Rattle.signal_page.specs.Plan.{before_yellow, cut_note, cut_note_of, cut_words, is_cut, picture_for, pictures, plan_part, plan_rows, reasons_note, whole_figure};
 
 use crate::nodes::{Node, push_nodes, push_own};
 use crate::rows::push_plan_tables;
 use signal_diagram::figure;
-use signal_records::{NoMemory, Pattern, PatternNo, Ped, PhaseNo, Row, Split, TimingSet};
+use signal_records::{NoMemory, Pattern, PatternNo, Ped, Phase, PhaseNo, Row, Split, TimingSet};
 use signal_rules::{Explained, split_at};
 use std::alloc::{AllocError, Global};
 
@@ -35,18 +35,32 @@ fn walking(ped: &Ped) -> u32
     u32::from(ped.walk) + u32::from(ped.clear)
 }
 
-/// Whether a split has time, and less than walk and clearance take.
-fn is_cut(split: &Split, ped: &Ped) -> bool
-    ensures { result ≡ is_cut split.now ped.now }
+/// The tenths of a second that a split has before yellow.
+fn before_yellow(split: &Split, phase: &Phase) -> u32
+    ensures { result ≡ before_yellow split.now phase.now }
 {
-    0 < split.time && u32::from(split.time) < walking(ped)
+    let after = u32::from(phase.yellow) + u32::from(phase.red);
+    (10 * u32::from(split.time)).saturating_sub(after)
 }
 
-/// Appends that the picture ends walk and clearance of a phase with its split.
+/// Whether a split has time, and before yellow less than walk and clearance take.
+fn is_cut(split: &Split, phase: &Phase, ped: &Ped) -> bool
+    ensures { result ≡ is_cut split.now phase.now ped.now }
+{
+    0 < split.time && before_yellow(split, phase) < 10 * walking(ped)
+}
+
+/// Appends that the picture ends walk and clearance of a phase where yellow begins.
 #[tactic(auto, unfolding(crate::specs::Plan::cut_words))]
-fn push_cut_words(text: &mut String, p: PhaseNo, split: &Split, ped: &Ped) -> Result<(), AllocError>
+fn push_cut_words(
+    text: &mut String,
+    p: PhaseNo,
+    split: &Split,
+    phase: &Phase,
+    ped: &Ped,
+) -> Result<(), AllocError>
     ensures { OnOk result (string_bytes text.new
-        ≡ string_bytes text.old ++ html (cut_words p split.now ped.now)) }
+        ≡ string_bytes text.old ++ html (cut_words p split.now phase.now ped.now)) }
 {
     push_nodes(
         text,
@@ -55,9 +69,11 @@ fn push_cut_words(text: &mut String, p: PhaseNo, split: &Split, ped: &Ped) -> Re
             Node::Number(u64::from(p.get())),
             Node::Own(": walk and pedestrian clearance take "),
             Node::Number(u64::from(walking(ped))),
-            Node::Own(" s, and the split is "),
+            Node::Own(" s, and the split of "),
             Node::Number(u64::from(split.time)),
-            Node::Own(" s. The picture ends them with it, at the wedge.</p>\n"),
+            Node::Own(" s has "),
+            Node::Tenths(before_yellow(split, phase)),
+            Node::Own(" s before yellow. The picture ends them there, at the wedge.</p>\n"),
         ],
     )
 }
@@ -67,13 +83,15 @@ fn push_cut_note(
     text: &mut String,
     p: PhaseNo,
     split: &Option<Split>,
-    ped: &Option<Ped>,
+    phase: &Phase,
 ) -> Result<(), AllocError>
     ensures { OnOk result (string_bytes text.new
-        ≡ string_bytes text.old ++ html (cut_note p split.now ped.now)) }
+        ≡ string_bytes text.old ++ html (cut_note p split.now phase.now phase.now.ped)) }
 {
-    match (split, ped) {
-        (Some(split), Some(ped)) if is_cut(split, ped) => push_cut_words(text, p, split, ped),
+    match (split, &phase.ped) {
+        (Some(split), Some(ped)) if is_cut(split, phase, ped) => {
+            push_cut_words(text, p, split, phase, ped)
+        }
         _ => Ok(()),
     }
 }
@@ -90,7 +108,7 @@ fn push_cut_notes(
 {
     for row in rows {
         if let Row::Phase(p, phase) = row {
-            push_cut_note(text, *p, &split_at(set, pattern.split, *p), &phase.ped)?;
+            push_cut_note(text, *p, &split_at(set, pattern.split, *p), phase)?;
         }
     }
     Ok(())

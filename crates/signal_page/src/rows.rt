@@ -6,7 +6,7 @@ ghost use Rattle.signal_page.specs.Rows.{breaks, broken_lines, cells_of, columns
 ghost use Rattle.signal_page.specs.Tables.{cells_beside, headings_by, lines_nodes, row_of};
 
 use crate::columns::{PATTERN_COLUMNS, PHASE_COLUMNS, SEQUENCE_COLUMNS, SPLIT_COLUMNS};
-use crate::needs::{coordinated, need_at, need_cell, spare_cell};
+use crate::needs::{called_cells, coordinated, need_at, need_cell, spare_cell};
 use crate::nodes::Node;
 use crate::tables::{Column, end_table, open_table, push_broken_row, push_cells};
 use signal_records::{
@@ -161,16 +161,19 @@ fn sequence_cells(n: SeqNo, ring: RingNo, seq: &SeqRow) -> [Node<'_>; 3]
 }
 
 /// The cells of a split of a phase.
-fn split_cells(set: &TimingSet, n: SplitNo, p: PhaseNo, split: &Split) -> [Node<'static>; 7]
+fn split_cells(set: &TimingSet, n: SplitNo, p: PhaseNo, split: &Split) -> [Node<'static>; 9]
     ensures { shown_of result ≡ split_cells set.now n p split.now }
 {
     let need = need_at(set, p, split);
+    let called = called_cells(set, p, split);
     [
         Node::Head(n.get()),
         Node::Head(p.get()),
         Node::Number(u64::from(split.time)),
         need_cell(need),
         spare_cell(10 * u32::from(split.time), need),
+        called.need,
+        called.governs,
         Node::Own(mode_words(split.mode)),
         Node::Own(flag_words(split.coord)),
     ]

@@ -47,7 +47,9 @@ fn cell_opening(node: &Node<'_>) -> &'static str
     match node {
         Node::Head(_) | Node::Link(_) => "<th scope='row'>",
         Node::Day(_) | Node::Last(_) | Node::Due(_, _) => "<td class='d'>",
-        Node::Own(_) | Node::Name(_) | Node::Phases(_) | Node::Parts(_, _) => "<td class='w'>",
+        Node::Own(_) | Node::Name(_) | Node::Phases(_) | Node::Short(_, _) | Node::Parts(_, _) => {
+            "<td class='w'>"
+        }
         _ => "<td>",
     }
 }
@@ -82,6 +84,7 @@ fn shows_same(node: &Node<'_>, other: &Node<'_>) -> bool
         (Node::Below(n), Node::Below(m)) => n == m,
         (Node::Head(n), Node::Head(m)) => n == m,
         (Node::Phases(phases), Node::Phases(others)) => are_same(phases, others),
+        (Node::Short(words, n), Node::Short(others, m)) => words == others && n == m,
         (Node::Dash, Node::Dash) | (Node::Nothing, Node::Nothing) => true,
         _ => false,
     }
