@@ -66,16 +66,19 @@ fn walk_cells(time: u32, phase: &Phase) -> CalledCells
     ensures { shown_of (result.need ∷ result.governs ∷ [])
         ≡ walk_cells time phase.now.ped (need_if_called phase.now) }
 {
-    if phase.ped.is_none() {
-        return CalledCells {
+    match phase.ped {
+        None => CalledCells {
             need: Node::Dash,
             governs: Node::Own("-"),
-        };
-    }
-    let need = need_if_called(phase);
-    CalledCells {
-        need: Node::Tenths(need.tenths),
-        governs: Node::Short(part_word(need.governs), need.tenths.saturating_sub(time)),
+        },
+        Some(_) => {
+            let need = need_if_called(phase);
+            let short = need.tenths.saturating_sub(time);
+            CalledCells {
+                need: Node::Tenths(need.tenths),
+                governs: Node::Short(part_word(need.governs), short),
+            }
+        }
     }
 }
 
