@@ -41,7 +41,7 @@ MEANT = {
     "the number, name and status of a refusal, of each layer": "line_of status_of",
     "a value of a kind at a place, a field or a key, where each reader has it":
         "change_at day_at flag_at row_at list_of number_in number_of "
-        "part_of phase_in phases_in rows_in body_of",
+        "phase_in phases_in rows_in body_of",
     "what something is, as cells, columns or texts, of each table, file or page":
         "columns_of key_of order_cells ped_columns place_of row_of row_shown shown text title "
         "timing_columns view_code width_of",

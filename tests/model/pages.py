@@ -26,7 +26,6 @@ HEAD = TOP + """<a class='skip' href='#main'>Skip to the plan</a>
 {facts}</header>
 <main id='main'>
 """
-INDEX_STYLE = STYLE + ".late { color: var(--red); }\n"
 INDEX_HEAD = TOP + """<header>
 <h1>Intersections</h1>
 {note}</header>
@@ -42,7 +41,8 @@ TABLES = {
     "Patterns": (Pattern, ["Pattern", "Cycle (s)", "Offset (s)", "Split", "Sequence",
                            ["Coordinated phases"]]),
     "Sequences": (Sequence, ["Sequence", "Ring", ["Phases in turn"]]),
-    "Splits": (Split, ["Split", "Phase", "Time (s)", "Need (s)", "Spare (s)", ["Mode"],
+    "Splits": (Split, ["Split", "Phase", "Time (s)", "Need (s)", "Spare (s)",
+                       "Need if the walk is called (s)", ["Governed by"], ["Mode"],
                        ["Coordinated"]]),
     "Phases": (Phase, ["Phase", "Ring", "Min green (s)", "Passage (s)", "Max green (s)",
                        "Yellow (s)", "Red (s)", "Walk (s)", "Pedestrian clearance (s)",
@@ -117,13 +117,24 @@ def pattern_cells(view, row):
 
 
 def split_cells(view, row):
-    """A split has what its phase needs in its mode, and what it has to spare."""
-    phase, spare = view.phases.get(row.phase), ["", ""]
+    """A split has what its phase needs in its mode, and what it has to spare; then what it needs
+    if its walk is called, and the part that governs that need, with what the split is short of."""
+    phase, spare, called = view.phases.get(row.phase), ["", ""], [cell(""), cell("")]
     if phase is not None and row.mode != 7:
         need = rules.need(phase, row.mode)
         spare = [tenths(need), tenths(10 * row.time - need)]
-    return [first(row.number), first(row.phase), *map(cell, (row.time, *spare)),
+        called = [cell("-"), word("-")] if phase.walk is None else if_called(phase, row)
+    return [first(row.number), first(row.phase), *map(cell, (row.time, *spare)), *called,
             word(MODES[row.mode]), flag(row.coord)]
+
+
+def if_called(phase, row):
+    """What a split needs if the walk of its phase is called, and which part governs."""
+    need = rules.need(phase, 5)
+    walk_is_longer = phase.walk + phase.clear > phase.lead + phase.min_green
+    short = tenths(need - 10 * row.time)
+    mark = f" <strong class='short'>{short} s short</strong>" if need > 10 * row.time else ""
+    return [cell(tenths(need)), word(f"{'walk' if walk_is_longer else 'green'}{mark}")]
 
 
 def phase_cells(_, row):
@@ -175,14 +186,16 @@ def plan_tables(plan, whose, broken):
 # ---- pictures
 
 def cuts(view, pattern):
-    """The phases whose walk and clearance take longer than their split."""
+    """The phases whose walk and clearance take longer than their split less yellow and red."""
     for number, phase in view.phases.items():
         split = view.splits.get((pattern.split, number))
         if split and split.time and phase.walk is not None:
-            if phase.walk + phase.clear > split.time:
+            room = max(10 * split.time - phase.yellow - phase.red, 0)
+            if 10 * (phase.walk + phase.clear) > room:
                 yield (f"<p>Phase {number}: walk and pedestrian clearance take "
-                       f"{phase.walk + phase.clear} s, and the split is {split.time} s. "
-                       "The picture ends them with it, at the wedge.</p>\n")
+                       f"{phase.walk + phase.clear} s, and the split of {split.time} s has "
+                       f"{tenths(room)} s before yellow. The picture ends them there, at the "
+                       "wedge.</p>\n")
 
 
 def figures(plan):
@@ -385,6 +398,6 @@ def index(office, day=None):
               for number, order in records_of(office.register.orders, id) if not order.closed]
     stock = [f"<tr>{word(isolated(it['part']))}{cell(it['count'])}</tr>\n"
              for it in office.register.stock()]
-    head = INDEX_HEAD.format(title="Intersections", style=INDEX_STYLE, note=note)
+    head = INDEX_HEAD.format(title="Intersections", style=STYLE, note=note)
     return "".join([head, table("Intersections", INTERSECTIONS, rows),
                     table("Open orders", NAMED_ORDERS, orders), table("Stock", STOCK, stock), END])

@@ -17,7 +17,7 @@ use std::alloc::{AllocError, Global};
 use std::fmt::Write;
 
 /// The word for a state in which a clerk holds the draft.
-fn stage_word(stage: Stage) -> &'static str
+pub fn stage_word(stage: Stage) -> &'static str
     ensures { result.now ≡ stage_word stage }
 {
     match stage {
@@ -28,7 +28,7 @@ fn stage_word(stage: Stage) -> &'static str
 }
 
 /// The word for the state of a transaction.
-pub fn state_word(holder: &Option<Holder>) -> &str
+fn state_word(holder: &Option<Holder>) -> &str
     ensures { result.now ≡ state_word holder.now }
 {
     match holder {

@@ -14,7 +14,7 @@ mod stock;
 mod used;
 
 pub use cabinet::cabinet_text;
-pub use intersections::{intersections_csv, intersections_text, state_word};
+pub use intersections::{intersections_csv, intersections_text, stage_word};
 pub use next_numbers::push_next_numbers;
 pub use orders::{
     NamedOrder, OpenOrder, add_named, add_named_orders, add_open_orders, named_orders_text,

@@ -5,8 +5,8 @@ use Rattle.office_desk.proofs.IntersectionTable.{Entry}
 use Rattle.office_desk.specs.StandFor.{StandForSound}
 use Rattle.office_machine.specs.{Office.Office, Step.seen_of as inspected}
 use Rattle.office_tables_shelf.specs.Content.{Content}
-use Rattle.signal_index.proofs.LateLemmas.{late_numbers}
-use Rattle.signal_index.specs.Overdue.{overdue_numbers, seen_by}
+use Rattle.signal_page.proofs.EntryLemmas.{late_numbers}
+use Rattle.signal_page.specs.Overdue.{overdue_numbers, seen_by}
 use Rattle.signal_office_line.specs.declared.shows.Shown.TheVariants as shown
 use Rattle.signal_office_reports.specs.Indexing.{IsIndexOf, index_from, late_in}
 use Rattle.signal_office_reports.specs.Reports.{IsMade, IsShown, index_entry_of}

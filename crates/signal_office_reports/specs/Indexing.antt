@@ -5,11 +5,11 @@ use Rattle.cabinet_core.specs.Overdue.{Listed}
 use Rattle.cabinet_core.specs.Stock.{stock_of}
 use Rattle.office_machine.specs.Office.{Office}
 use Rattle.office_machine.specs.Step.{overdue_on}
-use Rattle.signal_index.specs.Index.{IsIndex}
-use Rattle.signal_index.specs.Overdue.{number_of_entry, overdue_among}
+use Rattle.signal_page.specs.Index.{IsIndex}
+use Rattle.signal_page.specs.Overdue.{number_of_entry, overdue_among}
 use Rattle.signal_office_reports.specs.Reports.{index_shown}
 use Rattle.signal_office_reports.specs.Seen.{cabinet_listed}
-use Rattle.signal_index.specs.declared.shown.IndexShown.{IndexShown}
+use Rattle.signal_page.specs.declared.index_shown.IndexShown.{IndexShown}
 
 -- what the index of an office shows: its intersections by their numbers, their open orders, and the stock
 abbrev pub index_from : Office → IndexShown

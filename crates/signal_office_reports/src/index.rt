@@ -9,7 +9,7 @@ use crate::seen::{ListedCabinet, Seen};
 use cabinet_core::{Day, PartCode};
 use office_listings::{NamedOrder, UsedPart, add_named_orders, add_used, used_csv, used_text};
 use office_machine::reply::Stock;
-use signal_index::{IndexEntry, IndexShown, add_entry, index_page};
+use signal_page::{IndexEntry, IndexShown, add_entry, index_page};
 use signal_office_faults::Fault;
 use signal_office_line::Shown;
 use signal_records::{Listing, NoMemory};

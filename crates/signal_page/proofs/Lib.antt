@@ -1,2 +1,9 @@
-pub mod Markup
-pub mod Newest
+mod Alike
+mod Chains
+pub mod EntryLemmas
+mod Escaping
+mod Filtered
+mod Newest
+mod Restored
+mod TableLemmas
+mod Tags

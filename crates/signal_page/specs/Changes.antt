@@ -1,69 +1,58 @@
--- What a draft changes of the committed plan, told by words.
-use Rattle.std.specs.Prelude.{ℕ, Bool, if◌then◌else◌, List, [], ◌++◌, flat_map, codes}
+-- What a draft changes of the committed plan.
+use Rattle.std.specs.Prelude.{Bool, if◌then◌else◌, List, [], ◌∷◌, ◌++◌, filter, flat_map, codes}
 use Rattle.std.specs.List.{list_any}
-use Rattle.office_files.specs.Cells.{when_empty}
 use Rattle.signal_plans.specs.declared.difference.Difference.{Difference}
 use Rattle.signal_plans.specs.declared.difference.Difference.TheVariants as difference
-use Rattle.signal_records.specs.declared.record.Row.{Row}
 use Rattle.signal_records.specs.TimingSet.{Rows}
-use Rattle.signal_page.specs.declared.changes.Mark.{Mark}
-use Rattle.signal_page.specs.declared.changes.Mark.TheVariants.{Removed, Added, Before, After}
-use Rattle.signal_page_tables.specs.declared.rows.Kind.{Kind}
-use Rattle.signal_page_tables.specs.declared.rows.Kind.TheVariants.{Phases, Sequences, Splits, Patterns}
-use Rattle.signal_page_tables.specs.Cells.{words_heading}
-use Rattle.signal_page_tables.specs.Rows.{row_beside, is_of_kind}
-use Rattle.signal_page_tables.specs.Tables.{name_of, headings, table_opening, table_body, table_end}
+use Rattle.signal_page.specs.declared.rows.Kind.{Kind}
+use Rattle.signal_page.specs.declared.rows.Kind.TheVariants.{Phases, Sequences, Splits, Patterns}
+use Rattle.signal_page.specs.declared.tables.Mark.TheVariants.{Removed, Added, Before, After}
+use Rattle.signal_page.specs.Nodes.{Shown, Own}
+use Rattle.signal_page.specs.Rows.{cells_of, columns, is_of_kind, name_of}
+use Rattle.signal_page.specs.Tables.{TableLine, Change, Words, table}
 
--- how a row opens that was removed or added, or that was changed, as it was and as it is to be
-abbrev pub row_opening : Mark → List ℕ
-row_opening Removed = codes "<tr class='removed'><td class='w'>removed</td>"
-row_opening Added = codes "<tr class='added'><td class='w'>added</td>"
-row_opening Before = codes "<tr class='before'><td class='w'>changed from</td>"
-row_opening After = codes "<tr class='after'><td class='w'>changed to</td>"
+-- The rows of a difference, each as its own set has it: a row that is removed or added, or one as it
+-- was and as it is to be, side by side, so that the cells that differ are marked in both.
+abbrev pub change_lines : Rows → Rows → Difference → List TableLine
+change_lines runs draft (difference.Removed row) = Change Removed (cells_of runs row) [] ∷ []
+change_lines runs draft (difference.Added row) = Change Added (cells_of draft row) [] ∷ []
+change_lines runs draft (difference.Changed before after) =
+    Change Before (cells_of runs before) (cells_of draft after)
+    ∷ Change After (cells_of draft after) (cells_of runs before) ∷ []
 
--- a row of a set beside a row of another set
-unfoldable pub whole_marked_row : Mark → Rows → Row → Rows → Row → List ℕ
-whole_marked_row mark set row other_set other =
-    row_opening mark ++ row_beside set row other_set other ++ codes "</tr>\n"
-
--- it stands in the table of its kind, and in no other
-abbrev pub marked_row : Kind → Mark → Rows → Row → Rows → Row → List ℕ
-marked_row kind mark set row other_set other =
-    if is_of_kind kind row then whole_marked_row mark set row other_set other else []
-
--- a difference of two sets in the table of a kind, each row as its own set has it; the two rows of
--- a change stand beside each other, so that the cells that differ are marked in both
-abbrev pub change_rows : Kind → Rows → Rows → Difference → List ℕ
-change_rows kind runs draft (difference.Removed row) = marked_row kind Removed runs row runs row
-change_rows kind runs draft (difference.Added row) = marked_row kind Added draft row draft row
-change_rows kind runs draft (difference.Changed before after) =
-    marked_row kind Before runs before draft after ++ marked_row kind After draft after runs before
-
--- the table of the rows of a kind that differ between the committed plan and its draft
-unfoldable pub whole_change_table : Kind → Rows → Rows → List Difference → List ℕ
-whole_change_table kind runs draft differences =
-    table_opening (name_of kind) (codes " that change") ++ words_heading (codes "Change")
-    ++ headings kind ++ table_body ++ flat_map (change_rows kind runs draft) differences
-    ++ table_end
-
--- a difference is of a row of a kind
+-- a difference of a row of a kind
 abbrev pub is_change_of : Kind → Difference → Bool
 is_change_of kind (difference.Removed row) = is_of_kind kind row
 is_change_of kind (difference.Added row) = is_of_kind kind row
 is_change_of kind (difference.Changed before after) = is_of_kind kind before
 
--- there is one where a row of the kind changes
-abbrev pub change_table : Kind → Rows → Rows → List Difference → List ℕ
-change_table kind runs draft differences =
+-- the rows that change, of a kind
+abbrev pub kind_changes : Rows → Rows → List Difference → Kind → List TableLine
+kind_changes runs draft differences kind =
+    flat_map (change_lines runs draft) (filter (is_change_of kind) differences)
+
+-- the table of a kind, where a row of the kind changes
+unfoldable pub change_table : Rows → Rows → List Difference → Kind → List Shown
+change_table runs draft differences kind =
     if list_any (is_change_of kind) differences
-    then whole_change_table kind runs draft differences else []
+    then table (name_of kind) (codes " that change") (Words (codes "Change") ∷ columns kind)
+    (kind_changes runs draft differences kind)
+    else []
+
+-- that nothing changes, where that is so
+unfoldable pub no_changes : List Difference → List Shown
+no_changes [] = Own (codes "<p>It changes nothing of the committed plan.</p>\n") ∷ []
+no_changes (difference ∷ more) = []
 
 -- the tables of changes, or that there is none
-unfoldable pub changes_part : Rows → Rows → List Difference → List ℕ
+unfoldable pub change_tables : Rows → Rows → List Difference → List Shown
+change_tables runs draft differences =
+    no_changes differences ++ change_table runs draft differences Patterns
+    ++ change_table runs draft differences Sequences ++ change_table runs draft differences Splits
+    ++ change_table runs draft differences Phases
+
+-- what a draft changes, in a box with its heading
+unfoldable pub changes_part : Rows → Rows → List Difference → List Shown
 changes_part runs draft differences =
-    codes "<div class='changes'>\n<h3>What it changes</h3>\n"
-    ++ when_empty differences (codes "<p>It changes nothing of the committed plan.</p>\n")
-    ++ change_table Patterns runs draft differences
-    ++ change_table Sequences runs draft differences
-    ++ change_table Splits runs draft differences ++ change_table Phases runs draft differences
-    ++ codes "</div>\n"
+    Own (codes "<div class='changes'>\n<h3>What it changes</h3>\n")
+    ∷ (change_tables runs draft differences ++ Own (codes "</div>\n") ∷ [])

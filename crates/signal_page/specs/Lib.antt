@@ -1,6 +1,12 @@
-pub mod Changes
+pub mod Words
+pub mod Nodes
+pub mod Tables
+pub mod Needs
+pub mod Rows
 pub mod Plan
-pub mod State
+pub mod Changes
+pub mod Facts
 pub mod Register
-pub mod Blank
 pub mod Page
+pub mod Overdue
+pub mod Index

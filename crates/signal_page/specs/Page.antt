@@ -1,5 +1,5 @@
 -- The page of an intersection, and that of a plan alone.
-use Rattle.std.specs.Prelude.{◌≡◌, ℕ, Bool, true, false, List, [], ◌++◌, codes, decimal, Option, Some, None}
+use Rattle.std.specs.Prelude.{◌≡◌, ℕ, Bool, if◌then◌else◌, List, [], ◌∷◌, ◌++◌, codes, is_some, Option, Some, None}
 use Rattle.cabinet_core.specs.Overdue.{latest_day}
 use Rattle.signal_plans.specs.declared.difference.Difference.{Difference}
 use Rattle.signal_plans.specs.Difference.{AreTold}
@@ -7,97 +7,91 @@ use Rattle.signal_records.specs.TimingSet.{Rows}
 use Rattle.signal_rules.specs.declared.reason.Explained.{Explained}
 use Rattle.signal_rules.specs.Violations.{AreReasons}
 use Rattle.signal_page.specs.declared.shown.IntersectionShown.{IntersectionShown}
+use Rattle.signal_page.specs.declared.document.TheConstants.{BODY, HEAD}
 use Rattle.signal_page.specs.declared.style.TheConstants.{STYLE}
-use Rattle.signal_page_tables.specs.Words.{escaped, isolated}
-use Rattle.signal_page_tables.specs.Reading.{marks}
-use Rattle.signal_page.specs.Blank.{blank}
-use Rattle.signal_page.specs.State.{draft_facts, cabinet_facts}
+use Rattle.signal_page.specs.Nodes.{Shown, Own, Number, Name, Title, IsHtml}
+use Rattle.signal_page.specs.Facts.{draft_facts, cabinet_facts}
 use Rattle.signal_page.specs.Plan.{plan_part, reasons_note}
 use Rattle.signal_page.specs.Changes.{changes_part}
-use Rattle.signal_page.specs.Register.{register_part}
+use Rattle.signal_page.specs.Register.{register}
 
--- ---- the head, with the page's title and its style
+-- ---- the shell of a page
 
--- the beginning of a page, up to the title in its head
-unfoldable pub head_opening : List ℕ
-head_opening =
-    codes "<!DOCTYPE html>\n<html lang='en'>\n<head>\n<meta charset='utf-8'>\n"
-    ++ codes "<meta name='viewport' content='width=device-width, initial-scale=1'>\n<title>"
+-- the head, by its title and what stands after the style
+unfoldable pub page_head : List Shown → List ℕ → List Shown
+page_head title after =
+    Own HEAD.now ∷ (title ++ Own (codes "</title>\n<style>\n") ∷ Own STYLE.now ∷ Own after ∷ [])
 
--- the end of a page's head, with the style, up to the title that is shown
-unfoldable pub head_end : List ℕ
-head_end =
-    codes "</title>\n<style>\n" ++ STYLE.now ++ codes "</style>\n</head>\n<body>\n"
-    ++ codes "<a class='skip' href='#main'>Skip to the plan</a>\n<header>\n<h1>"
-
--- from the end of the heading to the facts, and from them to the plan
-unfoldable pub page_end : List ℕ
-page_end = codes "</main>\n</body>\n</html>\n"
+-- the end
+unfoldable pub page_end : List Shown
+page_end = Own (codes "</main>\n</body>\n</html>\n") ∷ []
 
 -- ---- the page of an intersection
 
--- the words of a title before the name of the intersection
-unfoldable pub title : ℕ → List ℕ
-title id = codes "Intersection " ++ decimal id ++ codes ": "
+-- the number of an intersection, and its name
+abbrev pub title : ℕ → Shown → List Shown
+title id name = Own (codes "Intersection ") ∷ Number id ∷ Own (codes ": ") ∷ name ∷ []
 
--- the link to the draft, where there is one
-abbrev pub draft_link : Option Rows → List ℕ
-draft_link None = []
-draft_link (Some draft) = codes "<li><a href='#draft'>The draft</a></li>\n"
+-- a link that stands where it is wanted
+abbrev pub link_if : Bool → List ℕ → List ℕ
+link_if wanted link = if wanted then link else []
 
--- the link to the index of all intersections, in the folder of the page, where that is wanted
-abbrev pub index_link : (linked : Bool) → List ℕ
-index_link true = codes "<li><a href='index.html'>All intersections</a></li>\n"
-index_link false = []
+-- the links to the index of all intersections in the folder of the page, where that is wanted, and
+-- to the parts of the page, the draft if there is one
+unfoldable pub links : (linked drafted : Bool) → List Shown
+links linked drafted =
+    Own (codes "</dl>\n<nav aria-label='Parts of this page'>\n<ul>\n")
+    ∷ Own (link_if linked (codes "<li><a href='index.html'>All intersections</a></li>\n"))
+    ∷ Own (codes "<li><a href='#plan'>The committed plan</a></li>\n")
+    ∷ Own (link_if drafted (codes "<li><a href='#draft'>The draft</a></li>\n"))
+    ∷ Own (codes "<li><a href='#cabinet'>The cabinet</a></li>\n</ul>\n</nav>\n</header>\n<main id='main'>\n")
+    ∷ []
 
--- the links to the parts of a page, and to the index where the page is linked to it
-unfoldable pub links : (linked : Bool) → Option Rows → List ℕ
-links linked draft =
-    codes "<nav aria-label='Parts of this page'>\n<ul>\n" ++ index_link linked
-    ++ codes "<li><a href='#plan'>The committed plan</a></li>\n"
-    ++ draft_link draft ++ codes "<li><a href='#cabinet'>The cabinet</a></li>\n</ul>\n</nav>\n"
+-- the head of the page of an intersection, and its heading
+unfoldable pub heading : IntersectionShown → List Shown
+heading shown =
+    page_head (title shown.state.id (Title shown.state.name)) BODY.now
+    ++ (title shown.state.id (Name shown.state.name) ++ Own (codes "</h1>\n<dl>\n") ∷ [])
 
--- all of a page before its parts: the head, the title, the facts, the links
-unfoldable pub header : (linked : Bool) → IntersectionShown → List ℕ
+-- what stands above the plan
+unfoldable pub header : (linked : Bool) → IntersectionShown → List Shown
 header linked shown =
-    head_opening ++ title shown.state.id ++ escaped shown.state.name ++ head_end
-    ++ title shown.state.id ++ isolated shown.state.name ++ codes "</h1>\n<dl>\n"
-    ++ cabinet_facts shown.state.interval (latest_day shown.cabinet.view.inspections)
-    shown.cabinet.view.orders
-    ++ draft_facts shown.state
-    ++ codes "</dl>\n" ++ links linked shown.draft ++ codes "</header>\n<main id='main'>\n"
+    heading shown
+    ++ cabinet_facts shown.state.interval (latest_day shown.cabinet.view.inspections) shown.cabinet.view.orders
+    ++ draft_facts shown.state ++ links linked (is_some shown.draft)
 
--- the part with the committed plan
-unfoldable pub plan_section : Rows → List ℕ
+-- the committed plan
+unfoldable pub plan_section : Rows → List Shown
 plan_section committed =
-    codes "<section id='plan' aria-labelledby='plan-title'>\n"
-    ++ codes "<h2 id='plan-title'>The committed plan</h2>\n" ++ plan_part (codes " of the committed plan") [] committed
-    ++ codes "</section>\n"
+    Own (codes "<section id='plan' aria-labelledby='plan-title'>\n<h2 id='plan-title'>The committed plan</h2>\n")
+    ∷ (plan_part (codes " of the committed plan") [] committed ++ Own (codes "</section>\n") ∷ [])
 
--- the part with an open draft: how many rules it breaks, what it changes, the whole draft
-unfoldable pub open_draft_section : Rows → Rows → List Difference → List Explained → List ℕ
-open_draft_section committed draft differences reasons =
-    codes "<section id='draft' aria-labelledby='draft-title'>\n"
-    ++ codes "<h2 id='draft-title'>The draft</h2>\n" ++ reasons_note reasons
-    ++ changes_part committed draft differences ++ codes "<h3>The whole draft</h3>\n"
-    ++ plan_part (codes " of the draft") reasons draft ++ codes "</section>\n"
+-- how many rules a draft breaks, what it changes, and the whole of it
+unfoldable pub draft_body : Rows → Rows → List Difference → List Explained → List Shown
+draft_body committed draft differences reasons =
+    reasons_note reasons ++ changes_part committed draft differences
+    ++ Own (codes "<h3>The whole draft</h3>\n") ∷ [] ++ plan_part (codes " of the draft") reasons draft
 
--- the part with the draft, if there is one
-abbrev pub draft_section : Rows → Option Rows → List Difference → List Explained → List ℕ
+-- a draft, in a section with its heading
+unfoldable pub open_draft : Rows → Rows → List Difference → List Explained → List Shown
+open_draft committed draft differences reasons =
+    Own (codes "<section id='draft' aria-labelledby='draft-title'>\n<h2 id='draft-title'>The draft</h2>\n")
+    ∷ (draft_body committed draft differences reasons ++ Own (codes "</section>\n") ∷ [])
+
+-- the draft, where there is one
+abbrev pub draft_section : Rows → Option Rows → List Difference → List Explained → List Shown
 draft_section committed None differences reasons = []
-draft_section committed (Some draft) differences reasons =
-    open_draft_section committed draft differences reasons
+draft_section committed (Some draft) differences reasons = open_draft committed draft differences reasons
 
--- the part with the register of the cabinet
-unfoldable pub cabinet_section : IntersectionShown → List ℕ
+-- the register of the cabinet
+unfoldable pub cabinet_section : IntersectionShown → List Shown
 cabinet_section shown =
-    codes "<section id='cabinet' aria-labelledby='cabinet-title'>\n"
-    ++ codes "<h2 id='cabinet-title'>The cabinet</h2>\n"
-    ++ register_part shown.state.interval shown.cabinet.view ++ codes "</section>\n"
+    Own (codes "<section id='cabinet' aria-labelledby='cabinet-title'>\n<h2 id='cabinet-title'>The cabinet</h2>\n")
+    ∷ (register shown.state.interval shown.cabinet.view ++ Own (codes "</section>\n") ∷ [])
 
 -- the page, by what the draft changes, and by why it breaks rules
-unfoldable pub page_text : (linked : Bool) → IntersectionShown → List Difference → List Explained → List ℕ
-page_text linked shown differences reasons =
+unfoldable pub page : (linked : Bool) → IntersectionShown → List Difference → List Explained → List Shown
+page linked shown differences reasons =
     header linked shown ++ plan_section shown.committed
     ++ draft_section shown.committed shown.draft differences reasons ++ cabinet_section shown
     ++ page_end
@@ -112,29 +106,26 @@ abbrev pub AreDraftReasons : Option Rows → List Explained → Type 0
 AreDraftReasons None reasons = reasons ≡ []
 AreDraftReasons (Some draft) reasons = AreReasons draft reasons
 
--- The text is the page of an intersection, linked to the index or not, with the changes of its draft and the reasons of the rules
--- that it breaks. And whatever its names and texts hold, all characters of which tags and attributes
--- are made are the page's own: with those names and texts empty, it has the same ones in the same
--- order.
+-- the text is the page of an intersection, linked to the index or not, with the changes of its draft
+-- and the reasons of the rules that it breaks
 pub record IsPage (linked : Bool) (shown : IntersectionShown) (text : List ℕ) : Type 0 where
   pub differences : List Difference
   pub changes : AreChanges shown.committed shown.draft differences
   pub reasons : List Explained
   pub why : AreDraftReasons shown.draft reasons
-  pub text_is : text ≡ page_text linked shown differences reasons
-  pub markup : marks text ≡ marks (page_text linked (blank shown) differences reasons)
+  pub html : IsHtml (page linked shown differences reasons) text
 
 -- ---- the page of a plan
 
--- the page of a plan without an intersection, with the reasons of the rules that it breaks
-unfoldable pub plan_page_text : Rows → List Explained → List ℕ
-plan_page_text plan reasons =
-    head_opening ++ codes "Timing plan" ++ head_end
-    ++ codes "Timing plan</h1>\n</header>\n<main id='main'>\n" ++ reasons_note reasons
+-- the page of a plan, by why it breaks rules
+unfoldable pub plan_page : Rows → List Explained → List Shown
+plan_page plan reasons =
+    page_head (Own (codes "Timing plan") ∷ []) BODY.now
+    ++ Own (codes "Timing plan</h1>\n</header>\n<main id='main'>\n") ∷ [] ++ reasons_note reasons
     ++ plan_part [] reasons plan ++ page_end
 
 -- the text is the page of a plan, with all rules that it breaks, each with a true reason
 pub record IsPlanPage (plan : Rows) (text : List ℕ) : Type 0 where
   pub reasons : List Explained
   pub why : AreReasons plan reasons
-  pub text_is : text ≡ plan_page_text plan reasons
+  pub html : IsHtml (plan_page plan reasons) text

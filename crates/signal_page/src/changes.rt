@@ -1,46 +1,22 @@
 //! What a draft changes of the committed plan.
 
-ghost use Rattle.std.specs.Prelude.{◌≡◌, ◌++◌, OnOk, codes, flat_map, string_bytes};
+ghost use Rattle.std.specs.Prelude.{◌≡◌, ◌∷◌, ◌++◌, OnOk, codes, string_bytes};
 ghost use Rattle.std.specs.List.{list_any};
-ghost use Rattle.office_files.specs.Cells.{when_empty};
-ghost use Rattle.signal_page.specs.Changes.{row_opening, whole_marked_row, marked_row, change_rows};
-ghost use Rattle.signal_page.specs.Changes.{change_table, whole_change_table, is_change_of};
-ghost use Rattle.signal_page.specs.Changes.{changes_part};
+ghost use Rattle.signal_page.specs.Changes.{change_lines, change_table, change_tables, changes_part, is_change_of, kind_changes, no_changes};
+ghost use Rattle.signal_page.specs.Nodes.{html};
+ghost use Rattle.signal_page.specs.Rows.{cells_of, columns, name_of};
+ghost use Rattle.signal_page.specs.Tables.{cells_beside, change_opening, headings, lines_nodes, row_of, rows_beginning, table, table_beginning, Words};
 
-use signal_page_tables::{
-    Kind, begin_rows, end_table, is_of, name_of, open_table, push_headings, push_markup,
-    push_row_beside, push_words_heading,
-};
+use crate::columns::CHANGE_COLUMN;
+use crate::nodes::push_own;
+use crate::rows::{Kind, columns, is_of, name_of, push_cells_beside, push_row_alone};
+use crate::tables::{Mark, begin_rows, begin_table, change_opening, end_table, push_headings};
 use signal_plans::Difference;
 use signal_records::{NoMemory, Row, TimingSet};
 use std::alloc::{AllocError, Global};
 
-/// What became of a row.
-#[derive(Clone, Copy)]
-pub(crate) enum Mark {
-    Removed,
-    Added,
-    /// It was changed, and stands as it was.
-    Before,
-    /// It was changed, and stands as it is to be.
-    After,
-}
-
-/// How a row opens: with the word that tells what became of it.
-fn opening_of(mark: Mark) -> &'static str
-    ensures { result.now ≡ row_opening mark }
-{
-    match mark {
-        Mark::Removed => "<tr class='removed'><td class='w'>removed</td>",
-        Mark::Added => "<tr class='added'><td class='w'>added</td>",
-        Mark::Before => "<tr class='before'><td class='w'>changed from</td>",
-        Mark::After => "<tr class='after'><td class='w'>changed to</td>",
-    }
-}
-
-/// Appends a row of a set beside a row of another set.
-#[tactic(auto, unfolding(crate::specs::Changes::whole_marked_row))]
-fn push_whole_marked(
+/// Appends a row of a set beside a row of another set, with the word that tells what became of it.
+fn push_changed(
     alloc: Global,
     text: &mut String,
     mark: Mark,
@@ -50,75 +26,37 @@ fn push_whole_marked(
     other: &Row,
 ) -> Result<(), NoMemory>
     ensures { OnOk result (string_bytes text.new ≡ string_bytes text.old
-        ++ whole_marked_row mark set.now row.now other_set.now other.now) }
+        ++ html (row_of (change_opening mark)
+        (cells_beside (cells_of set.now row.now) (cells_of other_set.now other.now)))) }
 {
-    push_markup(text, opening_of(mark))?;
-    push_row_beside(alloc, text, set, row, other_set, other)?;
-    push_markup(text, "</tr>\n")
+    text.push_str(change_opening(mark))?;
+    push_cells_beside(alloc, text, set, row, other_set, other)?;
+    text.push_str("</tr>\n")
 }
 
-/// Appends it in the table of its kind, and nothing in another.
-fn push_marked(
-    alloc: Global,
-    text: &mut String,
-    kind: Kind,
-    mark: Mark,
-    set: &TimingSet,
-    row: &Row,
-    other_set: &TimingSet,
-    other: &Row,
-) -> Result<(), NoMemory>
-    ensures { OnOk result (string_bytes text.new ≡ string_bytes text.old
-        ++ marked_row kind mark set.now row.now other_set.now other.now) }
-{
-    if is_of(kind, row) {
-        push_whole_marked(alloc, text, mark, set, row, other_set, other)
-    } else {
-        Ok(())
-    }
-}
-
-/// Appends a difference in the table of a kind, each row as its own set has it.
+/// Appends a difference, each row as its own set has it.
 fn push_change(
     alloc: Global,
     text: &mut String,
-    kind: Kind,
     runs: &TimingSet,
     draft: &TimingSet,
     difference: &Difference,
 ) -> Result<(), NoMemory>
-    ensures { OnOk result (string_bytes text.new
-        ≡ string_bytes text.old ++ change_rows kind runs.now draft.now difference.now) }
+    ensures { OnOk result (string_bytes text.new ≡ string_bytes text.old
+        ++ html (lines_nodes (change_lines runs.now draft.now difference.now))) }
 {
     match difference {
         Difference::Removed(row) => {
-            push_marked(alloc, text, kind, Mark::Removed, runs, row, runs, row)
+            push_row_alone(alloc, text, change_opening(Mark::Removed), runs, row)
         }
         Difference::Added(row) => {
-            push_marked(alloc, text, kind, Mark::Added, draft, row, draft, row)
+            push_row_alone(alloc, text, change_opening(Mark::Added), draft, row)
         }
         Difference::Changed { before, after } => {
-            push_marked(alloc, text, kind, Mark::Before, runs, before, draft, after)?;
-            push_marked(alloc, text, kind, Mark::After, draft, after, runs, before)
+            push_changed(alloc, text, Mark::Before, runs, before, draft, after)?;
+            push_changed(alloc, text, Mark::After, draft, after, runs, before)
         }
     }
-}
-
-fn push_changes(
-    alloc: Global,
-    text: &mut String,
-    kind: Kind,
-    runs: &TimingSet,
-    draft: &TimingSet,
-    differences: &[Difference],
-) -> Result<(), NoMemory>
-    ensures { OnOk result (string_bytes text.new ≡ string_bytes text.old
-        ++ flat_map (change_rows kind runs.now draft.now) differences.now) }
-{
-    for difference in differences {
-        push_change(alloc, text, kind, runs, draft, difference)?;
-    }
-    Ok(())
 }
 
 /// Whether a difference is one of a row of a kind.
@@ -129,6 +67,26 @@ fn is_change_of(kind: Kind, difference: &Difference) -> bool
         Difference::Removed(row) | Difference::Added(row) => is_of(kind, row),
         Difference::Changed { before, .. } => is_of(kind, before),
     }
+}
+
+/// Appends the differences of a kind.
+fn push_changes(
+    alloc: Global,
+    text: &mut String,
+    kind: Kind,
+    runs: &TimingSet,
+    draft: &TimingSet,
+    differences: &[Difference],
+) -> Result<(), NoMemory>
+    ensures { OnOk result (string_bytes text.new ≡ string_bytes text.old
+        ++ html (lines_nodes (kind_changes runs.now draft.now differences.now kind))) }
+{
+    for difference in differences {
+        if is_change_of(kind, difference) {
+            push_change(alloc, text, runs, draft, difference)?;
+        }
+    }
+    Ok(())
 }
 
 /// Whether a row of a kind changes.
@@ -143,26 +101,20 @@ fn changes_any(kind: Kind, differences: &[Difference]) -> bool
     false
 }
 
-/// Appends the table of the changes of a kind, where there are any.
-fn push_change_table(
-    alloc: Global,
-    text: &mut String,
-    kind: Kind,
-    runs: &TimingSet,
-    draft: &TimingSet,
-    differences: &[Difference],
-) -> Result<(), NoMemory>
-    ensures { OnOk result (string_bytes text.new
-        ≡ string_bytes text.old ++ change_table kind runs.now draft.now differences.now) }
+/// Opens the table of the changes of a kind.
+fn open_changes(text: &mut String, kind: Kind) -> Result<(), AllocError>
+    ensures { OnOk result (string_bytes text.new ≡ string_bytes text.old
+        ++ html (table_beginning (name_of kind) (codes " that change")
+        ++ headings (Words (codes "Change") ∷ columns kind) ++ rows_beginning)) }
 {
-    if changes_any(kind, differences) {
-        push_whole_change_table(alloc, text, kind, runs, draft, differences)
-    } else {
-        Ok(())
-    }
+    begin_table(text, name_of(kind), " that change")?;
+    push_headings(text, &CHANGE_COLUMN)?;
+    push_headings(text, columns(kind))?;
+    begin_rows(text)
 }
 
 /// Appends the table of the changes of a kind.
+#[tactic(auto, using(crate::proofs::TableLemmas::table_written))]
 fn push_whole_change_table(
     alloc: Global,
     text: &mut String,
@@ -171,22 +123,41 @@ fn push_whole_change_table(
     draft: &TimingSet,
     differences: &[Difference],
 ) -> Result<(), NoMemory>
-    ensures { OnOk result (string_bytes text.new
-        ≡ string_bytes text.old ++ whole_change_table kind runs.now draft.now differences.now) }
+    ensures { OnOk result (string_bytes text.new ≡ string_bytes text.old
+        ++ html (table (name_of kind) (codes " that change") (Words (codes "Change") ∷ columns kind)
+        (kind_changes runs.now draft.now differences.now kind))) }
 {
-    open_table(text, name_of(kind), " that change")?;
-    push_words_heading(text, "Change")?;
-    push_headings(text, kind)?;
-    begin_rows(text)?;
+    open_changes(text, kind)?;
+    let before = text.len();
     push_changes(alloc, text, kind, runs, draft, differences)?;
-    end_table(text)
+    end_table(text, before, columns(kind).len() + 1)
+}
+
+/// Appends the table of the changes of a kind, where there are any.
+#[tactic(auto, unfolding(crate::specs::Changes::change_table))]
+fn push_change_table(
+    alloc: Global,
+    text: &mut String,
+    kind: Kind,
+    runs: &TimingSet,
+    draft: &TimingSet,
+    differences: &[Difference],
+) -> Result<(), NoMemory>
+    ensures { OnOk result (string_bytes text.new ≡ string_bytes text.old
+        ++ html (change_table runs.now draft.now differences.now kind)) }
+{
+    if changes_any(kind, differences) {
+        push_whole_change_table(alloc, text, kind, runs, draft, differences)
+    } else {
+        Ok(())
+    }
 }
 
 /// Appends that there is no change, where that is so.
+#[tactic(auto, unfolding(crate::specs::Changes::no_changes))]
 fn push_no_changes(text: &mut String, differences: &[Difference]) -> Result<(), AllocError>
     ensures { OnOk result (string_bytes text.new ≡ string_bytes text.old
-        ++ when_empty differences.now
-        (codes "<p>It changes nothing of the committed plan.</p>\n")) }
+        ++ html (no_changes differences.now)) }
 {
     if differences.is_empty() {
         text.push_str("<p>It changes nothing of the committed plan.</p>\n")
@@ -196,6 +167,24 @@ fn push_no_changes(text: &mut String, differences: &[Difference]) -> Result<(), 
 }
 
 /// Appends the tables of changes, or that there is none.
+fn push_change_tables(
+    alloc: Global,
+    text: &mut String,
+    runs: &TimingSet,
+    draft: &TimingSet,
+    differences: &[Difference],
+) -> Result<(), NoMemory>
+    ensures { OnOk result (string_bytes text.new ≡ string_bytes text.old
+        ++ html (change_tables runs.now draft.now differences.now)) }
+{
+    push_no_changes(text, differences)?;
+    push_change_table(alloc, text, Kind::Patterns, runs, draft, differences)?;
+    push_change_table(alloc, text, Kind::Sequences, runs, draft, differences)?;
+    push_change_table(alloc, text, Kind::Splits, runs, draft, differences)?;
+    push_change_table(alloc, text, Kind::Phases, runs, draft, differences)
+}
+
+/// Appends what a draft changes, in a box with its heading.
 pub(crate) fn push_changes_part(
     alloc: Global,
     text: &mut String,
@@ -203,14 +192,10 @@ pub(crate) fn push_changes_part(
     draft: &TimingSet,
     differences: &[Difference],
 ) -> Result<(), NoMemory>
-    ensures { OnOk result (string_bytes text.new
-        ≡ string_bytes text.old ++ changes_part runs.now draft.now differences.now) }
+    ensures { OnOk result (string_bytes text.new ≡ string_bytes text.old
+        ++ html (changes_part runs.now draft.now differences.now)) }
 {
-    push_markup(text, "<div class='changes'>\n<h3>What it changes</h3>\n")?;
-    push_no_changes(text, differences)?;
-    push_change_table(alloc, text, Kind::Patterns, runs, draft, differences)?;
-    push_change_table(alloc, text, Kind::Sequences, runs, draft, differences)?;
-    push_change_table(alloc, text, Kind::Splits, runs, draft, differences)?;
-    push_change_table(alloc, text, Kind::Phases, runs, draft, differences)?;
-    push_markup(text, "</div>\n")
+    push_own(text, "<div class='changes'>\n<h3>What it changes</h3>\n")?;
+    push_change_tables(alloc, text, runs, draft, differences)?;
+    push_own(text, "</div>\n")
 }

@@ -1,127 +1,132 @@
 //! The page of an intersection, and that of a plan alone.
 
-ghost use Rattle.std.specs.Prelude.{◌≡◌, ◌++◌, ℕ, List, OnOk, IfOk, string_bytes};
-ghost use Rattle.signal_page_tables.specs.Words.{escaped};
-ghost use Rattle.signal_page_tables.specs.Reading.{unescaped};
-ghost use Rattle.signal_page.specs.Page.{head_opening, head_end, page_end, title, draft_link};
-ghost use Rattle.signal_page.specs.Page.{index_link};
-ghost use Rattle.signal_page.specs.Page.{links, header, plan_section, open_draft_section};
-ghost use Rattle.signal_page.specs.Page.{draft_section, cabinet_section, page_text};
-ghost use Rattle.signal_page.specs.Page.{AreChanges, AreDraftReasons, IsPage, plan_page_text};
-ghost use Rattle.signal_page.specs.Page.{IsPlanPage};
+ghost use Rattle.std.specs.Prelude.{◌≡◌, ◌++◌, ℕ, List, OnOk, IfOk, is_some, string_bytes};
+ghost use Rattle.signal_page.specs.Nodes.{IsHtml, html, shown_of};
+ghost use Rattle.signal_page.specs.Page.{AreChanges, AreDraftReasons, IsPage, IsPlanPage, cabinet_section, draft_body, draft_section, page_head, header, heading, link_if, links, open_draft, page, page_end, plan_page, plan_section};
+ghost use Rattle.signal_page.specs.Words.{escaped, unescaped};
 
 use crate::changes::push_changes_part;
 use crate::facts::{push_cabinet_facts, push_draft_facts};
+use crate::nodes::{Node, push_nodes, push_own};
 use crate::plan::{push_plan, push_reasons_note};
 use crate::register::push_register;
 use crate::shown::IntersectionShown;
 use crate::style::STYLE;
-use signal_page_tables::{push_escaped, push_isolated, push_markup};
 use signal_plans::{Difference, compare};
-use signal_records::{InterId, NoMemory, TimingSet};
+use signal_records::{NoMemory, TimingSet};
 use signal_rules::{Explained, reasons};
 use std::alloc::{AllocError, Global};
-use std::fmt::Write;
 
-/// Opens the head of a page, up to its title.
-pub fn open_head(text: &mut String) -> Result<(), AllocError>
-    ensures { OnOk result (string_bytes text.new ≡ string_bytes text.old ++ head_opening) }
-{
-    push_markup(
-        text,
-        "<!DOCTYPE html>\n<html lang='en'>\n<head>\n<meta charset='utf-8'>\n",
-    )?;
-    push_markup(
-        text,
-        "<meta name='viewport' content='width=device-width, initial-scale=1'>\n<title>",
-    )
-}
+/// What stands above the title of a page.
+pub(crate) const HEAD: &str = "\
+<!DOCTYPE html>
+<html lang='en'>
+<head>
+<meta charset='utf-8'>
+<meta name='viewport' content='width=device-width, initial-scale=1'>
+<title>";
 
-/// Ends the head of a page after its title, and opens its heading.
-fn end_head(text: &mut String) -> Result<(), AllocError>
-    ensures { OnOk result (string_bytes text.new ≡ string_bytes text.old ++ head_end) }
+/// What stands between the style of a page and its heading.
+pub(crate) const BODY: &str = "\
+</style>
+</head>
+<body>
+<a class='skip' href='#main'>Skip to the plan</a>
+<header>
+<h1>";
+
+/// Appends the head of a page, by its title and what stands after the style.
+pub(crate) fn push_head(
+    text: &mut String,
+    title: &[Node<'_>],
+    after: &'static str,
+) -> Result<(), AllocError>
+    ensures { OnOk result (string_bytes text.new
+        ≡ string_bytes text.old ++ html (page_head (shown_of title.now) after.now)) }
 {
-    push_markup(text, "</title>\n<style>\n")?;
-    push_markup(text, STYLE)?;
-    push_markup(text, "</style>\n</head>\n<body>\n")?;
-    push_markup(
-        text,
-        "<a class='skip' href='#main'>Skip to the plan</a>\n<header>\n<h1>",
-    )
+    push_own(text, HEAD)?;
+    push_nodes(text, title)?;
+    push_own(text, "</title>\n<style>\n")?;
+    push_own(text, STYLE)?;
+    push_own(text, after)
 }
 
 /// Ends a page.
 #[tactic(auto, unfolding(crate::specs::Page::page_end))]
-pub fn end_page(text: &mut String) -> Result<(), AllocError>
-    ensures { OnOk result (string_bytes text.new ≡ string_bytes text.old ++ page_end) }
+pub(crate) fn end_page(text: &mut String) -> Result<(), AllocError>
+    ensures { OnOk result (string_bytes text.new ≡ string_bytes text.old ++ html page_end) }
 {
     text.push_str("</main>\n</body>\n</html>\n")
 }
 
-/// Appends the number of an intersection, before its name.
-fn push_title(text: &mut String, id: InterId) -> Result<(), AllocError>
-    ensures { OnOk result (string_bytes text.new ≡ string_bytes text.old ++ title id) }
+/// A link, where it is wanted.
+fn link_if(wanted: bool, link: &'static str) -> &'static str
+    ensures { result.now ≡ link_if wanted link.now }
 {
-    let id = id.get();
-    write!(text, "Intersection {id}: ")
-}
-
-/// Appends the link to the draft, where there is one.
-fn push_draft_link(text: &mut String, draft: &Option<TimingSet>) -> Result<(), AllocError>
-    ensures { OnOk result (string_bytes text.new
-        ≡ string_bytes text.old ++ draft_link draft.now) }
-{
-    match draft {
-        None => Ok(()),
-        Some(_) => text.push_str("<li><a href='#draft'>The draft</a></li>\n"),
-    }
-}
-
-/// Appends the link to the index of all intersections, where that is wanted.
-fn push_index_link(text: &mut String, linked: bool) -> Result<(), AllocError>
-    ensures { OnOk result (string_bytes text.new ≡ string_bytes text.old ++ index_link linked) }
-{
-    match linked {
-        true => text.push_str("<li><a href='index.html'>All intersections</a></li>\n"),
-        false => Ok(()),
-    }
+    if wanted { link } else { "" }
 }
 
 /// Appends links to the index, where that is wanted, and to the parts of the page.
-fn push_links(text: &mut String, linked: bool, draft: &Option<TimingSet>) -> Result<(), AllocError>
+fn push_links(text: &mut String, linked: bool, drafted: bool) -> Result<(), AllocError>
     ensures { OnOk result (string_bytes text.new
-        ≡ string_bytes text.old ++ links linked draft.now) }
+        ≡ string_bytes text.old ++ html (links linked drafted)) }
 {
-    push_markup(text, "<nav aria-label='Parts of this page'>\n<ul>\n")?;
-    push_index_link(text, linked)?;
-    push_markup(text, "<li><a href='#plan'>The committed plan</a></li>\n")?;
-    push_draft_link(text, draft)?;
-    push_markup(
+    let index = "<li><a href='index.html'>All intersections</a></li>\n";
+    let draft = "<li><a href='#draft'>The draft</a></li>\n";
+    push_nodes(
         text,
-        "<li><a href='#cabinet'>The cabinet</a></li>\n</ul>\n</nav>\n",
+        &[
+            Node::Own("</dl>\n<nav aria-label='Parts of this page'>\n<ul>\n"),
+            Node::Own(link_if(linked, index)),
+            Node::Own("<li><a href='#plan'>The committed plan</a></li>\n"),
+            Node::Own(link_if(drafted, draft)),
+            Node::Own(
+                "<li><a href='#cabinet'>The cabinet</a></li>\n</ul>\n</nav>\n</header>\n<main id='main'>\n",
+            ),
+        ],
     )
 }
 
-/// Appends the head and what stands above the plan.
+/// Appends the head of the page of an intersection, and its heading.
+fn push_heading(text: &mut String, shown: &IntersectionShown) -> Result<(), AllocError>
+    ensures { OnOk result (string_bytes text.new ≡ string_bytes text.old
+        ++ html (heading shown.now)) }
+{
+    let id = u64::from(shown.state.id.get());
+    let name = shown.state.name.as_str();
+    push_head(
+        text,
+        &[
+            Node::Own("Intersection "),
+            Node::Number(id),
+            Node::Own(": "),
+            Node::Title(name),
+        ],
+        BODY,
+    )?;
+    push_nodes(
+        text,
+        &[
+            Node::Own("Intersection "),
+            Node::Number(id),
+            Node::Own(": "),
+            Node::Name(name),
+            Node::Own("</h1>\n<dl>\n"),
+        ],
+    )
+}
+
+/// Appends what stands above the plan.
 fn push_header(text: &mut String, linked: bool, shown: &IntersectionShown) -> Result<(), AllocError>
     ensures { OnOk result (string_bytes text.new
-        ≡ string_bytes text.old ++ header linked shown.now) }
+        ≡ string_bytes text.old ++ html (header linked shown.now)) }
 {
-    let name = shown.state.name.as_str();
     let inspections = shown.cabinet.view.inspections.as_slice();
     let orders = shown.cabinet.view.orders.as_slice();
-    open_head(text)?;
-    push_title(text, shown.state.id)?;
-    push_escaped(text, name)?;
-    end_head(text)?;
-    push_title(text, shown.state.id)?;
-    push_isolated(text, name)?;
-    push_markup(text, "</h1>\n<dl>\n")?;
+    push_heading(text, shown)?;
     push_cabinet_facts(text, shown.state.interval, inspections, orders)?;
     push_draft_facts(text, &shown.state)?;
-    push_markup(text, "</dl>\n")?;
-    push_links(text, linked, &shown.draft)?;
-    push_markup(text, "</header>\n<main id='main'>\n")
+    push_links(text, linked, shown.draft.is_some())
 }
 
 /// Appends the committed plan.
@@ -131,16 +136,35 @@ fn push_plan_section(
     committed: &TimingSet,
 ) -> Result<(), NoMemory>
     ensures { OnOk result (string_bytes text.new
-        ≡ string_bytes text.old ++ plan_section committed.now) }
+        ≡ string_bytes text.old ++ html (plan_section committed.now)) }
 {
-    push_markup(text, "<section id='plan' aria-labelledby='plan-title'>\n")?;
-    push_markup(text, "<h2 id='plan-title'>The committed plan</h2>\n")?;
+    push_own(
+        text,
+        "<section id='plan' aria-labelledby='plan-title'>\n<h2 id='plan-title'>The committed plan</h2>\n",
+    )?;
     push_plan(alloc, text, " of the committed plan", &[], committed)?;
-    push_markup(text, "</section>\n")
+    push_own(text, "</section>\n")
 }
 
-/// Appends a draft, and what it changes.
-#[tactic(auto, unfolding(crate::specs::Page::open_draft_section))]
+/// Appends how many rules a draft breaks, what it changes, and the whole of it.
+fn push_draft_body(
+    alloc: Global,
+    text: &mut String,
+    committed: &TimingSet,
+    draft: &TimingSet,
+    differences: &[Difference],
+    reasons: &[Explained],
+) -> Result<(), NoMemory>
+    ensures { OnOk result (string_bytes text.new ≡ string_bytes text.old
+        ++ html (draft_body committed.now draft.now differences.now reasons.now)) }
+{
+    push_reasons_note(text, reasons)?;
+    push_changes_part(alloc, text, committed, draft, differences)?;
+    push_own(text, "<h3>The whole draft</h3>\n")?;
+    push_plan(alloc, text, " of the draft", reasons, draft)
+}
+
+/// Appends a draft, in a section with its heading.
 fn push_open_draft(
     alloc: Global,
     text: &mut String,
@@ -150,15 +174,14 @@ fn push_open_draft(
     reasons: &[Explained],
 ) -> Result<(), NoMemory>
     ensures { OnOk result (string_bytes text.new ≡ string_bytes text.old
-        ++ open_draft_section committed.now draft.now differences.now reasons.now) }
+        ++ html (open_draft committed.now draft.now differences.now reasons.now)) }
 {
-    push_markup(text, "<section id='draft' aria-labelledby='draft-title'>\n")?;
-    push_markup(text, "<h2 id='draft-title'>The draft</h2>\n")?;
-    push_reasons_note(text, reasons)?;
-    push_changes_part(alloc, text, committed, draft, differences)?;
-    push_markup(text, "<h3>The whole draft</h3>\n")?;
-    push_plan(alloc, text, " of the draft", reasons, draft)?;
-    push_markup(text, "</section>\n")
+    push_own(
+        text,
+        "<section id='draft' aria-labelledby='draft-title'>\n<h2 id='draft-title'>The draft</h2>\n",
+    )?;
+    push_draft_body(alloc, text, committed, draft, differences, reasons)?;
+    push_own(text, "</section>\n")
 }
 
 /// Appends the draft, where there is one.
@@ -171,7 +194,7 @@ fn push_draft_section(
     reasons: &[Explained],
 ) -> Result<(), NoMemory>
     ensures { OnOk result (string_bytes text.new ≡ string_bytes text.old
-        ++ draft_section committed.now draft.now differences.now reasons.now) }
+        ++ html (draft_section committed.now draft.now differences.now reasons.now)) }
 {
     match draft {
         None => Ok(()),
@@ -180,21 +203,16 @@ fn push_draft_section(
 }
 
 /// Appends the register of the cabinet.
-fn push_cabinet_section(
-    alloc: Global,
-    text: &mut String,
-    shown: &IntersectionShown,
-) -> Result<(), NoMemory>
+fn push_cabinet_section(text: &mut String, shown: &IntersectionShown) -> Result<(), AllocError>
     ensures { OnOk result (string_bytes text.new
-        ≡ string_bytes text.old ++ cabinet_section shown.now) }
+        ≡ string_bytes text.old ++ html (cabinet_section shown.now)) }
 {
-    push_markup(
+    push_own(
         text,
-        "<section id='cabinet' aria-labelledby='cabinet-title'>\n",
+        "<section id='cabinet' aria-labelledby='cabinet-title'>\n<h2 id='cabinet-title'>The cabinet</h2>\n",
     )?;
-    push_markup(text, "<h2 id='cabinet-title'>The cabinet</h2>\n")?;
-    push_register(alloc, text, shown.state.interval, &shown.cabinet.view)?;
-    push_markup(text, "</section>\n")
+    push_register(text, shown.state.interval, &shown.cabinet.view)?;
+    push_own(text, "</section>\n")
 }
 
 /// What the draft changes of the committed plan; nothing where there is none.
@@ -230,7 +248,7 @@ fn whole_page(
     reasons: &[Explained],
 ) -> Result<Vec<u8>, NoMemory>
     ensures { IfOk result (λ text.
-        text.items ≡ page_text linked shown.now differences.now reasons.now) }
+        IsHtml (page linked shown.now differences.now reasons.now) text.items) }
 {
     let mut text = String::new(alloc);
     push_header(&mut text, linked, shown)?;
@@ -243,7 +261,7 @@ fn whole_page(
         differences,
         reasons,
     )?;
-    push_cabinet_section(alloc, &mut text, shown)?;
+    push_cabinet_section(&mut text, shown)?;
     end_page(&mut text)?;
     Ok(text.into_bytes())
 }
@@ -273,13 +291,14 @@ fn whole_plan_page(
     plan: &TimingSet,
     reasons: &[Explained],
 ) -> Result<Vec<u8>, NoMemory>
-    ensures { IfOk result (λ text. text.items ≡ plan_page_text plan.now reasons.now) }
+    ensures { IfOk result (λ text. IsHtml (plan_page plan.now reasons.now) text.items) }
 {
     let mut text = String::new(alloc);
-    open_head(&mut text)?;
-    push_markup(&mut text, "Timing plan")?;
-    end_head(&mut text)?;
-    push_markup(&mut text, "Timing plan</h1>\n</header>\n<main id='main'>\n")?;
+    push_head(&mut text, &[Node::Own("Timing plan")], BODY)?;
+    push_nodes(
+        &mut text,
+        &[Node::Own("Timing plan</h1>\n</header>\n<main id='main'>\n")],
+    )?;
     push_reasons_note(&mut text, reasons)?;
     push_plan(alloc, &mut text, "", reasons, plan)?;
     end_page(&mut text)?;

@@ -1,20 +1,16 @@
 //! How an intersection stands, above its plan.
 
-ghost use Rattle.std.specs.Prelude.{◌≡◌, ◌+◌, ◌++◌, OnOk, codes, decimal};
-ghost use Rattle.std.specs.Prelude.{string_bytes};
-ghost use Rattle.cabinet_core.specs.Day.{day_text};
+ghost use Rattle.std.specs.Prelude.{◌≡◌, ◌++◌, OnOk, string_bytes};
 ghost use Rattle.cabinet_core.specs.Overdue.{latest_day};
-ghost use Rattle.signal_page.specs.State.{verdict_words, owner_text, due_text, last_text};
-ghost use Rattle.signal_page.specs.State.{fact};
-ghost use Rattle.signal_page.specs.State.{draft_facts, cabinet_facts};
+ghost use Rattle.signal_page.specs.Facts.{cabinet_facts, draft_facts, due_day, owner_node, verdict_words};
+ghost use Rattle.signal_page.specs.Nodes.{html, shown_by};
 
-use cabinet_core::{Day, Inspection, Order, due, latest, open_count, push_date};
+use crate::nodes::{Node, push_nodes};
+use cabinet_core::{Date, Day, Inspection, Order, due, latest, open_count};
 use draft_core::state::Verdict;
 use office_machine::reply::{IntersectionState, state_name};
-use signal_page_tables::push_isolated;
 use signal_records::{Interval, Words};
 use std::alloc::AllocError;
-use std::fmt::Write;
 
 fn verdict_words(verdict: Verdict) -> &'static str
     ensures { result.now ≡ verdict_words verdict }
@@ -26,130 +22,34 @@ fn verdict_words(verdict: Verdict) -> &'static str
     }
 }
 
-/// Opens what is reported under a name.
-fn open_fact(text: &mut String, name: &str) -> Result<(), AllocError>
-    ensures { OnOk result (string_bytes text.new ≡ string_bytes text.old
-        ++ (codes "<div><dt>" ++ name.now ++ codes "</dt><dd>")) }
-{
-    write!(text, "<div><dt>{name}</dt><dd>")
-}
-
-fn end_fact(text: &mut String) -> Result<(), AllocError>
-    ensures { OnOk result (string_bytes text.new
-        ≡ string_bytes text.old ++ codes "</dd></div>\n") }
-{
-    text.push_str("</dd></div>\n")
-}
-
-/// Appends words of the page's own under a name.
-#[tactic(auto, unfolding(crate::specs::State::fact))]
-fn push_words_fact(text: &mut String, name: &str, words: &str) -> Result<(), AllocError>
-    ensures { OnOk result (string_bytes text.new
-        ≡ string_bytes text.old ++ fact name.now words.now) }
-{
-    open_fact(text, name)?;
-    text.push_str(words)?;
-    end_fact(text)
-}
-
-/// Appends a number under a name.
-#[tactic(auto, unfolding(crate::specs::State::fact))]
-fn push_number_fact(text: &mut String, name: &str, n: usize) -> Result<(), AllocError>
-    ensures { OnOk result (string_bytes text.new
-        ≡ string_bytes text.old ++ fact name.now (decimal n)) }
-{
-    open_fact(text, name)?;
-    write!(text, "{n}")?;
-    end_fact(text)
-}
-
-fn push_owner(text: &mut String, owner: &Option<Words<40>>) -> Result<(), AllocError>
-    ensures { OnOk result (string_bytes text.new
-        ≡ string_bytes text.old ++ owner_text owner.now) }
+/// Who holds a draft.
+fn owner_node(owner: &Option<Words<40>>) -> Node<'_>
+    ensures { shown_by result ≡ owner_node owner.now }
 {
     match owner {
-        None => text.push_str("nobody"),
-        Some(owner) => push_isolated(text, owner.as_str()),
+        None => Node::Own("nobody"),
+        Some(owner) => Node::Name(owner.as_str()),
     }
 }
 
-/// Appends who holds the draft.
-#[tactic(auto, unfolding(crate::specs::State::fact))]
-fn push_owner_fact(
-    text: &mut String,
-    name: &str,
-    owner: &Option<Words<40>>,
-) -> Result<(), AllocError>
-    ensures { OnOk result (string_bytes text.new
-        ≡ string_bytes text.old ++ fact name.now (owner_text owner.now)) }
+/// The date of a day, if there is one.
+pub(crate) fn date_of(day: Option<Day>) -> Option<Date>
+    ensures { result ≡ day }
 {
-    open_fact(text, name)?;
-    push_owner(text, owner)?;
-    end_fact(text)
+    match day {
+        None => None,
+        Some(day) => Some(day.date()),
+    }
 }
 
-/// Appends the day so many days after another, which may lie past the last day of a record.
-pub(crate) fn push_due_day(
-    text: &mut String,
-    latest: Day,
-    interval: Interval,
-) -> Result<(), AllocError>
-    ensures { OnOk result (string_bytes text.new
-        ≡ string_bytes text.old ++ day_text (latest + interval)) }
-{
-    push_date(text, due(latest, interval))
-}
-
-/// Appends the day on which the next inspection falls due, by the latest one.
-pub fn push_due(
-    text: &mut String,
-    interval: Interval,
-    latest: Option<Day>,
-) -> Result<(), AllocError>
-    ensures { OnOk result (string_bytes text.new
-        ≡ string_bytes text.old ++ due_text interval latest) }
+/// The day on which the next inspection falls due, by the latest one.
+pub(crate) fn due_day(interval: Interval, latest: Option<Day>) -> Option<Date>
+    ensures { result ≡ due_day interval latest }
 {
     match latest {
-        None => text.push_str("never inspected"),
-        Some(latest) => push_due_day(text, latest, interval),
+        None => None,
+        Some(latest) => Some(due(latest, interval)),
     }
-}
-
-/// Appends the day of the latest inspection, or `none`.
-pub fn push_last(text: &mut String, latest: Option<Day>) -> Result<(), AllocError>
-    ensures { OnOk result (string_bytes text.new ≡ string_bytes text.old ++ last_text latest) }
-{
-    match latest {
-        None => text.push_str("none"),
-        Some(latest) => push_date(text, latest.date()),
-    }
-}
-
-/// Appends the day of the latest inspection.
-#[tactic(auto, unfolding(crate::specs::State::fact))]
-fn push_last_fact(text: &mut String, name: &str, latest: Option<Day>) -> Result<(), AllocError>
-    ensures { OnOk result (string_bytes text.new
-        ≡ string_bytes text.old ++ fact name.now (last_text latest)) }
-{
-    open_fact(text, name)?;
-    push_last(text, latest)?;
-    end_fact(text)
-}
-
-/// Appends the due day.
-#[tactic(auto, unfolding(crate::specs::State::fact))]
-fn push_due_fact(
-    text: &mut String,
-    name: &str,
-    interval: Interval,
-    latest: Option<Day>,
-) -> Result<(), AllocError>
-    ensures { OnOk result (string_bytes text.new
-        ≡ string_bytes text.old ++ fact name.now (due_text interval latest)) }
-{
-    open_fact(text, name)?;
-    push_due(text, interval, latest)?;
-    end_fact(text)
 }
 
 /// Appends how the plan and its draft stand.
@@ -158,13 +58,24 @@ pub(crate) fn push_draft_facts(
     state: &IntersectionState,
 ) -> Result<(), AllocError>
     ensures { OnOk result (string_bytes text.new
-        ≡ string_bytes text.old ++ draft_facts state.now) }
+        ≡ string_bytes text.old ++ html (draft_facts state.now)) }
 {
-    push_words_fact(text, "State", state_name(state.state))?;
-    push_owner_fact(text, "Draft of", &state.owner)?;
-    push_words_fact(text, "Verify status", verdict_words(state.verify))?;
-    push_number_fact(text, "Revision", state.revision.get() as usize)?;
-    push_number_fact(text, "Committed rows", state.rows)
+    push_nodes(
+        text,
+        &[
+            Node::Own("<div><dt>State</dt><dd>"),
+            Node::Own(state_name(state.state)),
+            Node::Own("</dd></div>\n<div><dt>Draft of</dt><dd>"),
+            owner_node(&state.owner),
+            Node::Own("</dd></div>\n<div><dt>Verify status</dt><dd>"),
+            Node::Own(verdict_words(state.verify)),
+            Node::Own("</dd></div>\n<div><dt>Revision</dt><dd>"),
+            Node::Number(u64::from(state.revision.get())),
+            Node::Own("</dd></div>\n<div><dt>Committed rows</dt><dd>"),
+            Node::Number(state.rows as u64),
+            Node::Own("</dd></div>\n"),
+        ],
+    )
 }
 
 /// Appends how the cabinet stands.
@@ -175,9 +86,20 @@ pub(crate) fn push_cabinet_facts(
     orders: &[Order],
 ) -> Result<(), AllocError>
     ensures { OnOk result (string_bytes text.new ≡ string_bytes text.old
-        ++ cabinet_facts interval (latest_day inspections.now) orders.now) }
+        ++ html (cabinet_facts interval (latest_day inspections.now) orders.now)) }
 {
-    push_last_fact(text, "Last inspection", latest(inspections))?;
-    push_due_fact(text, "Next inspection due", interval, latest(inspections))?;
-    push_number_fact(text, "Open orders", open_count(orders))
+    let last = date_of(latest(inspections));
+    let due = due_day(interval, latest(inspections));
+    push_nodes(
+        text,
+        &[
+            Node::Own("<div><dt>Last inspection</dt><dd>"),
+            Node::Last(last),
+            Node::Own("</dd></div>\n<div><dt>Next inspection due</dt><dd>"),
+            Node::Due(due, false),
+            Node::Own("</dd></div>\n<div><dt>Open orders</dt><dd>"),
+            Node::Number(open_count(orders) as u64),
+            Node::Own("</dd></div>\n"),
+        ],
+    )
 }

@@ -1,19 +1,27 @@
-//! The page of an intersection, or of a plan alone: one HTML text that needs nothing else.
+//! The pages of an office as HTML texts: that of an intersection, that of a plan alone, and the
+//! index of all intersections. Each needs nothing but the pages that it links to.
 //!
-//! `specs/` has its definition, a file for each part. The tables of a plan stand in
-//! `signal_page_tables`.
+//! `specs/` has what stands in each, as a list of nodes; `nodes` prints them, so that no character
+//! of a name or text of others is markup.
 #![tactic(auto)]
 
 mod changes;
+mod columns;
 mod document;
 mod facts;
+mod index;
+mod index_shown;
+mod needs;
+mod nodes;
 mod plan;
 mod register;
+mod rows;
 mod shown;
 mod style;
+mod tables;
+mod words;
 
-pub use document::{end_page, intersection_page, open_head, plan_page};
-pub use facts::{push_due, push_last};
-pub use register::push_day;
+pub use document::{intersection_page, plan_page};
+pub use index::index_page;
+pub use index_shown::{IndexEntry, IndexShown, add_entry};
 pub use shown::IntersectionShown;
-pub use style::STYLE;

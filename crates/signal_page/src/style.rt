@@ -91,6 +91,7 @@ mark {
   padding: 0 0.2em; color: inherit; background: var(--mark); font-weight: 700;
   text-decoration: underline;
 }
+.late, .short { color: var(--red); }
 mark:empty { padding: 0 0.5em; border-bottom: 2px solid; }
 .broken, .sound { padding: 0.6rem 0.9rem; border-left: 0.3rem solid; border-radius: 0.2rem; }
 .broken { color: var(--red); background: var(--red-ground); }

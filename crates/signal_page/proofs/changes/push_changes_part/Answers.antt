@@ -1,15 +1,9 @@
-use Rattle.std.proofs.{Common.string_bytes, lemmas.Result.on_ok_weaker}
 use Rattle.signal_page.specs.Changes.{changes_part}
-use Rattle.signal_page_tables.proofs.Parts.{two}
+use Rattle.signal_page.proofs.Chains.{joined}
 use Rattle.signal_page.proofs.changes.push_changes_part.Goals as goal
 
 pub returns : goal.returns
 unfolding changes_part
 returns c =
-    let to1 = c.in_ok-push_markup.ensures in
-    let to2 = two (string_bytes c.args.text.now) _ _ _ _ to1 c.in_ok-push_no_changes.ensures in
-    let to3 = two (string_bytes c.args.text.now) _ _ _ _ to2 c.in_ok-push_change_table.ensures in
-    let to4 = two (string_bytes c.args.text.now) _ _ _ _ to3 c.in_ok-push_change_table-2.ensures in
-    let to5 = two (string_bytes c.args.text.now) _ _ _ _ to4 c.in_ok-push_change_table-3.ensures in
-    let to6 = two (string_bytes c.args.text.now) _ _ _ _ to5 c.in_ok-push_change_table-4.ensures in
-    on_ok_weaker c.push_markup-2.result (λ last. two (string_bytes c.args.text.now) _ _ _ _ to6 last) c.push_markup-2.ensures
+    let whole = rw (c.in_ok-push_change_tables.ensures, c.in_ok-push_own.ensures) at c.push_own-2.ensures in
+    simp joined (simp joined at whole)

@@ -1,12 +1,9 @@
-use Rattle.std.proofs.{Common.string_bytes, lemmas.Result.on_ok_weaker}
 use Rattle.signal_page.specs.Page.{cabinet_section}
-use Rattle.signal_page_tables.proofs.Parts.{two}
+use Rattle.signal_page.proofs.Chains.{joined}
 use Rattle.signal_page.proofs.document.push_cabinet_section.Goals as goal
 
 pub returns : goal.returns
 unfolding cabinet_section
 returns c =
-    let to1 = c.in_ok-push_markup.ensures in
-    let to2 = two (string_bytes c.args.text.now) _ _ _ _ to1 c.in_ok-push_markup-2.ensures in
-    let to3 = two (string_bytes c.args.text.now) _ _ _ _ to2 c.in_ok-push_register.ensures in
-    on_ok_weaker c.push_markup-3.result (λ last. two (string_bytes c.args.text.now) _ _ _ _ to3 last) c.push_markup-3.ensures
+    let whole = rw (c.in_ok-push_register.ensures, c.in_ok-push_own.ensures) at c.push_own-2.ensures in
+    simp joined (simp joined at whole)

@@ -1,13 +1,6 @@
-use Rattle.std.proofs.{Common.string_bytes, lemmas.Result.on_ok_weaker}
 use Rattle.signal_page.specs.Page.{links}
-use Rattle.signal_page_tables.proofs.Parts.{two}
 use Rattle.signal_page.proofs.document.push_links.Goals as goal
 
 pub returns : goal.returns
 unfolding links
-returns c =
-    let to1 = c.in_ok-push_markup.ensures in
-    let to2 = two (string_bytes c.args.text.now) _ _ _ _ to1 c.in_ok-push_index_link.ensures in
-    let to3 = two (string_bytes c.args.text.now) _ _ _ _ to2 c.in_ok-push_markup-2.ensures in
-    let to4 = two (string_bytes c.args.text.now) _ _ _ _ to3 c.in_ok-push_draft_link.ensures in
-    on_ok_weaker c.push_markup-3.result (λ last. two (string_bytes c.args.text.now) _ _ _ _ to4 last) c.push_markup-3.ensures
+returns c = rw (c.link_if.ensures, c.link_if-2.ensures) at c.push_nodes.ensures

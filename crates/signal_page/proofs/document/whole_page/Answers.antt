@@ -1,15 +1,9 @@
-use Rattle.std.proofs.Common.{string_bytes}
-use Rattle.signal_page.specs.Page.{page_text}
-use Rattle.signal_page_tables.proofs.Parts.{from_start, two}
+use Rattle.signal_page.specs.Page.{page}
+use Rattle.signal_page.proofs.{Chains.joined, Tags.is_html}
 use Rattle.signal_page.proofs.document.whole_page.Goals as goal
 
 pub returns : goal.returns
-unfolding page_text
+unfolding page
 returns c =
-    let to1 = c.in_ok-push_header.ensures in
-    let to2 = two _ _ _ _ _ to1 c.in_ok-push_plan_section.ensures in
-    let to3 = two _ _ _ _ _ to2 c.in_ok-push_draft_section.ensures in
-    let to4 = two _ _ _ _ _ to3 c.in_ok-push_cabinet_section.ensures in
-    let to5 = two _ _ _ _ _ to4 c.in_ok-end_page.ensures in
-    from_start _ (string_bytes c.end_page.new.text) c.into_bytes.result.items _ c.new-text.ensures.bytes
-    to5 (cc c.into_bytes.ensures.value)
+    let whole = rw (c.in_ok-push_cabinet_section.ensures, c.in_ok-push_draft_section.ensures, c.in_ok-push_plan_section.ensures, c.in_ok-push_header.ensures, c.new-text.ensures.bytes) at c.in_ok-end_page.ensures in
+    is_html _ _ (rw (c.into_bytes.ensures.value) (simp joined (simp joined at whole)))

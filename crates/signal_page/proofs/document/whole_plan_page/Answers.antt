@@ -1,17 +1,9 @@
-use Rattle.std.proofs.Common.{string_bytes}
-use Rattle.signal_page.specs.Page.{plan_page_text}
-use Rattle.signal_page_tables.proofs.Parts.{from_start, two}
+use Rattle.signal_page.specs.Page.{plan_page}
+use Rattle.signal_page.proofs.{Chains.joined, Tags.is_html}
 use Rattle.signal_page.proofs.document.whole_plan_page.Goals as goal
 
 pub returns : goal.returns
-unfolding plan_page_text
+unfolding plan_page
 returns c =
-    let to1 = c.in_ok-open_head.ensures in
-    let to2 = two _ _ _ _ _ to1 c.in_ok-push_markup.ensures in
-    let to3 = two _ _ _ _ _ to2 c.in_ok-end_head.ensures in
-    let to4 = two _ _ _ _ _ to3 c.in_ok-push_markup-2.ensures in
-    let to5 = two _ _ _ _ _ to4 c.in_ok-push_reasons_note.ensures in
-    let to6 = two _ _ _ _ _ to5 c.in_ok-push_plan.ensures in
-    let to7 = two _ _ _ _ _ to6 c.in_ok-end_page.ensures in
-    from_start _ (string_bytes c.end_page.new.text) c.into_bytes.result.items _ c.new-text.ensures.bytes
-    to7 (cc c.into_bytes.ensures.value)
+    let whole = rw (c.in_ok-push_plan.ensures, c.in_ok-push_reasons_note.ensures, c.in_ok-push_nodes.ensures, c.in_ok-push_head.ensures, c.new-text.ensures.bytes) at c.in_ok-end_page.ensures in
+    is_html _ _ (rw (c.into_bytes.ensures.value) (simp joined (simp joined at whole)))

@@ -1,11 +1,9 @@
-use Rattle.std.proofs.{Common.string_bytes, lemmas.Result.on_ok_weaker}
 use Rattle.signal_page.specs.Plan.{whole_figure}
-use Rattle.signal_page_tables.proofs.Parts.{two}
+use Rattle.signal_page.proofs.Chains.{joined}
 use Rattle.signal_page.proofs.plan.push_whole_figure.Goals as goal
 
 pub returns : goal.returns
 unfolding whole_figure
 returns c =
-    let to1 = c.in_ok-push_markup.ensures in
-    let to2 = two (string_bytes c.args.text.now) _ _ _ _ to1 c.in_ok-push_figure_parts.ensures in
-    on_ok_weaker c.push_markup-2.result (λ last. two (string_bytes c.args.text.now) _ _ _ _ to2 last) c.push_markup-2.ensures
+    let whole = rw (c.in_ok-push_cut_notes.ensures, c.in_ok-push_figure.ensures, c.in_ok-push_own.ensures) at c.push_own-2.ensures in
+    simp joined (simp joined at whole)

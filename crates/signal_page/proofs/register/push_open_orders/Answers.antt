@@ -1,13 +1,14 @@
+use Rattle.std.proofs.Common.{refl, string_bytes, arith}
 use Rattle.std.proofs.lemmas.Result.{on_ok_weaker}
-use Rattle.signal_page.specs.Register.{open_orders_part}
-use Rattle.signal_page_tables.proofs.Parts.{two}
+use Rattle.signal_page.specs.Register.{open_lines}
+use Rattle.signal_page.proofs.TableLemmas.{opened_written}
 use Rattle.signal_page.proofs.register.push_open_orders.Goals as goal
 
 pub returns : goal.returns
-unfolding open_orders_part
 returns c =
-    let to1 = c.in_ok-open_table.ensures in
-    let to2 = two _ _ _ _ _ to1 c.in_ok-push_order_headings.ensures in
-    let to3 = two _ _ _ _ _ to2 c.in_ok-begin_rows.ensures in
-    let to4 = two _ _ _ _ _ to3 c.in_ok-push_open_rows.ensures in
-    on_ok_weaker c.end_table.result (λ last. two _ _ _ _ _ to4 last) c.end_table.ensures
+    on_ok_weaker c.end_table.result (λ last.
+    opened_written _ _ _ (open_lines c.args.lines.now c.args.orders.now)
+    (string_bytes c.args.text.now) (string_bytes c.open_table.new.text)
+    (string_bytes c.push_each_open.new.text) _ c.len-before.result _
+    c.in_ok-open_table.ensures (omega arith) refl c.in_ok-push_each_open.ensures last)
+    c.end_table.ensures

@@ -1,3 +1,0 @@
-pub mod LateLemmas
-mod OrderedRows
-pub mod OwnTags

@@ -1,0 +1,14 @@
+use Rattle.std.proofs.Common.{map, refl, string_bytes, arith}
+use Rattle.std.proofs.lemmas.Result.{on_ok_weaker}
+use Rattle.signal_page.specs.Index.{named_line}
+use Rattle.signal_page.proofs.TableLemmas.{opened_written}
+use Rattle.signal_page.proofs.index.push_named_orders.Goals as goal
+
+pub returns : goal.returns
+returns c =
+    on_ok_weaker c.end_table.result (λ last.
+    opened_written _ _ _ (map named_line c.args.orders.now)
+    (string_bytes c.args.text.now) (string_bytes c.open_table.new.text)
+    (string_bytes c.push_each_named.new.text) _ c.len-before.result _
+    c.in_ok-open_table.ensures (omega arith) refl c.in_ok-push_each_named.ensures last)
+    c.end_table.ensures

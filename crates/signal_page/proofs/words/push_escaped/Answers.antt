@@ -1,0 +1,17 @@
+use Rattle.std.proofs.Common.{sym, ◌∙◌, append_assoc, append-nil}
+use Rattle.std.proofs.lemmas.Str.{IsUtf8-past_char}
+use Rattle.signal_page.proofs.Escaping.{escaped_empty, escaped_step}
+use Rattle.signal_page.proofs.words.push_escaped.Goals as goal
+
+pub loop-c-preserved : goal.loop-c-preserved
+loop-c-preserved c =
+    let held = c.loop-c.invariant in
+    let parts = c.in-Some.ensures.steps.0 in
+    let step = escaped_step _ _ c.in-Some.c parts in
+    record {
+      left = IsUtf8-past_char _ _ c.in-Some.c held.left parts;
+      whole = rw (c.in_ok-push_character.ensures, append_assoc) (rw step at held.whole);
+    }
+
+pub returns : goal.returns
+returns c = sym (append-nil _) ∙ rw (escaped_empty _ c.in-None.ensures.steps.0.0) at c.loop-c.invariant.whole

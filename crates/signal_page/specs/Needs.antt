@@ -1,0 +1,65 @@
+-- What a plan has beyond its rows: the need of a split and what it has to spare, and the coordinated
+-- phases of a pattern.
+use Rattle.std.specs.Prelude.{ℕ, ◌-◌, ◌&&◌, nat_lt, Bool, if◌then◌else◌, List, [], ◌∷◌, codes, filter}
+use Rattle.std.specs.Prelude.{Option, Some, None, option_map, is_some}
+use Rattle.signal_records.specs.declared.record.Ped.{Ped}
+use Rattle.signal_records.specs.declared.record.Phase.{Phase}
+use Rattle.signal_records.specs.declared.record.Split.{Split}
+use Rattle.signal_records.specs.declared.record.SplitMode.{SplitMode}
+use Rattle.signal_records.specs.declared.record.SplitMode.TheVariants.{PhaseOmitted}
+use Rattle.signal_records.specs.Need.{need_of}
+use Rattle.signal_records.specs.TimingSet.{Rows}
+use Rattle.signal_rules.specs.Lookup.{phase_at, split_at, phase_numbers}
+use Rattle.signal_rules.specs.PatternRules.{is_coordinated}
+use Rattle.signal_rules.specs.SplitRule.{need_if_called}
+use Rattle.signal_rules.specs.declared.split.NeedPart.{NeedPart}
+use Rattle.signal_rules.specs.declared.split.NeedPart.TheVariants as need_part
+use Rattle.signal_rules.specs.declared.split.SplitNeed.{SplitNeed}
+use Rattle.signal_page.specs.Nodes.{Shown, Own, Tenths, Below, Dash, Nothing, Short}
+
+-- the need of a phase in a split mode, in tenths of a second; one that is omitted needs no time
+abbrev pub need_in : SplitMode → Option Phase → Option ℕ
+need_in PhaseOmitted phase = None
+need_in mode phase = option_map (λ p. need_of p mode) phase
+
+-- the need of the phase of a split; a phase that the plan does not have has none
+abbrev pub need_at : Rows → ℕ → Split → Option ℕ
+need_at set p split = need_in split.mode (phase_at set p)
+
+-- what the cell of a need shows, in tenths of a second
+abbrev pub need_cell : Option ℕ → Shown
+need_cell None = Nothing
+need_cell (Some need) = Tenths need
+
+-- what the cell of a split's spare time shows: its time less its need, in tenths of a second
+abbrev pub spare_cell : ℕ → Option ℕ → Shown
+spare_cell time None = Nothing
+spare_cell time (Some need) =
+    if nat_lt time need then Below (need - time) else Tenths (time - need)
+
+-- the part that governs a need, in a word
+abbrev pub part_word : NeedPart → List ℕ
+part_word need_part.Green = codes "green"
+part_word need_part.Walk = codes "walk"
+
+-- of a split with a time in tenths of a second, whose phase has such a pedestrian part, and of its
+-- need if the walk is called: that need, and the part that governs it with what the split is short
+abbrev pub walk_cells : ℕ → Option Ped → SplitNeed → List Shown
+walk_cells time None need = Dash ∷ Own (codes "-") ∷ []
+walk_cells time (Some ped) need =
+    Tenths need.tenths ∷ Short (part_word need.governs) (need.tenths - time) ∷ []
+
+-- the need of a split if the walk of its phase is called, by its mode or by a button, and the part
+-- that governs; one that is omitted, or whose phase the plan does not have, has none
+abbrev pub called_cells : ℕ → SplitMode → Option Phase → List Shown
+called_cells time PhaseOmitted phase = Nothing ∷ Nothing ∷ []
+called_cells time mode None = Nothing ∷ Nothing ∷ []
+called_cells time mode (Some phase) = walk_cells time phase.ped (need_if_called phase)
+
+-- splitCoordPhase marks a phase of the set in a split plan
+abbrev pub coordinates : Rows → ℕ → ℕ → Bool
+coordinates set n p = is_some (phase_at set p) && is_coordinated (split_at set n p)
+
+-- the phases that a split plan coordinates
+abbrev pub coordinated : Rows → ℕ → List ℕ
+coordinated set n = filter (coordinates set n) phase_numbers

@@ -1,0 +1,146 @@
+-- The rows of a timing set as rows of tables, a table for each kind.
+use Rattle.std.specs.Prelude.{ℕ, ◌*◌, ◌==◌, ◌&&◌, Bool, true, false, if◌then◌else◌, List, [], ◌∷◌, ◌++◌, filter, flat_map, length, map, codes, Option, Some, None}
+use Rattle.signal_records.specs.declared.record.Pattern.{Pattern}
+use Rattle.signal_records.specs.declared.record.Ped.{Ped}
+use Rattle.signal_records.specs.declared.record.Phase.{Phase}
+use Rattle.signal_records.specs.declared.record.Row.{Row}
+use Rattle.signal_records.specs.declared.record.Row.TheVariants as row
+use Rattle.signal_records.specs.declared.record.Split.{Split}
+use Rattle.signal_records.specs.declared.record.SplitMode.{SplitMode}
+use Rattle.signal_records.specs.declared.record.SplitMode.TheVariants as mode
+use Rattle.signal_records.specs.TimingSet.{Rows}
+use Rattle.signal_rules.specs.Lookup.{phase_at}
+use Rattle.signal_rules.specs.RowWalk.{subject_of}
+use Rattle.signal_rules.specs.declared.reason.Explained.{Explained}
+use Rattle.signal_rules.specs.declared.violation.Subject.{Subject}
+use Rattle.signal_rules.specs.declared.violation.Subject.TheVariants as subject
+use Rattle.signal_page.specs.declared.rows.Kind.{Kind}
+use Rattle.signal_page.specs.declared.rows.Kind.TheVariants as kind
+use Rattle.signal_page.specs.Needs.{called_cells, need_at, need_cell, spare_cell, coordinated}
+use Rattle.signal_page.specs.Nodes.{Shown, Own, Number, Tenths, Dash, Head, Phases}
+use Rattle.signal_page.specs.Tables.{Heading, Numbers, Words, TableLine, Row as row_line, Broken, table}
+
+-- ---- the cells of a row
+
+-- what a split mode asks for
+abbrev pub mode_words : SplitMode → List ℕ
+mode_words mode.NoRecall = codes "none"
+mode_words mode.MinimumVehicleRecall = codes "minimum vehicle recall"
+mode_words mode.MaximumVehicleRecall = codes "maximum vehicle recall"
+mode_words mode.PedestrianRecall = codes "pedestrian recall"
+mode_words mode.MaximumVehicleAndPedestrianRecall = codes "maximum vehicle and pedestrian recall"
+mode_words mode.PhaseOmitted = codes "phase omitted"
+
+-- whether something is so, in words
+abbrev pub flag_words : Bool → List ℕ
+flag_words flag = if flag then codes "yes" else codes "no"
+
+-- the pedestrian part of a phase, or a dash in each cell
+abbrev pub ped_cells : Option Ped → List Shown
+ped_cells None = Dash ∷ Dash ∷ Dash ∷ Dash ∷ Own (codes "-") ∷ Dash ∷ []
+ped_cells (Some ped) =
+    Number ped.walk ∷ Number ped.clear ∷ Tenths ped.width ∷ Tenths ped.setback
+    ∷ Own (flag_words ped.short) ∷ Number ped.lead ∷ []
+
+-- a phase
+abbrev pub phase_cells : ℕ → Phase → List Shown
+phase_cells p phase =
+    Head p ∷ Number phase.ring ∷ Number phase.min_green ∷ Tenths phase.passage ∷ Number phase.max1
+    ∷ Tenths phase.yellow ∷ Tenths phase.red ∷ (ped_cells phase.ped ++ Phases phase.mates ∷ [])
+
+-- a split of a phase, with what the phase needs and what the split has to spare, and with what it
+-- needs if its walk is called
+abbrev pub split_cells : Rows → ℕ → ℕ → Split → List Shown
+split_cells set n p split =
+    Head n ∷ Head p ∷ Number split.time ∷ need_cell (need_at set p split)
+    ∷ spare_cell (10 * split.time) (need_at set p split)
+    ∷ (called_cells (10 * split.time) split.mode (phase_at set p)
+    ++ Own (mode_words split.mode) ∷ Own (flag_words split.coord) ∷ [])
+
+-- a pattern, with the phases that its split plan coordinates
+abbrev pub pattern_cells : ℕ → Pattern → List ℕ → List Shown
+pattern_cells n pattern phases =
+    Head n ∷ Number pattern.cycle ∷ Number pattern.offset ∷ Number pattern.split
+    ∷ Number pattern.seq ∷ Phases phases ∷ []
+
+-- a row of a set
+abbrev pub cells_of : Rows → Row → List Shown
+cells_of set (row.Phase p phase) = phase_cells p phase
+cells_of set (row.Seq n ring seq) = Head n ∷ Head ring ∷ Phases seq.list ∷ []
+cells_of set (row.Split n p split) = split_cells set n p split
+cells_of set (row.Pattern n pattern) = pattern_cells n pattern (coordinated set pattern.split)
+
+-- ---- the rules that a row breaks
+
+-- two subjects are one
+abbrev pub is_same_subject : Subject → Subject → Bool
+is_same_subject (subject.Phase p) (subject.Phase q) = p == q
+is_same_subject (subject.Seq n) (subject.Seq m) = n == m
+is_same_subject (subject.Split n p) (subject.Split m q) = (n == m) && (p == q)
+is_same_subject (subject.Pattern n) (subject.Pattern m) = n == m
+is_same_subject a b = false
+
+-- a subject breaks a rule
+abbrev pub breaks : Subject → Explained → Bool
+breaks s broken = is_same_subject s broken.violation.subject
+
+-- the rules that a subject breaks, each in a row over so many columns
+abbrev pub broken_lines : ℕ → List Explained → Subject → List TableLine
+broken_lines columns reasons s = map (Broken columns) (filter (breaks s) reasons)
+
+-- ---- the tables
+
+-- the name of the table of a kind
+abbrev pub name_of : Kind → List ℕ
+name_of kind.Phases = codes "Phases"
+name_of kind.Sequences = codes "Sequences"
+name_of kind.Splits = codes "Splits"
+name_of kind.Patterns = codes "Patterns"
+
+-- the columns of the table of a kind
+abbrev pub columns : Kind → List Heading
+columns kind.Phases =
+    Numbers (codes "Phase") ∷ Numbers (codes "Ring") ∷ Numbers (codes "Min green (s)")
+    ∷ Numbers (codes "Passage (s)") ∷ Numbers (codes "Max green (s)") ∷ Numbers (codes "Yellow (s)")
+    ∷ Numbers (codes "Red (s)") ∷ Numbers (codes "Walk (s)")
+    ∷ Numbers (codes "Pedestrian clearance (s)") ∷ Numbers (codes "Crossing (ft)")
+    ∷ Numbers (codes "Setback (ft)") ∷ Words (codes "Short walk") ∷ Numbers (codes "Lead (s)")
+    ∷ Words (codes "Concurrent phases") ∷ []
+columns kind.Sequences =
+    Numbers (codes "Sequence") ∷ Numbers (codes "Ring") ∷ Words (codes "Phases in turn") ∷ []
+columns kind.Splits =
+    Numbers (codes "Split") ∷ Numbers (codes "Phase") ∷ Numbers (codes "Time (s)")
+    ∷ Numbers (codes "Need (s)") ∷ Numbers (codes "Spare (s)")
+    ∷ Numbers (codes "Need if the walk is called (s)") ∷ Words (codes "Governed by")
+    ∷ Words (codes "Mode") ∷ Words (codes "Coordinated") ∷ []
+columns kind.Patterns =
+    Numbers (codes "Pattern") ∷ Numbers (codes "Cycle (s)") ∷ Numbers (codes "Offset (s)")
+    ∷ Numbers (codes "Split") ∷ Numbers (codes "Sequence") ∷ Words (codes "Coordinated phases") ∷ []
+
+-- a row is of a kind
+abbrev pub is_of_kind : Kind → Row → Bool
+is_of_kind kind.Phases (row.Phase p phase) = true
+is_of_kind kind.Sequences (row.Seq n ring seq) = true
+is_of_kind kind.Splits (row.Split n p split) = true
+is_of_kind kind.Patterns (row.Pattern n pattern) = true
+is_of_kind kind other = false
+
+-- a row of a set, and below it the rules that it breaks
+abbrev pub row_lines : ℕ → Rows → List Explained → Row → List TableLine
+row_lines columns set reasons r = row_line (cells_of set r) ∷ broken_lines columns reasons (subject_of r)
+
+-- the rows of a kind, in their order
+abbrev pub kind_lines : Kind → Rows → List Explained → List Row → List TableLine
+kind_lines kind set reasons rows =
+    flat_map (row_lines (length (columns kind)) set reasons) (filter (is_of_kind kind) rows)
+
+-- the table of a kind
+abbrev pub kind_table : List ℕ → Rows → List Explained → List Row → Kind → List Shown
+kind_table whose set reasons rows kind =
+    table (name_of kind) whose (columns kind) (kind_lines kind set reasons rows)
+
+-- the four tables of a plan
+unfoldable pub plan_tables : List ℕ → Rows → List Explained → List Row → List Shown
+plan_tables whose set reasons rows =
+    kind_table whose set reasons rows kind.Patterns ++ kind_table whose set reasons rows kind.Sequences
+    ++ kind_table whose set reasons rows kind.Splits ++ kind_table whose set reasons rows kind.Phases

@@ -1,5 +1,0 @@
-pub mod Escaping
-pub mod Restored
-pub mod Parts
-pub mod Alike
-pub mod Marks
