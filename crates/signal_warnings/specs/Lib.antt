@@ -4,3 +4,4 @@ pub mod PatternWarnings
 pub mod PlanWarnings
 pub mod Parts
 pub mod Warnings
+pub mod Texts
