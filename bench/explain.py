@@ -1,11 +1,12 @@
 #!/usr/bin/env python3
-"""Counts what reasons cost: the instructions of `verify-file` with `--explain` and without, of a
-plan of 1,000 rows that breaks 200 rules, minus those of an empty plan.
+"""Counts what reasons and warnings cost: the instructions of `verify-file` with `--explain`, with
+`--advise` and without, of a plan of 1,000 rows that breaks 200 rules, minus those of an empty plan.
 
     python3 bench/explain.py [PROGRAM] [--write]
 
 By default the program is the one that `./office` built. Needs valgrind. With --write the figures go
-into docs/MEASUREMENTS.md. Ends with status 1 if reasons take more than twice what the rules take.
+into docs/MEASUREMENTS.md. Ends with status 1 if reasons take more than twice what the rules take,
+or warnings add more than a third of that.
 """
 import argparse
 import pathlib
@@ -75,17 +76,24 @@ def main():
         begun = instructions(program, empty)[0]
         plain, told = instructions(program, full)
         reasons, why = instructions(program, full, "--explain")
-    plain, reasons = plain - begun, reasons - begun
-    if len(rows) != RECORDS or len(told) != BROKEN or len(why) != BROKEN:
-        sys.exit(f"explain.py: {len(rows)} rows, {len(told)} and {len(why)} violations")
+        advice, warned = instructions(program, full, "--advise")
+    plain, reasons, advice = (it - begun for it in (plain, reasons, advice))
+    counted, wanted = (len(rows), len(told), len(why)), (RECORDS, BROKEN, BROKEN)
+    if counted != wanted or warned[:BROKEN] != told or len(warned) == BROKEN:
+        sys.exit(f"explain.py: {counted[0]} rows, {counted[1]} and {counted[2]} violations, "
+                 f"{len(warned)} lines with warnings")
     text = (f"`verify-file` of a plan of {RECORDS:,} rows in which {BROKEN} rules are broken takes "
             f"{plain / 1e6:.1f} million instructions, and {reasons / 1e6:.1f} with `--explain`: "
-            f"{reasons / plain:.2f} times as many ({measured.state()}).")
+            f"{reasons / plain:.2f} times as many. With `--advise`, which prints "
+            f"{len(warned) - BROKEN} warnings, it takes {advice / 1e6:.1f}: "
+            f"{advice / plain:.2f} times as many ({measured.state()}).")
     print(text)
     if asked.write:
         measured.written("explain", measured.paragraph(text))
     if reasons > 2 * plain:
         sys.exit("explain.py: reasons take more than twice what the rules take")
+    if 3 * (advice - plain) > plain:
+        sys.exit("explain.py: warnings add more than a third of what the rules take")
 
 
 if __name__ == "__main__":

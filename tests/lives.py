@@ -101,11 +101,13 @@ def draw_edit(dice, office, id, path):
         rows = [*rows, requests.spoil_row(dice, dice.choice(rows))]
     there = office.intersections.get(id)
     clerk = there and there.owner or dice.choice(requests.CLERKS)
-    csv, commits = requests.spell_csv(dice, rows), dice.random() < 0.7
+    csv, commits, advises = (
+        requests.spell_csv(dice, rows), dice.random() < 0.7, dice.random() < 0.3)
     path.write_bytes(csv.encode())
-    words = ["--clerk", clerk, *["--commit"] * commits, str(id), str(path)]
+    flags = [*["--commit"] * commits, *["--advise"] * advises]
+    words = ["--clerk", clerk, *flags, str(id), str(path)]
     return Command("edit", words, functools.partial(
-        commands.edit, id=id, clerk=clerk, csv=csv, commits=commits))
+        commands.edit, id=id, clerk=clerk, csv=csv, commits=commits, advises=advises))
 
 
 def takes(office, row):

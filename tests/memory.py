@@ -27,6 +27,7 @@ import sys
 import tempfile
 
 from model import rows
+from model.commands import UNREAD
 from model.office import Office
 from model.wire import UNAVAILABLE, answer, answer_bytes
 from preloaded import built
@@ -83,6 +84,7 @@ COMMANDS = (
     ("added 0, same 1", "import --db office.db records.csv"),
     ("", "export --db office.db 12"),
     ("", "edit --db office.db --clerk Ana 12 changed.csv"),
+    ("no changes", "edit --db office.db --clerk Ana --commit --advise 12 later.csv"),
     ("", f"compare {PLAN} changed.csv"),
     ("", "compare --db office.db 12"),
     ("", f"diagram --file {PLAN} 1"),
@@ -215,6 +217,8 @@ def command(runs, model, again, words):
             return None
         if (status, came, lines[1:]) == wanted:
             return "done all the same"
+        if (status, came, lines[1:]) == (0, UNREAD, []):
+            return "told without warnings"
         if without_notes(lines[1:]) not in FAULTS or status != 1 or came:
             raise Wrong(f"status {status}, printed {came!r}, told {lines}")
         next_time = runs.run(words)
@@ -226,10 +230,11 @@ def command(runs, model, again, words):
 
 
 def model_files(runs):
-    """The files on which commands are tried: an office with a committed plan and a draft, a plan,
+    """The files on which commands are tried: an office with a committed plan and a draft, plans,
     and records."""
     plan = PLAN.read_text()
     (runs.folder / "changed.csv").write_text(plan.replace("split,1,2,35", "split,1,2,34"))
+    (runs.folder / "later.csv").write_text(plan.replace("pattern,1,60,0", "pattern,1,60,5"))
     (runs.folder / "records.csv").write_text("inspection,12,1,2026-03-01,Ana,Fan cleaned\n")
     edit = ["edit", "--db", "office.db", "--clerk", "Ana"]
     for words in (["add", "--db", "office.db", "12", "365", "Main St"],

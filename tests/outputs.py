@@ -73,6 +73,7 @@ verify-file --explain --advise warned.csv
 edit --db office.db --clerk Ana 12 changed.csv
 edit --db office.db --clerk Ana --commit --explain 12 changed.csv
 edit --db office.db --clerk Ana --commit 12 plan.csv
+edit --db office.db --clerk Ana --commit --advise 12 warned.csv
 abandon --db office.db --clerk Ana 12
 compare plan.csv changed.csv
 compare --csv plan.csv changed.csv

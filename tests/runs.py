@@ -99,6 +99,8 @@ def settled(came, wanted, steps):
         return steps[-1:] if came.out and came.out == wanted[1] else steps
     if came.refused and ended == (1, b"", STORE):
         return steps
+    if came.refused and ended == (0, commands.UNREAD, "") and wanted[1].endswith(b"committed\n"):
+        return steps[-1:]
     raise Off(f"wanted {wanted}\n  came {ended}")
 
 

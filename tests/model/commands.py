@@ -2,7 +2,7 @@
 
 A command is a function of an office and of its values. It yields after each change that it makes,
 since a stop may leave those before it, and gives the status and the text that it prints."""
-from . import fields, rules
+from . import fields, rules, warnings
 from .fields import write_csv
 from .plan import apply, read_change
 from .refusal import NAMES, Refused
@@ -11,6 +11,8 @@ from .wire import read_each
 
 BREAKS_A_RULE = 3
 NOT_COMMITTED = "not committed: the draft stays open; go on with edit, or drop it with abandon\n"
+UNREAD = b"no violations\ncommitted\nits warnings could not be read\n"
+STAYS_OPEN = "stays open; commit it with edit --commit, or drop it with abandon\n"
 
 
 def fault(refused):
@@ -31,6 +33,11 @@ def violation_lines(plan):
     return "".join(lines) or "no violations\n"
 
 
+def warning_lines(plan):
+    """What an engineer is warned of in a plan, a line each."""
+    return "".join(f"{it}\n" for it in warnings.warnings(plan))
+
+
 def add(office, id, interval, name):
     """Adds an intersection."""
     told = office.add(id, interval, name)["result"]
@@ -45,10 +52,11 @@ def take(office, csv):
     return 0, f"added {told['added']}, same {told['same']}\n"
 
 
-def edit(office, id, clerk, csv, commits):
+def edit(office, id, clerk, csv, commits, advises=False):
     """Changes the draft, in a transaction that it begins or in the clerk's own, whose draft is
     opened again where it was handed over or checked. Commits it where that is asked, no rule is
-    broken and it is not the committed plan; for one that would be that plan nothing is begun."""
+    broken and it is not the committed plan; for one that would be that plan nothing is begun.
+    Where that is asked, the warnings of the draft are told behind what it breaks."""
     changes = read_each(read_change, fields.read_csv(csv))
     it = office.find(id)
     stands = it.committed if it.state == "normal" else it.draft
@@ -66,17 +74,18 @@ def edit(office, id, clerk, csv, commits):
     yield
     if is_same:
         return 0, "no changes\n"
-    text = violation_lines(office.find(id).draft)
+    draft = office.find(id).draft
+    broken, advice = violation_lines(draft), warning_lines(draft) if advises else ""
     if not commits:
-        return 0, text
-    if text != "no violations\n":
-        return BREAKS_A_RULE, text + NOT_COMMITTED
+        return 0, f"{broken}{advice}the draft of {clerk} {STAYS_OPEN}"
+    if broken != "no violations\n":
+        return BREAKS_A_RULE, broken + advice + NOT_COMMITTED
     for name in ("verify", "check"):
         office.step(name, id, clerk)
         yield
     office.commit(id, clerk)
     yield
-    return 0, text + "committed\n"
+    return 0, broken + advice + "committed\n"
 
 
 def abandon(office, id, clerk):

@@ -4,7 +4,6 @@ pub mod Comparing
 pub mod Drawing
 pub mod Importing
 pub mod Paging
-pub mod Plan
 pub mod Standing
 pub mod Revising
 pub mod Replacing

@@ -1,40 +1,40 @@
 -- An edit that was made and is not told, and a comparison that was not made.
-use Rattle.std.proofs.Common.{◌≡◌, ◌≢◌, ℕ, Bool, true, List, Ok, Err, subst, sym}
+use Rattle.std.proofs.Common.{◌≡◌, ◌≢◌, ℕ, Bool, List, Ok, Err, subst, sym}
 use Rattle.std.specs.Prelude.{IsErrAnd, Result}
 use Rattle.office_tables_shelf.specs.Content.{Content}
-use Rattle.signal_office_commands.specs.{Comparing.ComparesRunning, Explaining.ExplainsDraft, Revising.RevisesAs}
+use Rattle.signal_office_commands.specs.{Comparing.ComparesRunning, Revising.RevisesAs}
 use Rattle.signal_office_commands.specs.declared.revising.Outcome.{Outcome}
 use Rattle.signal_office_commands.specs.declared.revising.Outcome.TheVariants.{Open}
 use Rattle.signal_office_commands.specs.declared.revising.Revised.{Revised}
 use Rattle.signal_office_line.specs.declared.job.Edit.{Edit}
 use Rattle.signal_office_faults.specs.declared.fault.Fault.{Fault}
 use Rattle.signal_office_faults.specs.declared.fault.Fault.TheVariants as told
-use Rattle.signal_office_jobs.specs.Requests.{ComparesWith, EditsBy, TellsEdit, TellsOpen, TellsRevised}
+use Rattle.signal_office_jobs.specs.Requests.{ComparesWith, EditsBy, IsUntold, TellsEdit, TellsOpen, TellsRevised}
 use Rattle.signal_office_jobs.specs.declared.done.Done.{Done}
 use Rattle.signal_rules.specs.declared.violation.Violation.{Violation}
 
-pub not_explained : (commit explain : Bool) (id : ℕ) (tables : Content) (violations : List Violation) (result : Result Done Fault) (fault : Fault)
-    → IsErrAnd result (λ why. why ≡ fault) → (fault ≢ told.Memory → (explain ≡ true) × ExplainsDraft tables id (Err fault))
-    → TellsOpen commit explain id tables violations result
-not_explained commit explain id tables violations (Ok done) fault is says = absurd is
-not_explained commit explain id tables violations (Err why) fault is says =
-    subst (λ (w : Fault). TellsOpen commit explain id tables violations (Err w)) (sym is) says
+pub not_open : (edit : Edit) (tables : Content) (violations : List Violation) (result : Result Done Fault) (fault : Fault)
+    → IsErrAnd result (λ why. why ≡ fault) → (fault ≢ told.Memory → IsUntold edit.explain edit.advise edit.id tables fault)
+    → TellsOpen edit tables violations result
+not_open edit tables violations (Ok done) fault is says = absurd is
+not_open edit tables violations (Err why) fault is says =
+    subst (λ (w : Fault). TellsOpen edit tables violations (Err w)) (sym is) says
 
 -- a draft that stays open is told so
-pub open_told : (commit explain : Bool) (id : ℕ) (tables : Content) (violations shown : List Violation) (outcome : Outcome) (result : Result Done Fault)
-    → outcome ≡ Open → shown ≡ violations → TellsOpen commit explain id tables shown result → TellsRevised commit explain id tables violations outcome result
-open_told commit explain id tables violations shown outcome result is same tells =
-    subst (λ (o : Outcome). TellsRevised commit explain id tables violations o result) (sym is)
-    (subst (λ (v : List Violation). TellsOpen commit explain id tables v result) same tells)
+pub open_told : (edit : Edit) (tables : Content) (violations shown : List Violation) (outcome : Outcome) (result : Result Done Fault)
+    → outcome ≡ Open → shown ≡ violations → TellsOpen edit tables shown result → TellsRevised edit tables violations outcome result
+open_told edit tables violations shown outcome result is same tells =
+    subst (λ (o : Outcome). TellsRevised edit tables violations o result) (sym is)
+    (subst (λ (v : List Violation). TellsOpen edit tables v result) same tells)
 
 -- an edit, and then a look at the tables that it left
 pub edits_so : (csv lines : List ℕ) (edit : Edit) (old middle new : Content) (revised : Result Revised Fault) (result : Result Done Fault) → new ≡ middle
-    → RevisesAs csv edit.id edit.clerk edit old middle revised → TellsEdit csv lines edit.commit edit.explain edit.id middle revised result
+    → RevisesAs csv edit.id edit.clerk edit old middle revised → TellsEdit csv lines edit middle revised result
     → EditsBy csv lines edit old result new
 edits_so csv lines edit old middle new revised result same revises tells = (
   revised,
   subst (λ (tables : Content). RevisesAs csv edit.id edit.clerk edit old tables revised) (sym same) revises,
-  subst (λ (tables : Content). TellsEdit csv lines edit.commit edit.explain edit.id tables revised result) (sym same) tells,
+  subst (λ (tables : Content). TellsEdit csv lines edit tables revised result) (sym same) tells,
 )
 
 pub not_compared : (id : ℕ) (plan : List ℕ) (csv : Bool) (old : Content) (result : Result Done Fault) (fault : Fault)

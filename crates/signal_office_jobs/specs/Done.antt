@@ -61,10 +61,10 @@ open_status commit violations = if commit then checked_status violations else 0
 abbrev pub compared_status : List Difference → ℕ
 compared_status differences = if length differences == 0 then 0 else 4
 
--- what is reported of a draft that stays open: that it was to be committed and was not
-abbrev pub open_line : (commit : Bool) → List ℕ
-open_line true = codes "not committed: the draft stays open; go on with edit, or drop it with abandon\n"
-open_line false = []
+-- what is reported of a draft that stays open: that it was to be committed and was not; or whose it is
+abbrev pub open_line : (commit : Bool) → (clerk : List ℕ) → List ℕ
+open_line true clerk = codes "not committed: the draft stays open; go on with edit, or drop it with abandon\n"
+open_line false clerk = codes "the draft of " ++ (clerk ++ codes " stays open; commit it with edit --commit, or drop it with abandon\n")
 
 -- what plans differ in, as a text or as CSV
 abbrev pub compared_text : (csv : Bool) → List Difference → List ℕ

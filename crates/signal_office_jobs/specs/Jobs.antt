@@ -2,6 +2,7 @@
 use Rattle.std.specs.Prelude.{◌≡◌, ◌≢◌, ◌⊎◌, ℕ, Bool, true, false, List, [], ◌++◌, Option, Some, None, Result, Ok, Err}
 use Rattle.office_desk.specs.StandFor.{StandForSound}
 use Rattle.office_files.specs.Changes.{changes_of}
+use Rattle.office_files.specs.Plan.{IsPlan}
 use Rattle.office_files.specs.declared.fault.CsvFault.{CsvFault}
 use Rattle.office_files.specs.declared.fault.CsvFault.TheVariants as file
 use Rattle.office_files.specs.Violations.{violations_text, explained_text_of}
@@ -15,9 +16,7 @@ use Rattle.office_tables_shelf.specs.Content.{Content}
 use Rattle.signal_plans.specs.declared.difference.Difference.{Difference}
 use Rattle.signal_office_commands.specs.Comparing.{ComparesFiles, IsFirstBad}
 use Rattle.signal_office_commands.specs.Drawing.{DrawsFile, DrawsNoFile}
-use Rattle.signal_office_commands.specs.Explaining.{ExplainsPlan, WarnsOfPlan}
 use Rattle.signal_office_commands.specs.Paging.{IsPageOfFile}
-use Rattle.signal_office_commands.specs.Plan.{AreOfPlan}
 use Rattle.signal_office_faults.specs.Lines.{fault_of_stream}
 use Rattle.signal_office_faults.specs.declared.fault.Fault.{Fault}
 use Rattle.signal_office_faults.specs.declared.fault.Fault.TheVariants as fault
@@ -37,9 +36,11 @@ use Rattle.signal_office_line.specs.declared.job.Job.{Job}
 use Rattle.signal_office_line.specs.declared.job.Job.TheVariants as job
 use Rattle.signal_office_line.specs.declared.shows.PlanShown.{PlanShown}
 use Rattle.signal_office_line.specs.declared.shows.PlanShown.TheVariants as plan
+use Rattle.signal_records.specs.TimingSet.{Rows}
+use Rattle.signal_rules.specs.Violations.{AreReasons, violations_of}
 use Rattle.signal_rules.specs.declared.reason.Explained.{Explained}
-use Rattle.signal_rules.specs.declared.violation.Violation.{Violation}
-use Rattle.signal_plans.specs.declared.warning.Warning.{Warning}
+use Rattle.signal_plans.specs.Texts.{warnings_text_of}
+use Rattle.signal_plans.specs.Warnings.{warnings_of}
 
 -- what becomes of a stream from the start of its input and output to their ends, and the status or the fault that comes of it
 abbrev pub Exchange : Type 1
@@ -96,33 +97,35 @@ Compares csv first second (Ok done) =
     (found : List Difference) × ComparesFiles first second found × (text_of done ≡ compared_text csv found) × (status_of done ≡ compared_status found)
 Compares csv first second (Err why) = why ≢ fault.Memory → IsFirstBad first second why
 
--- the rules that the plan of a file breaks, or those with their reasons, and the status that tells whether there are any; or why the file gives no plan
-abbrev pub TellsViolations : (explain : Bool) → (csv lines : List ℕ) → Result Done Fault → Type 0
-TellsViolations false csv lines (Ok done) =
-    (found : List Violation) × AreOfPlan csv found × (text_of done ≡ violations_text found) × (status_of done ≡ checked_status found)
-TellsViolations true csv lines (Ok done) =
-    (found : List Explained) × ExplainsPlan csv found × (text_of done ≡ explained_text_of found) × (status_of done ≡ explained_status found)
-TellsViolations false csv lines (Err why) = why ≢ fault.Memory → IsNoPlan csv why
-TellsViolations true csv lines (Err why) = why ≢ fault.Memory → (unread : Fault) × IsNoPlan csv unread × (why ≡ explained_file csv lines unread)
+-- why the plan of a file is not verified: where reasons are asked for, a bad record is reported with its line and what is wrong there
+abbrev pub IsUnverified : (explain : Bool) → (csv lines : List ℕ) → Fault → Type 0
+IsUnverified false csv lines why = IsNoPlan csv why
+IsUnverified true csv lines why = (unread : Fault) × IsNoPlan csv unread × (why ≡ explained_file csv lines unread)
 
--- what an engineer is warned of in the plan of a file follows what was reported of it, with the status of that; nothing follows where there is no warning
-abbrev pub AddsWarnings : (csv : List ℕ) → (told : Done) → Result Done Fault → Type 0
-AddsWarnings csv told (Ok done) =
-    (found : List Warning) × WarnsOfPlan csv found
-    × (more : List ℕ) × (found ≡ [] → more ≡ []) × (text_of done ≡ text_of told ++ more) × (status_of done ≡ status_of told)
-AddsWarnings csv told (Err why) = why ≢ fault.Memory → IsNoPlan csv why
+-- the rules that a plan breaks, or those with their reasons, and the status that tells whether there are any; or memory was refused
+abbrev pub TellsViolations : (explain : Bool) → Rows → Result Done Fault → Type 0
+TellsViolations explain plan (Err why) = why ≡ fault.Memory
+TellsViolations false plan (Ok done) = (text_of done ≡ violations_text (violations_of plan)) × (status_of done ≡ checked_status (violations_of plan))
+TellsViolations true plan (Ok done) =
+    (found : List Explained) × AreReasons plan found × (text_of done ≡ explained_text_of found) × (status_of done ≡ explained_status found)
 
--- what was reported of the plan of a file goes on with its warnings where they are asked for
-abbrev pub Advises : (advise : Bool) → (csv : List ℕ) → (told : Result Done Fault) → Result Done Fault → Type 0
-Advises true csv (Ok told) result = AddsWarnings csv told result
-Advises true csv (Err why) result = result ≡ Err why
-Advises false csv told result = result ≡ told
+-- what a plan breaks, and behind that, where it is asked, a line for each of its warnings, with the status of what it breaks; or memory was refused
+abbrev pub ChecksPlan : (explain advise : Bool) → Rows → Result Done Fault → Type 0
+ChecksPlan explain advise plan (Err why) = why ≡ fault.Memory
+ChecksPlan explain false plan (Ok done) = TellsViolations explain plan (Ok done)
+ChecksPlan explain true plan (Ok done) =
+    (told : Done) × TellsViolations explain plan (Ok told)
+    × (text_of done ≡ text_of told ++ warnings_text_of (warnings_of plan)) × (status_of done ≡ status_of told)
+
+-- the plan of a file is verified, or this is why not
+abbrev pub VerifiesFile : (explain advise : Bool) → (csv lines : List ℕ) → Result Done Fault → Type 0
+VerifiesFile explain advise csv lines (Ok done) = (plan : Rows) × IsPlan csv plan × ChecksPlan explain advise plan (Ok done)
+VerifiesFile explain advise csv lines (Err why) = why ≢ fault.Memory → IsUnverified explain csv lines why
 
 -- what is shown of a plan, or why it is not
 abbrev pub ShowsPlan : PlanShown → (csv lines : List ℕ) → Result Done Fault → Type 0
 -- its violations, and where that is asked its warnings behind them
-ShowsPlan (plan.Violations explain advise) csv lines result =
-    (told : Result Done Fault) × TellsViolations explain csv lines told × Advises advise csv told result
+ShowsPlan (plan.Violations explain advise) csv lines result = VerifiesFile explain advise csv lines result
 -- the picture of a pattern; or also that the plan lacks the pattern
 ShowsPlan (plan.Diagram pattern) csv lines (Ok done) = DrawsFile csv pattern (text_of done) × (status_of done ≡ 0)
 ShowsPlan (plan.Diagram pattern) csv lines (Err why) = why ≢ fault.Memory → DrawsNoFile csv pattern why

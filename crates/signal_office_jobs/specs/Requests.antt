@@ -1,12 +1,12 @@
 -- What is asked of the office of a file: what it makes of the tables, what it tells, and what a stop leaves of it.
-use Rattle.std.specs.Prelude.{◌≡◌, ◌≢◌, ℕ, List, [], ◌++◌, codes, decimal, Bool, true, false, Option, Result, Ok, Err}
+use Rattle.std.specs.Prelude.{◌≡◌, ◌≢◌, ◌⊎◌, ℕ, List, [], ◌++◌, codes, decimal, Bool, true, false, Option, Result, Ok, Err}
 use Rattle.office_files.specs.Violations.{violations_text, explained_text_of}
 use Rattle.office_tables_shelf.specs.Content.{Content}
 use Rattle.signal_plans.specs.declared.difference.Difference.{Difference}
 use Rattle.signal_office_commands.specs.Checks.{ChecksFile}
 use Rattle.signal_office_commands.specs.Commands.{Abandons, AddsIntersection}
 use Rattle.signal_office_commands.specs.Comparing.{ComparesDraft, ComparesRunning}
-use Rattle.signal_office_commands.specs.Explaining.{ExplainsDraft}
+use Rattle.signal_office_commands.specs.Explaining.{ExplainsDraft, WarnsOfCommitted, WarnsOfDraft}
 use Rattle.signal_office_commands.specs.Importing.{Imports}
 use Rattle.signal_office_commands.specs.Revising.{RevisesAs}
 use Rattle.signal_office_commands.specs.Stopping.{AfterAbandoning, AfterAdding, AfterImporting, AfterRevising}
@@ -34,6 +34,8 @@ use Rattle.signal_office_line.specs.declared.shows.Shown.{Shown}
 use Rattle.signal_office_reports.specs.Reports.{IsShown, IsUsedShown}
 use Rattle.signal_rules.specs.declared.reason.Explained.{Explained}
 use Rattle.signal_rules.specs.declared.violation.Violation.{Violation}
+use Rattle.signal_plans.specs.Texts.{warnings_text_of}
+use Rattle.signal_plans.specs.declared.warning.Warning.{Warning}
 
 -- An intersection that is added begins a new office where there is none; whatever asks, changes a plan, or takes records of an office's cabinets, does not: a
 -- mistyped name is no office.
@@ -85,28 +87,56 @@ abbrev pub IsBroken : (explain : Bool) → (id : ℕ) → Content → List Viola
 IsBroken true id tables violations text = (found : List Explained) × ExplainsDraft tables id (Ok found) × (text ≡ explained_text_of found)
 IsBroken false id tables violations text = text ≡ violations_text violations
 
--- A draft that was made is reported: what it breaks, where it stays open. A fault is why one with reasons is not shown, or that memory was refused.
-abbrev pub TellsOpen : (commit explain : Bool) → (id : ℕ) → Content → List Violation → Result Done Fault → Type 0
-TellsOpen commit explain id tables violations (Ok done) =
-    (broken : List ℕ) × IsBroken explain id tables violations broken
-    × (text_of done ≡ broken ++ open_line commit) × (status_of done ≡ open_status commit violations)
-TellsOpen commit explain id tables violations (Err why) = why ≢ fault.Memory → (explain ≡ true) × ExplainsDraft tables id (Err why)
+-- what an engineer is warned of in a draft that stays open, as it is printed: a line for each warning where that is asked, by the draft in the tables
+abbrev pub IsAdvice : (advise : Bool) → (id : ℕ) → Content → (text : List ℕ) → Type 0
+IsAdvice true id tables text = (found : List Warning) × WarnsOfDraft tables id (Ok found) × (text ≡ warnings_text_of found)
+IsAdvice false id tables text = text ≡ []
+
+-- the text of a draft that stays open: what it breaks, and behind that its warnings
+abbrev pub IsOpenText : Edit → Content → List Violation → (text : List ℕ) → Type 0
+IsOpenText edit tables violations text =
+    (broken : List ℕ) × IsBroken edit.explain edit.id tables violations broken
+    × (advice : List ℕ) × IsAdvice edit.advise edit.id tables advice × (text ≡ broken ++ advice)
+
+-- why a draft that stays open is not reported: one with reasons, or with warnings, is not shown
+abbrev pub IsUntold : (explain advise : Bool) → (id : ℕ) → Content → Fault → Type 0
+IsUntold explain advise id tables why =
+    ((explain ≡ true) × ExplainsDraft tables id (Err why)) ⊎ ((advise ≡ true) × WarnsOfDraft tables id (Err why))
+
+-- A draft that was made is reported, where it stays open. A fault is why it is not shown, or that memory was refused.
+abbrev pub TellsOpen : Edit → Content → List Violation → Result Done Fault → Type 0
+TellsOpen edit tables violations (Ok done) =
+    (told : List ℕ) × IsOpenText edit tables violations told
+    × (text_of done ≡ told ++ open_line edit.commit edit.clerk) × (status_of done ≡ open_status edit.commit violations)
+TellsOpen edit tables violations (Err why) = why ≢ fault.Memory → IsUntold edit.explain edit.advise edit.id tables why
+
+-- the text of a committed draft has its warnings, by the committed set in the tables; or says that they could not be read
+abbrev pub IsCommittedTold : (id : ℕ) → Content → (text : List ℕ) → Type 0
+IsCommittedTold id tables text =
+    ((found : List Warning) × WarnsOfCommitted tables id (Ok found) × (text ≡ codes "no violations\n" ++ warnings_text_of found ++ codes "committed\n"))
+    ⊎ (text ≡ codes "no violations\ncommitted\nits warnings could not be read\n")
+
+-- A draft that was committed is reported, with its warnings where that is asked, whatever memory there is.
+abbrev pub TellsCommitted : (advise : Bool) → (id : ℕ) → Content → Result Done Fault → Type 0
+TellsCommitted false id tables result = TellsLine (codes "no violations\ncommitted\n") result
+TellsCommitted true id tables (Ok done) = IsCommittedTold id tables (text_of done) × (status_of done ≡ 0)
+TellsCommitted true id tables (Err why) = ⊥
 
 -- What became of a draft is reported; that it was committed, so that it breaks no rule, or is as it stands, whatever memory there is.
-abbrev pub TellsRevised : (commit explain : Bool) → (id : ℕ) → Content → List Violation → Outcome → Result Done Fault → Type 0
-TellsRevised commit explain id tables violations Same = TellsLine (codes "no changes\n")
-TellsRevised commit explain id tables violations Committed = TellsLine (codes "no violations\ncommitted\n")
-TellsRevised commit explain id tables violations Open = TellsOpen commit explain id tables violations
+abbrev pub TellsRevised : Edit → Content → List Violation → Outcome → Result Done Fault → Type 0
+TellsRevised edit tables violations Same = TellsLine (codes "no changes\n")
+TellsRevised edit tables violations Committed = TellsCommitted edit.advise edit.id tables
+TellsRevised edit tables violations Open = TellsOpen edit tables violations
 
 -- The edit is reported: what became of it, or its fault, explained where that is asked.
-abbrev pub TellsEdit : (csv lines : List ℕ) → (commit explain : Bool) → (id : ℕ) → Content → Result Revised Fault → Result Done Fault → Type 0
-TellsEdit csv lines commit explain id tables (Ok revised) = TellsRevised commit explain id tables revised.violations revised.outcome
-TellsEdit csv lines commit explain id tables (Err why) = λ result. (told : Fault) × (result ≡ Err told) × IsEditRefused explain csv lines id tables why told
+abbrev pub TellsEdit : (csv lines : List ℕ) → Edit → Content → Result Revised Fault → Result Done Fault → Type 0
+TellsEdit csv lines edit tables (Ok revised) = TellsRevised edit tables revised.violations revised.outcome
+TellsEdit csv lines edit tables (Err why) = λ result. (told : Fault) × (result ≡ Err told) × IsEditRefused edit.explain csv lines edit.id tables why told
 
 -- The draft was edited from the tables, and what became of it is reported, by the tables after that.
 abbrev pub EditsBy : (csv lines : List ℕ) → Edit → Content → Result Done Fault → Content → Type 0
 EditsBy csv lines edit old result new =
-    (revised : Result Revised Fault) × RevisesAs csv edit.id edit.clerk edit old new revised × TellsEdit csv lines edit.commit edit.explain edit.id new revised result
+    (revised : Result Revised Fault) × RevisesAs csv edit.id edit.clerk edit old new revised × TellsEdit csv lines edit new revised result
 
 -- what the draft differs in is reported, and the status whether it does; a fault is what its query is refused with, or that memory was refused
 abbrev pub ComparesAs : ℕ → Bool → Content → Result Done Fault → Type 0

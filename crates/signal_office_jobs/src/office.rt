@@ -1,15 +1,15 @@
 //! What is done for a request over the office of a file.
 
-ghost use Rattle.std.specs.Prelude.{◌≡◌, ◌≢◌, true, Err, IfErr, IfOk};
+ghost use Rattle.std.specs.Prelude.{◌≡◌, ◌≢◌, true, Ok, Err, IfErr, IfOk};
 ghost use Rattle.office_http_framing.specs.Ends.{Told};
 ghost use Rattle.office_tables_shelf.specs.Keeps.{KeepsShelf};
 ghost use Rattle.signal_office_reports.specs.Reports.{IsShown, IsUsedShown};
 ghost use Rattle.signal_office_reports.specs.Seen.{Gives};
-ghost use Rattle.signal_office_commands.specs.Explaining.{ExplainsDraft};
+ghost use Rattle.signal_office_commands.specs.Explaining.{ExplainsDraft, WarnsOfDraft};
 ghost use Rattle.signal_office_commands.specs.Stopping.{AfterAbandoning, AfterAdding, AfterImporting, AfterRevising, StopLeaves};
 ghost use Rattle.signal_office_in_file.specs.Doing.{DoesTask};
 ghost use Rattle.signal_office_jobs.specs.Calls.{kind_of};
-ghost use Rattle.signal_office_jobs.specs.Requests.{AbandonsAs, AddsAs, ChecksAs, ComparesAs, ComparesWith, EditsBy, FillsAs, ImportsAs, IsBroken, ShowsAs, TellsOpen, TellsRevised, TellsUsed, effect_of, makes_file, taking};
+ghost use Rattle.signal_office_jobs.specs.Requests.{AbandonsAs, AddsAs, ChecksAs, ComparesAs, ComparesWith, EditsBy, FillsAs, ImportsAs, IsAdvice, IsBroken, IsCommittedTold, IsOpenText, IsUntold, ShowsAs, TellsCommitted, TellsOpen, TellsRevised, TellsUsed, effect_of, makes_file, taking};
 
 use crate::done::Done;
 use crate::explained::refused_edit;
@@ -20,8 +20,8 @@ use office_files::{explained_text, violation_text};
 use office_http::Sink;
 use office_tables_shelf::shelf::Shelf;
 use signal_office_commands::{
-    Outcome, Revised, abandon_draft, add_intersection, check_csv, draft_differences, draft_reasons,
-    import_csv, revise_plan, running_differences,
+    Outcome, Revised, abandon_draft, add_intersection, check_csv, committed_warnings,
+    draft_differences, draft_reasons, draft_warnings, import_csv, revise_plan, running_differences,
 };
 use signal_office_faults::{Fault, SystemFolder};
 use signal_office_in_file::{Kind, OfficeTask};
@@ -29,6 +29,7 @@ use signal_office_line::{Edit, Folder as FolderKind, Name, Part, Request, Shown}
 use signal_office_reports::{report, used};
 use signal_records::{InterId, Interval, NoMemory};
 use signal_rules::Violation;
+use signal_plans::warnings_text;
 use std::alloc::Global;
 
 /// Whether a request makes the file where there is none. What only asks, changes a plan that has to
@@ -226,51 +227,120 @@ fn broken_by<S: Shelf>(
     }
 }
 
+/// What an engineer is warned of in a draft that stays open, where that is asked.
+fn advice_on<S: Shelf>(
+    alloc: Global,
+    office: &mut Office<S>,
+    id: InterId,
+    advise: bool,
+) -> Result<Vec<u8>, Fault>
+    ensures kept { KeepsShelf S.Shelf office.old office.new }
+    ensures clean { S.is_clean office.new → S.is_clean office.old }
+    ensures told { IfOk result (λ text. S.is_honest office.new →
+        IsAdvice advise id (S.content office.old) text.items) }
+    ensures fault { IfErr result (λ why. why ≢ Fault.Memory → S.is_honest office.new →
+        (advise ≡ true) × WarnsOfDraft (S.content office.old) id (Err why)) }
+{
+    if advise {
+        Ok(warnings_text(alloc, &draft_warnings(alloc, office, id)?)?)
+    } else {
+        Ok(Vec::new(alloc))
+    }
+}
+
+/// The text of a draft that stays open: what it breaks, and where that is asked its warnings.
+fn open_text<S: Shelf>(
+    alloc: Global,
+    office: &mut Office<S>,
+    edit: &Edit<'_>,
+    violations: &[Violation],
+) -> Result<Vec<u8>, Fault>
+    ensures kept { KeepsShelf S.Shelf office.old office.new }
+    ensures clean { S.is_clean office.new → S.is_clean office.old }
+    ensures told { IfOk result (λ text. S.is_honest office.new →
+        IsOpenText edit.now (S.content office.old) violations.now text.items) }
+    ensures fault { IfErr result (λ why. why ≢ Fault.Memory → S.is_honest office.new →
+        IsUntold edit.now.explain edit.now.advise edit.now.id (S.content office.old) why) }
+{
+    let mut text = broken_by(alloc, office, edit.id, violations, edit.explain)?;
+    let advice = advice_on(alloc, office, edit.id, edit.advise)?;
+    text.extend_from_slice(&advice)?;
+    Ok(text)
+}
+
 /// Tells of a draft that stays open.
 fn tell_open<S: Shelf>(
     alloc: Global,
     office: &mut Office<S>,
-    id: InterId,
+    edit: &Edit<'_>,
     violations: &[Violation],
-    commit: bool,
-    explain: bool,
 ) -> Result<Done, Fault>
     ensures kept { KeepsShelf S.Shelf office.old office.new }
     ensures clean { S.is_clean office.new → S.is_clean office.old }
     ensures told { S.is_honest office.new →
-        TellsOpen commit explain id (S.content office.old) violations.now result }
+        TellsOpen edit.now (S.content office.old) violations.now result }
 {
-    let broken = broken_by(alloc, office, id, violations, explain)?;
-    Done::left_open(broken, violations, commit)
+    let text = open_text(alloc, office, edit, violations)?;
+    let clerk = edit.clerk.to_words(alloc)?;
+    Done::left_open(text, violations, edit.commit, &clerk)
+}
+
+/// The text of a draft that was committed, with its warnings.
+fn committed_text<S: Shelf>(
+    alloc: Global,
+    office: &mut Office<S>,
+    id: InterId,
+) -> Result<Vec<u8>, Fault>
+    ensures kept { KeepsShelf S.Shelf office.old office.new }
+    ensures clean { S.is_clean office.new → S.is_clean office.old }
+    ensures told { IfOk result (λ text. S.is_honest office.new →
+        IsCommittedTold id (S.content office.old) text.items) }
+{
+    let found = committed_warnings(alloc, office, id)?;
+    let mut text = Vec::new(alloc);
+    text.extend_from_slice(b"no violations\n")?;
+    text.extend_from_slice(&warnings_text(alloc, &found)?)?;
+    text.extend_from_slice(b"committed\n")?;
+    Ok(text)
+}
+
+/// Tells of a draft that was committed: where its warnings are asked for and cannot be told, that.
+fn tell_committed<S: Shelf>(
+    alloc: Global,
+    office: &mut Office<S>,
+    id: InterId,
+    advise: bool,
+) -> Done
+    ensures kept { KeepsShelf S.Shelf office.old office.new }
+    ensures clean { S.is_clean office.new → S.is_clean office.old }
+    ensures told { S.is_honest office.new →
+        TellsCommitted advise id (S.content office.old) (Ok result) }
+{
+    if !advise {
+        return Done::telling("no violations\ncommitted\n");
+    }
+    match committed_text(alloc, office, id) {
+        Ok(text) => Done::with(text),
+        Err(_) => Done::telling("no violations\ncommitted\nits warnings could not be read\n"),
+    }
 }
 
 /// Tells what became of a draft that was edited.
 fn tell_edit<S: Shelf>(
     alloc: Global,
     office: &mut Office<S>,
-    id: InterId,
+    edit: &Edit<'_>,
     revised: &Revised,
-    commit: bool,
-    explain: bool,
 ) -> Result<Done, Fault>
     ensures kept { KeepsShelf S.Shelf office.old office.new }
     ensures clean { S.is_clean office.new → S.is_clean office.old }
-    ensures told { S.is_honest office.new → TellsRevised commit explain id
+    ensures told { S.is_honest office.new → TellsRevised edit.now
         (S.content office.old) revised.now.violations revised.now.outcome result }
 {
     match revised.outcome {
         Outcome::Same => Ok(Done::telling("no changes\n")),
-        Outcome::Committed => Ok(Done::telling("no violations\ncommitted\n")),
-        Outcome::Open => {
-            tell_open(
-                alloc,
-                office,
-                id,
-                revised.violations.as_slice(),
-                commit,
-                explain,
-            )
-        }
+        Outcome::Committed => Ok(tell_committed(alloc, office, edit.id, edit.advise)),
+        Outcome::Open => tell_open(alloc, office, edit, revised.violations.as_slice()),
     }
 }
 
@@ -290,7 +360,7 @@ fn edit<S: Shelf>(
         (S.content office.old) result (S.content office.new) }
 {
     match revise_plan(alloc, office, edit, csv) {
-        Ok(revised) => tell_edit(alloc, office, edit.id, &revised, edit.commit, edit.explain),
+        Ok(revised) => tell_edit(alloc, office, edit, &revised),
         Err(why) => Err(refused_edit(alloc, office, edit.id, csv, lines, edit.explain, why)),
     }
 }

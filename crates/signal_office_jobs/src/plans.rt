@@ -1,66 +1,62 @@
 //! Plans in CSV files: shown, and compared.
 
-ghost use Rattle.std.specs.Prelude.{false, true};
+ghost use Rattle.std.specs.Prelude.{false};
 ghost use Rattle.office_http_framing.specs.Serve.{ends_of};
-ghost use Rattle.signal_office_jobs.specs.Jobs.{AddsWarnings, Advises, Compares, Made, ReadFirst, ShowsPlan, TellsViolations};
+ghost use Rattle.signal_office_jobs.specs.Jobs.{ChecksPlan, Compares, Made, ReadFirst, ShowsPlan, TellsViolations, VerifiesFile};
 ghost use Rattle.signal_office_jobs.specs.Reading.{ArePlansRead, ArePlansUnread, IsPlanRead, IsPlanUnread};
 
 use crate::done::{Done, print_done};
 use crate::explained::explained_file;
 use crate::reading::{read_plan, read_plans};
+use office_files::read_plan_csv;
 use office_http::{Sink, Source};
-use signal_office_commands::{
-    compare_files, diagram_in, page_in, reasons_in, violations_in, warnings_in,
-};
+use signal_office_commands::{compare_files, diagram_in, page_in};
 use signal_office_faults::Fault;
 use signal_office_line::{CsvFile, PlanShown};
-use signal_plans::warnings_text;
+use signal_records::TimingSet;
+use signal_rules::{reasons, violations};
+use signal_plans::{warnings, warnings_text};
 use std::alloc::Global;
 
-/// Tells the rules that a plan breaks with their reasons, and a bad record with its line.
-fn reasons_told(alloc: Global, csv: &[u8], lines: &[usize]) -> Result<Done, Fault>
-    ensures { TellsViolations true csv.now lines.now result }
-{
-    match reasons_in(alloc, csv) {
-        Ok(reasons) => Done::explaining(alloc, &reasons),
-        Err(cause) => Err(explained_file(alloc, csv, lines, Fault::Csv(cause))),
-    }
-}
-
 /// Tells the rules that a plan breaks, with their reasons where that is asked.
-fn violations_told(alloc: Global, csv: &[u8], lines: &[usize], explain: bool) -> Result<Done, Fault>
-    ensures { TellsViolations explain csv.now lines.now result }
+fn violations_told(alloc: Global, plan: &TimingSet, explain: bool) -> Result<Done, Fault>
+    ensures { TellsViolations explain plan.now result }
 {
     if explain {
-        return reasons_told(alloc, csv, lines);
+        Done::explaining(alloc, &reasons(alloc, plan)?)
+    } else {
+        Done::checking(alloc, &violations(alloc, plan)?)
     }
-    Done::checking(alloc, &violations_in(alloc, csv)?)
 }
 
-/// Tells behind what was reported of a plan what an engineer is warned of in it.
-fn add_warnings(alloc: Global, csv: &[u8], told: Done) -> Result<Done, Fault>
-    ensures { AddsWarnings csv.now told result }
+/// Tells what a plan breaks, and behind that, where it is asked, what an engineer is warned of.
+fn check_plan(alloc: Global, plan: &TimingSet, explain: bool, advise: bool) -> Result<Done, Fault>
+    ensures { ChecksPlan explain advise plan.now result }
 {
-    let found = warnings_in(alloc, csv)?;
+    let told = violations_told(alloc, plan, explain)?;
+    if !advise {
+        return Ok(told);
+    }
+    let found = warnings(alloc, plan)?;
     let text = warnings_text(alloc, &found)?;
     told.followed_by(alloc, &text)
 }
 
-/// Tells what was reported of a plan, and where that is asked its warnings behind it.
-fn add_warnings_if(
+/// Tells what the plan of a file breaks, and where that is asked what an engineer is warned of.
+/// Where reasons are asked for, a bad record is told with its line.
+fn verify(
     alloc: Global,
     csv: &[u8],
-    told: Result<Done, Fault>,
+    lines: &[usize],
+    explain: bool,
     advise: bool,
 ) -> Result<Done, Fault>
-    ensures { Advises advise csv.now told result }
+    ensures { VerifiesFile explain advise csv.now lines.now result }
 {
-    if !advise {
-        return told;
-    }
-    match told {
-        Ok(told) => add_warnings(alloc, csv, told),
-        Err(why) => Err(why),
+    match read_plan_csv(alloc, csv) {
+        Ok(plan) => check_plan(alloc, &plan, explain, advise),
+        Err(cause) if explain => Err(explained_file(alloc, csv, lines, Fault::Csv(cause))),
+        Err(cause) => Err(Fault::Csv(cause)),
     }
 }
 
@@ -69,10 +65,7 @@ fn shown_in(alloc: Global, csv: &[u8], lines: &[usize], shown: PlanShown) -> Res
     ensures { ShowsPlan shown csv.now lines.now result }
 {
     match shown {
-        PlanShown::Violations { explain, advise } => {
-            let told = violations_told(alloc, csv, lines, explain);
-            add_warnings_if(alloc, csv, told, advise)
-        }
+        PlanShown::Violations { explain, advise } => verify(alloc, csv, lines, explain, advise),
         PlanShown::Diagram { pattern } => Ok(Done::with(diagram_in(alloc, csv, pattern)?)),
         PlanShown::Page => Ok(Done::with(page_in(alloc, csv)?)),
     }

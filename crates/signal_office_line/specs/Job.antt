@@ -196,8 +196,8 @@ abbrev pub edited_file : Option CsvFile → (commit replace : Bool) → Option (
 edited_file (Some csv) commit replace = Some (Some csv)
 edited_file None commit replace = if commit && not replace then Some None else None
 
--- `edit --db FILE --clerk NAME [--replace] [--commit] [--explain] [--padded] ID CSV`, or
--- `edit --db FILE --clerk NAME --commit [--explain] ID`
+-- `edit --db FILE --clerk NAME [--replace] [--commit] [--explain] [--advise] [--padded] ID CSV`, or
+-- `edit --db FILE --clerk NAME --commit [--explain] [--advise] ID`
 abbrev pub edit_at : List Row → Stated Request
 edit_at rows = do
   id ← intersection_at rows
@@ -210,6 +210,7 @@ edit_at rows = do
     replace = flag_at (codes "replace") rows;
     commit = flag_at (codes "commit") rows;
     explain = flag_at (codes "explain") rows;
+    advise = flag_at (codes "advise") rows;
   }))
 
 -- `abandon --db FILE --clerk NAME ID`

@@ -110,6 +110,7 @@ const COMMANDS: &[Usage<'static>] = &[
             REPLACE,
             COMMIT,
             EXPLAIN,
+            ADVISE,
             PADDED,
             ID,
             ANY_RECORDS,

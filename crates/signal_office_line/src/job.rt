@@ -48,7 +48,7 @@ pub enum Folder {
 /// An edit of an intersection's plan by a CSV file, in a transaction of a clerk. Without a file the
 /// clerk's draft is committed as it is. Where the file is the whole plan, rows that it does not
 /// have are removed. The draft is committed where that is asked, and its violations are printed
-/// with their reasons where that is.
+/// with their reasons where that is, and its warnings behind them where those are.
 #[derive(Drop)]
 pub struct Edit<'a> {
     pub id: InterId,
@@ -57,6 +57,7 @@ pub struct Edit<'a> {
     pub replace: bool,
     pub commit: bool,
     pub explain: bool,
+    pub advise: bool,
 }
 
 /// What is asked of the office of one file.

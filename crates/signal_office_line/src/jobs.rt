@@ -153,8 +153,8 @@ fn edited_file<'a>(
     }
 }
 
-/// `edit --db FILE --clerk NAME [--replace] [--commit] [--explain] [--padded] ID CSV`, or
-/// `edit --db FILE --clerk NAME --commit [--explain] ID`.
+/// `edit --db FILE --clerk NAME [--replace] [--commit] [--explain] [--advise] [--padded] ID CSV`,
+/// or `edit --db FILE --clerk NAME --commit [--explain] [--advise] ID`.
 fn edit<'a>(matches: &ArgMatches<'a>) -> Result<Request<'a>, NoJob>
     ensures { result ≡ edit_at (rows_of (found_of matches.now)) }
 {
@@ -162,6 +162,7 @@ fn edit<'a>(matches: &ArgMatches<'a>) -> Result<Request<'a>, NoJob>
     let replace = flag(matches, "replace");
     let commit = flag(matches, "commit");
     let explain = flag(matches, "explain");
+    let advise = flag(matches, "advise");
     let csv = edited_file(csv_file(matches, "CSV"), commit, replace).ok_or(NoJob::Unstated)?;
     let clerk = name(matches, "clerk", BadWord::Clerk)?;
     Ok(Request::Edit(Edit {
@@ -171,6 +172,7 @@ fn edit<'a>(matches: &ArgMatches<'a>) -> Result<Request<'a>, NoJob>
         replace,
         commit,
         explain,
+        advise,
     }))
 }
 

@@ -8,6 +8,7 @@ pub mod PatternWarnings
 pub mod PlanWarnings
 pub mod Parts
 pub mod Warnings
+pub mod Texts
 pub mod Difference
 pub mod Merging
 pub mod Comparison

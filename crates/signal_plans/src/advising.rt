@@ -2,14 +2,14 @@
 
 ghost use Rattle.std.specs.Prelude.{◌≡◌, ◌++◌, Some, OnOk, IfOk};
 ghost use Rattle.signal_plans.specs.Parts.{AreParts};
-ghost use Rattle.signal_plans.specs.Warnings.{warned, told_cases, phase_warnings, row_warnings, warnings_at, warnings_of};
+ghost use Rattle.signal_plans.specs.Warnings.{told_cases, phase_warnings, row_warnings, warnings_at, warnings_of};
 
 use crate::pattern::coordination_advice;
 use crate::phase::{crossing_cases, phase_cases};
 use crate::plan::{PlanParts, parts_of, plan_cases};
 use crate::split::split_cases;
 use crate::warning::{Advice, Scope, Warning};
-use signal_records::{NoMemory, PatternNo, Phase, PhaseNo, Split, SplitNo, TimingSet};
+use signal_records::{NoMemory, Phase, PhaseNo, Split, SplitNo, TimingSet};
 use signal_rules::{Subject, pattern_at, phase_at, split_at, subjects_of};
 use std::alloc::Global;
 
@@ -53,8 +53,10 @@ fn warn(
         },
         Subject::Pattern(n) => match pattern_at(set, n) {
             Some(pattern) => {
-                let advice = coordination_advice(alloc, set, &parts.phases, &pattern)?;
-                push_advice(n, advice, found)
+                match coordination_advice(alloc, set, &parts.phases, &pattern)? {
+                    Some(advice) => tell(&Scope::Subject(subject), &[(true, advice)], found),
+                    None => Ok(()),
+                }
             }
             None => Ok(()),
         },
@@ -97,24 +99,6 @@ fn warn_split(
     };
     let scope = Scope::Subject(Subject::Split(n, p));
     tell(&scope, &split_cases(phase, split), found)
-}
-
-/// Adds a piece of advice on a pattern, if there is one.
-fn push_advice(
-    n: PatternNo,
-    advice: Option<Advice>,
-    found: &mut Vec<Warning>,
-) -> Result<(), NoMemory>
-    ensures { OnOk result (found.new.items ≡ found.old.items
-        ++ warned (Scope.Subject (Subject.Pattern n)) advice) }
-{
-    if let Some(advice) = advice {
-        found.push(Warning {
-            subject: Scope::Subject(Subject::Pattern(n)),
-            advice,
-        })?;
-    }
-    Ok(())
 }
 
 /// Adds of some cases, in their order, those that are so.

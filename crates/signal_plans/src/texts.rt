@@ -1,6 +1,7 @@
 //! How warnings are written.
 
-ghost use Rattle.std.specs.Prelude.{◌≡◌, [], IfOk};
+ghost use Rattle.std.specs.Prelude.{◌≡◌, IfOk};
+ghost use Rattle.signal_plans.specs.Texts.{governing_text, warnings_text_of};
 
 use crate::warning::{Advice, Scope, Warning};
 use signal_records::NoMemory;
@@ -11,6 +12,11 @@ use std::fmt::Write;
 
 /// Writes the subject's kind and numbers, as `split 1 8`, or `plan`.
 impl fmt::Display for Scope {
+    ghost use Rattle.std.specs.Prelude.{Some};
+    ghost use Rattle.signal_plans.specs.Texts.{scope_text, advice_text, warning_text};
+
+    ghost output = { λ scope. Some (scope_text scope) };
+
     fn fmt<W: fmt::Write>(&self, f: &mut fmt::Formatter<W>) -> fmt::Result {
         match self {
             Scope::Subject(subject) => write!(f, "{subject}"),
@@ -19,8 +25,21 @@ impl fmt::Display for Scope {
     }
 }
 
+/// The parts of a phase that decide how long its split is to be.
+fn governing_words(part: NeedPart) -> &'static str
+    ensures { result.now ≡ governing_text part }
+{
+    match part {
+        NeedPart::Green => "lead and minimum green",
+        NeedPart::Walk => "walk and clearance",
+    }
+}
+
 /// Writes what is so, with its numbers.
 impl fmt::Display for Advice {
+
+    ghost output = { λ advice. Some (advice_text advice) };
+
     fn fmt<W: fmt::Write>(&self, f: &mut fmt::Formatter<W>) -> fmt::Result {
         match self {
             Advice::MaximumBelowMinimum { maximum, minimum } => write!(
@@ -42,12 +61,10 @@ impl fmt::Display for Advice {
             Advice::NotMeasured => write!(f, "the width of the crossing is 0 ft, not measured"),
             Advice::WalkIfCalled { time, need } => {
                 let SplitNeed { tenths, governs } = *need;
-                let short = Tenths(tenths.saturating_sub(10 * u32::from(*time)));
+                let time = u32::from(*time);
+                let short = Tenths(tenths.saturating_sub(10 * time));
                 let tenths = Tenths(tenths);
-                let governing = match governs {
-                    NeedPart::Green => "lead and minimum green",
-                    NeedPart::Walk => "walk and clearance",
-                };
+                let governing = governing_words(governs);
                 write!(
                     f,
                     "if a button calls the walk, {tenths} s are needed, the split has {time} s: \
@@ -88,6 +105,9 @@ impl fmt::Display for Advice {
 
 /// Writes the subject and the advice, as `phase 2: the minimum green is 0 s`.
 impl fmt::Display for Warning {
+
+    ghost output = { λ warning. Some (warning_text warning) };
+
     fn fmt<W: fmt::Write>(&self, f: &mut fmt::Formatter<W>) -> fmt::Result {
         let subject = self.subject;
         let advice = self.advice;
@@ -100,7 +120,7 @@ impl fmt::Display for Warning {
 ///
 /// `NoMemory` means that a growth was really refused.
 pub fn warnings_text(alloc: Global, found: &[Warning]) -> Result<Vec<u8>, NoMemory>
-    ensures { IfOk result (λ text. found.now ≡ [] → text.items ≡ []) }
+    ensures { IfOk result (λ text. text.items ≡ warnings_text_of found.now) }
 {
     let mut text = String::new(alloc);
     for warning in found {
