@@ -1,4 +1,4 @@
-pub mod FaultsInOrder
+pub mod Asks
 pub mod Ends
 pub mod Fields
 pub mod Front
