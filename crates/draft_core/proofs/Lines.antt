@@ -3,7 +3,7 @@ use Rattle.std.proofs.Common.{◌≡◌, ℕ, ◌+◌, ◌==◌, Bool, cond, not
 use Rattle.std.specs.{Option.option_map, Result.IsErrAnd, Result.result_err, Str.bytes_eq}
 use Rattle.signal_rules.specs.declared.violation.Violation.{Violation}
 use Rattle.signal_records.specs.{declared.revision.TheConstants.LAST_REVISION, declared.state.Stage.Stage, declared.state.Holder.Holder}
-use Rattle.draft_core.specs.{declared.timing.Timing.Timing, declared.timing.Reach.Reach, declared.timing.Move.Move, declared.refusal.DraftRefusal.DraftRefusal, Transaction.next_revision, DraftRows.RowsByKey, DraftRows.Stands, Moves.Makes, Moves.Follows}
+use Rattle.draft_core.specs.{declared.timing.Timing.Timing, declared.timing.Reach.Reach, declared.timing.Move.Move, declared.refusal.DraftRefusal.DraftRefusal, Refusal.next_revision, DraftRows.RowsByKey, DraftRows.Stands, Moves.Makes, Moves.Follows}
 use Rattle.draft_core.specs.declared.refusal.DraftRefusal.TheVariants.{NotOwner, RevisionFull, VerifyFailed}
 use Rattle.draft_core.specs.Transaction.{TimingSide, Draft, holder_of, is_stage, owned, refused_by, committed_with}
 

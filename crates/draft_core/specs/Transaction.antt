@@ -103,11 +103,6 @@ abbrev pub begun_from : TimingSide → List ℕ → Option Draft → Result Timi
 begun_from side clerk None = Ok (with_draft side (record { stage = Transaction; owner = clerk; set = side.committed }))
 begun_from side clerk (Some draft) = Err NotNormal
 
--- the next revision, or why a draft with these violations is not committed
-abbrev pub next_revision : ℕ → List Violation → Result ℕ DraftRefusal
-next_revision revision [] = if revision == LAST_REVISION then Err RevisionFull else Ok (revision + 1)
-next_revision revision (violation ∷ violations) = Err (VerifyFailed (length (violation ∷ violations)))
-
 -- a draft is committed unless it has violations, and then unless the revision is the last
 abbrev pub committed_with : TimingSide → Draft → List Violation → Result TimingSide DraftRefusal
 committed_with side draft [] = if side.revision == LAST_REVISION then Err RevisionFull else Ok (record { revision = side.revision + 1; committed = draft.set; draft = None })

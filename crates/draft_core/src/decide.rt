@@ -2,9 +2,9 @@
 
 ghost use Rattle.std.specs.Prelude.{◌≡◌, [], Some, IfErr, IfOk, List, ℕ};
 ghost use Rattle.signal_rules.specs.Violations.{violations_of};
-ghost use Rattle.draft_core.specs.Transaction as table;
 ghost use Rattle.draft_core.specs.Transaction.{TimingSide, Draft, committed_with};
 ghost use Rattle.draft_core.specs.Drafting.{KeepsOnlyChanges};
+ghost use Rattle.draft_core.specs.Refusal.{next_revision};
 ghost use Rattle.draft_core.specs.DraftRows.{RowsByKey, Stands};
 ghost use Rattle.draft_core.specs.Moves as moves;
 ghost use Rattle.draft_core.specs.Moves.{Follows};
@@ -128,7 +128,7 @@ pub fn commit(alloc: Global, timing: &Timing, clerk: &Words<40>) -> Result<Move,
 /// The next revision, or why a draft with these violations is not committed: the violations come
 /// before the last revision.
 fn next_revision(revision: Revision, found: &[Violation]) -> Result<Revision, DraftRefusal>
-    ensures { result ≡ table.next_revision revision found.now }
+    ensures { result ≡ next_revision revision found.now }
 {
     if !found.is_empty() {
         return Err(DraftRefusal::VerifyFailed(found.len()));

@@ -12,7 +12,7 @@ use Rattle.office_http_framing.specs.Front.{PlainRequest}
 use Rattle.office_http_framing.specs.Stops.{How, stepped, unavailable, Leaves, LeavesOne, Moment, Passes, Ran, Storage, moment_of}
 use Rattle.office_http_framing.proofs.StopLemmas.{may_answer}
 use Rattle.office_http_responses.specs.Unavailable.{unavailable_bytes}
-use Rattle.office_http_requests.specs.declared.asked.Asked.{Asked}
+use Rattle.office_http_requests.specs.declared.command.Asked.{Asked}
 
 -- the replies of a run that the answers tell
 record Told (before : Office) (requests : List PlainRequest) (answers : List (List ℕ)) (after : Office) : Type 0 where

@@ -18,7 +18,7 @@ use Rattle.office_http.specs.Protocol.{office_protocol, read_of}
 use Rattle.office_http_responses.specs.Answers.{answer_bytes}
 use Rattle.office_http_responses.specs.Unavailable.{unavailable_bytes}
 use Rattle.office_http_responses.specs.Faults.{ask_fault_text}
-use Rattle.office_http_requests.specs.declared.asked.Asked.{Asked}
+use Rattle.office_http_requests.specs.declared.command.Asked.{Asked}
 use Rattle.signal_plans.specs.StreetLaws.{StreetLaws}
 
 -- ---- the commands

@@ -2,7 +2,7 @@
 use Rattle.std.proofs.Common.{◌≡◌, ◌⊎◌, ℕ, List, true, Result, Ok, Err, inl, inr, refl, sym, ap, subst, bytes_eq}
 use Rattle.serde_json.specs.{Data.Data, View.view, declared.value.Value.Value}
 use Rattle.office_http_requests.specs.FaultsInOrder.{◌>>=◌, or_no_route, Gives, MayWant, WantsMemoryOnlyIf}
-use Rattle.office_http_requests.specs.{Bodies.body_of, Bodies.data_of, Commands.asked_at, Commands.added_intersection, Commands.body_for, Commands.command_with, Paths.id_at, Paths.order_at, Recording.received_in, Recording.record_asked, Routes.endpoint_of, Routes.method_of, declared.asked.Asked.Asked, declared.kind.RecordKind.RecordKind, declared.route.Endpoint.Endpoint, declared.route.Endpoint.TheVariants.AddIntersection}
+use Rattle.office_http_requests.specs.{Bodies.body_of, Bodies.data_of, Commands.asked_at, Commands.added_intersection, Commands.body_for, Commands.command_with, Paths.id_at, Paths.order_at, Recording.received_in, Recording.record_asked, Routes.endpoint_of, Routes.method_of, declared.command.Asked.Asked, declared.kind.RecordKind.RecordKind, declared.route.Endpoint.Endpoint, declared.route.Endpoint.TheVariants.AddIntersection}
 use Rattle.office_http_requests.specs.Commands.{edited_by_csv, edited_in, id_and_clerk_in, imported_in}
 use Rattle.office_http_requests.specs.declared.kind.RecordKind.TheVariants.{UsePart, CloseOrder, Receive}
 use Rattle.office_http_requests.specs.declared.route.Endpoint.TheVariants.{Begin, Edit, EditCsv, Verify, Check, Commit, Reopen, Abandon, Record, Import, Stock}

@@ -5,7 +5,7 @@ use Rattle.serde_json.specs.Data.{Data}
 use Rattle.signal_records.specs.declared.record.Change.{Change}
 use Rattle.office_machine.specs.declared.command.Command.{Command}
 use Rattle.office_machine.specs.declared.command.Command.TheVariants as command
-use Rattle.office_http_requests.specs.declared.asked.Asked.{Asked}
+use Rattle.office_http_requests.specs.declared.command.Asked.{Asked}
 use Rattle.office_http_faults.specs.declared.fault.AskFault.{AskFault}
 use Rattle.office_http_faults.specs.declared.fault.AskFault.TheVariants.{Json as NoObject, Method, NoMemory}
 use Rattle.office_http_faults.specs.declared.field.Field.TheVariants.{Clerk, Name}

@@ -3,7 +3,7 @@ ghost use Rattle.std.specs.Prelude.{◌≡◌, None, OnOk, IsSome};
 ghost use Rattle.office_http_requests.specs.FaultsInOrder.{Gives, WantsMemoryOnlyIf};
 ghost use Rattle.office_http_requests.specs.Commands.{MayWantFor, command_at};
 
-use crate::asked::Asked;
+use crate::command::Asked;
 use crate::route::Routes;
 use office_http_faults::AskFault;
 use office_http_framing::front::Request;

@@ -1,4 +1,4 @@
-//! From a request to a command.
+//! From a request to a command: the order in which its faults are found.
 ghost use Rattle.std.specs.Prelude.{◌≡◌, Err, codes, false};
 ghost use Rattle.serde_json.specs.View.{view};
 ghost use Rattle.office_http_requests.specs.FaultsInOrder.{Gives, MayWant, WantsMemoryOnlyIf};
@@ -6,7 +6,6 @@ ghost use Rattle.office_http_requests.specs.Bodies.{data_of, MayBeObject};
 ghost use Rattle.office_http_requests.specs.Routes.{method_of, takes_body};
 ghost use Rattle.office_http_requests.specs.Commands.{MayWantFor, added_intersection, asked_at, body_for, clerk_and_csv_in, clerk_and_rows_in, asked_in_csv, asked_in_json, command_at, edited_by_csv, edited_in, id_and_clerk_in, imported_in};
 
-use crate::asked::Asked;
 use crate::route::{Endpoint, Routes};
 use crate::{body, csv_body, path, recording, rows};
 use draft_core::changes::Changes;
@@ -17,6 +16,13 @@ use office_machine::records::Records;
 use serde_json::Value;
 use signal_records::{InterId, Words};
 use std::alloc::Global;
+
+/// What a request asks of the office.
+#[derive(Drop)]
+pub struct Asked {
+    pub command: Command,
+    pub form: Form,
+}
 
 impl Routes {
     /// What a request asks, or the first fault: no route, another method, a path field from the

@@ -1,7 +1,6 @@
 //! Requests read as commands: the routes, the fields of paths, and the JSON and CSV of bodies.
 #![tactic(auto)]
 
-mod asked;
 mod body;
 mod cache;
 mod command;
@@ -14,9 +13,8 @@ mod route;
 mod rows;
 mod value;
 
-pub use asked::Asked;
 pub use cache::RouteCache;
-pub use command::command_of;
+pub use command::{Asked, command_of};
 pub use kind::RecordKind;
 pub use office_http_faults::{AskFault, Field, Form};
 pub use route::{Endpoint, Routes};

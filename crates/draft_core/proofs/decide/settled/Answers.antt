@@ -2,7 +2,7 @@ use Rattle.std.proofs.Common.{◌≡◌, [], ap, sym, subst, ◌∙◌, rules}
 use Rattle.std.specs.FinMap.{get}
 use Rattle.signal_rules.specs.Violations.{violations_of}
 use Rattle.signal_records.specs.{declared.state.Holding.TheVariants.Dropped, declared.state.Verdict.TheVariants.NotDone}
-use Rattle.draft_core.specs.{declared.timing.Move.Move, DraftRows.row_at, Moves.move_to, News.AreNewAt, Transaction.next_revision}
+use Rattle.draft_core.specs.{declared.timing.Move.Move, DraftRows.row_at, Moves.move_to, News.AreNewAt, Refusal.next_revision}
 use Rattle.draft_core.specs.Writes.{settling}
 use Rattle.draft_core.proofs.{Lines.commit_follows, Lines.commit_refuses, Lines.refusal_follows, Makes.commit_makes, News.among_none, News.settling_new, Overlaid.draft_violations, Written.drafted_in-settling, Written.settling_writes}
 use Rattle.draft_core.proofs.decide.settled.Goals as goal
