@@ -19,15 +19,15 @@ title n pattern =
     ++ codes "</text>\n"
 
 -- a picture names the rules of what it shows
-abbrev pub is_named : Rule → Bool
-is_named rule.V9 = true
-is_named rule.V12 = true
-is_named rule.V13 = true
-is_named _ = false
+abbrev pub is_noted : Rule → Bool
+is_noted rule.V9 = true
+is_noted rule.V12 = true
+is_noted rule.V13 = true
+is_noted _ = false
 
 -- the first of some broken rules that a picture names
-abbrev pub first_named : List Explained → Option Explained
-first_named broken = find (λ e. is_named e.violation.rule) broken
+abbrev pub first_noted : List Explained → Option Explained
+first_noted broken = find (λ e. is_noted e.violation.rule) broken
 
 -- which rule is broken, and why
 abbrev pub note : Option Explained → List ℕ
@@ -48,4 +48,4 @@ walk_legend =
 
 -- what stands above the lanes
 abbrev pub head : Rows → ℕ → Pattern → List ℕ
-head set n pattern = title n pattern ++ note (first_named (reasons_at set (subject.Pattern n))) ++ lane_legend ++ walk_legend
+head set n pattern = title n pattern ++ note (first_noted (reasons_at set (subject.Pattern n))) ++ lane_legend ++ walk_legend

@@ -1,7 +1,7 @@
 //! The words above the lanes: the title, a rule that the pattern breaks, and what the marks mean.
 
 ghost use Rattle.std.specs.Prelude.{◌≡◌, ◌++◌, OnOk, string_bytes};
-ghost use Rattle.signal_diagram.specs.Head.{title, is_named, first_named, note, lane_legend, walk_legend, head};
+ghost use Rattle.signal_diagram.specs.Head.{title, is_noted, first_noted, note, lane_legend, walk_legend, head};
 
 use crate::svg::{close_words, open_words};
 use signal_records::{NoMemory, Pattern, PatternNo, TimingSet};
@@ -26,8 +26,8 @@ fn push_title(text: &mut String, n: PatternNo, pattern: &Pattern) -> Result<(), 
 }
 
 /// Whether a picture names the rule: V9, V12 and V13 are of what it shows.
-fn is_named(rule: Rule) -> bool
-    ensures { result ≡ is_named rule }
+fn is_noted(rule: Rule) -> bool
+    ensures { result ≡ is_noted rule }
 {
     match rule {
         Rule::V9 | Rule::V12 | Rule::V13 => true,
@@ -36,11 +36,11 @@ fn is_named(rule: Rule) -> bool
 }
 
 /// The first of some broken rules that a picture names.
-fn first_named(broken: &[Explained]) -> Option<Explained>
-    ensures { result ≡ first_named broken.now }
+fn first_noted(broken: &[Explained]) -> Option<Explained>
+    ensures { result ≡ first_noted broken.now }
 {
     for explained in broken {
-        if is_named(explained.violation.rule) {
+        if is_noted(explained.violation.rule) {
             return Some(*explained);
         }
     }
@@ -120,7 +120,7 @@ pub(crate) fn push_head(
 {
     let broken = reasons_at(alloc, set, Subject::Pattern(n))?;
     push_title(text, n, pattern)?;
-    push_note(text, first_named(&broken))?;
+    push_note(text, first_noted(&broken))?;
     push_lane_legend(text)?;
     push_walk_legend(text)?;
     Ok(())

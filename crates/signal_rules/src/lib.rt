@@ -28,7 +28,7 @@ pub use judging::violations;
 pub use lanes::{lane_seconds, lists, time_of, used_rings};
 pub use lookup::{has_phase, pattern_at, phase_at, phases_of, ring_row, split_at};
 pub use need::{NeedPart, SplitNeed, need_if_called, split_need};
-pub use pattern::{is_coordinated, without_split};
+pub use pattern::is_coordinated;
 pub use phase::clearance;
 pub use reach::touched;
 pub use reason::{

@@ -1,15 +1,14 @@
 //! V9 to V13, the rules of a pattern.
 
-ghost use Rattle.std.specs.Prelude.{◌≡◌, ◌++◌, true, false, is_some, length, IfOk, IfSome, IfNone};
+ghost use Rattle.std.specs.Prelude.{◌≡◌, ◌++◌, true, false, is_some, length, IfOk};
 ghost use Rattle.signal_rules.specs.Lookup as set_has;
-ghost use Rattle.signal_rules.specs.Lookup.{split_at};
 ghost use Rattle.signal_rules.specs.Cases.{first_true};
 ghost use Rattle.signal_rules.specs.Counts.{RisesAtLeast, RisesAtMost};
-ghost use Rattle.signal_rules.specs.PatternRules.{has_splits, splits_cases, rows_cases, offset_cases, coordination_cases, is_coordinated, has_coordinated, rings_cases};
+ghost use Rattle.signal_rules.specs.PatternRules.{splits_cases, rows_cases, offset_cases, coordination_cases, is_coordinated, has_coordinated, rings_cases};
 ghost use Rattle.signal_rules.specs.Slots.{spans_of, conflicts_in, agree_where_begun};
 
 use crate::lanes::{Slot, lane_seconds, pair_reason, row_fills};
-use crate::lookup::{has_phase, has_split, ring_row, split_at};
+use crate::lookup::{has_split, ring_row, split_at};
 use crate::reason::{PatternReason, Reason};
 use crate::sequence::has_sequence;
 use signal_records::{Cycle, NoMemory, Pattern, PhaseNo, RingNo, Split, SplitNo, TimingSet};
@@ -34,23 +33,6 @@ fn splits_reason(set: &TimingSet, phases: &[PhaseNo], split: SplitNo) -> Option<
         if !has_split(set, split, *phase) {
             let phase = *phase;
             return Some(Reason::Pattern(PatternReason::NoSplit { split, phase }));
-        }
-    }
-    None
-}
-
-/// The first phase of the set for which a split number has no row.
-pub fn without_split(set: &TimingSet, n: SplitNo) -> Option<PhaseNo>
-    ensures none { IfNone result (has_splits set.now n ≡ true) }
-    ensures some { IfSome result (λ p. has_splits set.now n ≡ false) }
-    ensures phase { IfSome result (λ p. set_has.is_in p (set_has.phases set.now) ≡ true) }
-    ensures row { IfSome result (λ p. split_at set.now n p ≡ None) }
-{
-    for p in PhaseNo::all() {
-        if has_phase(set, p) && !has_split(set, n, p) {
-            // It is read, so that its range is known.
-            let _phase = p.get();
-            return Some(p);
         }
     }
     None
