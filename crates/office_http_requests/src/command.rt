@@ -42,7 +42,7 @@ impl Routes {
             return Err(AskFault::Method);
         }
         let body = told_of_body(alloc, endpoint, request.body);
-        asked(alloc, endpoint, request.path, body)
+        ask_at_endpoint(alloc, endpoint, request.path, body)
     }
 }
 
@@ -70,7 +70,7 @@ pub fn command_of(alloc: Global, request: &Request) -> Result<Asked, AskFault>
 
 // The command of an endpoint, by what was reported of the body.
 #[tactic(auto, unfolding(crate::specs::Commands::asked_at))]
-fn asked(
+fn ask_at_endpoint(
     alloc: Global,
     endpoint: Endpoint,
     path: &[u8],

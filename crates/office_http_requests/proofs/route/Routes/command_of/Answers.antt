@@ -10,5 +10,5 @@ returns-clause-gives c =
     let path = c.args.request.now.path.now in
     let allows : bytes_eq c.args.request.now.method.now (method_of endpoint) ≡ true = cc in
     rw (command_with-at c.args.request.now.method.now path endpoint _ (sym c.in_ok-endpoint.ensures.endpoint) allows, ← asked-body endpoint path c.args.request.now.body.now)
-    (gives-trans c.asked.result _ _ c.asked.ensures.gives
+    (gives-trans c.ask_at_endpoint.result _ _ c.ask_at_endpoint.ensures.gives
     (gives-read (asked_at endpoint path) c.told_of_body-body.result _ (asked-unread endpoint path _) c.told_of_body-body.ensures.gives))
