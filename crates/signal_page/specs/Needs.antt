@@ -12,9 +12,9 @@ use Rattle.signal_records.specs.TimingSet.{Rows}
 use Rattle.signal_rules.specs.Lookup.{phase_at, split_at, phase_numbers}
 use Rattle.signal_rules.specs.PatternRules.{is_coordinated}
 use Rattle.signal_rules.specs.SplitRule.{need_if_called}
-use Rattle.signal_rules.specs.declared.split.NeedPart.{NeedPart}
-use Rattle.signal_rules.specs.declared.split.NeedPart.TheVariants as need_part
-use Rattle.signal_rules.specs.declared.split.SplitNeed.{SplitNeed}
+use Rattle.signal_rules.specs.declared.need.NeedPart.{NeedPart}
+use Rattle.signal_rules.specs.declared.need.NeedPart.TheVariants as need_part
+use Rattle.signal_rules.specs.declared.need.SplitNeed.{SplitNeed}
 use Rattle.signal_page.specs.Nodes.{Shown, Own, Tenths, Below, Dash, Nothing, Short}
 
 -- the need of a phase in a split mode, in tenths of a second; one that is omitted needs no time

@@ -2,8 +2,8 @@
 use Rattle.std.specs.Prelude.{ℕ, ◌-◌, ◌*◌, List, ◌++◌, flat_map, codes}
 use Rattle.std.specs.Fmt.{decimal}
 use Rattle.signal_rules.specs.Texts.{subject_text, tenths_text}
-use Rattle.signal_rules.specs.declared.split.NeedPart.{NeedPart}
-use Rattle.signal_rules.specs.declared.split.NeedPart.TheVariants as need_part
+use Rattle.signal_rules.specs.declared.need.NeedPart.{NeedPart}
+use Rattle.signal_rules.specs.declared.need.NeedPart.TheVariants as need_part
 use Rattle.signal_plans.specs.declared.warning.Advice.{Advice}
 use Rattle.signal_plans.specs.declared.warning.Advice.TheVariants as advice
 use Rattle.signal_plans.specs.declared.warning.Scope.{Scope}
