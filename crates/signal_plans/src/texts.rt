@@ -13,7 +13,7 @@ use std::fmt::Write;
 /// Writes the subject's kind and numbers, as `split 1 8`, or `plan`.
 impl fmt::Display for Scope {
     ghost use Rattle.std.specs.Prelude.{Some};
-    ghost use Rattle.signal_plans.specs.Texts.{scope_text, advice_text, warning_text};
+    ghost use Rattle.signal_plans.specs.Texts.{scope_text};
 
     ghost output = { λ scope. Some (scope_text scope) };
 
@@ -37,6 +37,8 @@ fn governing_words(part: NeedPart) -> &'static str
 
 /// Writes what is so, with its numbers.
 impl fmt::Display for Advice {
+    ghost use Rattle.std.specs.Prelude.{Some};
+    ghost use Rattle.signal_plans.specs.Texts.{advice_text};
 
     ghost output = { λ advice. Some (advice_text advice) };
 
@@ -105,6 +107,8 @@ impl fmt::Display for Advice {
 
 /// Writes the subject and the advice, as `phase 2: the minimum green is 0 s`.
 impl fmt::Display for Warning {
+    ghost use Rattle.std.specs.Prelude.{Some};
+    ghost use Rattle.signal_plans.specs.Texts.{warning_text};
 
     ghost output = { λ warning. Some (warning_text warning) };
 
