@@ -70,10 +70,13 @@ order_line_text line =
     codes "<div>" ++ decimal line.line ++ codes ": " ++ decimal line.count ++ codes " &times; "
     ++ isolated line.part ++ codes "</div>"
 
--- by how many tenths of a second a split is short, if it is
-unfoldable pub short_mark : ℕ → List ℕ
-short_mark n =
-    if n == 0 then [] else codes " <strong class='short'>" ++ tenths n ++ codes " s short</strong>"
+-- by how many tenths of a second a split is short
+unfoldable pub short_words : ℕ → List ℕ
+short_words n = codes " <strong class='short'>" ++ tenths n ++ codes " s short</strong>"
+
+-- that, where it is short
+abbrev pub short_mark : ℕ → List ℕ
+short_mark n = if n == 0 then [] else short_words n
 
 -- what is printed of each
 abbrev pub node_text : Shown → List ℕ

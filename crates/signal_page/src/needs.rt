@@ -91,11 +91,12 @@ pub(crate) fn called_cells(set: &TimingSet, p: PhaseNo, split: &Split) -> Called
         need: Node::Nothing,
         governs: Node::Nothing,
     };
-    match split.mode {
+    let Split { time, mode, .. } = *split;
+    match mode {
         SplitMode::PhaseOmitted => none,
         _ => match phase_at(set, p) {
             None => none,
-            Some(phase) => walk_cells(10 * u32::from(split.time), phase),
+            Some(phase) => walk_cells(10 * u32::from(time), phase),
         },
     }
 }

@@ -4,7 +4,7 @@ ghost use Rattle.std.specs.Prelude.{◌≡◌, ◌∷◌, ◌++◌, [], OnOk, fi
 ghost use Rattle.std.specs.List.{list_any};
 ghost use Rattle.office_files.specs.Cells.{tenths};
 ghost use Rattle.office_files.specs.Records.{is_line_of};
-ghost use Rattle.signal_page.specs.Nodes.{day_or, html, isolated, node_text, order_line_text, short_mark, shown_by, shown_of, Due, Own, Parts};
+ghost use Rattle.signal_page.specs.Nodes.{day_or, html, isolated, node_text, order_line_text, short_mark, short_words, shown_by, shown_of, Due, Own, Parts};
 
 use crate::words::push_escaped;
 use cabinet_core::{Date, UsedLine, push_date};
@@ -55,17 +55,25 @@ fn push_tenths(text: &mut String, n: u32) -> Result<(), AllocError>
     write!(text, "{whole}.{tenth}")
 }
 
+/// Appends how many tenths of a second a split is short.
+#[tactic(auto, unfolding(crate::specs::Nodes::short_words))]
+fn push_short_words(text: &mut String, n: u32) -> Result<(), AllocError>
+    ensures { OnOk result (string_bytes text.new ≡ string_bytes text.old ++ short_words n) }
+{
+    text.push_str(" <strong class='short'>")?;
+    push_tenths(text, n)?;
+    text.push_str(" s short</strong>")
+}
+
 /// Appends how many tenths of a second a split is short, if it is.
-#[tactic(auto, unfolding(crate::specs::Nodes::short_mark))]
 fn push_short_mark(text: &mut String, n: u32) -> Result<(), AllocError>
     ensures { OnOk result (string_bytes text.new ≡ string_bytes text.old ++ short_mark n) }
 {
     if n == 0 {
-        return Ok(());
+        Ok(())
+    } else {
+        push_short_words(text, n)
     }
-    text.push_str(" <strong class='short'>")?;
-    push_tenths(text, n)?;
-    text.push_str(" s short</strong>")
 }
 
 /// Appends a day, or words where there is none.

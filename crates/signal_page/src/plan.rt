@@ -39,8 +39,9 @@ fn walking(ped: &Ped) -> u32
 fn before_yellow(split: &Split, phase: &Phase) -> u32
     ensures { result ≡ before_yellow split.now phase.now }
 {
+    let time = split.time;
     let after = u32::from(phase.yellow) + u32::from(phase.red);
-    (10 * u32::from(split.time)).saturating_sub(after)
+    (10 * u32::from(time)).saturating_sub(after)
 }
 
 /// Whether a split has time, and before yellow less than walk and clearance take.
