@@ -56,7 +56,6 @@ fn push_tenths(text: &mut String, n: u32) -> Result<(), AllocError>
 }
 
 /// Appends how many tenths of a second a split is short.
-#[tactic(auto, unfolding(crate::specs::Nodes::short_words))]
 fn push_short_words(text: &mut String, n: u32) -> Result<(), AllocError>
     ensures { OnOk result (string_bytes text.new ≡ string_bytes text.old ++ short_words n) }
 {

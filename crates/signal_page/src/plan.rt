@@ -48,11 +48,12 @@ fn before_yellow(split: &Split, phase: &Phase) -> u32
 fn is_cut(split: &Split, phase: &Phase, ped: &Ped) -> bool
     ensures { result ≡ is_cut split.now phase.now ped.now }
 {
-    0 < split.time && before_yellow(split, phase) < 10 * walking(ped)
+    let Ped { walk, clear, .. } = *ped;
+    let over = u32::from(walk) + u32::from(clear);
+    0 < split.time && before_yellow(split, phase) < 10 * over
 }
 
 /// Appends that the picture ends walk and clearance of a phase where yellow begins.
-#[tactic(auto, unfolding(crate::specs::Plan::cut_words))]
 fn push_cut_words(
     text: &mut String,
     p: PhaseNo,
