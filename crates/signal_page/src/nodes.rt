@@ -59,9 +59,9 @@ fn push_tenths(text: &mut String, n: u32) -> Result<(), AllocError>
 fn push_short_words(text: &mut String, n: u32) -> Result<(), AllocError>
     ensures { OnOk result (string_bytes text.new ≡ string_bytes text.old ++ short_words n) }
 {
-    text.push_str(" <strong class='short'>")?;
+    push_own(text, " <strong class='short'>")?;
     push_tenths(text, n)?;
-    text.push_str(" s short</strong>")
+    push_own(text, " s short</strong>")
 }
 
 /// Appends how many tenths of a second a split is short, if it is.
