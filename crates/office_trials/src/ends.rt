@@ -98,18 +98,17 @@ pub(crate) fn serve_ends<S: Shelf>(
     room: Room,
     limit: u32,
 ) -> ((&'static str, u32), Vec<u8>) {
-    let (taken, calls) = (&Cell::new(0), 0);
+    let taken = Cell::new(0);
     let mut source = FromRead::new(Feed {
         stream,
-        taken,
-        calls,
+        taken: &taken,
+        calls: 0,
     });
-    let bytes = Vec::new(rt.1);
     let mut sink = ToWrite::new(Taker {
-        bytes,
+        bytes: Vec::new(rt.1),
         room,
-        taken,
-        calls,
+        taken: &taken,
+        calls: 0,
     });
     let ended = match serve(rt.1, office, &mut source, &mut sink, limit) {
         Ok(Served { requests }) => ("end", requests),

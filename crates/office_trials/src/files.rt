@@ -198,7 +198,7 @@ fn stop_each(rt: &Bench<impl Abort>, start: &[u8], work: Work<'_>, script: &Scri
 fn streams_are_stopped(host: HostRuntime) {
     let rt = (&host, host.alloc());
     let (_, new) = after(&rt, b"", Work::Serve(&[]));
-    for (count, start) in [(3, b"".as_slice()), (11, &new)] {
+    for (count, start) in [(3, b"".as_slice()), (11, new.as_slice())] {
         let script = script_of(&rt, count);
         for is_log in [true, false] {
             stop_each(&rt, start, Work::Serve(&script.requests), &script, is_log);

@@ -30,10 +30,10 @@ fn pass(left: &mut u32) -> Found<()>
     ensures { OnErr result (result ≡ Err ShelfFault.Store) }
 {
     *left = left.wrapping_sub(1);
-    match *left {
-        u32::MAX => Err(ShelfFault::Store),
-        _ => Ok(()),
+    if *left == u32::MAX {
+        return Err(ShelfFault::Store);
     }
+    Ok(())
 }
 
 // Nothing is promised of its tables but the counts of writes.

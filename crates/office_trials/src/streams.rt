@@ -83,7 +83,7 @@ pub(crate) fn serve_worked<S: Shelf>(
     for (part, answers) in [
         (requests.get(1..2), UNKNOWN.as_slice()),
         (requests.get(..2), &ANSWERS[..2]),
-        (None, &[]),
+        (None, &ANSWERS[..0]),
         (requests.get(2..7), &ANSWERS[2..]),
     ] {
         let part = part.unwrap_or(&[]);
