@@ -1,54 +1,39 @@
-//! A reader of bytes that are there already, after which it ends, fails, waits or goes on; and a
-//! writer that has room for so many bytes.
+//! The two ends of a stream in memory: a reader that ends, fails, waits or goes on behind its bytes,
+//! and a writer that has room for so many.
 
 ghost use Rattle.std.specs.Prelude.{◌≤◌, length};
 
-use office_http::{FromRead, ToWrite};
-use std::alloc::Global;
+use crate::asking::Bench;
+use office_desk::office::Office;
+use office_http::{FromRead, ServeFault, Served, ToWrite, serve};
+use office_tables_shelf::shelf::Shelf;
 use std::cell::Cell;
 use std::io;
 use std::io::{ErrorKind, Read, Write};
+use std::process::Abort;
 
-/// What the two ends of a stream saw.
+/// What comes behind the bytes of a reader, again and again, once the writer took so many bytes. A
+/// read before that fails.
+type After<'a> = (&'a [u8], usize);
+
+pub(crate) const END: After<'static> = (b"", 0);
+
+pub(crate) const FAILURE: After<'static> = (b"", usize::MAX);
+
+/// What a reader gives: bytes, by reads of so many at most, and what comes after them.
+type Stream<'a> = (&'a [u8], usize, After<'a>);
+
+/// How many bytes a writer takes, and whether it fails without room or takes none.
+type Room = (usize, bool);
+
+pub(crate) const ANY: Room = (usize::MAX, true);
+
+/// A reader, which sees how many bytes the writer took.
 #[derive(Drop)]
-pub(crate) struct Seen {
-    /// The calls of both.
-    pub(crate) calls: Cell<usize>,
-    /// The bytes that the writer took.
-    pub(crate) taken: Cell<usize>,
-}
-
-impl Seen {
-    pub(crate) fn none() -> Seen {
-        Seen {
-            calls: Cell::new(0),
-            taken: Cell::new(0),
-        }
-    }
-
-    fn count(&self) {
-        self.calls.set(self.calls.get().saturating_add(1));
-    }
-}
-
-/// What comes after the bytes of a reader.
-#[derive(Clone, Copy)]
-pub(crate) enum After<'a> {
-    End,
-    Failure,
-    /// These bytes, again and again.
-    Again(&'a [u8]),
-    /// These bytes, once the writer took so many. A read before that fails.
-    Answer(&'a [u8], usize),
-}
-
-/// A reader of bytes, of which one read gives so many at most.
-#[derive(Drop)]
-pub(crate) struct Feed<'a> {
-    bytes: &'a [u8],
-    most: usize,
-    after: After<'a>,
-    seen: &'a Seen,
+struct Feed<'a> {
+    stream: Stream<'a>,
+    taken: &'a Cell<usize>,
+    calls: u64,
 }
 
 impl Feed<'_> {
@@ -56,49 +41,46 @@ impl Feed<'_> {
     fn give(&mut self, buf: &mut [u8]) -> usize
         ensures { result ≤ length buf.new }
     {
-        let all = self.bytes;
-        let n = all.len().min(buf.len()).min(self.most);
+        let (all, most, after) = self.stream;
+        let n = all.len().min(buf.len()).min(most);
         buf[..n].copy_from_slice(&all[..n]);
-        self.bytes = &all[n..];
+        self.stream = (&all[n..], most, after);
         n
     }
 }
 
 impl Read for Feed<'_> {
     fn read(&mut self, buf: &mut [u8]) -> io::Result<usize> {
-        self.seen.count();
-        match self.after {
-            _ if !self.bytes.is_empty() => {}
-            After::End => {}
-            After::Again(bytes) => self.bytes = bytes,
-            After::Answer(bytes, wanted) if self.seen.taken.get() >= wanted => {
-                self.bytes = bytes;
-                self.after = After::End;
+        self.calls = self.calls.saturating_add(1);
+        let (bytes, most, after) = self.stream;
+        if bytes.is_empty() {
+            if self.taken.get() < after.1 {
+                return Err(io::Error::from(ErrorKind::Interrupted));
             }
-            _ => return Err(io::Error::from(ErrorKind::Interrupted)),
+            self.stream = (after.0, most, after);
         }
         Ok(self.give(buf))
     }
 }
 
-/// A writer that keeps what it takes. Without room it takes none, or fails.
+/// A writer that keeps what it takes.
 #[derive(Drop)]
-pub(crate) struct Taker<'a> {
-    pub(crate) bytes: Vec<u8>,
-    room: usize,
-    fails: bool,
-    seen: &'a Seen,
+struct Taker<'a> {
+    bytes: Vec<u8>,
+    room: Room,
+    taken: &'a Cell<usize>,
+    calls: u64,
 }
 
 impl Write for Taker<'_> {
     fn write(&mut self, buf: &[u8]) -> io::Result<usize> {
-        self.seen.count();
-        let n = buf.len().min(self.room.saturating_sub(self.bytes.len()));
+        self.calls = self.calls.saturating_add(1);
+        let n = buf.len().min(self.room.0.saturating_sub(self.bytes.len()));
         let is_kept = self.bytes.extend_from_slice(&buf[..n]).is_ok();
-        if !is_kept || n == 0 && self.fails {
+        if !is_kept || n == 0 && self.room.1 {
             return Err(io::Error::from(ErrorKind::Interrupted));
         }
-        self.seen.taken.set(self.bytes.len());
+        self.taken.set(self.bytes.len());
         Ok(n)
     }
 
@@ -107,26 +89,40 @@ impl Write for Taker<'_> {
     }
 }
 
-/// Both ends of a stream: a reader of bytes by reads of so many at most, and of what comes after
-/// them, and a writer with so much room, which fails without or takes none.
-pub(crate) fn ends<'a>(
-    alloc: Global,
-    (bytes, most, after): (&'a [u8], usize, After<'a>),
-    (room, fails): (usize, bool),
-    seen: &'a Seen,
-) -> (FromRead<Feed<'a>>, ToWrite<Taker<'a>>) {
-    let source = FromRead::new(Feed {
-        bytes,
-        most,
-        after,
-        seen,
+/// Serves so many requests of a stream at most. Tells how it ended and after how many requests, and
+/// what a writer took that has so much room. Each call of an end is one of its reader or writer.
+pub(crate) fn serve_ends<S: Shelf>(
+    rt: &Bench<impl Abort>,
+    office: &mut Office<S>,
+    stream: Stream<'_>,
+    room: Room,
+    limit: u32,
+) -> ((&'static str, u32), Vec<u8>) {
+    let taken = Cell::new(0);
+    let mut source = FromRead::new(Feed {
+        stream,
+        taken: &taken,
+        calls: 0,
     });
-    let bytes = Vec::new(alloc);
-    let sink = ToWrite::new(Taker {
-        bytes,
+    let mut sink = ToWrite::new(Taker {
+        bytes: Vec::new(rt.1),
         room,
-        fails,
-        seen,
+        taken: &taken,
+        calls: 0,
     });
-    (source, sink)
+    let ended = match serve(rt.1, office, &mut source, &mut sink, limit) {
+        Ok(Served { requests }) => ("end", requests),
+        Err(ServeFault::Read { requests }) => ("read", requests),
+        Err(ServeFault::Write { requests }) => ("write", requests),
+        Err(ServeFault::NoMemory) => ("memory", 0),
+    };
+    assert!(rt;
+        source.reader.calls == source.counts.calls,
+        "the calls of a reader"
+    );
+    assert!(rt;
+        sink.writer.calls == sink.counts.calls,
+        "the calls of a writer"
+    );
+    (ended, sink.writer.bytes)
 }

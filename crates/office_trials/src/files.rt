@@ -1,13 +1,12 @@
-//! Database files in memory that stop after so many calls, and work that is done over them.
+//! Database files in memory, work that is done over them, and work that stops at each call of the
+//! log and then of the tables, with what is found after it.
 
 ghost use Rattle.std.specs.Prelude.{IfOk};
 ghost use Rattle.sqlite.specs.Files.{file_state};
 ghost use Rattle.sqlite.specs.Held.{state};
 ghost use Rattle.office_tables_open.specs.Promises.{IsArrangedIfClean};
 
-use crate::asking::{Bench, state_of};
-use crate::script::Script;
-use crate::streams::count_served;
+use crate::asking::{Bench, QUERIES, Script, answers_to, copy, count_answered, same, script_of};
 use crate::worked::play_all;
 use office_desk::office::Office;
 use office_tables::open::{Left, OpenFault};
@@ -17,39 +16,27 @@ use sqlite_disk::{Crash, Disk, Files, Fuse, Memory};
 use std::process::Abort;
 
 /// The two files.
-pub(crate) type Pair = Files<Fuse<Memory>>;
+type Pair = Files<Fuse<Memory>>;
 
-/// Writes these bytes to an empty file, so that they stay after a crash.
-fn fill<D: Disk>(file: &mut D, bytes: &[u8]) -> bool {
-    let is_written = file.may_be_used() && file.write_at(0, bytes).is_ok();
-    is_written && file.may_be_used() && file.sync().is_ok()
-}
-
-/// A file with these bytes that stops after so many calls.
+/// A file with these bytes, which stay after a crash, that stops after so many calls.
 fn file(rt: &Bench<impl Abort>, bytes: &[u8], calls: u64) -> Fuse<Memory> {
     let mut file = Memory::new(rt.1);
-    assert!(rt; fill(&mut file, bytes), "a file in memory");
+    let is_written = file.may_be_used() && file.write_at(0, bytes).is_ok();
+    let is_kept = is_written && file.may_be_used() && file.sync().is_ok();
+    assert!(rt; is_kept, "a file in memory");
     Fuse::new(file, calls)
 }
 
-/// The files of a database, with an empty log. One of them stops after so many calls.
-pub(crate) fn stopping(rt: &Bench<impl Abort>, db: &[u8], is_log: bool, calls: u64) -> Pair {
+/// The files of a database with these bytes. Its log or its tables stop after so many calls.
+fn files_of(rt: &Bench<impl Abort>, log: &[u8], db: &[u8], is_log: bool, calls: u64) -> Pair {
     Files {
-        log: file(rt, &[], if is_log { calls } else { u64::MAX }),
+        log: file(rt, log, if is_log { calls } else { u64::MAX }),
         db: file(rt, db, if is_log { u64::MAX } else { calls }),
     }
 }
 
-/// The files once more, with all that was written to them.
-pub(crate) fn reread(rt: &Bench<impl Abort>, left: &Pair) -> Pair {
-    Files {
-        log: file(rt, left.log.inner().bytes(), u64::MAX),
-        db: file(rt, left.db.inner().bytes(), u64::MAX),
-    }
-}
-
 /// The files after a crash, which loses all that was not synced.
-pub(crate) fn crash<D: Crash>(left: Files<D>) -> Files<D> {
+fn crash<D: Crash>(left: Files<D>) -> Files<D> {
     let Files { mut log, mut db } = left;
     log.crash();
     db.crash();
@@ -59,25 +46,21 @@ pub(crate) fn crash<D: Crash>(left: Files<D>) -> Files<D> {
 /// What is done over files.
 #[derive(Clone, Copy)]
 pub(crate) enum Work<'a> {
-    /// New tables are made.
-    Open,
     /// An office serves these requests as one stream.
-    Stream(&'a Script),
+    Serve(&'a [&'a str]),
     /// An office makes the script in each way, by reads of so many bytes at most.
     Script(&'a Script, usize),
-    /// An office shows what it holds.
-    Show,
     /// The tables of a new office become such of version 1, with rows.
     Age,
     /// Tables of version 1, with those rows, become today's.
     Migrate,
 }
 
-/// How much was done, and what was shown.
-type Done = (usize, Vec<u8>);
-
 /// What tables of version 1 show.
-pub(crate) const OLD: &[u8] = b"version 1";
+const OLD: &[u8] = b"version 1";
+
+/// What a migration shows that is done.
+const MIGRATED: &[u8] = b"migrated";
 
 /// What makes tables of version 1 of those of a new office: a phase, and the draft of it that a
 /// clerk holds.
@@ -86,56 +69,53 @@ INSERT INTO intersection VALUES (12, 'Main St', 365, 1, 1, 'Ana');
 INSERT INTO timing VALUES (12, 1, 2, 0, 'phase,2,1,8,20,40,40,15,,7,12,490,60,0');
 INSERT INTO draft VALUES (12, 1, 2, 0, 'phase,2,1,8,20,40,40,15,,7,12,480,60,0')";
 
-/// Serves a stream by the office over these tables, or has it show what it holds.
-fn work_over<S: Alter + Drop>(
+/// Makes the tables of a new office in a database, and makes them such of version 1.
+fn with_old_tables<S: Alter + Drop>(rt: &Bench<impl Abort>, conn: Connection<S>) -> Connection<S> {
+    let shelf = SqlShelf::open(rt.1, conn).ok();
+    let mut conn = shelf.expect(rt, "new tables").into_conn();
+    assert!(rt; conn.execute_batch(AGE).is_ok(), "tables of version 1");
+    conn
+}
+
+/// Serves a stream or makes a script by the office over these tables, and gives what it shows.
+fn show_over<S: Alter + Drop>(
     rt: &Bench<impl Abort>,
     conn: Connection<S>,
     work: Work<'_>,
-) -> (Done, Left<S>)
+) -> (Vec<u8>, Left<S>)
     requires { IsArrangedIfClean (state S.Store conn) }
 {
-    let mut shows = Vec::new(rt.1);
     match SqlShelf::open_arranged(rt.1, conn) {
         Ok(shelf) => {
             let mut office = Office::new(shelf);
-            let mut done = 0;
-            match work {
-                Work::Stream(script) => done = count_served(rt, &mut office, script),
-                Work::Script(script, most) => shows = play_all(rt, &mut office, script, most),
-                _ => shows = state_of(rt, &mut office),
-            }
-            ((done, shows), Ok(office.into_shelf().into_conn()))
+            let shown = match work {
+                Work::Serve(requests) => answers_to(rt, &mut office, requests),
+                Work::Script(script, most) => play_all(rt, &mut office, script, most),
+                _ => Vec::new(rt.1),
+            };
+            (shown, Ok(office.into_shelf().into_conn()))
         }
-        Err((fault, left)) => {
-            if matches!(fault, OpenFault::Version) {
-                shows.extend_from_slice(OLD).expect(rt, "memory");
-            }
-            ((0, shows), left)
-        }
+        Err((OpenFault::Version, left)) => (copy(rt, OLD), left),
+        Err((_, left)) => (Vec::new(rt.1), left),
     }
 }
 
-/// A database in which new tables are made.
-fn with_tables<S: Alter + Drop>(rt: &Bench<impl Abort>, conn: Connection<S>) -> Connection<S> {
-    let shelf = SqlShelf::open(rt.1, conn).ok();
-    shelf.expect(rt, "new tables").into_conn()
-}
-
-/// Does work over the tables of a database.
-fn done_over<S: Alter + Drop>(
+/// Does work over the tables of a database, and gives what that shows.
+fn work_over<S: Alter + Drop>(
     rt: &Bench<impl Abort>,
     mut conn: Connection<S>,
     work: Work<'_>,
-) -> (Done, Left<S>)
+) -> (Vec<u8>, Left<S>)
     requires { IsArrangedIfClean (state S.Store conn) }
 {
-    let done = match work {
-        Work::Open => return ((0, Vec::new(rt.1)), Ok(with_tables(rt, conn))),
-        Work::Age => usize::from(conn.execute_batch(AGE).is_ok()),
-        Work::Migrate => usize::from(SqlShelf::migrate(rt.1, &mut conn).is_ok()),
-        _ => return work_over(rt, conn, work),
-    };
-    ((done, Vec::new(rt.1)), Ok(conn))
+    match work {
+        Work::Age => (Vec::new(rt.1), Ok(with_old_tables(rt, conn))),
+        Work::Migrate => {
+            let is_done = SqlShelf::migrate(rt.1, &mut conn).is_ok();
+            (copy(rt, if is_done { MIGRATED } else { b"" }), Ok(conn))
+        }
+        _ => show_over(rt, conn, work),
+    }
 }
 
 /// The database in these files, which is made where they are empty, or the files.
@@ -154,30 +134,91 @@ fn database<D: Disk + Drop>(
     }
 }
 
-/// Does work over files, and closes them. Tells how much was done, what was shown, and whether they
-/// were closed, and gives the files as they were left.
-pub(crate) fn over_files<D: Disk + Drop>(
+/// Does work over files, and closes them. Gives what was shown, whether they were closed, and the
+/// files as they were left.
+fn over_files<D: Disk + Drop>(
     rt: &Bench<impl Abort>,
     files: Files<D>,
     work: Work<'_>,
-) -> (Done, bool, Files<D>) {
+) -> (Vec<u8>, bool, Files<D>) {
     let conn = match database(rt, files) {
         Ok(conn) => conn,
-        Err(files) => return ((0, Vec::new(rt.1)), false, files),
+        Err(files) => return (Vec::new(rt.1), false, files),
     };
-    match done_over(rt, conn, work) {
-        (done, Ok(conn)) => match conn.close_files() {
-            Ok(files) => (done, true, files),
-            Err((_error, store)) => (done, false, store.close()),
+    match work_over(rt, conn, work) {
+        (shown, Ok(conn)) => match conn.close_files() {
+            Ok(files) => (shown, true, files),
+            Err((_error, store)) => (shown, false, store.close()),
         },
-        (done, Err(store)) => (done, false, store.close()),
+        (shown, Err(store)) => (shown, false, store.close()),
     }
 }
 
-/// Files with what this work makes of a database of these bytes.
-pub(crate) fn files_after(rt: &Bench<impl Abort>, start: &[u8], work: Work<'_>) -> Pair {
-    let files = stopping(rt, start, true, u64::MAX);
-    let (_, is_closed, files) = over_files(rt, files, work);
+/// What work over files of these bytes shows, and the bytes of the closed file then.
+pub(crate) fn after(rt: &Bench<impl Abort>, start: &[u8], work: Work<'_>) -> (Vec<u8>, Vec<u8>) {
+    let files = files_of(rt, b"", start, true, u64::MAX);
+    let (shown, is_closed, files) = over_files(rt, files, work);
     assert!(rt; is_closed, "files that are closed");
-    files
+    (shown, copy(rt, files.db.inner().bytes()))
+}
+
+/// The files hold what they did before the step that was stopped, or after it.
+fn are_whole(rt: &Bench<impl Abort>, files: Pair, script: &Script, done: usize) {
+    let (seen, ..) = over_files(rt, files, Work::Serve(&QUERIES));
+    let before = script.states.get(done).expect(rt, "a state");
+    let after = script.states.get(done.saturating_add(1)).unwrap_or(before);
+    if seen.as_slice() != before.as_slice() {
+        same(rt, "files after a stop", after, &seen);
+    }
+}
+
+/// Stops the log or the tables at each of their calls in turn, until all work and the closing are
+/// done before it. The files are opened again with all that was written, and with what was synced.
+/// The tables begin with these bytes.
+fn stop_each(rt: &Bench<impl Abort>, start: &[u8], work: Work<'_>, script: &Script, is_log: bool) {
+    let mut stopped = 0u64;
+    for calls in 0..10_000u64 {
+        let files = files_of(rt, b"", start, is_log, calls);
+        let (shown, is_closed, left) = over_files(rt, files, work);
+        let done = count_answered(rt, script, &shown);
+        let (log, db) = (left.log.inner().bytes(), left.db.inner().bytes());
+        are_whole(rt, files_of(rt, log, db, true, u64::MAX), script, done);
+        are_whole(rt, crash(left), script, done);
+        if is_closed && done == script.answers.len() {
+            break;
+        }
+        stopped = stopped.saturating_add(1);
+    }
+    assert!(rt; stopped > 0 && stopped < 10_000, "{stopped} stops");
+}
+
+/// Stops a stream that adds and shows an intersection and begins a transaction, from files that are
+/// empty; and from new tables one that commits a plan too, abandons a draft, and imports records.
+#[test]
+fn streams_are_stopped(host: HostRuntime) {
+    let rt = (&host, host.alloc());
+    let (_, new) = after(&rt, b"", Work::Serve(&[]));
+    for (count, start) in [(3, b"".as_slice()), (11, new.as_slice())] {
+        let script = script_of(&rt, count);
+        for is_log in [true, false] {
+            stop_each(&rt, start, Work::Serve(&script.requests), &script, is_log);
+        }
+    }
+}
+
+#[test]
+fn a_migration_is_stopped(host: HostRuntime) {
+    let rt = (&host, host.alloc());
+    let (_, old) = after(&rt, b"", Work::Age);
+    let (_, migrated) = after(&rt, &old, Work::Migrate);
+    let (seen, _) = after(&rt, &migrated, Work::Serve(&QUERIES));
+    let mut script = script_of(&rt, 0);
+    script
+        .answers
+        .push(copy(&rt, MIGRATED))
+        .expect(&rt, "memory");
+    script.states = vec![in rt.1; copy(&rt, OLD), seen].expect(&rt, "memory");
+    for is_log in [true, false] {
+        stop_each(&rt, &old, Work::Migrate, &script, is_log);
+    }
 }

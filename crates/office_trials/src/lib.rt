@@ -13,10 +13,6 @@ mod files;
 #[cfg(test)]
 mod refusing;
 #[cfg(test)]
-mod script;
-#[cfg(test)]
-mod stops;
-#[cfg(test)]
 mod streams;
 #[cfg(test)]
 mod worked;

@@ -1,15 +1,16 @@
 //! One script over maps and over a database, by streams, as a list of commands, and request by
 //! request: it is answered equally, and the same is there after it.
 
-use crate::asking::{Bench, ask, in_maps, request_of, same, state_of};
-use crate::files::{Work, files_after, over_files, reread};
-use crate::script::{Script, script_of};
+use crate::asking::{Bench, Script, answers_to, bytes_of, in_maps, same, script_of, state_of};
+use crate::files::{Work, after};
 use crate::streams::serve_worked;
+use cabinet_core::{PartCode, RecordCommand};
 use office_desk::office::Office;
-use office_http::{Form, answer_of, command_of};
+use office_http::{Form, Front, answer_of, command_of, next_request};
 use office_machine::command::Command;
 use office_tables_shelf::rows::Table;
 use office_tables_shelf::shelf::Shelf;
+use signal_records::PhaseList;
 use std::process::Abort;
 
 /// How many requests come by streams, and how many before those that come one by one.
@@ -23,13 +24,34 @@ const LISTED: usize = 20;
 /// committed, twice, and removed. That no draft row is left of an intersection counts once.
 const WRITES: [u64; 14] = [11_15, 0, 4, 0, 0, 4_01, 0, 1, 1, 0, 1, 0, 0, 1_01];
 
+/// A command, made of its record if it is one of the register.
+fn of_record(command: Command) -> Command {
+    let record = match command {
+        Command::Record(record) => record,
+        other => return other,
+    };
+    match record {
+        RecordCommand::Inspect { id, inspection } => Command::inspect(id, inspection),
+        RecordCommand::OpenOrder { id, opening } => Command::open_order(id, opening),
+        RecordCommand::UsePart { id, line } => Command::use_part(id, line),
+        RecordCommand::CloseOrder { id, order, closing } => {
+            Command::close_order(id, order, closing)
+        }
+        RecordCommand::Receive { delivery } => Command::receive(delivery),
+    }
+}
+
 /// The commands that requests ask for, with the forms of their answers.
 fn commands(rt: &Bench<impl Abort>, requests: &[&'static str]) -> (Vec<Command>, Vec<Form>) {
     let (mut commands, mut forms) = (Vec::new(rt.1), Vec::new(rt.1));
     for request in requests {
-        let asked = command_of(rt.1, &request_of(request)).ok();
+        let bytes = bytes_of(rt, &[*request]);
+        let asked = match next_request(bytes.as_bytes()) {
+            Front::Whole { request, .. } => command_of(rt.1, &request).ok(),
+            _ => None,
+        };
         let asked = asked.expect(rt, "a command");
-        commands.push(asked.command).expect(rt, "memory");
+        commands.push(of_record(asked.command)).expect(rt, "memory");
         forms.push(asked.form).expect(rt, "memory");
     }
     (commands, forms)
@@ -53,7 +75,7 @@ fn run_counted<S: Shelf>(rt: &Bench<impl Abort>, office: &mut Office<S>, script:
     let mut wanted = WRITES[0];
     let steps = script.requests.iter().zip(&script.answers).skip(LISTED);
     for ((request, answer), writes) in steps.zip(&WRITES[1..]) {
-        same(rt, request, answer, &ask(rt, office, request));
+        same(rt, request, answer, &answers_to(rt, office, &[*request]));
         wanted = wanted.saturating_add(*writes);
         let shelf = office.shelf();
         let timing = shelf.writes(Table::Timing).saturating_mul(100);
@@ -76,16 +98,25 @@ pub(crate) fn play_all<S: Shelf>(
     state_of(rt, office)
 }
 
+/// How many relays there are on a shelf.
+fn relays<S: Shelf>(rt: &Bench<impl Abort>, shelf: &mut S) -> Option<u32> {
+    let part = PartCode::new(rt.1, b"RELAY").ok().expect(rt, "memory");
+    let hand = shelf.hand(rt.1, &part.expect(rt, "a part"));
+    hand.ok().expect(rt, "a shelf").map(|hand| hand.get())
+}
+
 #[test]
 fn both_kinds_of_tables_answer_equally(host: HostRuntime) {
     let rt = (&host, host.alloc());
     let script = script_of(&rt, usize::MAX);
     assert!(rt; script.requests.len() == LISTED + WRITES.len() - 1);
-    let new = files_after(&rt, b"", Work::Open);
     for most in [usize::MAX, 1] {
-        let wanted = play_all(&rt, &mut in_maps(&rt), &script, most);
-        let files = reread(&rt, &new);
-        let ((_, came), ..) = over_files(&rt, files, Work::Script(&script, most));
+        let mut office = in_maps(&rt);
+        let wanted = play_all(&rt, &mut office, &script, most);
+        let (came, _) = after(&rt, b"", Work::Script(&script, most));
         same(&rt, "what is there", &wanted, &came);
+        assert!(rt; relays(&rt, &mut office.into_shelf()) == Some(999_999_997));
     }
+    let mates = PhaseList::new(rt.1, &[6, 2]).ok().expect(&rt, "memory");
+    assert!(rt; mates.expect(&rt, "phases").as_slice().len() == 2);
 }
