@@ -134,18 +134,6 @@ overdue_at rows = do
   day ← day_at (codes "DAY") rows
   Ok (request.Show (shown.Overdue day (unwrap_or first 9_999) (flag_at (codes "csv") rows)))
 
--- `orders --db FILE [--csv] [ID]`
-abbrev pub orders_at : List Row → Stated Request
-orders_at rows = do
-  id ← needed (choice_from 1 9_999 (codes "ID") rows)
-  Ok (request.Show (shown.Orders id (flag_at (codes "csv") rows)))
-
--- `used --db FILE [--csv] [PART]`
-abbrev pub used_at : List Row → Stated Request
-used_at rows = do
-  part ← any_of wrong.Part part_of (first_of (codes "PART") rows)
-  Ok (request.Used part (flag_at (codes "csv") rows))
-
 -- `add --db FILE ID INTERVAL NAME`
 abbrev pub add_at : List Row → Stated Request
 add_at rows = do
@@ -213,13 +201,6 @@ edit_at rows = do
     advise = flag_at (codes "advise") rows;
   }))
 
--- `abandon --db FILE --clerk NAME ID`
-abbrev pub abandon_at : List Row → Stated Request
-abandon_at rows = do
-  id ← intersection_at rows
-  clerk ← name_at wrong.Clerk 40 (codes "clerk") rows
-  Ok (request.Abandon id clerk)
-
 -- what stands under the name of a command
 abbrev pub under : {A : Type 0} → Text → List (Text × A) → Option A
 under name among = option_map (λ c. c.1) (find (λ c. bytes_eq name c.0) among)
@@ -241,9 +222,14 @@ requests =
     ∷ (codes "stock", λ rows. Ok (request.Show (shown.Stock (flag_at (codes "csv") rows))))
     -- `cabinet --db FILE ID`
     ∷ (codes "cabinet", shown_at shown.Cabinet)
-    ∷ (codes "overdue", overdue_at) ∷ (codes "orders", orders_at) ∷ (codes "used", used_at)
-    ∷ (codes "add", add_at) ∷ (codes "import", import_at) ∷ (codes "export", export_at)
-    ∷ (codes "pages", pages_at) ∷ (codes "edit", edit_at) ∷ (codes "abandon", abandon_at) ∷ []
+    -- `orders --db FILE [--csv] [ID]`
+    ∷ (codes "orders", λ rows. needed (choice_from 1 9_999 (codes "ID") rows) >>= (λ id. Ok (request.Show (shown.Orders id (flag_at (codes "csv") rows)))))
+    -- `used --db FILE [--csv] [PART]`
+    ∷ (codes "used", λ rows. any_of wrong.Part part_of (first_of (codes "PART") rows) >>= (λ part. Ok (request.Used part (flag_at (codes "csv") rows))))
+    -- `abandon --db FILE --clerk NAME ID`
+    ∷ (codes "abandon", λ rows. intersection_at rows >>= (λ id. name_at wrong.Clerk 40 (codes "clerk") rows >>= (λ clerk. Ok (request.Abandon id clerk))))
+    ∷ (codes "overdue", overdue_at) ∷ (codes "add", add_at) ∷ (codes "import", import_at)
+    ∷ (codes "export", export_at) ∷ (codes "pages", pages_at) ∷ (codes "edit", edit_at) ∷ []
 
 -- what the command of a name asks of the office of a file
 abbrev pub request_at : Text → List Row → Stated Request
@@ -258,12 +244,6 @@ office_of asked rows = do
 
 -- ---- jobs
 
--- `batch [--db FILE]`
-abbrev pub batch_at : List Row → Stated Job
-batch_at rows = do
-  db ← any_db_at rows
-  Ok (job.Batch db)
-
 -- `serve --port N [--count K] [--db FILE]`; without a count the most connections are served
 abbrev pub serve_at : List Row → Stated Job
 serve_at rows = do
@@ -271,25 +251,6 @@ serve_at rows = do
   count ← needed (choice_from 1 1_000_000 (codes "count") rows)
   db ← any_db_at rows
   Ok (job.Serve port (unwrap_or count 1_000_000) db)
-
--- `verify-file [--explain] [--advise] [--padded] CSV`
-abbrev pub verify_file_at : List Row → Stated Job
-verify_file_at rows = do
-  csv ← needed (csv_at (codes "CSV") rows)
-  Ok (job.ShowPlan csv (plan.Violations (flag_at (codes "explain") rows) (flag_at (codes "advise") rows)))
-
--- `migrate --db FILE`
-abbrev pub migrate_at : List Row → Stated Job
-migrate_at rows = do
-  db ← db_at rows
-  Ok (job.Migrate db)
-
--- `backup --db FILE [--force] TO`
-abbrev pub backup_at : List Row → Stated Job
-backup_at rows = do
-  db ← db_at rows
-  to ← word_at (codes "TO") rows
-  Ok (job.Backup db to (flag_at (codes "force") rows))
 
 -- `compare [--csv] [--padded] PLAN OTHER`, or `compare --db FILE [--csv] [--padded] ID [OTHER]`
 abbrev pub comparison_of : Option OfficeFile → Option CsvFile → List Row → Stated Job
@@ -344,9 +305,19 @@ page_at rows = do
 -- the other commands
 abbrev pub jobs : List (Text × (List Row → Stated Job))
 jobs =
-    (codes "batch", batch_at) ∷ (codes "serve", serve_at) ∷ (codes "verify-file", verify_file_at)
-    ∷ (codes "migrate", migrate_at) ∷ (codes "backup", backup_at) ∷ (codes "compare", compare_at)
-    ∷ (codes "diagram", diagram_at) ∷ (codes "page", page_at) ∷ []
+    -- `batch [--db FILE]`
+    (codes "batch", λ rows. any_db_at rows >>= (λ db. Ok (job.Batch db)))
+    -- `migrate --db FILE`
+    ∷ (codes "migrate", λ rows. db_at rows >>= (λ db. Ok (job.Migrate db)))
+    -- `backup --db FILE [--force] TO`
+    ∷ (codes "backup", λ rows. db_at rows >>= (λ db. word_at (codes "TO") rows >>= (λ to. Ok (job.Backup db to (flag_at (codes "force") rows)))))
+    -- `verify-file [--explain] [--advise] [--padded] CSV`
+    ∷ (
+      codes "verify-file",
+      λ rows. needed (csv_at (codes "CSV") rows)
+          >>= (λ csv. Ok (job.ShowPlan csv (plan.Violations (flag_at (codes "explain") rows) (flag_at (codes "advise") rows)))),
+    )
+    ∷ (codes "serve", serve_at) ∷ (codes "compare", compare_at) ∷ (codes "diagram", diagram_at) ∷ (codes "page", page_at) ∷ []
 
 -- what the command of a name asks for, or why its values state no job
 abbrev pub job_at : Text → List Row → Stated Job

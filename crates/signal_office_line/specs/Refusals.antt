@@ -1,8 +1,8 @@
 -- Why a command line states no job.
-use Rattle.std.specs.Prelude.{ℕ, ◌≡◌, ◌≢◌, ◌⊎◌, ⊤, true, List, [], ◌∷◌, Some, None, Result, Ok, Err}
+use Rattle.std.specs.Prelude.{ℕ, ◌≡◌, ◌≢◌, ◌⊎◌, ⊤, true, List, Some, None, Result, Ok, Err, IfOk, IfErr}
 use Rattle.std.specs.declared.alloc.AllocError.{AllocError}
 use Rattle.clap.specs.Faults.{fault_of}
-use Rattle.clap.specs.Kinds.{IsAmong, Kinds, or_else}
+use Rattle.clap.specs.Kinds.{FailsBy, Kinds}
 use Rattle.clap.specs.Simple.{subcommand_of, subcommand_rows_of}
 use Rattle.clap.specs.Takes.{takes}
 use Rattle.clap.specs.Values.{kind_of}
@@ -21,29 +21,6 @@ use Rattle.signal_office_line.specs.Job.{Stated, job_in, number_from}
 -- that it takes have none
 unfoldable pub clap_refusals : List Text → Kinds
 clap_refusals words = fault_of signal_app words
-
--- what words ask for by the command and the values that `clap` finds in them
-abbrev pub job_in_words : List Text → Stated Job
-job_in_words words = job_in (subcommand_of signal_app words)
-
--- words that state no job are refused for a value
-abbrev pub value_refusals : Stated Job → Kinds
-value_refusals (Err Unstated) = kind.ValueValidation ∷ []
-value_refusals (Err (Bad bad)) = []
-value_refusals (Ok job) = []
-
--- the kinds of refusal of the words: those of `clap`, and where it takes the words that of a value
-abbrev pub word_refusals : List Text → Kinds
-word_refusals words = or_else (clap_refusals words) (value_refusals (job_in_words words))
-
--- WHAT IS FOUND IN WORDS: the job that they state, or one bad word in it, where `clap` takes them; or
--- a refusal, of words that state none; or that memory ran out
-abbrev pub IsFoundInWords : List Text → Result Job JobFault → Type 0
-IsFoundInWords words (Ok job) = (clap_refusals words ≡ []) × (job_in_words words ≡ Ok job)
-IsFoundInWords words (Err (fault.Bad bad)) = (clap_refusals words ≡ []) × (job_in_words words ≡ Err (Bad bad))
-IsFoundInWords words (Err (fault.Refused error)) =
-    IsAmong (kind_of error) (word_refusals words) × (takes signal_app words ≡ true → job_in_words words ≡ Err Unstated)
-IsFoundInWords words (Err fault.NoMemory) = ⊤
 
 -- an error of `clap` is reported as it is, but out of memory by itself
 abbrev pub IsToldAs : Error → JobFault → Type 0
@@ -73,3 +50,12 @@ abbrev pub IsJudged : Result ArgMatches Error → Result Job JobFault → Type 0
 IsJudged (Ok matches) result = IsJobFound (job_in (subcommand_rows_of matches)) result
 IsJudged (Err error) (Err told) = IsToldAs error told
 IsJudged (Err error) (Ok job) = ⊥
+
+-- WHAT IS FOUND IN WORDS: `clap` answers to them the command that they name with its values, where it takes them, or else one of their refusals, or that memory ran out; and
+-- of that the job is found that the values state, or why they state none.
+pub record IsFoundInWords (words : List Text) (result : Result Job JobFault) : Type 0 where
+  pub answer : Result ArgMatches Error
+  pub found : IfOk answer (λ matches. subcommand_rows_of matches ≡ subcommand_of signal_app words)
+  pub kinds : FailsBy (clap_refusals words) answer
+  pub passes : IfErr answer (λ error. takes signal_app words ≡ true → kind_of error ≡ kind.OutOfMemory)
+  pub judged : IsJudged answer result

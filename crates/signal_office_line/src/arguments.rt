@@ -1,9 +1,9 @@
 //! The arguments that commands take, and how `clap` is told of them.
 
 ghost use Rattle.std.specs.Prelude.{◌≡◌, IfOk, false, map};
-ghost use Rattle.clap.specs.Simple.{App, with_subcommand};
+ghost use Rattle.clap.specs.Simple.{App};
 ghost use Rattle.clap.specs.Walk.{rule_of};
-ghost use Rattle.signal_office_line.specs.CommandLine.{ParsesAs, app_for, rule_for, with_subcommands};
+ghost use Rattle.signal_office_line.specs.CommandLine.{ParsesAs, app_for, rule_for, with_command, with_each};
 
 use crate::help::{about_of, ending_of, help_of};
 use clap::{Arg, ArgAction, Command};
@@ -11,7 +11,7 @@ use std::alloc::{AllocError, Global};
 
 /// How an argument is given.
 #[derive(Clone, Copy)]
-pub(crate) enum Form<'a> {
+pub(crate) enum Form {
     /// A word that has to be given.
     Word,
     /// A word that may be left out.
@@ -19,22 +19,22 @@ pub(crate) enum Form<'a> {
     /// `--NAME`, without a value.
     Flag,
     /// `--NAME VALUE`, which has to be given, with what the help calls its value.
-    Needed(&'a str),
+    Needed(&'static str),
     /// `--NAME VALUE`, which may be left out, with what the help calls its value.
-    Choice(&'a str),
+    Choice(&'static str),
 }
 
 /// An argument of a command: its name, how it is given, and from which number to which it is, where
 /// it is to be one.
 #[derive(Clone, Copy)]
-pub(crate) struct Argument<'a>(pub &'a str, pub Form<'a>, pub Option<(u32, u32)>);
+pub(crate) struct Argument(pub &'static str, pub Form, pub Option<(u32, u32)>);
 
 /// A command: its name, and its arguments in their order.
 #[derive(Clone, Copy)]
-pub(crate) struct Usage<'a>(pub &'a str, pub &'a [Argument<'a>]);
+pub(crate) struct Usage(pub &'static str, pub &'static [Argument]);
 
 /// An argument of a command as `clap` takes it.
-fn arg_of<'a>(alloc: Global, command: &str, argument: &Argument<'a>) -> Arg<'a>
+fn arg_of<'a>(alloc: Global, command: &str, argument: &Argument) -> Arg<'a>
     ensures rule { rule_of result ≡ rule_for argument.now }
     ensures local { result.global ≡ false }
 {
@@ -50,7 +50,7 @@ fn arg_of<'a>(alloc: Global, command: &str, argument: &Argument<'a>) -> Arg<'a>
 }
 
 /// A command as `clap` takes it.
-pub(crate) fn command_of<'a>(alloc: Global, usage: &Usage<'a>) -> Result<Command<'a>, AllocError>
+pub(crate) fn command_of<'a>(alloc: Global, usage: &Usage) -> Result<Command<'a>, AllocError>
     ensures { IfOk result (λ c. ParsesAs c (app_for usage.now)) }
 {
     let Usage(name, arguments) = *usage;
@@ -70,7 +70,7 @@ fn with_command<'a>(
 ) -> Result<Command<'a>, AllocError>
     ensures { (app inner : App) → IfOk program.entry (λ c. ParsesAs c app) →
         IfOk command.entry (λ c. ParsesAs c inner) →
-        IfOk result (λ c. ParsesAs c (with_subcommand app inner.top)) }
+        IfOk result (λ c. ParsesAs c (with_command app inner)) }
 {
     program?.subcommand(command?)
 }
@@ -79,10 +79,10 @@ fn with_command<'a>(
 pub(crate) fn with_commands<'a>(
     alloc: Global,
     program: Command<'a>,
-    commands: &[Usage<'a>],
+    commands: &[Usage],
 ) -> Result<Command<'a>, AllocError>
     ensures { (app : App) → ParsesAs program.entry app →
-        IfOk result (λ c. ParsesAs c (with_subcommands app (map app_for commands.now))) }
+        IfOk result (λ c. ParsesAs c (with_each with_command app (map app_for commands.now))) }
 {
     let mut program = program;
     for usage in commands {

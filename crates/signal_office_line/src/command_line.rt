@@ -10,81 +10,78 @@ use std::alloc::{AllocError, Global};
 /// The program's version, as the newest heading of CHANGELOG.md has it, and that of its tables.
 const VERSION: &str = "2026-11-28, tables of version 2";
 
-const DB: Argument<'static> = Argument("db", Form::Needed("FILE"), None);
+// The arguments of the commands, one line for each.
+const DB: Argument = Argument("db", Form::Needed("FILE"), None);
 
-const ANY_DB: Argument<'static> = Argument("db", Form::Choice("FILE"), None);
+const ANY_DB: Argument = Argument("db", Form::Choice("FILE"), None);
 
-pub(crate) const WAIT: Argument<'static> = Argument(
-    "wait",
-    Form::Choice("SECONDS"),
-    Some((0, 3_600)),
-);
+pub(crate) const WAIT: Argument = Argument("wait", Form::Choice("SECONDS"), Some((0, 3_600)));
 
-const PORT: Argument<'static> = Argument("port", Form::Needed("N"), Some((1, 65_535)));
+const PORT: Argument = Argument("port", Form::Needed("N"), Some((1, 65_535)));
 
-const COUNT: Argument<'static> = Argument("count", Form::Choice("N"), Some((1, 1_000_000)));
+const COUNT: Argument = Argument("count", Form::Choice("N"), Some((1, 1_000_000)));
 
-const FIRST: Argument<'static> = Argument("first", Form::Choice("N"), Some((1, 9_999)));
+const FIRST: Argument = Argument("first", Form::Choice("N"), Some((1, 9_999)));
 
-const ON_DAY: Argument<'static> = Argument("day", Form::Choice("DAY"), None);
+const ON_DAY: Argument = Argument("day", Form::Choice("DAY"), None);
 
-const UNTIL: Argument<'static> = Argument("until", Form::Choice("DAY"), None);
+const UNTIL: Argument = Argument("until", Form::Choice("DAY"), None);
 
-const CLERK: Argument<'static> = Argument("clerk", Form::Needed("NAME"), None);
+const CLERK: Argument = Argument("clerk", Form::Needed("NAME"), None);
 
-const FILE: Argument<'static> = Argument("file", Form::Choice("FILE"), None);
+const FILE: Argument = Argument("file", Form::Choice("FILE"), None);
 
-const CSV: Argument<'static> = Argument("csv", Form::Flag, None);
+const CSV: Argument = Argument("csv", Form::Flag, None);
 
-const EXPLAIN: Argument<'static> = Argument("explain", Form::Flag, None);
+const EXPLAIN: Argument = Argument("explain", Form::Flag, None);
 
-const ADVISE: Argument<'static> = Argument("advise", Form::Flag, None);
+const ADVISE: Argument = Argument("advise", Form::Flag, None);
 
-const PADDED: Argument<'static> = Argument("padded", Form::Flag, None);
+const PADDED: Argument = Argument("padded", Form::Flag, None);
 
-const FORCE: Argument<'static> = Argument("force", Form::Flag, None);
+const FORCE: Argument = Argument("force", Form::Flag, None);
 
-const CHECK: Argument<'static> = Argument("check", Form::Flag, None);
+const CHECK: Argument = Argument("check", Form::Flag, None);
 
-const DRAFT: Argument<'static> = Argument("draft", Form::Flag, None);
+const DRAFT: Argument = Argument("draft", Form::Flag, None);
 
-const CABINET: Argument<'static> = Argument("cabinet", Form::Flag, None);
+const CABINET: Argument = Argument("cabinet", Form::Flag, None);
 
-const ALL: Argument<'static> = Argument("all", Form::Flag, None);
+const ALL: Argument = Argument("all", Form::Flag, None);
 
-const REPLACE: Argument<'static> = Argument("replace", Form::Flag, None);
+const REPLACE: Argument = Argument("replace", Form::Flag, None);
 
-const COMMIT: Argument<'static> = Argument("commit", Form::Flag, None);
+const COMMIT: Argument = Argument("commit", Form::Flag, None);
 
-pub(crate) const ID: Argument<'static> = Argument("ID", Form::Word, Some((1, 9_999)));
+pub(crate) const ID: Argument = Argument("ID", Form::Word, Some((1, 9_999)));
 
-const ANY_ID: Argument<'static> = Argument("ID", Form::SecondWord, Some((1, 9_999)));
+const ANY_ID: Argument = Argument("ID", Form::SecondWord, Some((1, 9_999)));
 
-const DAY: Argument<'static> = Argument("DAY", Form::Word, None);
+const DAY: Argument = Argument("DAY", Form::Word, None);
 
-const INTERVAL: Argument<'static> = Argument("INTERVAL", Form::Word, Some((1, 3_650)));
+const INTERVAL: Argument = Argument("INTERVAL", Form::Word, Some((1, 3_650)));
 
-const NAME: Argument<'static> = Argument("NAME", Form::Word, None);
+const NAME: Argument = Argument("NAME", Form::Word, None);
 
-const PART: Argument<'static> = Argument("PART", Form::SecondWord, None);
+const PART: Argument = Argument("PART", Form::SecondWord, None);
 
-pub(crate) const DIR: Argument<'static> = Argument("DIR", Form::Word, None);
+pub(crate) const DIR: Argument = Argument("DIR", Form::Word, None);
 
-const TO: Argument<'static> = Argument("TO", Form::Word, None);
+const TO: Argument = Argument("TO", Form::Word, None);
 
-const RECORDS: Argument<'static> = Argument("CSV", Form::Word, None);
+const RECORDS: Argument = Argument("CSV", Form::Word, None);
 
-const ANY_RECORDS: Argument<'static> = Argument("CSV", Form::SecondWord, None);
+const ANY_RECORDS: Argument = Argument("CSV", Form::SecondWord, None);
 
-const PLAN: Argument<'static> = Argument("PLAN", Form::Word, None);
+const PLAN: Argument = Argument("PLAN", Form::Word, None);
 
-const OTHER: Argument<'static> = Argument("OTHER", Form::SecondWord, None);
+const OTHER: Argument = Argument("OTHER", Form::SecondWord, None);
 
-pub(crate) const PATTERN: Argument<'static> = Argument("PATTERN", Form::SecondWord, Some((1, 48)));
+pub(crate) const PATTERN: Argument = Argument("PATTERN", Form::SecondWord, Some((1, 48)));
 
 /// The commands with their arguments, in the order of the help. What the help says of them stands
 /// in `help.rt`.
-const COMMANDS: &[Usage<'static>] = &[
+const COMMANDS: &[Usage] = &[
     Usage("batch", &[ANY_DB, WAIT]),
     Usage("serve", &[PORT, COUNT, ANY_DB, WAIT]),
     Usage("sheet", &[DB, WAIT, ID]),
@@ -123,7 +120,7 @@ const COMMANDS: &[Usage<'static>] = &[
 ];
 
 // The table is named in one function, since it counts in every one that names it.
-fn commands() -> &'static [Usage<'static>]
+fn commands() -> &'static [Usage]
     ensures { map app_for result.now ≡ commands }
 {
     COMMANDS
@@ -141,7 +138,7 @@ pub(crate) fn command_line<'a>(alloc: Global) -> Result<Command<'a>, AllocError>
 }
 
 /// The command of a name.
-pub(crate) fn usage_of(name: &str) -> Option<Usage<'static>> {
+pub(crate) fn usage_of(name: &str) -> Option<Usage> {
     for usage in commands() {
         let Usage(own, ..) = *usage;
         if *own == *name {

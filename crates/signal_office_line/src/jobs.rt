@@ -3,7 +3,7 @@
 ghost use Rattle.std.specs.Prelude.{◌≡◌};
 ghost use Rattle.clap.specs.Matches.{found_of};
 ghost use Rattle.clap.specs.Walk.{rows_of};
-ghost use Rattle.signal_office_line.specs.Job.{abandon_at, add_at, backup_at, batch_at, choice_from, compare_at, diagram_at, edit_at, edited_file, export_at, import_at, job_at, migrate_at, number_from, office_of, orders_at, overdue_at, page_at, pages_at, request_at, serve_at, used_at, verify_file_at, view_of};
+ghost use Rattle.signal_office_line.specs.Job.{add_at, choice_from, compare_at, diagram_at, edit_at, edited_file, export_at, import_at, job_at, number_from, office_of, overdue_at, page_at, pages_at, request_at, serve_at, view_of};
 
 use crate::job::{BadWord, CsvFile, Edit, Folder, Job, NoJob, Request};
 use crate::shows::{PlanShown, Shown, View};
@@ -56,24 +56,6 @@ fn overdue<'a>(matches: &ArgMatches<'a>) -> Result<Request<'a>, NoJob>
     let most = first.unwrap_or(ALL_INTERSECTIONS) as usize;
     let csv = flag(matches, "csv");
     Ok(Request::Show(Shown::Overdue { day, most, csv }))
-}
-
-/// `orders --db FILE [--csv] [ID]`.
-fn orders<'a>(matches: &ArgMatches<'a>) -> Result<Request<'a>, NoJob>
-    ensures { result ≡ orders_at (rows_of (found_of matches.now)) }
-{
-    let id = chosen_intersection(matches, "ID").ok_or(NoJob::Unstated)?;
-    let csv = flag(matches, "csv");
-    Ok(Request::Show(Shown::Orders { id, csv }))
-}
-
-/// `used --db FILE [--csv] [PART]`.
-fn used<'a>(matches: &ArgMatches<'a>) -> Result<Request<'a>, NoJob>
-    ensures { result ≡ used_at (rows_of (found_of matches.now)) }
-{
-    let part = any_part(matches, "PART")?;
-    let csv = flag(matches, "csv");
-    Ok(Request::Used { part, csv })
 }
 
 /// `add --db FILE ID INTERVAL NAME`.
@@ -176,15 +158,6 @@ fn edit<'a>(matches: &ArgMatches<'a>) -> Result<Request<'a>, NoJob>
     }))
 }
 
-/// `abandon --db FILE --clerk NAME ID`.
-fn abandon<'a>(matches: &ArgMatches<'a>) -> Result<Request<'a>, NoJob>
-    ensures { result ≡ abandon_at (rows_of (found_of matches.now)) }
-{
-    let id = intersection(matches)?;
-    let clerk = name(matches, "clerk", BadWord::Clerk)?;
-    Ok(Request::Abandon { id, clerk })
-}
-
 /// What the command of a name asks of the office of a file.
 fn request_at<'a>(command: &str, matches: &ArgMatches<'a>) -> Result<Request<'a>, NoJob>
     ensures { result ≡ request_at command.now (rows_of (found_of matches.now)) }
@@ -202,15 +175,26 @@ fn request_at<'a>(command: &str, matches: &ArgMatches<'a>) -> Result<Request<'a>
         "cabinet" => Shown::Cabinet {
             id: intersection(matches)?,
         },
+        "orders" => Shown::Orders {
+            id: chosen_intersection(matches, "ID").ok_or(NoJob::Unstated)?,
+            csv: flag(matches, "csv"),
+        },
         "overdue" => return overdue(matches),
-        "orders" => return orders(matches),
-        "used" => return used(matches),
+        "used" => {
+            let part = any_part(matches, "PART")?;
+            let csv = flag(matches, "csv");
+            return Ok(Request::Used { part, csv });
+        }
         "add" => return add(matches),
         "import" => return import(matches),
         "export" => return export(matches),
         "pages" => return pages(matches),
         "edit" => return edit(matches),
-        "abandon" => return abandon(matches),
+        "abandon" => {
+            let id = intersection(matches)?;
+            let clerk = name(matches, "clerk", BadWord::Clerk)?;
+            return Ok(Request::Abandon { id, clerk });
+        }
         _ => return Err(NoJob::Unstated),
     };
     Ok(Request::Show(shown))
@@ -225,14 +209,6 @@ fn office<'a>(matches: &ArgMatches<'a>, asked: Result<Request<'a>, NoJob>) -> Re
     Ok(Job::Office { db, request })
 }
 
-/// `batch [--db FILE]`.
-fn batch<'a>(matches: &ArgMatches<'a>) -> Result<Job<'a>, NoJob>
-    ensures { result ≡ batch_at (rows_of (found_of matches.now)) }
-{
-    let db = any_office_file(matches)?;
-    Ok(Job::Batch { db })
-}
-
 /// `serve --port N [--count K] [--db FILE]`.
 fn serve<'a>(matches: &ArgMatches<'a>) -> Result<Job<'a>, NoJob>
     ensures { result ≡ serve_at (rows_of (found_of matches.now)) }
@@ -242,35 +218,6 @@ fn serve<'a>(matches: &ArgMatches<'a>) -> Result<Job<'a>, NoJob>
     let count = count.unwrap_or(MOST_CONNECTIONS);
     let db = any_office_file(matches)?;
     Ok(Job::Serve { port, count, db })
-}
-
-/// `verify-file [--explain] [--advise] [--padded] CSV`.
-fn verify_file<'a>(matches: &ArgMatches<'a>) -> Result<Job<'a>, NoJob>
-    ensures { result ≡ verify_file_at (rows_of (found_of matches.now)) }
-{
-    let csv = csv_file(matches, "CSV").ok_or(NoJob::Unstated)?;
-    let explain = flag(matches, "explain");
-    let advise = flag(matches, "advise");
-    let shown = PlanShown::Violations { explain, advise };
-    Ok(Job::ShowPlan { csv, shown })
-}
-
-/// `migrate --db FILE`.
-fn migrate<'a>(matches: &ArgMatches<'a>) -> Result<Job<'a>, NoJob>
-    ensures { result ≡ migrate_at (rows_of (found_of matches.now)) }
-{
-    let db = office_file(matches)?;
-    Ok(Job::Migrate { db })
-}
-
-/// `backup --db FILE [--force] TO`.
-fn backup<'a>(matches: &ArgMatches<'a>) -> Result<Job<'a>, NoJob>
-    ensures { result ≡ backup_at (rows_of (found_of matches.now)) }
-{
-    let db = office_file(matches)?;
-    let to = path(matches, "TO")?;
-    let force = flag(matches, "force");
-    Ok(Job::Backup { db, to, force })
 }
 
 /// `compare [--csv] [--padded] PLAN OTHER`, or `compare --db FILE [--csv] [--padded] ID [OTHER]`.
@@ -343,11 +290,28 @@ pub(crate) fn job_at<'a>(command: &str, matches: &ArgMatches<'a>) -> Result<Job<
     ensures { result ≡ job_at command.now (rows_of (found_of matches.now)) }
 {
     match command {
-        "batch" => batch(matches),
+        "batch" => {
+            let db = any_office_file(matches)?;
+            Ok(Job::Batch { db })
+        }
+        "migrate" => {
+            let db = office_file(matches)?;
+            Ok(Job::Migrate { db })
+        }
+        "backup" => {
+            let db = office_file(matches)?;
+            let to = path(matches, "TO")?;
+            let force = flag(matches, "force");
+            Ok(Job::Backup { db, to, force })
+        }
+        "verify-file" => {
+            let csv = csv_file(matches, "CSV").ok_or(NoJob::Unstated)?;
+            let explain = flag(matches, "explain");
+            let advise = flag(matches, "advise");
+            let shown = PlanShown::Violations { explain, advise };
+            Ok(Job::ShowPlan { csv, shown })
+        }
         "serve" => serve(matches),
-        "verify-file" => verify_file(matches),
-        "migrate" => migrate(matches),
-        "backup" => backup(matches),
         "compare" => compare(matches),
         "diagram" => diagram(matches),
         "page" => page(matches),

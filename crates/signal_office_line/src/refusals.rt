@@ -14,11 +14,7 @@ use clap::{ArgMatches, Error};
 use std::alloc::{AllocError, Global};
 
 /// What a command's argument is to be, by what else is given.
-fn taken_as(
-    command: &str,
-    argument: &Argument<'static>,
-    matches: &ArgMatches<'_>,
-) -> Argument<'static> {
+fn taken_as(command: &str, argument: &Argument, matches: &ArgMatches<'_>) -> Argument {
     let draws_file = command == "diagram" && word(matches, "file").is_some();
     match argument.0 {
         // `diagram --file` takes a pattern alone.
@@ -68,7 +64,7 @@ fn wrong_word<'a>(
 fn number_reason(
     alloc: Global,
     id: &str,
-    argument: Argument<'static>,
+    argument: Argument,
     matches: &ArgMatches<'_>,
 ) -> Result<Option<String>, AllocError> {
     let Argument(name, form, range) = argument;

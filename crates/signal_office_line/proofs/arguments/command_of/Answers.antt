@@ -1,8 +1,8 @@
 use Rattle.std.proofs.Common.{List, map, ap, subst, ◌∙◌}
 use Rattle.std.proofs.lemmas.List.{take_all}
 use Rattle.clap.specs.{declared.builder.command.Command.Command, declared.builder.command.Command.TheOpen.Command-F, Simple.app_of_fields}
-use Rattle.clap.specs.Simple.{new_app}
-use Rattle.signal_office_line.specs.{CommandLine.rule_for, CommandLine.ParsesAs, CommandLine.with_rules, declared.arguments.Argument.Argument}
+use Rattle.clap.specs.Simple.{new_app, with_rule}
+use Rattle.signal_office_line.specs.{CommandLine.rule_for, CommandLine.ParsesAs, CommandLine.with_each, declared.arguments.Argument.Argument}
 use Rattle.signal_office_line.proofs.CommandLemmas.{ParsesAs-arg, ParsesAs-more}
 use Rattle.signal_office_line.proofs.arguments.command_of.Goals as goal
 
@@ -17,12 +17,12 @@ pub loop-argument-preserved : goal.loop-argument-preserved
 loop-argument-preserved c =
     let added = ParsesAs-arg _ _ _ _ _ c.loop-argument.invariant c.arg_of.ensures.rule
     c.arg_of.ensures.local c.in_ok-command.ensures in
-    ParsesAs-more _ _ c.args.usage.now.1.now c.loop-argument.argument-index _
+    ParsesAs-more with_rule rule_for _ _ c.args.usage.now.1.now c.loop-argument.argument-index _
     c.loop-argument-test.true added
 
 pub returns : goal.returns
 returns c =
     subst (λ (xs : List Argument). ParsesAs c.loop-argument.command
-    (with_rules (new_app c.args.usage.now.0.now) (map rule_for xs)))
+    (with_each with_rule (new_app c.args.usage.now.0.now) (map rule_for xs)))
     (take_all c.loop-argument.argument-index c.args.usage.now.1.now c.loop-argument-test.false)
     c.loop-argument.invariant

@@ -1,7 +1,11 @@
-use Rattle.signal_office_line.proofs.RefusalLemmas.{found_in_words}
 use Rattle.signal_office_line.proofs.job.job_of.Goals as goal
 
+-- what `clap` answered was judged
 pub returns : goal.returns
-returns c =
-    found_in_words _ c.matches_of.result c.judged.result c.matches_of.ensures.found c.matches_of.ensures.kinds
-    c.matches_of.ensures.passes c.judged.ensures
+returns c = record {
+  answer = c.matches_of.result;
+  found = c.matches_of.ensures.found;
+  kinds = c.matches_of.ensures.kinds;
+  passes = c.matches_of.ensures.passes;
+  judged = c.judged.ensures;
+}
