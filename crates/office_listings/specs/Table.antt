@@ -1,5 +1,6 @@
 -- Tables: rows of cells, printed as lines of columns or as records of CSV. Places count bytes.
-use Rattle.std.specs.Prelude.{ℕ, ◌-◌, ◌==◌, Bool, if◌then◌else◌, List, [], ◌∷◌, ◌++◌, length, get_or, map, flat_map, replicate, codes, decimal}
+use Rattle.std.specs.Prelude.{◌≡◌, All, ℕ, ◌-◌, ◌==◌, Bool, if◌then◌else◌, List, [], ◌∷◌, ◌++◌, length, get_or, map, flat_map, replicate, codes, decimal}
+use Rattle.csv.specs.Records.{AllText, Row as Fields, fields_of}
 use Rattle.cabinet_core.specs.Day.{day_text}
 use Rattle.office_files.specs.Cells.{right_aligned}
 use Rattle.office_files.specs.Csv.{csv_text}
@@ -60,13 +61,19 @@ field_text (First width word) = word
 field_text (Word width word) = word
 field_text (Day day) = day_text day
 
--- the cell at a place of a row, or an empty word
-abbrev pub cell_at : Row → ℕ → Cell
-cell_at cells place = get_or cells place (Word 0 [])
+-- the field of the cell at a place of a row; an empty one where there is none
+abbrev pub field_at : Row → ℕ → List ℕ
+field_at cells place = field_text (get_or cells place (Word 0 []))
 
 -- the fields of a row's record
 abbrev pub record_fields : List ℕ → Row → List (List ℕ)
-record_fields order cells = map (λ place. field_text (cell_at cells place)) order
+record_fields order cells = map (field_at cells) order
+
+-- a record of texts was added, with the cells of a row in this order
+abbrev pub AddsRecord : List ℕ → Row → (old new : List Fields) → Type 0
+AddsRecord order cells old new =
+    (map fields_of new ≡ map fields_of old ++ record_fields order cells ∷ [])
+    × (All (λ row. AllText (fields_of row)) old → All (λ row. AllText (fields_of row)) new)
 
 -- the CSV file: a record for each row
 abbrev pub records_csv : List ℕ → List Row → List ℕ

@@ -7,7 +7,7 @@ ghost use Rattle.office_listings.specs.Cabinet.{cabinet_count, cabinet_register,
 ghost use Rattle.office_listings.specs.Cabinet.{closing_line, due_line, order_lines, used_line};
 
 use crate::next_numbers::push_next_numbers;
-use crate::table::{Cell, Listed, push_line, push_lines};
+use crate::table::{Cell, Listed, Print, push_line, push_lines};
 use cabinet_core::{
     CabinetView, Closing, Day, Inspection, Order, UsedLine, due, latest, open_count, write_date,
 };
@@ -57,13 +57,14 @@ impl Listed for Inspection {
 
     ghost cells = { inspection_cells };
 
-    fn cells(&self, alloc: Global) -> Result<Vec<Cell<'_>>, NoMemory> {
-        Ok(vec![in alloc;
+    fn print<P: Print>(&self, alloc: Global, order: &[usize], to: &mut P) -> Result<(), NoMemory> {
+        let cells = [
             Cell::Number(6, u64::from(self.number.get())),
             Cell::Day(self.day.date()),
             Cell::Word(12, self.clerk.as_str()),
             Cell::Word(0, self.text.as_str()),
-        ]?)
+        ];
+        to.push_row(alloc, order, &cells)
     }
 }
 

@@ -5,7 +5,7 @@ ghost use Rattle.office_listings.specs.Intersections.{intersections_table, owner
 ghost use Rattle.office_listings.specs.Intersections.{state_word};
 ghost use Rattle.office_listings.specs.Table.{printed};
 
-use crate::table::{Cell, Listed, printed};
+use crate::table::{Cell, Listed, Print, printed};
 use office_machine::intersections::ListedIntersection;
 use signal_records::NoMemory;
 use signal_records::state::{Holder, Stage};
@@ -47,8 +47,8 @@ impl Listed for ListedIntersection {
 
     ghost cells = { intersection_cells };
 
-    fn cells(&self, alloc: Global) -> Result<Vec<Cell<'_>>, NoMemory> {
-        Ok(vec![in alloc;
+    fn print<P: Print>(&self, alloc: Global, order: &[usize], to: &mut P) -> Result<(), NoMemory> {
+        let cells = [
             Cell::Number(6, u64::from(self.id.get())),
             Cell::Number(8, u64::from(self.revision.get())),
             Cell::Word(11, state_word(&self.holder)),
@@ -56,7 +56,8 @@ impl Listed for ListedIntersection {
             Cell::Number(6, self.rows as u64),
             Cell::Number(6, u64::from(self.interval.get())),
             Cell::Word(0, self.name.as_str()),
-        ]?)
+        ];
+        to.push_row(alloc, order, &cells)
     }
 }
 

@@ -6,7 +6,7 @@ ghost use Rattle.office_listings.specs.Orders.{named_orders, open_orders, order_
 ghost use Rattle.office_listings.specs.Orders.{orders_listing, orders_table};
 ghost use Rattle.office_listings.specs.Table.{printed};
 
-use crate::table::{Cell, Listed, columns, printed};
+use crate::table::{Cell, Listed, Print, columns, printed};
 use cabinet_core::Order;
 use office_machine::reply::CabinetShown;
 use signal_records::{InterId, NoMemory, Words};
@@ -89,14 +89,15 @@ impl Listed for OpenOrder {
 
     ghost cells = { open_order_cells };
 
-    fn cells(&self, alloc: Global) -> Result<Vec<Cell<'_>>, NoMemory> {
-        Ok(vec![in alloc;
+    fn print<P: Print>(&self, alloc: Global, order: &[usize], to: &mut P) -> Result<(), NoMemory> {
+        let cells = [
             Cell::Number(6, u64::from(self.id.get())),
             Cell::Number(8, u64::from(self.order.number.get())),
             Cell::Day(self.order.opened.date()),
             Cell::Word(12, self.order.clerk.as_str()),
             Cell::Word(0, self.order.text.as_str()),
-        ]?)
+        ];
+        to.push_row(alloc, order, &cells)
     }
 }
 
@@ -114,16 +115,16 @@ impl Listed for NamedOrder {
 
     ghost cells = { named_order_cells };
 
-    fn cells(&self, alloc: Global) -> Result<Vec<Cell<'_>>, NoMemory> {
-        let order = &self.listed.order;
-        Ok(vec![in alloc;
+    fn print<P: Print>(&self, alloc: Global, order: &[usize], to: &mut P) -> Result<(), NoMemory> {
+        let cells = [
             Cell::Number(6, u64::from(self.listed.id.get())),
-            Cell::Number(8, u64::from(order.number.get())),
-            Cell::Day(order.opened.date()),
+            Cell::Number(8, u64::from(self.listed.order.number.get())),
+            Cell::Day(self.listed.order.opened.date()),
             Cell::Word(12, order.clerk.as_str()),
             Cell::Word(24, self.name.as_str()),
             Cell::Word(0, order.text.as_str()),
-        ]?)
+        ];
+        to.push_row(alloc, order, &cells)
     }
 }
 

@@ -4,7 +4,7 @@ ghost use Rattle.std.specs.Prelude.{◌≡◌, IfOk, IsUtf8};
 ghost use Rattle.office_listings.specs.Overdue.{due_cell, overdue_csv_text};
 ghost use Rattle.office_listings.specs.Table.{cell_of};
 
-use crate::table::{Cell, Listed, records};
+use crate::table::{Cell, Listed, Print, records};
 use cabinet_core::{Date, OverdueRow};
 use signal_records::NoMemory;
 use std::alloc::Global;
@@ -24,12 +24,13 @@ impl Listed for OverdueRow {
 
     ghost cells = { overdue_cells };
 
-    fn cells(&self, alloc: Global) -> Result<Vec<Cell<'_>>, NoMemory> {
-        Ok(vec![in alloc;
+    fn print<P: Print>(&self, alloc: Global, order: &[usize], to: &mut P) -> Result<(), NoMemory> {
+        let cells = [
             Cell::Number(6, u64::from(self.id.get())),
             Cell::Word(0, self.name.as_str()),
             due_cell(self.due),
-        ]?)
+        ];
+        to.push_row(alloc, order, &cells)
     }
 }
 

@@ -4,7 +4,7 @@ ghost use Rattle.std.specs.Prelude.{◌≡◌, IfOk, IsUtf8};
 ghost use Rattle.office_listings.specs.Stock.{stock_table};
 ghost use Rattle.office_listings.specs.Table.{printed};
 
-use crate::table::{Cell, Listed, printed};
+use crate::table::{Cell, Listed, Print, printed};
 use cabinet_core::{Hand, PartCode};
 use signal_records::NoMemory;
 use std::alloc::Global;
@@ -14,11 +14,12 @@ impl Listed for (PartCode, Hand) {
 
     ghost cells = { part_cells };
 
-    fn cells(&self, alloc: Global) -> Result<Vec<Cell<'_>>, NoMemory> {
-        Ok(vec![in alloc;
+    fn print<P: Print>(&self, alloc: Global, order: &[usize], to: &mut P) -> Result<(), NoMemory> {
+        let cells = [
             Cell::Number(10, u64::from(self.1.get())),
             Cell::Word(0, self.0.as_str()),
-        ]?)
+        ];
+        to.push_row(alloc, order, &cells)
     }
 }
 

@@ -1,11 +1,11 @@
 //! Tables: rows of cells, printed as lines of columns or as records of CSV.
 
-ghost use Rattle.std.specs.Prelude.{◌≡◌, ◌++◌, OnOk, IfOk, IsUtf8, flat_map, map, replicate};
+ghost use Rattle.std.specs.Prelude.{◌≡◌, ◌++◌, ℕ, List, OnOk, IfOk, IsUtf8, flat_map, map, replicate};
 ghost use Rattle.std.specs.Prelude.{codes, decimal, string_bytes};
 ghost use Rattle.cabinet_core.specs.Day.{day_text};
 ghost use Rattle.csv.specs.Records.{AllText, fields_of};
 ghost use Rattle.office_files.specs.Cells.{right_aligned};
-ghost use Rattle.office_listings.specs.Table.{cell_at, cell_of, cell_text, columns_text};
+ghost use Rattle.office_listings.specs.Table.{cell_of, cell_text, columns_text, field_at};
 ghost use Rattle.office_listings.specs.Table.{field_text, left_aligned, line_text, printed};
 ghost use Rattle.office_listings.specs.Table.{record_fields, records_csv};
 
@@ -29,16 +29,33 @@ pub(crate) enum Cell<'a> {
     Day(Date),
 }
 
+/// What rows are printed to.
+pub(crate) trait Print {
+    ghost use Rattle.office_listings.specs.Table.{Row, cell_of};
+
+    /// That a row was added, whose record has its cells in this order.
+    ghost adds: { (order : List ℕ) → Row → Self → Self → Type 0 };
+
+    /// Adds a row, whose record has its cells in this order.
+    fn push_row(
+        &mut self,
+        alloc: Global,
+        order: &[usize],
+        cells: &[Cell<'_>],
+    ) -> Result<(), NoMemory>
+        ensures { OnOk result (adds order.now (map cell_of cells.now) self.old self.new) };
+}
+
 /// What is a row of a table.
 pub(crate) trait Listed {
-    ghost use Rattle.office_listings.specs.Table.{Row, cell_of};
+    ghost use Rattle.office_listings.specs.Table.{Row};
 
     /// The cells of the row.
     ghost cells: { Self → Row };
 
-    /// The cells of the row.
-    fn cells(&self, alloc: Global) -> Result<Vec<Cell<'_>>, NoMemory>
-        ensures { IfOk result (λ row. map cell_of row.items ≡ cells self.now) };
+    /// Prints the row, whose record has its cells in this order.
+    fn print<P: Print>(&self, alloc: Global, order: &[usize], to: &mut P) -> Result<(), NoMemory>
+        ensures { OnOk result (P.adds order.now (cells self.now) to.old to.new) };
 }
 
 /// Appends so many spaces.
@@ -52,7 +69,6 @@ fn push_spaces(text: &mut String, count: usize) -> Result<(), AllocError>
 }
 
 /// Appends a number right in so many places.
-#[tactic(auto, using(crate::proofs::TableLemmas::right_placed))]
 fn push_number(text: &mut String, width: usize, number: u64) -> Result<(), AllocError>
     ensures { OnOk result (string_bytes text.new ≡
         string_bytes text.old ++ right_aligned width (decimal number)) }
@@ -108,6 +124,23 @@ pub(crate) fn push_line(text: &mut String, cells: &[Cell<'_>]) -> Result<(), All
     text.push_str("\n")
 }
 
+/// Text is printed to by lines.
+impl Print for String {
+    ghost use Rattle.std.specs.Prelude.{string_bytes};
+    ghost use Rattle.office_listings.specs.Table.{line_text};
+
+    ghost adds = { λ order cells old new. string_bytes new ≡ string_bytes old ++ line_text cells };
+
+    fn push_row(
+        &mut self,
+        _alloc: Global,
+        _order: &[usize],
+        cells: &[Cell<'_>],
+    ) -> Result<(), NoMemory> {
+        Ok(push_line(self, cells)?)
+    }
+}
+
 /// Appends the line of each row.
 pub(crate) fn push_lines<T: Listed>(
     alloc: Global,
@@ -118,8 +151,7 @@ pub(crate) fn push_lines<T: Listed>(
         string_bytes text.old ++ flat_map line_text (map T.cells list.now)) }
 {
     for listed in list {
-        let cells = listed.cells(alloc)?;
-        push_line(text, &cells)?;
+        listed.print(alloc, &[], text)?;
     }
     Ok(())
 }
@@ -153,14 +185,14 @@ fn field_of(alloc: Global, cell: &Cell<'_>) -> Result<String, NoMemory>
     }
 }
 
-/// The cell at a place of a row, or an empty word where there is none.
-#[tactic(auto, using(crate::proofs::TableLemmas::cell_there, crate::proofs::TableLemmas::cell_lacks))]
-fn cell_at<'a>(cells: &[Cell<'a>], place: usize) -> Cell<'a>
-    ensures { cell_of result ≡ cell_at (map cell_of cells.now) place }
+/// The field of the cell at a place of a row; an empty one where there is none.
+#[tactic(auto, using(crate::proofs::TableLemmas::field_there, crate::proofs::TableLemmas::field_lacks))]
+fn field_at(alloc: Global, cells: &[Cell<'_>], place: usize) -> Result<String, NoMemory>
+    ensures { IfOk result (λ field. string_bytes field ≡ field_at (map cell_of cells.now) place) }
 {
     match cells.get(place) {
-        Some(cell) => *cell,
-        None => Cell::Word(0, ""),
+        Some(cell) => field_of(alloc, cell),
+        None => Ok(String::new(alloc)),
     }
 }
 
@@ -172,10 +204,26 @@ fn record_of(alloc: Global, order: &[usize], cells: &[Cell<'_>]) -> Result<ByteR
 {
     let mut row = ByteRecord::new(alloc);
     for place in order {
-        let field = field_of(alloc, &cell_at(cells, *place))?;
+        let field = field_at(alloc, cells, *place)?;
         row.push_field(field.as_bytes())?;
     }
     Ok(row)
+}
+
+/// Records are printed to by records.
+impl Print for Vec<ByteRecord> {
+    ghost use Rattle.office_listings.specs.Table.{AddsRecord};
+
+    ghost adds = { λ order cells old new. AddsRecord order cells old.items new.items };
+
+    fn push_row(
+        &mut self,
+        alloc: Global,
+        order: &[usize],
+        cells: &[Cell<'_>],
+    ) -> Result<(), NoMemory> {
+        Ok(self.push(record_of(alloc, order, cells)?)?)
+    }
 }
 
 /// A table as CSV: the record of each row.
@@ -190,8 +238,7 @@ pub(crate) fn records<T: Listed>(
 {
     let mut rows = Vec::new(alloc);
     for listed in list {
-        let cells = listed.cells(alloc)?;
-        rows.push(record_of(alloc, order, &cells)?)?;
+        listed.print(alloc, order, &mut rows)?;
     }
     csv_file(alloc, &rows)
 }

@@ -5,7 +5,7 @@ ghost use Rattle.office_listings.specs.Table.{printed};
 ghost use Rattle.office_listings.specs.Used.{is_asked_part, is_used_in, used_for};
 ghost use Rattle.office_listings.specs.Used.{used_in_order, used_on, used_table};
 
-use crate::table::{Cell, Listed, printed};
+use crate::table::{Cell, Listed, Print, printed};
 use cabinet_core::{Day, Order, PartCode, UsedLine};
 use office_machine::reply::CabinetShown;
 use signal_records::{InterId, NoMemory, Words};
@@ -94,8 +94,8 @@ impl Listed for UsedPart {
 
     ghost cells = { used_part_cells };
 
-    fn cells(&self, alloc: Global) -> Result<Vec<Cell<'_>>, NoMemory> {
-        Ok(vec![in alloc;
+    fn print<P: Print>(&self, alloc: Global, order: &[usize], to: &mut P) -> Result<(), NoMemory> {
+        let cells = [
             Cell::First(20, self.used.part.as_str()),
             Cell::Number(6, u64::from(self.id.get())),
             Cell::Number(8, u64::from(self.used.order.get())),
@@ -103,7 +103,8 @@ impl Listed for UsedPart {
             Cell::Number(7, u64::from(self.used.line.get())),
             Cell::Number(8, u64::from(self.used.count.get())),
             Cell::Word(0, self.clerk.as_str()),
-        ]?)
+        ];
+        to.push_row(alloc, order, &cells)
     }
 }
 
