@@ -36,3 +36,8 @@ pub four_parts : {A E : Type 0} (result : Result A E) (old first second third fo
     → three ≡ two ++ third → OnOk result (new ≡ three ++ fourth) → OnOk result (new ≡ old ++ (first ++ second ++ third ++ fourth))
 four_parts (Ok x) old first second third fourth one two three new a b c d = rw (d, c, b, a) (simp append_assoc)
 four_parts (Err e) old first second third fourth one two three new a b c d = tt
+
+-- and five
+pub five_parts : (old first second third fourth fifth one two three four five : List ℕ) → one ≡ old ++ first → two ≡ one ++ second
+    → three ≡ two ++ third → four ≡ three ++ fourth → five ≡ four ++ fifth → five ≡ old ++ (first ++ second ++ third ++ fourth ++ fifth)
+five_parts old first second third fourth fifth one two three four five a b c d e = rw (e, d, c, b, a) (simp append_assoc)

@@ -53,9 +53,14 @@ cabinet_count view =
     codes "Count " ++ decimal (length view.inspections) ++ codes " inspections, " ++ decimal (length view.orders)
     ++ codes " orders, " ++ decimal (length (filter is_open view.orders)) ++ codes " open\n"
 
+-- what was recorded in a cabinet
+abbrev pub cabinet_records : CabinetView → List ℕ
+cabinet_records view =
+    codes "\nInspections\n    No  Day         Clerk         Text\n" ++ flat_map line_text (map inspection_cells view.inspections)
+    ++ codes "Orders\n    No  Day         Clerk         Text\n" ++ flat_map (order_lines view.lines) view.orders ++ cabinet_count view
+
 -- the register of the cabinet of an intersection with this name, which is inspected at this interval
 abbrev pub cabinet_register : ℕ → List ℕ → ℕ → CabinetView → List ℕ
 cabinet_register id name interval view =
     cabinet_title id name interval ++ due_line interval (latest_day view.inspections) ++ next_numbers_words view
-    ++ codes "\nInspections\n    No  Day         Clerk         Text\n" ++ flat_map line_text (map inspection_cells view.inspections)
-    ++ codes "Orders\n    No  Day         Clerk         Text\n" ++ flat_map (order_lines view.lines) view.orders ++ cabinet_count view
+    ++ cabinet_records view

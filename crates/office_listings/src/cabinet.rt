@@ -3,7 +3,8 @@
 ghost use Rattle.std.specs.Prelude.{◌≡◌, ◌++◌, OnOk, IfOk, filter, flat_map};
 ghost use Rattle.std.specs.Prelude.{string_bytes};
 ghost use Rattle.office_files.specs.Records.{is_line_of};
-ghost use Rattle.office_listings.specs.Cabinet.{cabinet_count, cabinet_register, cabinet_title};
+ghost use Rattle.office_listings.specs.Cabinet.{cabinet_count, cabinet_records, cabinet_register};
+ghost use Rattle.office_listings.specs.Cabinet.{cabinet_title};
 ghost use Rattle.office_listings.specs.Cabinet.{closing_line, due_line, order_lines, used_line};
 
 use crate::next_numbers::push_next_numbers;
@@ -152,6 +153,18 @@ fn push_counts(text: &mut String, view: &CabinetView) -> Result<(), AllocError>
     )
 }
 
+/// Appends the inspections and the orders, each under their heading, and the last line.
+fn push_records(alloc: Global, text: &mut String, view: &CabinetView) -> Result<(), NoMemory>
+    ensures { OnOk result (string_bytes text.new ≡
+        string_bytes text.old ++ cabinet_records view.now) }
+{
+    text.push_str("\nInspections\n    No  Day         Clerk         Text\n")?;
+    push_lines(alloc, text, view.inspections.as_slice())?;
+    text.push_str("Orders\n    No  Day         Clerk         Text\n")?;
+    push_orders(text, view.lines.as_slice(), view.orders.as_slice())?;
+    Ok(push_counts(text, view)?)
+}
+
 /// The register of a cabinet: the intersection's number and name, the days from one inspection to
 /// the next and the day on which the next is due, which follows the latest inspection, the next
 /// free numbers, then the inspections, and the orders, each with its used parts and its closing,
@@ -165,16 +178,11 @@ pub fn cabinet_text(
     ensures { IfOk result (λ text. text.items ≡
         cabinet_register cabinet.now.id name.now interval cabinet.now.view) }
 {
-    let view = &cabinet.view;
-    let inspections = view.inspections.as_slice();
     let mut text = String::new(alloc);
     push_title(&mut text, cabinet.id, name, interval)?;
-    push_due(alloc, &mut text, interval, latest(inspections))?;
-    push_next_numbers(&mut text, view)?;
-    text.push_str("\nInspections\n    No  Day         Clerk         Text\n")?;
-    push_lines(alloc, &mut text, inspections)?;
-    text.push_str("Orders\n    No  Day         Clerk         Text\n")?;
-    push_orders(&mut text, view.lines.as_slice(), view.orders.as_slice())?;
-    push_counts(&mut text, view)?;
+    let last = latest(cabinet.view.inspections.as_slice());
+    push_due(alloc, &mut text, interval, last)?;
+    push_next_numbers(&mut text, &cabinet.view)?;
+    push_records(alloc, &mut text, &cabinet.view)?;
     Ok(text.into_bytes())
 }

@@ -120,9 +120,9 @@ impl Listed for NamedOrder {
             Cell::Number(6, u64::from(self.listed.id.get())),
             Cell::Number(8, u64::from(self.listed.order.number.get())),
             Cell::Day(self.listed.order.opened.date()),
-            Cell::Word(12, order.clerk.as_str()),
+            Cell::Word(12, self.listed.order.clerk.as_str()),
             Cell::Word(24, self.name.as_str()),
-            Cell::Word(0, order.text.as_str()),
+            Cell::Word(0, self.listed.order.text.as_str()),
         ];
         to.push_row(alloc, order, &cells)
     }

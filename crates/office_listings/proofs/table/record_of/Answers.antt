@@ -1,4 +1,4 @@
-use Rattle.std.proofs.Common.{[], refl, map}
+use Rattle.std.proofs.Common.{refl}
 use Rattle.std.proofs.lemmas.List.{map-append, take_more}
 use Rattle.std.proofs.lemmas.Str.{IsUtf8-string_bytes}
 use Rattle.csv.specs.Records.{AllText, fields_of}
