@@ -1,3 +1,3 @@
-pub mod ColumnLemmas
+pub mod TableLemmas
 pub mod CsvLemmas
 pub mod NextLemmas

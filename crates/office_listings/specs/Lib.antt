@@ -1,4 +1,4 @@
-pub mod Columns
+pub mod Table
 pub mod Intersections
 pub mod Stock
 pub mod Orders

@@ -1,18 +1,17 @@
--- The list of overdue inspections as CSV.
-use Rattle.std.specs.Prelude.{ℕ, List, [], ◌∷◌, map, decimal, Option, Some, None}
-use Rattle.cabinet_core.specs.Day.{day_text}
+-- The overdue inspections as CSV.
+use Rattle.std.specs.Prelude.{ℕ, List, [], ◌∷◌, map, Option, Some, None}
 use Rattle.cabinet_core.specs.declared.overdue_inspections.OverdueRow.{OverdueRow}
-use Rattle.office_files.specs.Csv.{csv_text}
+use Rattle.office_listings.specs.Table.{Cell, Row, records_csv, Number, Word, Day}
 
 -- the day on which an inspection fell due; nothing where there never was one
-abbrev pub due_field : Option ℕ → List ℕ
-due_field None = []
-due_field (Some due) = day_text due
+abbrev pub due_cell : Option ℕ → Cell
+due_cell None = Word 0 []
+due_cell (Some due) = Day due
 
--- the fields of an intersection
-abbrev pub overdue_fields : OverdueRow → List (List ℕ)
-overdue_fields row = decimal row.id ∷ row.name ∷ due_field row.due ∷ []
+-- the number of an intersection, its name, and that day
+abbrev pub overdue_cells : OverdueRow → Row
+overdue_cells row = Number 6 row.id ∷ Word 0 row.name ∷ due_cell row.due ∷ []
 
 -- the CSV file: a record for each
 abbrev pub overdue_csv_text : List OverdueRow → List ℕ
-overdue_csv_text rows = csv_text (map overdue_fields rows)
+overdue_csv_text rows = records_csv (0 ∷ 1 ∷ 2 ∷ []) (map overdue_cells rows)

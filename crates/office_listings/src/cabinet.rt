@@ -1,22 +1,16 @@
 //! The printed register of a cabinet.
 
-ghost use Rattle.std.specs.Prelude.{◌≡◌, ◌+◌, ◌++◌, OnOk, IfOk, filter, flat_map};
+ghost use Rattle.std.specs.Prelude.{◌≡◌, ◌++◌, OnOk, IfOk, filter, flat_map};
 ghost use Rattle.std.specs.Prelude.{string_bytes};
-ghost use Rattle.cabinet_core.specs.Day.{day_text};
 ghost use Rattle.office_files.specs.Records.{is_line_of};
-ghost use Rattle.office_listings.specs.Cabinet.{cabinet_title, next_line, due_line, record_line};
-ghost use Rattle.office_listings.specs.Cabinet.{inspection_line, used_line, closed_line};
-ghost use Rattle.office_listings.specs.Cabinet.{closing_line, order_lines};
-ghost use Rattle.office_listings.specs.Cabinet.{inspections_section, orders_section};
-ghost use Rattle.office_listings.specs.Cabinet.{cabinet_count, cabinet_records};
-ghost use Rattle.office_listings.specs.Cabinet.{cabinet_register, next_numbers_line};
+ghost use Rattle.office_listings.specs.Cabinet.{cabinet_count, cabinet_records, cabinet_register};
+ghost use Rattle.office_listings.specs.Cabinet.{cabinet_title};
+ghost use Rattle.office_listings.specs.Cabinet.{closing_line, due_line, order_lines, used_line};
 
-use crate::columns::{
-    push_day, push_last, push_line_number, push_long_number, push_number, push_word,
-};
 use crate::next_numbers::push_next_numbers;
+use crate::table::{Cell, Listed, Print, push_line, push_lines};
 use cabinet_core::{
-    CabinetView, Closing, Day, Inspection, Order, UsedLine, due, latest, open_count, push_date,
+    CabinetView, Closing, Day, Inspection, Order, UsedLine, due, latest, open_count, write_date,
 };
 use office_machine::reply::CabinetShown;
 use signal_records::{InterId, Interval, NoMemory, RecordNo, Words};
@@ -39,84 +33,53 @@ fn push_title(
     write!(text, "Cabinet {id}: {name}\nInterval {interval} days\n")
 }
 
-/// Appends the day so many days after another. It may lie past the last day of a record.
-fn push_due_day(text: &mut String, latest: Day, interval: Interval) -> Result<(), AllocError>
-    ensures { OnOk result (string_bytes text.new ≡
-        string_bytes text.old ++ day_text (latest + interval)) }
-{
-    push_date(text, due(latest, interval))
-}
-
-/// Appends the line of the day on which the next inspection is due.
-fn push_next(text: &mut String, latest: Day, interval: Interval) -> Result<(), AllocError>
-    ensures { OnOk result (string_bytes text.new ≡
-        string_bytes text.old ++ next_line (latest + interval)) }
-{
-    text.push_str("Next inspection due ")?;
-    push_due_day(text, latest, interval)?;
-    text.push_str("\n")
-}
-
-/// Appends the same, or that there never was an inspection.
-fn push_due(text: &mut String, interval: Interval, latest: Option<Day>) -> Result<(), AllocError>
+/// Appends the line of the day on which the next inspection is due, or that there never was one.
+/// The day may lie past the last day of a record.
+fn push_due(
+    alloc: Global,
+    text: &mut String,
+    interval: Interval,
+    latest: Option<Day>,
+) -> Result<(), NoMemory>
     ensures { OnOk result (string_bytes text.new ≡
         string_bytes text.old ++ due_line interval latest) }
 {
     match latest {
-        None => text.push_str("Never inspected\n"),
-        Some(latest) => push_next(text, latest, interval),
+        None => Ok(text.push_str("Never inspected\n")?),
+        Some(latest) => {
+            let day = write_date(alloc, due(latest, interval))?;
+            Ok(writeln!(text, "Next inspection due {day}")?)
+        }
     }
 }
 
-/// Appends the columns of an inspection, or of what opened an order.
-fn push_record(
-    text: &mut String,
-    number: RecordNo,
-    day: Day,
-    clerk: &Words<40>,
-    what: &Words<500>,
-) -> Result<(), AllocError>
-    ensures { OnOk result (string_bytes text.new ≡
-        string_bytes text.old ++ record_line number day clerk.now what.now) }
-{
-    let what = what.as_str();
-    push_number(text, u64::from(number.get()))?;
-    text.push_str("  ")?;
-    push_day(text, day)?;
-    text.push_str("  ")?;
-    push_word(text, clerk.as_str(), 12)?;
-    writeln!(text, "  {what}")
-}
+impl Listed for Inspection {
+    ghost use Rattle.office_listings.specs.Cabinet.{inspection_cells};
 
-/// Appends the line of an inspection.
-fn push_inspection(text: &mut String, r: &Inspection) -> Result<(), AllocError>
-    ensures { OnOk result (string_bytes text.new ≡ string_bytes text.old ++ inspection_line r.now) }
-{
-    push_record(text, r.number, r.day, &r.clerk, &r.text)
-}
+    ghost cells = { inspection_cells };
 
-/// Appends the inspections under their heading.
-fn push_inspections(text: &mut String, inspections: &[Inspection]) -> Result<(), AllocError>
-    ensures { OnOk result (string_bytes text.new ≡
-        string_bytes text.old ++ inspections_section inspections.now) }
-{
-    text.push_str("Inspections\n    No  Day         Clerk         Text\n")?;
-    for inspection in inspections {
-        push_inspection(text, inspection)?;
+    fn print<P: Print>(&self, alloc: Global, order: &[usize], to: &mut P) -> Result<(), NoMemory> {
+        let cells = [
+            Cell::Number(6, u64::from(self.number.get())),
+            Cell::Day(self.day.date()),
+            Cell::Word(12, self.clerk.as_str()),
+            Cell::Word(0, self.text.as_str()),
+        ];
+        to.push_row(alloc, order, &cells)
     }
-    Ok(())
 }
 
 /// Appends the line of a used part.
 fn push_used(text: &mut String, used: &UsedLine) -> Result<(), AllocError>
     ensures { OnOk result (string_bytes text.new ≡ string_bytes text.old ++ used_line used.now) }
 {
-    text.push_str("           used")?;
-    push_line_number(text, u64::from(used.line.get()))?;
-    text.push_str("  ")?;
-    push_word(text, used.part.as_str(), 20)?;
-    push_long_number(text, u64::from(used.count.get()))?;
-    text.push_str("\n")
+    let cells = [
+        Cell::First(15, "           used"),
+        Cell::Number(7, u64::from(used.line.get())),
+        Cell::Word(20, used.part.as_str()),
+        Cell::Number(8, u64::from(used.count.get())),
+    ];
+    push_line(text, &cells)
 }
 
 /// Appends the lines of the parts that were used for an order.
@@ -132,25 +95,20 @@ fn push_parts(text: &mut String, order: RecordNo, lines: &[UsedLine]) -> Result<
     Ok(())
 }
 
-/// Appends the line of a closing.
-fn push_closed(text: &mut String, closing: &Closing) -> Result<(), AllocError>
-    ensures { OnOk result (string_bytes text.new ≡
-        string_bytes text.old ++ closed_line closing.now) }
-{
-    text.push_str("         closed  ")?;
-    push_day(text, closing.day)?;
-    push_last(text, closing.closer.as_str())
-}
-
 /// Appends the line of a closing, where there is one.
 fn push_closing(text: &mut String, closing: &Option<Closing>) -> Result<(), AllocError>
     ensures { OnOk result (string_bytes text.new ≡
         string_bytes text.old ++ closing_line closing.now) }
 {
-    match closing {
-        None => Ok(()),
-        Some(closing) => push_closed(text, closing),
-    }
+    let Some(closing) = closing else {
+        return Ok(());
+    };
+    let cells = [
+        Cell::First(15, "         closed"),
+        Cell::Day(closing.day.date()),
+        Cell::Word(0, closing.closer.as_str()),
+    ];
+    push_line(text, &cells)
 }
 
 /// Appends an order, its parts and its closing.
@@ -158,17 +116,22 @@ fn push_order(text: &mut String, lines: &[UsedLine], r: &Order) -> Result<(), Al
     ensures { OnOk result (string_bytes text.new ≡
         string_bytes text.old ++ order_lines lines.now r.now) }
 {
-    push_record(text, r.number, r.opened, &r.clerk, &r.text)?;
+    let cells = [
+        Cell::Number(6, u64::from(r.number.get())),
+        Cell::Day(r.opened.date()),
+        Cell::Word(12, r.clerk.as_str()),
+        Cell::Word(0, r.text.as_str()),
+    ];
+    push_line(text, &cells)?;
     push_parts(text, r.number, lines)?;
     push_closing(text, &r.closing)
 }
 
-/// Appends the orders under their heading.
+/// Appends the orders.
 fn push_orders(text: &mut String, lines: &[UsedLine], orders: &[Order]) -> Result<(), AllocError>
     ensures { OnOk result (string_bytes text.new ≡
-        string_bytes text.old ++ orders_section lines.now orders.now) }
+        string_bytes text.old ++ flat_map (order_lines lines.now) orders.now) }
 {
-    text.push_str("Orders\n    No  Day         Clerk         Text\n")?;
     for order in orders {
         push_order(text, lines, order)?;
     }
@@ -190,23 +153,16 @@ fn push_counts(text: &mut String, view: &CabinetView) -> Result<(), AllocError>
     )
 }
 
-/// Appends what was recorded in a cabinet.
-fn push_records(text: &mut String, view: &CabinetView) -> Result<(), AllocError>
+/// Appends the inspections and the orders, each under their heading, and the last line.
+fn push_records(alloc: Global, text: &mut String, view: &CabinetView) -> Result<(), NoMemory>
     ensures { OnOk result (string_bytes text.new ≡
         string_bytes text.old ++ cabinet_records view.now) }
 {
-    push_inspections(text, view.inspections.as_slice())?;
+    text.push_str("\nInspections\n    No  Day         Clerk         Text\n")?;
+    push_lines(alloc, text, view.inspections.as_slice())?;
+    text.push_str("Orders\n    No  Day         Clerk         Text\n")?;
     push_orders(text, view.lines.as_slice(), view.orders.as_slice())?;
-    push_counts(text, view)
-}
-
-/// Appends the line of the next free numbers.
-fn push_next_line(text: &mut String, view: &CabinetView) -> Result<(), AllocError>
-    ensures { OnOk result (string_bytes text.new ≡
-        string_bytes text.old ++ next_numbers_line view.now) }
-{
-    push_next_numbers(text, view)?;
-    text.push_str("\n")
+    Ok(push_counts(text, view)?)
 }
 
 /// The register of a cabinet: the intersection's number and name, the days from one inspection to
@@ -225,8 +181,8 @@ pub fn cabinet_text(
     let mut text = String::new(alloc);
     push_title(&mut text, cabinet.id, name, interval)?;
     let last = latest(cabinet.view.inspections.as_slice());
-    push_due(&mut text, interval, last)?;
-    push_next_line(&mut text, &cabinet.view)?;
-    push_records(&mut text, &cabinet.view)?;
+    push_due(alloc, &mut text, interval, last)?;
+    push_next_numbers(&mut text, &cabinet.view)?;
+    push_records(alloc, &mut text, &cabinet.view)?;
     Ok(text.into_bytes())
 }

@@ -4,22 +4,20 @@
 #![tactic(auto)]
 
 mod cabinet;
-mod columns;
 mod intersections;
-mod listed;
 mod next_numbers;
 mod orders;
 mod overdue;
 mod stock;
+mod table;
 mod used;
 
 pub use cabinet::cabinet_text;
-pub use intersections::{intersections_csv, intersections_text, stage_word};
+pub use intersections::{intersections_list, stage_word};
 pub use next_numbers::push_next_numbers;
 pub use orders::{
-    NamedOrder, OpenOrder, add_named, add_named_orders, add_open_orders, named_orders_text,
-    orders_csv, orders_text,
+    NamedOrder, OpenOrder, add_named, add_named_orders, add_open_orders, orders_list, orders_text,
 };
 pub use overdue::overdue_csv;
-pub use stock::{stock_csv, stock_text};
-pub use used::{UsedPart, add_used, used_csv, used_text};
+pub use stock::stock_list;
+pub use used::{UsedPart, add_used, used_list};

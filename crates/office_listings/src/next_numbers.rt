@@ -2,8 +2,7 @@
 
 ghost use Rattle.std.specs.Prelude.{◌≡◌, ◌++◌, OnOk, map, string_bytes};
 ghost use Rattle.office_listings.specs.Next.{greatest_of, next_after, next_numbers_words};
-ghost use Rattle.office_listings.specs.Next.{next_number, next_word};
-ghost use Rattle.cabinet_core.specs.Places.{inspection_place, order_place};
+ghost use Rattle.office_listings.specs.Next.{next_word};
 
 use cabinet_core::{CabinetView, Placed};
 use std::alloc::AllocError;
@@ -45,20 +44,6 @@ fn push_next(text: &mut String, next: Option<u32>) -> Result<(), AllocError>
     }
 }
 
-/// The next free number of an inspection of a cabinet.
-fn next_inspection(view: &CabinetView) -> Option<u32>
-    ensures { result ≡ next_number (map inspection_place view.now.inspections) }
-{
-    next_after(greatest(view.inspections.as_slice()))
-}
-
-/// The next free number of an order on a cabinet.
-fn next_order(view: &CabinetView) -> Option<u32>
-    ensures { result ≡ next_number (map order_place view.now.orders) }
-{
-    next_after(greatest(view.orders.as_slice()))
-}
-
 /// Appends the next free numbers of an inspection and of an order of a cabinet: each is one more
 /// than the greatest there is, 1 where there is none, and `none` where that is 999999, the last.
 pub fn push_next_numbers(text: &mut String, view: &CabinetView) -> Result<(), AllocError>
@@ -66,7 +51,7 @@ pub fn push_next_numbers(text: &mut String, view: &CabinetView) -> Result<(), Al
         string_bytes text.old ++ next_numbers_words view.now) }
 {
     text.push_str("next free numbers: inspection ")?;
-    push_next(text, next_inspection(view))?;
+    push_next(text, next_after(greatest(view.inspections.as_slice())))?;
     text.push_str(", order ")?;
-    push_next(text, next_order(view))
+    push_next(text, next_after(greatest(view.orders.as_slice())))
 }

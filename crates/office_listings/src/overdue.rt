@@ -1,36 +1,36 @@
-//! The list of overdue inspections as CSV.
+//! The overdue inspections as CSV.
 
-ghost use Rattle.std.specs.Prelude.{◌≡◌, ◌++◌, OnOk, IfOk, IsUtf8, string_bytes};
-ghost use Rattle.office_listings.specs.Overdue.{due_field, overdue_csv_text};
+ghost use Rattle.std.specs.Prelude.{◌≡◌, IfOk, IsUtf8};
+ghost use Rattle.office_listings.specs.Overdue.{due_cell, overdue_csv_text};
+ghost use Rattle.office_listings.specs.Table.{cell_of};
 
-use crate::listed::{Listed, list_csv, text_record};
-use cabinet_core::{Date, OverdueRow, push_date};
-use csv::ByteRecord;
+use crate::table::{Cell, Listed, Print, records};
+use cabinet_core::{Date, OverdueRow};
 use signal_records::NoMemory;
-use std::alloc::{AllocError, Global};
+use std::alloc::Global;
 
-/// Appends the day on which an inspection fell due, where there was one.
-fn push_due(text: &mut String, due: &Option<Date>) -> Result<(), AllocError>
-    ensures { OnOk result (string_bytes text.new ≡ string_bytes text.old ++ due_field due.now) }
+/// The day on which an inspection fell due, or nothing where there never was one.
+fn due_cell(due: Option<Date>) -> Cell<'static>
+    ensures { cell_of result ≡ due_cell due }
 {
     match due {
-        None => Ok(()),
-        Some(due) => push_date(text, *due),
+        None => Cell::Word(0, ""),
+        Some(due) => Cell::Day(due),
     }
 }
 
 impl Listed for OverdueRow {
-    ghost use Rattle.office_listings.specs.Overdue.{overdue_fields};
+    ghost use Rattle.office_listings.specs.Overdue.{overdue_cells};
 
-    ghost fields = { overdue_fields };
+    ghost cells = { overdue_cells };
 
-    fn record(&self, alloc: Global) -> Result<ByteRecord, NoMemory> {
-        let id = self.id.get();
-        let id = format!(in alloc; "{id}")?;
-        let mut due = String::new(alloc);
-        push_due(&mut due, &self.due)?;
-        let fields = [id.as_str(), self.name.as_str(), due.as_str()];
-        text_record(alloc, &fields)
+    fn print<P: Print>(&self, alloc: Global, order: &[usize], to: &mut P) -> Result<(), NoMemory> {
+        let cells = [
+            Cell::Number(6, u64::from(self.id.get())),
+            Cell::Word(0, self.name.as_str()),
+            due_cell(self.due),
+        ];
+        to.push_row(alloc, order, &cells)
     }
 }
 
@@ -40,5 +40,5 @@ pub fn overdue_csv(alloc: Global, rows: &[OverdueRow]) -> Result<Vec<u8>, NoMemo
     ensures text { IfOk result (λ text. text.items ≡ overdue_csv_text rows.now) }
     ensures utf8 { IfOk result (λ text. IsUtf8 text.items) }
 {
-    list_csv(alloc, rows)
+    records(alloc, &[0, 1, 2], rows)
 }

@@ -7,7 +7,7 @@ ghost use Rattle.signal_office_reports.specs.Seen.{Gives};
 use crate::parts::{cabinets_in, first_seen, next_of, stock_in};
 use crate::seen::{ListedCabinet, Seen};
 use cabinet_core::{Day, PartCode};
-use office_listings::{NamedOrder, UsedPart, add_named_orders, add_used, used_csv, used_text};
+use office_listings::{NamedOrder, UsedPart, add_named_orders, add_used, used_list};
 use office_machine::reply::Stock;
 use signal_page::{IndexEntry, IndexShown, add_entry, index_page};
 use signal_office_faults::Fault;
@@ -103,8 +103,5 @@ pub(crate) fn used_text_of(
 {
     let cabinets = cabinets_in(first_seen(seen))?;
     let found = used_among(alloc, part, cabinets.as_slice())?;
-    match csv {
-        true => Ok(used_csv(alloc, &found)?),
-        false => Ok(used_text(alloc, &found)?),
-    }
+    Ok(used_list(alloc, csv, &found)?)
 }

@@ -15,8 +15,8 @@ use crate::seen::Seen;
 use cabinet_core::Day;
 use office_files::{overdue_text, records_csv, timing_csv, timing_sheet};
 use office_listings::{
-    add_named_orders, add_open_orders, cabinet_text, intersections_csv, intersections_text,
-    named_orders_text, orders_csv, orders_text, overdue_csv, stock_csv, stock_text,
+    add_named_orders, add_open_orders, cabinet_text, intersections_list, orders_list, orders_text,
+    overdue_csv, stock_list,
 };
 use signal_diagram::diagram;
 use signal_office_faults::Fault;
@@ -51,30 +51,21 @@ fn list(alloc: Global, csv: bool, seen: Vec<Seen>) -> Result<Vec<u8>, Fault>
     ensures { Gives (IsMade (Shown.List csv) seen.items) result }
 {
     let list = intersections_in(first_seen(seen))?;
-    match csv {
-        true => Ok(intersections_csv(alloc, list.as_slice())?),
-        false => Ok(intersections_text(alloc, list.as_slice())?),
-    }
+    Ok(intersections_list(alloc, csv, list.as_slice())?)
 }
 
 fn stock(alloc: Global, csv: bool, seen: Vec<Seen>) -> Result<Vec<u8>, Fault>
     ensures { Gives (IsMade (Shown.Stock csv) seen.items) result }
 {
     let parts = stock_in(first_seen(seen))?;
-    match csv {
-        true => Ok(stock_csv(alloc, parts.as_slice())?),
-        false => Ok(stock_text(alloc, parts.as_slice())?),
-    }
+    Ok(stock_list(alloc, csv, parts.as_slice())?)
 }
 
 fn orders_of_all(alloc: Global, csv: bool, seen: Vec<Seen>) -> Result<Vec<u8>, Fault>
     ensures { Gives (IsOrdersMade None csv seen.items) result }
 {
     let orders = orders_seen(first_seen(seen))?;
-    match csv {
-        true => Ok(orders_csv(alloc, orders.as_slice())?),
-        false => Ok(named_orders_text(alloc, orders.as_slice())?),
-    }
+    Ok(orders_list(alloc, csv, orders.as_slice())?)
 }
 
 fn orders_on(alloc: Global, id: InterId, seen: Vec<Seen>) -> Result<Vec<u8>, Fault>
@@ -92,7 +83,7 @@ fn orders_csv_on(alloc: Global, id: InterId, seen: Vec<Seen>) -> Result<Vec<u8>,
     let (state, cabinet) = register_in(seen)?;
     let mut found = Vec::new(alloc);
     add_named_orders(&mut found, &state.name, &cabinet)?;
-    Ok(orders_csv(alloc, &found)?)
+    Ok(orders_list(alloc, true, &found)?)
 }
 
 fn orders(alloc: Global, id: Option<InterId>, csv: bool, seen: Vec<Seen>) -> Result<Vec<u8>, Fault>
