@@ -32,7 +32,7 @@ open_order_cells o =
 abbrev pub orders_listing : List OpenOrder → List ℕ
 orders_listing orders = columns_text (codes "    No   Order  Opened      Clerk         Text\n") (map open_order_cells orders)
 
--- the same with the name of the intersection
+-- the cells of an open order with the name of its intersection
 abbrev pub named_order_cells : NamedOrder → Row
 named_order_cells o =
     Number 6 o.listed.id ∷ Number 8 o.listed.order.number ∷ Day o.listed.order.opened ∷ Word 12 o.listed.order.clerk

@@ -82,5 +82,5 @@ records_csv order rows = csv_text (map (record_fields order) rows)
 -- ---- as either
 
 -- a table as CSV or as lines
-abbrev pub printed : Bool → Table → List ℕ
-printed csv table = if csv then records_csv table.order table.rows else columns_text table.heading table.rows
+abbrev pub table_text : Bool → Table → List ℕ
+table_text csv table = if csv then records_csv table.order table.rows else columns_text table.heading table.rows

@@ -3,9 +3,9 @@
 ghost use Rattle.std.specs.Prelude.{◌≡◌, IfOk, IsUtf8};
 ghost use Rattle.office_listings.specs.Intersections.{intersections_table, owner_word, stage_word};
 ghost use Rattle.office_listings.specs.Intersections.{state_word};
-ghost use Rattle.office_listings.specs.Table.{printed};
+ghost use Rattle.office_listings.specs.Table.{table_text};
 
-use crate::table::{Cell, Listed, Print, printed};
+use crate::table::{Cell, Listed, Print, print_table};
 use office_machine::intersections::ListedIntersection;
 use signal_records::NoMemory;
 use signal_records::state::{Holder, Stage};
@@ -69,9 +69,9 @@ pub fn intersections_list(
     csv: bool,
     list: &[ListedIntersection],
 ) -> Result<Vec<u8>, NoMemory>
-    ensures text { IfOk result (λ text. text.items ≡ printed csv (intersections_table list.now)) }
+    ensures text { IfOk result (λ text. text.items ≡ table_text csv (intersections_table list.now)) }
     ensures utf8 { IfOk result (λ text. IsUtf8 text.items) }
 {
     let heading = "    No     Rev  State        Owner         Rows  Days  Name\n";
-    printed(alloc, csv, heading, &[0, 1, 2, 3, 4, 6, 5], list)
+    print_table(alloc, csv, heading, &[0, 1, 2, 3, 4, 6, 5], list)
 }

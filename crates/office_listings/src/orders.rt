@@ -4,9 +4,9 @@ ghost use Rattle.std.specs.Prelude.{◌≡◌, ◌++◌, OnOk, IfOk, IsUtf8, fil
 ghost use Rattle.cabinet_core.specs.Orders.{is_open};
 ghost use Rattle.office_listings.specs.Orders.{named_orders, open_orders, order_named, order_on};
 ghost use Rattle.office_listings.specs.Orders.{orders_listing, orders_table};
-ghost use Rattle.office_listings.specs.Table.{printed};
+ghost use Rattle.office_listings.specs.Table.{table_text};
 
-use crate::table::{Cell, Listed, Print, columns, printed};
+use crate::table::{Cell, Listed, Print, columns, print_table};
 use cabinet_core::Order;
 use office_machine::reply::CabinetShown;
 use signal_records::{InterId, NoMemory, Words};
@@ -131,9 +131,9 @@ impl Listed for NamedOrder {
 /// The list of open orders of several intersections: the same with the name of the intersection
 /// before what is to be done. As CSV a record for each, with the name after its number.
 pub fn orders_list(alloc: Global, csv: bool, orders: &[NamedOrder]) -> Result<Vec<u8>, NoMemory>
-    ensures text { IfOk result (λ text. text.items ≡ printed csv (orders_table orders.now)) }
+    ensures text { IfOk result (λ text. text.items ≡ table_text csv (orders_table orders.now)) }
     ensures utf8 { IfOk result (λ text. IsUtf8 text.items) }
 {
     let heading = "    No   Order  Opened      Clerk         Name                      Text\n";
-    printed(alloc, csv, heading, &[0, 4, 1, 2, 3, 5], orders)
+    print_table(alloc, csv, heading, &[0, 4, 1, 2, 3, 5], orders)
 }

@@ -2,9 +2,9 @@
 
 ghost use Rattle.std.specs.Prelude.{◌≡◌, IfOk, IsUtf8};
 ghost use Rattle.office_listings.specs.Stock.{stock_table};
-ghost use Rattle.office_listings.specs.Table.{printed};
+ghost use Rattle.office_listings.specs.Table.{table_text};
 
-use crate::table::{Cell, Listed, Print, printed};
+use crate::table::{Cell, Listed, Print, print_table};
 use cabinet_core::{Hand, PartCode};
 use signal_records::NoMemory;
 use std::alloc::Global;
@@ -26,8 +26,8 @@ impl Listed for (PartCode, Hand) {
 /// What is on hand: how many there are of each part, and its code. As CSV a record for each, with
 /// the code first.
 pub fn stock_list(alloc: Global, csv: bool, parts: &[(PartCode, Hand)]) -> Result<Vec<u8>, NoMemory>
-    ensures text { IfOk result (λ text. text.items ≡ printed csv (stock_table parts.now)) }
+    ensures text { IfOk result (λ text. text.items ≡ table_text csv (stock_table parts.now)) }
     ensures utf8 { IfOk result (λ text. IsUtf8 text.items) }
 {
-    printed(alloc, csv, "     Count  Part\n", &[1, 0], parts)
+    print_table(alloc, csv, "     Count  Part\n", &[1, 0], parts)
 }

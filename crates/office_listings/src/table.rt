@@ -6,7 +6,7 @@ ghost use Rattle.cabinet_core.specs.Day.{day_text};
 ghost use Rattle.csv.specs.Records.{AllText, fields_of};
 ghost use Rattle.office_files.specs.Cells.{right_aligned};
 ghost use Rattle.office_listings.specs.Table.{cell_of, cell_text, columns_text, field_at};
-ghost use Rattle.office_listings.specs.Table.{field_text, left_aligned, line_text, printed};
+ghost use Rattle.office_listings.specs.Table.{field_text, left_aligned, line_text, table_text};
 ghost use Rattle.office_listings.specs.Table.{record_fields, records_csv};
 
 use cabinet_core::{Date, push_date, write_date};
@@ -23,7 +23,7 @@ pub(crate) enum Cell<'a> {
     Number(usize, u64),
     /// A word that begins a line, left in so many places. A longer one stands whole.
     First(usize, &'a str),
-    /// The same after two spaces. A line shows a dash where the word is empty.
+    /// A word after two spaces, left in so many places. A line shows a dash where it is empty.
     Word(usize, &'a str),
     /// A day after two spaces.
     Day(Date),
@@ -244,7 +244,7 @@ pub(crate) fn records<T: Listed>(
 }
 
 /// A table with this heading as text, or with its cells in this order as CSV.
-pub(crate) fn printed<T: Listed>(
+pub(crate) fn print_table<T: Listed>(
     alloc: Global,
     csv: bool,
     heading: &str,
@@ -252,7 +252,7 @@ pub(crate) fn printed<T: Listed>(
     list: &[T],
 ) -> Result<Vec<u8>, NoMemory>
     ensures text { IfOk result (λ text. text.items ≡
-        printed csv (record { heading = heading.now; order = order.now; rows = map T.cells list.now })) }
+        table_text csv (record { heading = heading.now; order = order.now; rows = map T.cells list.now })) }
     ensures utf8 { IfOk result (λ text. IsUtf8 text.items) }
 {
     match csv {

@@ -1,11 +1,11 @@
 //! The lists of used parts.
 
 ghost use Rattle.std.specs.Prelude.{◌≡◌, ◌++◌, OnOk, IfOk, IsUtf8};
-ghost use Rattle.office_listings.specs.Table.{printed};
+ghost use Rattle.office_listings.specs.Table.{table_text};
 ghost use Rattle.office_listings.specs.Used.{is_asked_part, is_used_in, used_for};
 ghost use Rattle.office_listings.specs.Used.{used_in_order, used_on, used_table};
 
-use crate::table::{Cell, Listed, Print, printed};
+use crate::table::{Cell, Listed, Print, print_table};
 use cabinet_core::{Day, Order, PartCode, UsedLine};
 use office_machine::reply::CabinetShown;
 use signal_records::{InterId, NoMemory, Words};
@@ -112,9 +112,9 @@ impl Listed for UsedPart {
 /// order, the day on which that was opened, the number of the line, how many pieces, and the clerk
 /// who opened the order. As CSV a record for each, in this order.
 pub fn used_list(alloc: Global, csv: bool, list: &[UsedPart]) -> Result<Vec<u8>, NoMemory>
-    ensures text { IfOk result (λ text. text.items ≡ printed csv (used_table list.now)) }
+    ensures text { IfOk result (λ text. text.items ≡ table_text csv (used_table list.now)) }
     ensures utf8 { IfOk result (λ text. IsUtf8 text.items) }
 {
     let heading = "Part                    No   Order  Opened       Line   Count  Clerk\n";
-    printed(alloc, csv, heading, &[0, 1, 2, 3, 4, 5, 6], list)
+    print_table(alloc, csv, heading, &[0, 1, 2, 3, 4, 5, 6], list)
 }

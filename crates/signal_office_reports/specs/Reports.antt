@@ -11,7 +11,7 @@ use Rattle.office_listings.specs.Cabinet.{cabinet_register}
 use Rattle.office_listings.specs.Intersections.{intersections_table}
 use Rattle.office_listings.specs.Orders.{named_orders, open_orders, orders_listing, orders_table}
 use Rattle.office_listings.specs.Stock.{stock_table}
-use Rattle.office_listings.specs.Table.{printed}
+use Rattle.office_listings.specs.Table.{table_text}
 use Rattle.office_listings.specs.Used.{used_on, used_table}
 use Rattle.office_listings.specs.declared.orders.NamedOrder.{NamedOrder}
 use Rattle.office_listings.specs.declared.used.UsedPart.{UsedPart}
@@ -238,8 +238,8 @@ IsTextOf text it (Err why) = (why ≡ told.Memory) ⊎ (it ≡ Err why)
 
 -- the text of the open orders, of all or of one intersection, is made of what was seen
 abbrev pub IsOrdersMade : Option ℕ → (csv : Bool) → List Seen → Result (List ℕ) Fault → Type 0
-IsOrdersMade None csv found = IsTextOf (λ orders text. text ≡ printed csv (orders_table orders)) (orders_seen (first_seen found))
-IsOrdersMade (Some id) true found = IsTextOf (λ it text. text ≡ printed true (orders_table (named_orders it.0.name it.1))) (register_in found)
+IsOrdersMade None csv found = IsTextOf (λ orders text. text ≡ table_text csv (orders_table orders)) (orders_seen (first_seen found))
+IsOrdersMade (Some id) true found = IsTextOf (λ it text. text ≡ table_text true (orders_table (named_orders it.0.name it.1))) (register_in found)
 IsOrdersMade (Some id) false found = IsTextOf (λ cabinet text. text ≡ orders_listing (open_orders cabinet)) (cabinet_in (first_seen found))
 
 -- the text of an export is made of what was seen
@@ -253,8 +253,8 @@ abbrev pub IsMade : Shown → List Seen → Result (List ℕ) Fault → Type 0
 IsMade (shown.Sheet id) found = IsTextOf (λ t text. text ≡ sheet_text id t.name t.revision (values t.rows)) (timing_in (first_seen found))
 IsMade (shown.Overdue day most csv) found =
     IsTextOf (λ listed text. (rows : List OverdueRow) × (map listed_of rows ≡ listed) × (text ≡ overdue_written csv day rows)) (overdue_in (first_seen found))
-IsMade (shown.List csv) found = IsTextOf (λ list text. text ≡ printed csv (intersections_table list)) (intersections_in (first_seen found))
-IsMade (shown.Stock csv) found = IsTextOf (λ parts text. text ≡ printed csv (stock_table parts)) (stock_in (first_seen found))
+IsMade (shown.List csv) found = IsTextOf (λ list text. text ≡ table_text csv (intersections_table list)) (intersections_in (first_seen found))
+IsMade (shown.Stock csv) found = IsTextOf (λ parts text. text ≡ table_text csv (stock_table parts)) (stock_in (first_seen found))
 IsMade (shown.Orders id csv) found = IsOrdersMade id csv found
 IsMade (shown.Cabinet id) found = IsTextOf (λ it text. text ≡ cabinet_register it.1.id it.0.name it.0.interval it.1.view) (register_in found)
 IsMade (shown.Export id it) found = IsExportMade it found
@@ -268,7 +268,7 @@ IsShown it tables result = IsMadeOfAnswers (queries_of it) (IsMade it) tables re
 
 -- what was used of all parts, or of one, as a text or as CSV, or why it is not shown
 abbrev pub IsUsedMade : (part : Option (List ℕ)) → (csv : Bool) → List Seen → Result (List ℕ) Fault → Type 0
-IsUsedMade part csv found = IsTextOf (λ cabinets text. text ≡ printed csv (used_table (used_among part cabinets))) (cabinets_in (first_seen found))
+IsUsedMade part csv found = IsTextOf (λ cabinets text. text ≡ table_text csv (used_table (used_among part cabinets))) (cabinets_in (first_seen found))
 
 -- the text of the used parts is what tables show
 abbrev pub IsUsedShown : (part : Option (List ℕ)) → (csv : Bool) → Content → Result (List ℕ) Fault → Type 0
