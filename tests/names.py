@@ -40,7 +40,7 @@ MEANT = {
     "a result is the wanted one, unless memory ran out: each crate has faults of its own": "Gives",
     "the number, name and status of a refusal, of each layer": "line_of status_of",
     "a value of a kind at a place, a field or a key, where each reader has it":
-        "cell_of change_at day_at field_at flag_at row_at list_of number_in number_of "
+        "cell_of change_at day_at field_at flag_at row_at list_of number_of "
         "phase_in phases_in rows_in body_of",
     "what something is, as cells, columns or texts, of each table, file or page":
         "Cell columns_of field_text inspection_cells key_of line_text order_cells ped_columns "
