@@ -80,11 +80,16 @@ fn first_bytes(rt: &HostRuntime, path: &str) -> io::Result<Vec<u8>> {
 
 /// Says what a file holds in which no office could be opened.
 pub(crate) fn note_content(rt: &HostRuntime, path: &str) {
-    let what = match first_bytes(rt, path) {
-        Ok(bytes) if bytes.is_empty() => " is empty, and no office can be begun in it",
-        Ok(bytes) if bytes.as_slice() == HEAD => " is a database in which no office can be opened",
-        Ok(_) => " is no database",
+    let bytes = match first_bytes(rt, path) {
+        Ok(bytes) => bytes,
         Err(error) => return note_system(rt, path, error),
+    };
+    let what = if bytes.is_empty() {
+        " is empty, and no office can be begun in it"
+    } else if bytes.as_slice() == HEAD {
+        " is a database in which no office can be opened"
+    } else {
+        " is no database"
     };
     note(rt, "", path, what);
 }
