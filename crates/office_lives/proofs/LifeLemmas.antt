@@ -1,12 +1,11 @@
 -- From one run over a file to the next.
-use Rattle.std.proofs.Common.{◌≡◌, inl, inr, None, Some, Option, Result, Ok, Err, refl, sym, ap, subst}
+use Rattle.std.proofs.Common.{◌≡◌, ℕ, inl, inr, None, Some, Option, Result, Ok, Err, refl, sym, ap, subst}
 use Rattle.std.specs.Prelude.{IfSome}
 use Rattle.sqlite.specs.{Files.image_of, Held.Held, WalReads.AreClean}
 use Rattle.sqlite.specs.declared.FileStore.{FileStore}
 use Rattle.sqlite_disk.specs.declared.Disk.{Ghosts as Disk}
 use Rattle.sqlite_disk.specs.declared.Files.{Files}
 use Rattle.office_tables.specs.{Content.Content, Stored.content_of}
-use Rattle.office_tables.specs.declared.rewritten.Migrated.{Migrated}
 use Rattle.office_tables.proofs.Migration.{stand_anew}
 use Rattle.office_tables_open.specs.{Version.AreToday}
 use Rattle.signal_office_file.specs.Files.{KeepTables}
@@ -23,7 +22,7 @@ some_so P Q None so holds = holds
 
 module _ {D : Type 0} (g : Disk D) where
   -- closed files of which the migration was done
-  pub done_migrated : (files : Files D) (count : Migrated) (back : FileLeft D g) → IsClosedMigrated files (Ok count) back
+  pub done_migrated : (files : Files D) (count : ℕ) (back : FileLeft D g) → IsClosedMigrated files (Ok count) back
       → IfSome (closed_of back) (λ closed. AreClean g closed.log closed.db → (old : Content) × (new : Content) × HoldFormerly (image_of g files) old × Made g migrated old new × KeepTables g closed new)
   done_migrated files count (left.Closed back) (Err cause, told, usable, closed) = absurd (cc)
   done_migrated files count (left.Closed back) (Ok same, told, usable, closed) = λ clean.

@@ -1,5 +1,6 @@
 -- A list of noted calls with one more, and a call that was made, by what came of it.
 use Rattle.std.proofs.Common.{◌≡◌, ℕ, List, [], ◌∷◌, Ok, Err, ap, inl, inr, refl, subst, ◌∙◌}
+use Rattle.std.proofs.lemmas.List.{map-append}
 use Rattle.std.specs.Prelude.{◌++◌, Result}
 use Rattle.signal_office_faults.specs.declared.fault.Fault.{Fault}
 use Rattle.signal_office_faults.specs.declared.fault.Fault.TheVariants as fault
@@ -8,15 +9,11 @@ use Rattle.signal_office_in_file.specs.declared.Ended.{Ended}
 use Rattle.signal_office_in_file.specs.declared.Ended.TheVariants.{Unopened}
 use Rattle.signal_office_in_file.specs.declared.Kind.{Kind}
 use Rattle.signal_office_file.specs.Calls.{call_of, calls_of}
-use Rattle.signal_office_file.specs.declared.calls.Call.{Call}
-
-with_one : (calls : List Call) (call : Call) → calls_of (calls ++ call ∷ []) ≡ calls_of calls ++ call_of call ∷ []
-with_one [] call = refl
-with_one (first ∷ calls) call = ap (λ rest. call_of first ∷ rest) (with_one calls call)
+use Rattle.signal_office_file.specs.declared.paths.Call.{Call}
 
 -- one more was kept
 pub one_more : (old new : List Call) (call : Call) (it : FileCall) → new ≡ old ++ call ∷ [] → call_of call ≡ it → calls_of new ≡ calls_of old ++ it ∷ []
-one_more old new call it is said = ap calls_of is ∙ with_one old call ∙ ap (λ one. calls_of old ++ one ∷ []) said
+one_more old new call it is said = ap calls_of is ∙ map-append call_of old (call ∷ []) ∙ ap (λ one. calls_of old ++ one ∷ []) said
 
 abbrev refused_as : {A T Left : Type 0} → Result A Fault → Ended T Left
 refused_as (Ok it) = unmade

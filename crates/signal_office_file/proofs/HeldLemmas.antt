@@ -3,7 +3,8 @@ use Rattle.std.proofs.Common.{◌≡◌, ℕ, ◌+◌, ◌<◌, ◌≤◌, List,
 use Rattle.std.specs.Prelude.{IfErr, Result, ⊤}
 use Rattle.std.proofs.Math.Seq.{take-add}
 use Rattle.std.proofs.lemmas.List.{ext_get_or}
-use Rattle.office_http_framing.specs.Ends.{FailsOrGivesNone, Grows, Rose, Told}
+use Rattle.office_http_framing.proofs.EndLemmas.{Rose-after}
+use Rattle.office_http_framing.specs.Ends.{FailsOrGivesNone, Grows, Told}
 use Rattle.office_http_framing.specs.declared.ends.Counts.{Counts}
 use Rattle.sqlite_disk.specs.Disk.{Holds}
 use Rattle.signal_office_faults.specs.declared.fault.Fault.{Fault}
@@ -23,13 +24,9 @@ part_held file bytes at holds =
 pub held_more : (file bytes : List ℕ) (at : ℕ) → Holds file at bytes → take (at + length bytes) file ≡ take at file ++ bytes
 held_more file bytes at holds = take-add at (length bytes) file ∙ ap (λ (back : List ℕ). take at file ++ back) (part_held file bytes at holds)
 
-rose_before : (first old new : ℕ) → first ≤ old → Rose old new → Rose first new
-rose_before first old new grows (inl rose) = inl (omega arith)
-rose_before first old new grows (inr full) = inr full
-
 fails_before : (first old new : Counts) → Grows first old → FailsOrGivesNone old new → FailsOrGivesNone first new
-fails_before first old new grows (inl fails) = inl (rose_before first.failures old.failures new.failures grows.failures fails)
-fails_before first old new grows (inr none) = inr (rose_before first.empties old.empties new.empties grows.empties none)
+fails_before first old new grows (inl fails) = inl (Rose-after first.failures old.failures new.failures grows.failures fails)
+fails_before first old new grows (inr none) = inr (Rose-after first.empties old.empties new.empties grows.empties none)
 
 pub breaks_before : (first old new : Told) → Grows first.counts old.counts → (why : Fault) → CopyBreaksOff old new why → CopyBreaksOff first new why
 breaks_before first old new grows why (inl store) = inl store

@@ -17,6 +17,7 @@ use Rattle.signal_office_in_file.specs.declared.Ended.TheVariants.{Unopened, Ref
 use Rattle.signal_office_file.specs.Files.{AreNew, HoldIn}
 use Rattle.signal_office_file.specs.InFile.{files_view, view_at}
 use Rattle.signal_office_file.specs.Left.{IsUnclosed}
+use Rattle.signal_office_file.specs.Migrating.{EndsMigration}
 use Rattle.signal_office_file.specs.Told.{told_of_error}
 use Rattle.signal_office_file.specs.declared.left.FileLeft.{FileLeft}
 use Rattle.signal_office_file.specs.declared.left.FileLeft.TheVariants as left
@@ -34,14 +35,15 @@ module _ {D : Type 0} (g : Disk D) (image : Image) (files : Files D) (new : AreN
       → EndsOver (files_view g files) work r → EndsOver (view_at g image) work result
   ends_noted work r result same it = subst (EndsOver (view_at g image) work) (sym same) (ends_at work r it)
 
-  counted_at : (r : Ended (Result ℕ Fault) (FileLeft D g)) → IsCounted (files_view g files) r → IsCounted (view_at g image) r
-  counted_at (Unopened why) it = it
-  counted_at (Refused why back) it = (files, new, it)
-  counted_at (Closed (Ok rows) back) it = λ clean. (files, new, it clean)
-  counted_at (Closed (Err why) back) it = λ clean. (files, new, it clean)
+  counted_at : (r : Ended (Result ℕ Fault) (FileLeft D g)) → EndsMigration files r → IsCounted (view_at g image) r
+  counted_at (Unopened why) none = absurd none
+  counted_at (Refused why back) it = (files, new, inl it)
+  counted_at (Closed (Ok rows) back) it = λ clean. (files, new, it)
+  counted_at (Closed (Err why) back) it = λ clean. (files, new, inr it)
   counted_at (Unclosed why back) it = (files, new, it)
 
-  pub counted_noted : (r result : Ended (Result ℕ Fault) (FileLeft D g)) → result ≡ r → IsCounted (files_view g files) r → IsCounted (view_at g image) result
+  -- and so is what a migration counted
+  pub counted_noted : (r result : Ended (Result ℕ Fault) (FileLeft D g)) → result ≡ r → EndsMigration files r → IsCounted (view_at g image) result
   counted_noted r result same it = subst (IsCounted (view_at g image)) (sym same) (counted_at r it)
 
 -- ---- what is told where files were not closed

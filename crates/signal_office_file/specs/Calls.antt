@@ -1,7 +1,7 @@
 -- The calls that an opener of files has noted.
 use Rattle.std.specs.Prelude.{List, map, string_bytes}
 use Rattle.signal_office_in_file.specs.Calls.{FileCall, called}
-use Rattle.signal_office_file.specs.declared.calls.Call.{Call}
+use Rattle.signal_office_file.specs.declared.paths.Call.{Call}
 
 -- a noted call
 abbrev pub call_of : Call → FileCall

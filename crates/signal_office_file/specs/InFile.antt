@@ -1,28 +1,20 @@
 -- The office of a file, as the jobs of the program know it.
-use Rattle.std.specs.Prelude.{◌≡◌, ◌⊎◌, ℕ, ◌+◌, Result, Ok, Err}
+use Rattle.std.specs.Prelude.{◌≡◌, ◌⊎◌, Ok, Err}
 use Rattle.sqlite.specs.Files.{image_of}
 use Rattle.sqlite.specs.Recovery.{Image}
 use Rattle.sqlite.specs.WalReads.{AreClean}
 use Rattle.sqlite_disk.specs.declared.Disk.{Ghosts as Disk}
 use Rattle.sqlite_disk.specs.declared.Files.{Files}
 use Rattle.office_tables.specs.Content.{Content}
-use Rattle.office_tables.specs.declared.rewritten.Migrated.{Migrated}
-use Rattle.office_tables_open.specs.declared.open.OpenFault.{OpenFault}
 use Rattle.signal_office_faults.specs.declared.fault.Fault.{Fault}
 use Rattle.signal_office_in_file.specs.Ended.{FileView}
 use Rattle.signal_office_in_file.specs.declared.Ended.{Ended}
 use Rattle.signal_office_in_file.specs.declared.Ended.TheVariants.{Closed, Unclosed}
 use Rattle.signal_office_file.specs.Files.{AreNew, HoldAlone, HoldIn, KeepTables}
 use Rattle.signal_office_file.specs.Left.{IsCleanFile, IsRefusedIn, LeavesDatabases, LeavesToday, MayLeaveOf}
-use Rattle.signal_office_file.specs.Migrating.{ClosedMigrated, FailedToClose}
-use Rattle.signal_office_file.specs.Told.{told_of}
+use Rattle.signal_office_file.specs.Migrating.{FailedToClose, IsClosedMigrated}
 use Rattle.signal_office_file.specs.declared.left.FileLeft.{FileLeft}
 use Rattle.signal_office_file.specs.declared.left.FileLeft.TheVariants as left
-
--- how many rows a migration wrote anew
-abbrev pub rows_counted : Result Migrated Fault → Result ℕ Fault
-rows_counted (Ok count) = Ok (count.timing + count.draft)
-rows_counted (Err why) = Err why
 
 module _ {D : Type 0} {g : Disk D} where
   -- the files are closed, and hold these tables as the next opening finds them
@@ -30,36 +22,34 @@ module _ {D : Type 0} {g : Disk D} where
   IsKept (left.Closed back) tables = KeepTables g back tables
   IsKept _ tables = ⊥
 
-  -- the files are closed, and hold what became of their tables, of which so many rows were written anew
-  abbrev pub IsMigrated : Files D → FileLeft D g → ℕ → Type 0
-  IsMigrated files (left.Closed back) rows = (count : Migrated) × (rows ≡ count.timing + count.draft) × ClosedMigrated g files (Ok count) back
-  IsMigrated files _ rows = ⊥
-
-  -- the files are closed, and hold their tables, which were not migrated for this fault
-  abbrev pub IsNotMigrated : Files D → Fault → FileLeft D g → Type 0
-  IsNotMigrated files why (left.Closed back) = (cause : OpenFault) × (why ≡ told_of cause) × (AreClean g back.log back.db → ClosedMigrated g files (Err cause) back)
-  IsNotMigrated files why _ = ⊥
-
   -- The files are not closed: whatever a stop leaves of them is a database with today's version, and its tables are such.
   abbrev pub LeavesTables : FileLeft D g → (Content → Type 0) → Type 0
   LeavesTables back Holds = LeavesDatabases back × LeavesToday back × ((found : Content) → MayLeaveOf back found → Holds found)
 
-  -- why the files were refused
+  -- why the files were refused, or their tables not migrated
   abbrev pub IsRefusedFor : Files D → Fault → FileLeft D g → Type 0
-  IsRefusedFor files why back = IsRefusedIn files why back ⊎ IsNotMigrated files why back
+  IsRefusedFor files why back = IsRefusedIn files why back ⊎ IsClosedMigrated files (Err why) back
 
--- what the jobs know of two files
-abbrev pub files_view : {D : Type 0} (g : Disk D) → Files D → FileView (FileLeft D g)
-files_view g files = record {
-  held = HoldIn (image_of g files);
+-- what the jobs know of files that held such tables as they were opened, and are among those of which this is so
+abbrev view_over : {D : Type 0} (g : Disk D) → (Content → Type 0) → ((Files D → Type 0) → Type 0) → FileView (FileLeft D g)
+view_over g held is_so = record {
+  held = held;
   alone = HoldAlone;
   is_clean = IsCleanFile;
   keeps = IsKept;
-  refused = λ back why. IsRefusedFor files why back;
+  refused = λ back why. is_so (λ files. IsRefusedFor files why back);
   leaves = LeavesTables;
-  migrated = λ back rows. IsMigrated files back rows;
-  unclosed = λ back why. FailedToClose files why back;
+  migrated = λ back rows. is_so (λ files. IsClosedMigrated files (Ok rows) back);
+  unclosed = λ back why. is_so (λ files. FailedToClose files why back);
 }
+
+-- of two files
+abbrev pub files_view : {D : Type 0} (g : Disk D) → Files D → FileView (FileLeft D g)
+files_view g files = view_over g (HoldIn (image_of g files)) (λ known. known files)
+
+-- of files of which it is known what they held as they were opened
+abbrev pub view_at : {D : Type 0} (g : Disk D) → Image → FileView (FileLeft D g)
+view_at {D} g image = view_over g (HoldIn image) (λ known. (files : Files D) × AreNew g files image × known files)
 
 -- Work over two files ended, and they were closed after it, on a disk that returned what was written: so before it.
 abbrev pub WasClean : {D : Type 0} (g : Disk D) {T : Type 0} → Files D → Ended T (FileLeft D g) → Type 0
@@ -72,16 +62,3 @@ IsUnclosed g files leaves (Unclosed why back) =
     IsCleanFile back → LeavesDatabases back × ((tables : Content) → ∥ MayLeaveOf back tables ∥₁
     → (old : Content) × HoldIn (image_of g files) old × ∥ (tables ≡ old) ⊎ leaves old tables ∥₁)
 IsUnclosed g files leaves _ = Unit {0}
-
--- what they know of files of which it is known what they held as they were opened
-abbrev pub view_at : {D : Type 0} (g : Disk D) → Image → FileView (FileLeft D g)
-view_at {D} g image = record {
-  held = HoldIn image;
-  alone = HoldAlone;
-  is_clean = IsCleanFile;
-  keeps = IsKept;
-  refused = λ back why. (files : Files D) × AreNew g files image × IsRefusedFor files why back;
-  leaves = LeavesTables;
-  migrated = λ back rows. (files : Files D) × AreNew g files image × IsMigrated files back rows;
-  unclosed = λ back why. (files : Files D) × AreNew g files image × FailedToClose files why back;
-}

@@ -1,5 +1,5 @@
 -- The tables of version 1 in files, and what becomes of them.
-use Rattle.std.specs.Prelude.{◌≡◌, ◌⊎◌, Result, Ok, Err, IfOk, OnOk, IsTrue}
+use Rattle.std.specs.Prelude.{◌≡◌, ◌⊎◌, ℕ, ◌+◌, Result, Ok, Err, IfOk, OnOk, IsTrue}
 use Rattle.sqlite.specs.Files.{image_of, file_state, over_files}
 use Rattle.sqlite.specs.Held.{Held, state}
 use Rattle.sqlite.specs.Recovery.{Image}
@@ -56,9 +56,9 @@ abbrev pub AreMigrated : Trees → Trees → Result Migrated OpenFault → Type 
 AreMigrated was trees (Ok count) = IsBrought was trees count
 AreMigrated was trees (Err cause) = trees ≡ was
 
--- the fault of a migration, or what it counted
-abbrev pub told_of_outcome : Result Migrated OpenFault → Result Migrated Fault
-told_of_outcome (Ok count) = Ok count
+-- the fault of a migration, or how many rows it wrote anew
+abbrev pub told_of_outcome : Result Migrated OpenFault → Result ℕ Fault
+told_of_outcome (Ok count) = Ok (count.timing + count.draft)
 told_of_outcome (Err cause) = Err (told_of cause)
 
 -- the fault that is reported where the files could not be closed: that of the migration, or else that of closing
@@ -106,14 +106,14 @@ module _ {D : Type 0} {g : Disk D} where
     pub told_is : told ≡ told_unclosed closing outcome
 
   -- The files are closed after a migration, and hold what became of their tables.
-  abbrev pub IsClosedMigrated : Files D → Result Migrated Fault → FileLeft D g → Type 0
+  abbrev pub IsClosedMigrated : Files D → Result ℕ Fault → FileLeft D g → Type 0
   IsClosedMigrated files told (left.Closed back) =
       (outcome : Result Migrated OpenFault) × (told ≡ told_of_outcome outcome) × AreUsable g back
       × (AreClean g back.log back.db → ClosedMigrated g files outcome back)
   IsClosedMigrated files told _ = ⊥
 
   -- how a migration of files ended
-  abbrev pub EndsMigration : Files D → Ended (Result Migrated Fault) (FileLeft D g) → Type 0
+  abbrev pub EndsMigration : Files D → Ended (Result ℕ Fault) (FileLeft D g) → Type 0
   EndsMigration files (Unopened told) = ⊥
   EndsMigration files (Refused told back) = IsRefusedIn files told back
   EndsMigration files (Closed told back) = IsClosedMigrated files told back
@@ -128,6 +128,6 @@ module _ {D : Type 0} {g : Disk D} where
   StandAnewIn files _ = ⊥
 
   -- a migration that was done brought the tables in the files to today's version
-  abbrev pub BringsToday : Files D → Ended (Result Migrated Fault) (FileLeft D g) → Type 0
+  abbrev pub BringsToday : Files D → Ended (Result ℕ Fault) (FileLeft D g) → Type 0
   BringsToday files (Closed (Ok count) back) = StandAnewIn files back
   BringsToday files _ = Unit {0}

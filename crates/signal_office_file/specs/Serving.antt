@@ -39,14 +39,6 @@ pub record AreOpenedIn
       → tables ≡ content_now (state_of opened.conn)
   pub unwritten : opened.counts ≡ no_writes
 
--- The office has served nothing yet: its tables hold this, a crash leaves no more of them, and no
--- row was written.
-pub record IsUnserved
-    {S : Type 0} (state_of : Held S → State) (held : Content) (opened : SqlView S) : Type 0 where
-  pub content : content_now (state_of opened.conn) ≡ held
-  pub crash : (tables : Content) → MayLeave (state_of opened.conn) tables → tables ≡ held
-  pub unwritten : opened.counts ≡ no_writes
-
 -- What was done over the requests from an office, and their answers, where the files held these
 -- tables, which were all that a crash could leave before.
 pub record ServesFiles

@@ -1,33 +1,23 @@
-//! The office of a file, copied: the log into the database file, and that file's bytes into a sink.
+//! The office of a file, copied: the log into the database file, and that file's bytes, block by
+//! block, into a sink.
 
-ghost use Rattle.signal_office_in_file.specs.Ended.{EndsOver, copy_work};
-ghost use Rattle.signal_office_file.specs.Copying.{PoursAs};
-ghost use Rattle.signal_office_file.specs.Files.{AreUsable, HoldAlone};
+ghost use Rattle.std.specs.Prelude.{◌≡◌, ◌<◌, length, IsTrue, IfErr, OnOk};
+ghost use Rattle.std.specs.Io.KnownBytes.{Appends};
+ghost use Rattle.office_http_framing.specs.Ends.{Grows};
+ghost use Rattle.sqlite_disk.specs.Disk.{Holds};
+ghost use Rattle.signal_office_in_file.specs.Ended.{EndsOver, IsUncopied, copy_work};
+ghost use Rattle.signal_office_file.specs.Copying.{CopyBreaksOff, StaysAsRead};
+ghost use Rattle.signal_office_file.specs.Files.{HoldAlone};
 ghost use Rattle.signal_office_file.specs.InFile.{files_view};
 
-use crate::blocks::copy_all;
-use crate::closing::close_office;
 use crate::left::FileLeft;
-use crate::opening::open_file;
-use office_http::Sink;
+use crate::opening::{close_office, open_file};
+use office_http_framing::ends::{Sink, write_all};
 use signal_office_faults::Fault;
 use signal_office_in_file::Ended;
 use sqlite::Options;
 use sqlite_disk::{Disk, Files};
 use std::alloc::Global;
-
-/// Writes the bytes of the database file to the sink, and gives both files back.
-fn poured<D: Disk + Drop, W: Sink>(
-    alloc: Global,
-    mut files: Files<D>,
-    out: &mut W,
-) -> (Result<(), Fault>, Files<D>)
-    requires { AreUsable D.Disk files }
-    ensures { PoursAs D.Disk files (W.told out.old) (W.told out.new) result.0 result.1 }
-{
-    let done = copy_all(alloc, &mut files.db, out);
-    (done, files)
-}
 
 /// Opens the office in the two files and closes it, so that its log is copied into the database
 /// file, whose bytes are then written to the sink: a file of these alone is the whole office.
@@ -45,10 +35,85 @@ pub fn copied_in<D: Disk + Drop, W: Sink>(
         Err((fault, left)) => return Ended::Refused(fault, left),
     };
     match close_office(office) {
-        Ok(files) => {
-            let (done, files) = poured(alloc, files, out);
+        Ok(mut files) => {
+            let done = copy_all(alloc, &mut files.db, out);
             Ended::Closed(done, FileLeft::Closed(files))
         }
         Err((fault, left)) => Ended::Unclosed(fault, left),
     }
+}
+
+/// The bytes that are read at a time.
+const BLOCK: usize = 1_048_576;
+
+/// Reads the bytes at a place of a file, and writes them to the sink.
+fn copy_block<D: Disk, W: Sink>(
+    file: &mut D,
+    at: usize,
+    block: &mut [u8],
+    out: &mut W,
+) -> Result<(), Fault>
+    requires usable { IsTrue (D.Disk.is_usable file.old) }
+    requires some { 0 < length block.old }
+    ensures copied { OnOk result (Appends (W.told out.old).bytes (W.told out.new).bytes block.new) }
+    ensures held { OnOk result (IsTrue (D.Disk.is_clean file.new) →
+        Holds (D.Disk.seen file.old) at block.new) }
+    ensures counts { Grows (W.told out.old).counts (W.told out.new).counts }
+    ensures fault { IfErr result (CopyBreaksOff (W.told out.old) (W.told out.new)) }
+    ensures read { StaysAsRead D.Disk file.old file.new }
+{
+    if file.read_at(at, block).is_err() {
+        return Err(Fault::Store);
+    }
+    match write_all(out, block) {
+        Ok(()) => Ok(()),
+        Err(_) => Err(Fault::Write),
+    }
+}
+
+/// Writes so many bytes of a file to the sink, from the first to the last, each time as many as the
+/// block has.
+fn copy_blocks<D: Disk, W: Sink>(
+    file: &mut D,
+    len: usize,
+    block: &mut [u8],
+    out: &mut W,
+) -> Result<(), Fault>
+    requires usable { IsTrue (D.Disk.is_usable file.old) }
+    requires some { 0 < length block.old }
+    requires whole { IsTrue (D.Disk.is_clean file.old) → len ≡ length (D.Disk.seen file.old) }
+    ensures copied { OnOk result (IsTrue (D.Disk.is_clean file.new) →
+        Appends (W.told out.old).bytes (W.told out.new).bytes (D.Disk.seen file.old)) }
+    ensures fault { IfErr result (CopyBreaksOff (W.told out.old) (W.told out.new)) }
+    ensures read { StaysAsRead D.Disk file.old file.new }
+{
+    let mut at = 0;
+    while at < len {
+        let size = block.len().min(len - at);
+        match copy_block(file, at, &mut block[..size], out) {
+            Ok(()) => at += size,
+            Err(fault) => return Err(fault),
+        }
+    }
+    Ok(())
+}
+
+/// Writes all bytes of a file to the sink, from the first to the last.
+fn copy_all<D: Disk, W: Sink>(alloc: Global, file: &mut D, out: &mut W) -> Result<(), Fault>
+    requires { IsTrue (D.Disk.is_usable file.old) }
+    // On a disk that has returned what was written.
+    ensures copied { OnOk result (IsTrue (D.Disk.is_clean file.new) →
+        Appends (W.told out.old).bytes (W.told out.new).bytes (D.Disk.seen file.old)) }
+    ensures fault { IfErr result (IsUncopied (W.told out.old) (W.told out.new)) }
+    // The file is as it was.
+    ensures read { StaysAsRead D.Disk file.old file.new }
+{
+    let Ok(len) = file.len() else {
+        return Err(Fault::Store);
+    };
+    let mut block = Vec::new(alloc);
+    if block.resize(BLOCK, 0).is_err() {
+        return Err(Fault::Memory);
+    }
+    copy_blocks(file, len, &mut block, out)
 }

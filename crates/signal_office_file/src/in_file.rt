@@ -2,22 +2,19 @@
 
 ghost use Rattle.std.specs.Prelude.{◌≡◌, [], MatchResult};
 ghost use Rattle.office_http_framing.specs.Serve.{ends_of};
-ghost use Rattle.signal_office_in_file.specs.Ended.{EndsOver, IsCounted, stream_work, task_work};
+ghost use Rattle.signal_office_in_file.specs.Ended.{EndsOver, stream_work, task_work};
 ghost use Rattle.signal_office_file.specs.Calls.{calls_of};
-ghost use Rattle.signal_office_file.specs.InFile.{IsUnclosed, WasClean, files_view, rows_counted};
+ghost use Rattle.signal_office_file.specs.InFile.{IsUnclosed, WasClean, files_view};
 ghost use Rattle.signal_office_file.specs.Serving.{IsCutShortIn};
 
-use crate::calls::Call;
-use crate::closing::close_office;
 use crate::copying::copied_in;
 use crate::left::FileLeft;
 use crate::migrating::migrate_file;
 use crate::notes::note_content;
-use crate::opening::open_file;
-use crate::paths::files_at;
+use crate::opening::{close_office, open_file};
+use crate::paths::{Call, files_at};
 use crate::serving::serve_file;
 use office_http::{ServeFault, Served, Sink, Source};
-use office_tables::Migrated;
 use signal_office_faults::Fault;
 use signal_office_in_file::{Ended, Kind, OfficeInFile, OfficeTask};
 use sqlite::{FileFrom, Options, Start, Wary};
@@ -89,32 +86,6 @@ pub fn answered_in<D: Disk + Drop, R: Source, W: Sink>(
     match close_office(office) {
         Ok(files) => Ended::Closed(served, FileLeft::Closed(files)),
         Err((fault, left)) => Ended::Unclosed(first_fault(served, fault), left),
-    }
-}
-
-/// How many rows were written anew.
-fn rows_of(outcome: Result<Migrated, Fault>) -> Result<u128, Fault>
-    ensures { result ≡ rows_counted outcome }
-{
-    match outcome {
-        Ok(migrated) => Ok(migrated.timing as u128 + migrated.draft as u128),
-        Err(fault) => Err(fault),
-    }
-}
-
-/// Brings the tables in the two files to today's version, and closes them.
-fn migrated_in<D: Disk + Drop>(
-    alloc: Global,
-    files: Files<D>,
-    options: Options,
-) -> Ended<Result<u128, Fault>, FileLeft<D>>
-    ensures { IsCounted (files_view D.Disk files) result }
-{
-    match migrate_file(alloc, files, options) {
-        Ended::Unopened(fault) => Ended::Unopened(fault),
-        Ended::Refused(fault, left) => Ended::Refused(fault, left),
-        Ended::Closed(outcome, left) => Ended::Closed(rows_of(outcome), left),
-        Ended::Unclosed(fault, left) => Ended::Unclosed(fault, left),
     }
 }
 
@@ -202,7 +173,7 @@ impl OfficeInFile for TablesInFile {
         wait: u32,
     ) -> Ended<Result<u128, Fault>, FileLeft<FileFrom<Wary>>> {
         match files_at::<Wary>(rt, alloc, &mut self.calls, path, wait, Kind::Migration) {
-            Ok((files, options)) => noted(rt, path, migrated_in(alloc, files, options)),
+            Ok((files, options)) => noted(rt, path, migrate_file(alloc, files, options)),
             Err(fault) => Ended::Unopened(fault),
         }
     }

@@ -1,11 +1,12 @@
-//! What is left of a file that was refused, or could not be closed.
+//! Why the files of an office were refused or not closed, and what is left of them.
 
 ghost use Rattle.std.specs.Prelude.{◌≡◌};
 ghost use Rattle.signal_office_file.specs.Left.{closed_of, database_of};
+ghost use Rattle.signal_office_file.specs.Told.{told_of_error, told_of};
 
-use office_tables::open::Left;
+use office_tables::open::{Left, OpenFault};
 use signal_office_faults::Fault;
-use sqlite::{FileStore, Leftover};
+use sqlite::{Error, ErrorCode, FileStore, Leftover};
 use sqlite_disk::{Disk, Files};
 
 /// What is left of the two files of an office.
@@ -56,3 +57,25 @@ impl<D: Disk + Drop> Drop for FileLeft<D> {
 
 /// Why a file was refused, and what is left of it.
 pub type Refused<D> = (Fault, FileLeft<D>);
+
+/// The fault that is reported of an error of the database.
+pub(crate) fn fault_of_database(error: Error) -> Fault
+    ensures { result ≡ told_of_error error }
+{
+    match error {
+        Error::SqliteFailure(ErrorCode::OutOfMemory) => Fault::Memory,
+        _ => Fault::Store,
+    }
+}
+
+/// The fault that is reported of tables that were refused.
+pub(crate) fn fault_of_opening(fault: OpenFault) -> Fault
+    ensures { result ≡ told_of fault }
+{
+    match fault {
+        OpenFault::Version => Fault::Version,
+        OpenFault::Damaged => Fault::Damaged,
+        OpenFault::Store => Fault::Store,
+        OpenFault::NoMemory => Fault::Memory,
+    }
+}

@@ -2,11 +2,7 @@
 //! brought to today's. Each call takes the two files and gives back what is left of them.
 #![tactic(auto)]
 
-mod blocks;
-mod calls;
-mod closing;
 mod copying;
-mod fault;
 mod in_file;
 mod left;
 mod migrating;
@@ -14,14 +10,11 @@ mod notes;
 mod opening;
 mod paths;
 mod serving;
-mod streaming;
-mod waiting;
 
-pub use closing::close_office;
 pub use copying::copied_in;
 pub use in_file::{TablesInFile, answered_in, done_in};
 pub use left::{FileLeft, Refused};
 pub use migrating::migrate_file;
-pub use opening::{FileOffice, open_file};
+pub use opening::{FileOffice, close_office, open_file};
+pub use paths::Begin;
 pub use serving::{ServedOffice, serve_file};
-pub use waiting::Begin;

@@ -1,27 +1,21 @@
 //! The tables of a file of an older version, brought to today's version.
 
-ghost use Rattle.std.specs.Prelude.{◌≡◌, IfOk, IfErr};
-ghost use Rattle.signal_office_file.specs.Migrating.{told_of_outcome, told_unclosed, BringsToday, EndsMigration, MigratesOnDisk, MigratesIn};
+ghost use Rattle.std.specs.Prelude.{◌≡◌};
+ghost use Rattle.signal_office_file.specs.Migrating.{told_of_outcome, told_unclosed, BringsToday, EndsMigration, MigratesOnDisk};
 ghost use Rattle.sqlite.specs.Held.{state};
 ghost use Rattle.sqlite.specs.State.{HasCleanDisk};
 ghost use Rattle.office_tables_open.specs.Promises.{IsArrangedIfClean};
-ghost use Rattle.signal_office_file.specs.Left.{IsUnopened};
 
-use crate::closing::close_file;
-use crate::fault::fault_of_opening;
-use crate::left::FileLeft;
-use crate::opening::database_in;
+use crate::left::{FileLeft, fault_of_opening};
+use crate::opening::{close_file, database_in};
 use office_tables::Migrated;
 use office_tables::open::OpenFault;
 use office_tables::sql_shelf::SqlShelf;
 use signal_office_faults::Fault;
 use signal_office_in_file::Ended;
-use sqlite::{Alter, Connection, FileStore, Leftover, Options};
+use sqlite::{Alter, Connection, Options};
 use sqlite_disk::{Disk, Files};
 use std::alloc::Global;
-
-/// A database whose migration was tried, and what came of it.
-type Tried<D> = (Connection<FileStore<D>>, Result<Migrated, OpenFault>);
 
 /// Brings the tables of a database to today's version, and gives it back, with what is told of its
 /// last commit.
@@ -37,31 +31,13 @@ fn migrated<S: Alter>(
     (conn, outcome)
 }
 
-/// Opens the database in the two files and brings its tables to today's version, which may be
-/// refused, and gives the database back.
-fn open_and_migrate<D: Disk + Drop>(
-    alloc: Global,
-    files: Files<D>,
-    options: Options,
-) -> Result<Tried<D>, (Fault, Leftover<D>)>
-    // What `SqlShelf::migrate` says, of a connection that found its tables in the files: the
-    // counts, when Version and Damaged are reported, and what a stop leaves.
-    ensures migrated { IfOk result (λ tried. MigratesIn files tried.1 tried.0) }
-    ensures unopened { IfErr result (λ e. IsUnopened files e.0 e.1) }
-{
-    match database_in(alloc, files, options) {
-        Ok(conn) => Ok(migrated(alloc, conn)),
-        Err(refused) => Err(refused),
-    }
-}
-
 /// Brings the tables in the two files to today's version, which may be refused, and closes them, so
 /// that the log is copied. What is left of the files comes back with what came of it.
 pub fn migrate_file<D: Disk + Drop>(
     alloc: Global,
     files: Files<D>,
     options: Options,
-) -> Ended<Result<Migrated, Fault>, FileLeft<D>>
+) -> Ended<Result<u128, Fault>, FileLeft<D>>
     // Closed, they hold what became of their tables, with the count of what was written anew, or,
     // where that was refused, their tables; else a stop leaves either.
     ensures ends { EndsMigration files result }
@@ -69,22 +45,23 @@ pub fn migrate_file<D: Disk + Drop>(
     // `serve_file` holds of a run over the files that came back.
     ensures today { BringsToday files result }
 {
-    let (conn, outcome) = match open_and_migrate(alloc, files, options) {
-        Ok(tried) => tried,
+    let conn = match database_in(alloc, files, options) {
+        Ok(conn) => conn,
         Err((fault, left)) => return Ended::Refused(fault, FileLeft::Unopened(left)),
     };
+    let (conn, outcome) = migrated(alloc, conn);
     match close_file(conn) {
         Ok(files) => Ended::Closed(told_of(outcome), FileLeft::Closed(files)),
         Err((fault, left)) => Ended::Unclosed(unclosed(fault, outcome), left),
     }
 }
 
-/// What came of a migration whose files were closed.
-fn told_of(outcome: Result<Migrated, OpenFault>) -> Result<Migrated, Fault>
+/// What came of a migration whose files were closed: how many rows were written anew.
+fn told_of(outcome: Result<Migrated, OpenFault>) -> Result<u128, Fault>
     ensures { result ≡ told_of_outcome outcome }
 {
     match outcome {
-        Ok(migrated) => Ok(migrated),
+        Ok(migrated) => Ok(migrated.timing as u128 + migrated.draft as u128),
         Err(fault) => Err(fault_of_opening(fault)),
     }
 }

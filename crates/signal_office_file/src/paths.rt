@@ -1,23 +1,24 @@
-//! The two files of an office at a path.
+//! The two files of an office at a path, opened at once, or as soon as no other run has them open,
+//! and the calls that were made of them.
 
-ghost use Rattle.std.specs.Prelude.{◌≡◌, IfOk, IfErr, Err};
+ghost use Rattle.std.specs.Prelude.{◌≡◌, IfOk, IfErr, Err, ◌++◌, ◌∷◌, [], OnErr, OnOk, ◌<◌, ◌↔◌, IsTrue};
 ghost use Rattle.sqlite.specs.WalFiles.{image_at};
 ghost use Rattle.signal_office_in_file.specs.Calls.{IsCalled, called};
 ghost use Rattle.signal_office_in_file.specs.Ended.{IsStoreOrMemory};
 ghost use Rattle.signal_office_file.specs.Calls.{calls_of};
 ghost use Rattle.signal_office_file.specs.Files.{AreNew, AreUsable};
 
-use crate::calls::{Call, note};
-use crate::notes::{note_name, note_refusal};
-use crate::waiting::{Begin, open_in_turns, turns_in};
+use crate::notes::{note_name, note_refusal, note_wait};
 use signal_office_faults::Fault;
 use signal_office_in_file::Kind;
-use sqlite::{FileFrom, Options, Start};
+use sqlite::{FileFrom, Options, Start, Wary};
 use sqlite_disk::{Disk, Files};
 use sqlite_std_file::OpenError;
-use std::alloc::Global;
+use std::alloc::{AllocError, Global};
 use std::hash::{BuildHasher, RandomState};
 use std::io::ErrorKind;
+use std::thread;
+use std::time::Duration;
 
 /// The fault that is reported of files that were not opened.
 fn fault_of_refusal(error: &OpenError) -> Fault
@@ -85,4 +86,95 @@ pub(crate) fn files_at<S: Begin>(
     let files = pair_at(rt, path, wait)?;
     let options = options(rt)?;
     Ok((files, options))
+}
+
+/// A call: the path, for how many seconds another run is waited for, and what is done.
+#[derive(Drop)]
+pub struct Call {
+    path: String,
+    wait: u32,
+    kind: Kind,
+}
+
+/// Notes a call.
+#[tactic(auto, using(crate::proofs::CallsLemmas::one_more))]
+fn note(
+    calls: &mut Vec<Call>,
+    alloc: Global,
+    path: &str,
+    wait: u32,
+    kind: Kind,
+) -> Result<(), AllocError>
+    ensures noted { OnOk result (calls_of calls.new.items
+        ≡ calls_of calls.old.items ++ called path.now wait kind ∷ []) }
+    ensures refused { OnErr result (calls_of calls.new.items ≡ calls_of calls.old.items) }
+{
+    let path = String::from_str(alloc, path)?;
+    calls.push(Call { path, wait, kind })?;
+    Ok(())
+}
+
+/// How long a turn is, in milliseconds.
+const TURN: u64 = 50;
+
+/// How many turns a second has.
+const TURNS_IN_A_SECOND: u64 = 20;
+
+/// What a file held as it was opened, of which a value can be had for each try.
+pub trait Begin: Start {
+    fn begin() -> Self;
+}
+
+impl Begin for Wary {
+    fn begin() -> Wary {
+        Wary
+    }
+}
+
+/// Why files were not opened, and how many turns were left.
+type Refusal = (OpenError, u64);
+
+/// Whether files are tried again: those that another run has open, as long as turns are left.
+fn tries_again(error: &OpenError, left: u64) -> bool
+    ensures { IsTrue result ↔ ((error.now ≡ OpenError.Busy) × (0 < left)) }
+{
+    match error {
+        OpenError::Busy => left > 0,
+        _ => false,
+    }
+}
+
+/// How many turns so many seconds have.
+fn turns_in(seconds: u32) -> u64 {
+    u64::from(seconds) * TURNS_IN_A_SECOND
+}
+
+/// The two files at a path, which are made where they are missing. Where another run has them open
+/// that is noted, and they are tried again, at most for so many turns.
+fn open_in_turns<S: Begin>(
+    rt: &HostRuntime,
+    path: &str,
+    turns: u64,
+) -> Result<Files<FileFrom<S>>, Refusal>
+    ensures new { IfOk result (λ files.
+        AreNew ⟦<FileFrom<S> as Disk>⟧ files (image_at S.Start)) }
+    ensures usable { IfOk result (AreUsable ⟦<FileFrom<S> as Disk>⟧) }
+    // Another run is given up only when no turn is left.
+    ensures waited { IfErr result (λ why. why.0 ≡ OpenError.Busy → why.1 ≡ 0) }
+{
+    let mut left = turns;
+    loop {
+        let error = match sqlite_std_file::open(rt, path, S::begin()) {
+            Ok(files) => return Ok(files),
+            Err(error) => error,
+        };
+        if !tries_again(&error, left) {
+            return Err((error, left));
+        }
+        if left == turns {
+            note_wait(rt, path);
+        }
+        thread::sleep(rt, Duration::from_millis(TURN));
+        left -= 1;
+    }
 }

@@ -2,6 +2,8 @@
 
 ghost use Rattle.std.specs.Prelude.{◌≡◌, ◌≤◌, ◌+◌, ◌*◌, IfOk, IfErr};
 ghost use Rattle.sqlite.specs.Files.{file_state, image_of};
+ghost use Rattle.sqlite.specs.Held.{state};
+ghost use Rattle.sqlite.specs.Recovery.{Image};
 ghost use Rattle.sqlite.specs.State.{HasCleanDisk};
 ghost use Rattle.sqlite.specs.Tree.{Trees};
 ghost use Rattle.sqlite.specs.WalReads.{AreClean};
@@ -9,19 +11,21 @@ ghost use Rattle.office_tables_open.specs.SqlShelf.{IsCurrent};
 ghost use Rattle.office_machine.specs.Office.{Office as OfficeState};
 ghost use Rattle.office_desk.specs.StandFor.{StandForSound};
 ghost use Rattle.office_tables.specs.Content.{Content};
+ghost use Rattle.office_tables.specs.Stored.{content_now};
 ghost use Rattle.office_http_framing.specs.Asks.{OnlyAsks};
 ghost use Rattle.office_http_framing.specs.Limits.{longest_request};
 ghost use Rattle.office_http_framing.specs.Serve.{Did, TellsFault, ends_of};
 ghost use Rattle.office_http.specs.Protocol.{office_protocol};
 ghost use Rattle.signal_office_file.specs.Files.{HoldIn, HoldToday};
 ghost use Rattle.signal_office_file.specs.Left.{IsRefusedIn, KeepsToday};
-ghost use Rattle.signal_office_file.specs.Serving.{ServesFiles};
+ghost use Rattle.signal_office_file.specs.Serving.{AreOpenedIn, ServesFiles};
 
 use crate::left::Refused;
 use crate::opening::{FileOffice, open_file};
-use crate::streaming::serve_over;
-use office_http::{ServeFault, Served, Sink, Source};
-use sqlite::Options;
+use office_desk::office::Office;
+use office_http::{ServeFault, Served, Sink, Source, serve};
+use office_tables::sql_shelf::SqlShelf;
+use sqlite::{Alter, Options};
 use sqlite_disk::{Disk, Files};
 use std::alloc::Global;
 
@@ -76,4 +80,34 @@ pub fn serve_file<D: Disk + Drop, R: Source, W: Sink>(
         Ok(office) => Ok(serve_over(alloc, office, reader, writer, max_requests)),
         Err(refused) => Err(refused),
     }
+}
+
+/// Serves the requests that the reader gives by an office over tables in SQL, and gives it back.
+fn serve_over<S: Alter + Drop, R: Source, W: Sink>(
+    alloc: Global,
+    mut office: Office<SqlShelf<S>>,
+    reader: &mut R,
+    writer: &mut W,
+    max_requests: u32,
+) -> (Office<SqlShelf<S>>, Result<Served, ServeFault>)
+    ensures clean { HasCleanDisk (state S.Store result.0.conn)
+        → HasCleanDisk (state S.Store office.conn) }
+    // What `serve` says, of an office that served nothing before.
+    ensures did { HasCleanDisk (state S.Store result.0.conn) →
+        (image : Image) → AreOpenedIn (state S.Store) image office → (before : OfficeState) →
+        StandForSound (content_now (state S.Store office.conn)) before → (after : OfficeState)
+        × Did office_protocol (ServesFiles (state S.Store)
+        (content_now (state S.Store office.conn)) before result.0 after) max_requests (ends_of (R.told reader.old) (W.told writer.old))
+        (ends_of (R.told reader.new) (W.told writer.new)) result.1 }
+    // Today's version is stored, also in whatever a crash may leave.
+    ensures current { IsCurrent (state S.Store result.0.conn) }
+    ensures fault { TellsFault (ends_of (R.told reader.old) (W.told writer.old))
+        (ends_of (R.told reader.new) (W.told writer.new)) result.1 }
+    ensures asks { OnlyAsks R.told max_requests reader.old reader.new }
+    ensures reads { (R.told reader.new).counts.calls
+        ≤ (R.told reader.old).counts.calls + longest_request * (max_requests + 1) + 1 }
+{
+    let outcome = serve(alloc, &mut office, reader, writer, max_requests);
+    office.shelf().known();
+    (office, outcome)
 }

@@ -1,6 +1,7 @@
 use Rattle.std.proofs.Common.{Ok, refl}
 use Rattle.sqlite.specs.Files.{file_state}
 use Rattle.office_tables.specs.{Stored.content_now}
+use Rattle.signal_office_file.specs.Copying.{PoursAs}
 use Rattle.signal_office_file.proofs.CopyingLemmas.{poured_clean, poured_copy, poured_kept}
 use Rattle.signal_office_file.proofs.FilesLemmas.{unclosed_leaves}
 use Rattle.signal_office_file.proofs.InFileLemmas.{closing_told}
@@ -13,16 +14,16 @@ returns-in-Ok-close_office g c = (
   λ clean.
       let disk = g.D.Disk in
       let files = c.in-Ok-close_office.files in
-      let back = c.poured-done.result.1 in
-      let start = g.W.Sink.told c.args.out.now in
-      let end = g.W.Sink.told c.poured-done.new.out in
-      let done = c.poured-done.result.0 in
+      let it = c.copy_all-done.ensures in
+      let back = record files { db = c.copy_all-done.new.file } in
+      let poured : PoursAs disk files (g.W.Sink.told c.args.out.now) (g.W.Sink.told c.copy_all-done.new.out) c.copy_all-done.result back =
+      record { log = refl; read = it.read; copied = it.copied; fault = it.fault } in
       let tables = content_now (file_state c.in-Ok.office.conn) in
-      let before = poured_clean disk files back start end done c.poured-done.ensures clean in
+      let before = poured_clean disk files back _ _ _ poured clean in
       let closed = c.in-Ok-close_office.ensures in
       let kept = closed.kept before in
       let opened = c.in-Ok.ensures.opened (closed.copied before).was_clean in
-      (tables, tables, opened.held, (refl, poured_copy disk files back start end done c.poured-done.ensures clean tables kept), poured_kept disk files back start end done c.poured-done.ensures tables kept),
+      (tables, tables, opened.held, (refl, poured_copy disk files back _ _ _ poured clean tables kept), poured_kept disk files back _ _ _ poured tables kept),
 )
 
 -- a stop leaves no more of the database than of the connection, which holds what the files held

@@ -1,4 +1,3 @@
-use Rattle.std.proofs.Common.{refl}
 use Rattle.sqlite.specs.Files.{file_state}
 use Rattle.office_tables.specs.Stored.{content_now}
 use Rattle.signal_office_file.proofs.serving.serve_file.Goals as goal
@@ -7,9 +6,5 @@ use Rattle.signal_office_file.proofs.serving.serve_file.Goals as goal
 pub returns-in-Ok-clause-did : goal.returns-in-Ok-clause-did
 returns-in-Ok-clause-did g c clean =
     let it = c.serve_over.ensures in
-    let held = content_now (file_state c.in-Ok.office.conn) in
-    let opened = c.in-Ok.ensures.opened (it.clean clean) in (
-      held,
-      opened.held,
-      it.did clean held (record { content = refl; crash = opened.crash; unwritten = opened.unwritten }),
-    )
+    let opened = c.in-Ok.ensures.opened (it.clean clean) in
+    (content_now (file_state c.in-Ok.office.conn), opened.held, it.did clean _ opened)

@@ -4,7 +4,7 @@ use Rattle.signal_office_file.proofs.in_file.TablesInFileOfficeInFile.migrate.Go
 
 pub returns-in-Ok-clause-counted : goal.returns-in-Ok-clause-counted
 returns-in-Ok-clause-counted c =
-    counted_noted _ _ c.in-Ok.files c.in-Ok.ensures.new c.migrated_in.result c.noted.result c.noted.ensures c.migrated_in.ensures
+    counted_noted _ _ c.in-Ok.files c.in-Ok.ensures.new c.migrate_file.result c.noted.result c.noted.ensures c.migrate_file.ensures.ends
 
 pub returns-in-Ok-clause-noted : goal.returns-in-Ok-clause-noted
 returns-in-Ok-clause-noted c = opened _ _ _ _ _ c.in-Ok.ensures.noted

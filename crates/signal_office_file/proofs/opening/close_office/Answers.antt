@@ -6,7 +6,7 @@ use Rattle.sqlite_store.specs.Laws.{stays_at}
 use Rattle.office_tables.specs.Stored.{content_now}
 use Rattle.signal_office_file.specs.{Files.KeepTables, Left.IsUnclosed}
 use Rattle.signal_office_file.proofs.FilesLemmas.{kept_tables, unclosed_today}
-use Rattle.signal_office_file.proofs.closing.close_office.Goals as goal
+use Rattle.signal_office_file.proofs.opening.close_office.Goals as goal
 
 pub returns-clause-copied : goal.returns-clause-copied
 returns-clause-copied g c =

@@ -2,7 +2,7 @@ use Rattle.std.proofs.Common.{◌≡◌, ◌-◌, ◌<◌, ◌≤◌, length, ta
 use Rattle.std.specs.Io.KnownBytes.{Appends}
 use Rattle.office_http_framing.specs.Ends.{Grows}
 use Rattle.signal_office_file.specs.Copying.{StaysAsRead}
-use Rattle.signal_office_file.proofs.blocks.copy_blocks.Given as goal
+use Rattle.signal_office_file.proofs.copying.copy_blocks.Given as goal
 
 -- the bytes before the place were written, and the counts of the sink grew
 abbrev pub invariant-loop-at : goal.invariant-loop-at

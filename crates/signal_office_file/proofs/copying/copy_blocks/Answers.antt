@@ -4,7 +4,7 @@ use Rattle.std.specs.Io.KnownBytes.{Appends}
 use Rattle.std.proofs.KnownBytes.{Appends-trans}
 use Rattle.office_http_framing.proofs.EndLemmas.{Grows-trans}
 use Rattle.signal_office_file.proofs.HeldLemmas.{breaks_before, held_more}
-use Rattle.signal_office_file.proofs.blocks.copy_blocks.Goals as goal
+use Rattle.signal_office_file.proofs.copying.copy_blocks.Goals as goal
 
 pub loop-at-preserved : goal.loop-at-preserved
 loop-at-preserved g c =

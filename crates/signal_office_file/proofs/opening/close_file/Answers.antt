@@ -1,6 +1,6 @@
 use Rattle.std.proofs.Common.{ap, ◌∙◌, arith}
 use Rattle.signal_office_file.specs.Told.{told_of_error}
-use Rattle.signal_office_file.proofs.closing.close_file.Goals as goal
+use Rattle.signal_office_file.proofs.opening.close_file.Goals as goal
 
 pub returns-in-Err-clause-unclosed : goal.returns-in-Err-clause-unclosed
 returns-in-Err-clause-unclosed g c =
