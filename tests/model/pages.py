@@ -214,11 +214,11 @@ def plan_part(plan, whose="", broken=()):
 
 
 def count_broken(broken):
-    """How many rules are broken."""
+    """How many reasons there are why rules are broken."""
     if not broken:
         return "<p class='sound'>It breaks no rule.</p>\n"
-    return (f"<p class='broken'>Broken rules: {len(broken)}. Each stands below its row, with the "
-            "reason.</p>\n")
+    return (f"<p class='broken'>Reasons why rules are broken: {len(broken)}. Each stands below its "
+            "row.</p>\n")
 
 
 def plan_page(plan):

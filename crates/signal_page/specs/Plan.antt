@@ -73,9 +73,9 @@ plan_rows whose reasons set rows =
 abbrev pub plan_part : List ℕ → List Explained → Rows → List Shown
 plan_part whose reasons set = plan_rows whose reasons set (values set)
 
--- how many rules are broken
+-- how many reasons there are why rules are broken
 unfoldable pub reasons_note : List Explained → List Shown
 reasons_note reasons =
     if length reasons == 0 then Own (codes "<p class='sound'>It breaks no rule.</p>\n") ∷ []
-    else Own (codes "<p class='broken'>Broken rules: ") ∷ Number (length reasons)
-    ∷ Own (codes ". Each stands below its row, with the reason.</p>\n") ∷ []
+    else Own (codes "<p class='broken'>Reasons why rules are broken: ") ∷ Number (length reasons)
+    ∷ Own (codes ". Each stands below its row.</p>\n") ∷ []

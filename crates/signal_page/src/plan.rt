@@ -199,9 +199,9 @@ pub(crate) fn push_reasons_note(text: &mut String, reasons: &[Explained]) -> Res
     push_nodes(
         text,
         &[
-            Node::Own("<p class='broken'>Broken rules: "),
+            Node::Own("<p class='broken'>Reasons why rules are broken: "),
             Node::Number(reasons.len() as u64),
-            Node::Own(". Each stands below its row, with the reason.</p>\n"),
+            Node::Own(". Each stands below its row.</p>\n"),
         ],
     )
 }
