@@ -187,7 +187,7 @@ pub(crate) fn push_plan(
     push_plan_rows(alloc, text, whose, reasons, set, &rows)
 }
 
-/// Appends how many rules are broken.
+/// Appends how many reasons there are why rules are broken.
 #[tactic(auto, unfolding(crate::specs::Plan::reasons_note))]
 pub(crate) fn push_reasons_note(text: &mut String, reasons: &[Explained]) -> Result<(), AllocError>
     ensures { OnOk result (string_bytes text.new
