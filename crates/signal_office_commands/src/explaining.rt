@@ -11,9 +11,9 @@ use office_desk::office::Office;
 use office_tables_shelf::shelf::Shelf;
 use signal_office_faults::Fault;
 use signal_office_reports::{Query, Seen, draft_in, first_seen, look, timing_in};
+use signal_plans::{Warning, warnings};
 use signal_records::InterId;
 use signal_rules::{Explained, reasons};
-use signal_plans::{Warning, warnings};
 use std::alloc::Global;
 
 /// The violations of a draft that was seen, each with its reason.

@@ -1,16 +1,17 @@
 -- An edit that was made and is not told, and a comparison that was not made.
-use Rattle.std.proofs.Common.{◌≡◌, ◌≢◌, ℕ, Bool, List, Ok, Err, subst, sym}
-use Rattle.std.specs.Prelude.{IsErrAnd, Result}
+use Rattle.std.proofs.Common.{◌≡◌, ◌≢◌, ℕ, Bool, List, Ok, Err, inl, ap, ◌∙◌, subst, sym}
+use Rattle.std.specs.Prelude.{IfOk, IsErrAnd, Result}
 use Rattle.office_tables_shelf.specs.Content.{Content}
-use Rattle.signal_office_commands.specs.{Comparing.ComparesRunning, Revising.RevisesAs}
+use Rattle.signal_office_commands.specs.{Comparing.ComparesRunning, Explaining.WarnsOfCommitted, Revising.RevisesAs}
 use Rattle.signal_office_commands.specs.declared.revising.Outcome.{Outcome}
 use Rattle.signal_office_commands.specs.declared.revising.Outcome.TheVariants.{Open}
 use Rattle.signal_office_commands.specs.declared.revising.Revised.{Revised}
 use Rattle.signal_office_line.specs.declared.job.Edit.{Edit}
 use Rattle.signal_office_faults.specs.declared.fault.Fault.{Fault}
 use Rattle.signal_office_faults.specs.declared.fault.Fault.TheVariants as told
-use Rattle.signal_office_jobs.specs.Requests.{ComparesWith, EditsBy, IsUntold, TellsEdit, TellsOpen, TellsRevised}
+use Rattle.signal_office_jobs.specs.Requests.{ComparesWith, EditsBy, IsCommittedTold, IsUntold, TellsEdit, TellsOpen, TellsRevised, committed_lines}
 use Rattle.signal_office_jobs.specs.declared.done.Done.{Done}
+use Rattle.signal_plans.specs.declared.warning.Warning.{Warning}
 use Rattle.signal_rules.specs.declared.violation.Violation.{Violation}
 
 pub not_open : (edit : Edit) (tables : Content) (violations : List Violation) (result : Result Done Fault) (fault : Fault)
@@ -42,3 +43,10 @@ pub not_compared : (id : ℕ) (plan : List ℕ) (csv : Bool) (old : Content) (re
 not_compared id plan csv old (Ok done) fault is none = absurd is
 not_compared id plan csv old (Err why) fault is none =
     subst (λ (w : Fault). ComparesWith id plan csv old (Err w)) (sym is) (λ other. none)
+
+-- what is told of a committed draft with its warnings
+pub committed_told : {Text : Type 0} (items : Text → List ℕ) (id : ℕ) (found shown : List Warning) (honest : Type 0) (tables : Content) (result : Result Text Fault)
+    → shown ≡ found → IfOk result (λ text. items text ≡ committed_lines shown) → (honest → WarnsOfCommitted tables id (Ok found))
+    → IfOk result (λ text. honest → IsCommittedTold id tables (items text))
+committed_told items id found shown honest tables (Ok text) same is warns = λ h. inl (found, warns h, is ∙ ap committed_lines same)
+committed_told items id found shown honest tables (Err why) same is warns = tt

@@ -110,10 +110,14 @@ TellsOpen edit tables violations (Ok done) =
     × (text_of done ≡ told ++ open_line edit.commit edit.clerk) × (status_of done ≡ open_status edit.commit violations)
 TellsOpen edit tables violations (Err why) = why ≢ fault.Memory → IsUntold edit.explain edit.advise edit.id tables why
 
+-- what is told of a draft that was committed, with a line for each of its warnings
+abbrev pub committed_lines : List Warning → List ℕ
+committed_lines found = (codes "no violations\n" ++ warnings_text_of found) ++ codes "committed\n"
+
 -- the text of a committed draft has its warnings, by the committed set in the tables; or says that they could not be read
 abbrev pub IsCommittedTold : (id : ℕ) → Content → (text : List ℕ) → Type 0
 IsCommittedTold id tables text =
-    ((found : List Warning) × WarnsOfCommitted tables id (Ok found) × (text ≡ codes "no violations\n" ++ warnings_text_of found ++ codes "committed\n"))
+    ((found : List Warning) × WarnsOfCommitted tables id (Ok found) × (text ≡ committed_lines found))
     ⊎ (text ≡ codes "no violations\ncommitted\nits warnings could not be read\n")
 
 -- A draft that was committed is reported, with its warnings where that is asked, whatever memory there is.

@@ -1,6 +1,6 @@
 //! What a command prints, and the status with which it ends.
 
-ghost use Rattle.std.specs.Prelude.{◌≡◌, ◌≤◌, ◌+◌, ◌++◌, Ok, OnOk};
+ghost use Rattle.std.specs.Prelude.{◌≡◌, ◌≤◌, ◌+◌, ◌++◌, Ok, IfOk, string_bytes};
 ghost use Rattle.arrayvec.specs.ArrayString.{array_string_len};
 ghost use Rattle.office_files.specs.Violations.{violations_text, explained_text_of};
 ghost use Rattle.signal_office_jobs.specs.Done.{TellsAs, TellsLine, TellsOutcome, checked_status, compared_status, compared_text, copied_line, explained_status, migrated_line, open_line, open_status, refused_status, status_of, text_of};
@@ -11,12 +11,13 @@ use arrayvec::ArrayString;
 use itoa::{Buffer, Integer};
 use office_files::{changes_csv, explained_text, violation_text};
 use office_http::{Sink, write_all};
-use signal_plans::{Difference, changes, comparison_text};
 use signal_office_commands::{Entered, Imported, Report};
 use signal_office_faults::Fault;
+use signal_plans::{Difference, changes, comparison_text};
 use signal_records::{NoMemory, Words};
 use signal_rules::{Explained, Violation};
 use std::alloc::Global;
+use std::fmt::Write;
 
 /// The status where a record would be refused.
 const HAS_REFUSED: u8 = 1;
@@ -28,11 +29,8 @@ const HAS_VIOLATIONS: u8 = 3;
 const DIFFERS: u8 = 4;
 
 /// What is reported of a commit that was asked for and not made.
-const NOT_COMMITTED: &[u8] =
-    b"not committed: the draft stays open; go on with edit, or drop it with abandon\n";
-
-/// What follows whose draft it is that stays open.
-const STAYS_OPEN: &[u8] = b" stays open; commit it with edit --commit, or drop it with abandon\n";
+const NOT_COMMITTED: &str =
+    "not committed: the draft stays open; go on with edit, or drop it with abandon\n";
 
 /// The bytes of the longest line that needs no memory, and more.
 const ROOM: usize = 96;
@@ -47,18 +45,21 @@ fn push_number<N: Integer>(line: &mut ArrayString<ROOM>, number: N)
     line.push_str(digits.format(number));
 }
 
-/// Writes behind a text that a draft stays open: whose it is, or that it was to be committed.
-fn push_open_line(text: &mut Vec<u8>, commit: bool, clerk: &Words<40>) -> Result<(), NoMemory>
-    ensures { OnOk result (text.new.items ≡ text.old.items ++ open_line commit clerk.now) }
+/// The line that a draft stays open: whose it is, or that it was to be committed.
+fn open_line(alloc: Global, commit: bool, clerk: &str) -> Result<String, NoMemory>
+    ensures { IfOk result (λ line. string_bytes line ≡ open_line commit clerk.now) }
 {
+    let mut line = String::new(alloc);
     if commit {
-        text.extend_from_slice(NOT_COMMITTED)?;
-        return Ok(());
+        line.push_str(NOT_COMMITTED)?;
+    } else {
+        write!(
+            line,
+            "the draft of {clerk} stays open; commit it with edit --commit, or drop it with \
+             abandon\n"
+        )?;
     }
-    text.extend_from_slice(b"the draft of ")?;
-    text.extend_from_slice(clerk.as_str().as_bytes())?;
-    text.extend_from_slice(STAYS_OPEN)?;
-    Ok(())
+    Ok(line)
 }
 
 /// The status of a draft that stays open, and was to be committed or not.
@@ -155,18 +156,18 @@ impl Done {
     /// The rules that a draft breaks which stays open, and whose it is. A commit that was asked for
     /// and not made is told in place of that, and by the status.
     pub fn left_open(
-        broken: Vec<u8>,
+        alloc: Global,
+        broken: &[u8],
         violations: &[Violation],
         commit: bool,
         clerk: &Words<40>,
     ) -> Result<Done, Fault>
-        ensures { TellsAs (broken.items ++ open_line commit clerk.now)
+        ensures { TellsAs (broken.now ++ open_line commit clerk.now)
             (open_status commit violations.now) result }
     {
-        let mut text = broken;
-        push_open_line(&mut text, commit, clerk)?;
+        let line = open_line(alloc, commit, clerk.as_str())?;
         let status = open_status(commit, violations);
-        Ok(Done::Text { text, status })
+        join_texts(alloc, broken, line.as_bytes(), status)
     }
 
     /// What two plans differ in, or that as CSV.

@@ -9,7 +9,7 @@ ghost use Rattle.signal_office_commands.specs.Explaining.{ExplainsDraft, WarnsOf
 ghost use Rattle.signal_office_commands.specs.Stopping.{AfterAbandoning, AfterAdding, AfterImporting, AfterRevising, StopLeaves};
 ghost use Rattle.signal_office_in_file.specs.Doing.{DoesTask};
 ghost use Rattle.signal_office_jobs.specs.Calls.{kind_of};
-ghost use Rattle.signal_office_jobs.specs.Requests.{AbandonsAs, AddsAs, ChecksAs, ComparesAs, ComparesWith, EditsBy, FillsAs, ImportsAs, IsAdvice, IsBroken, IsCommittedTold, IsOpenText, IsUntold, ShowsAs, TellsCommitted, TellsOpen, TellsRevised, TellsUsed, effect_of, makes_file, taking};
+ghost use Rattle.signal_office_jobs.specs.Requests.{AbandonsAs, AddsAs, ChecksAs, ComparesAs, ComparesWith, EditsBy, FillsAs, ImportsAs, IsAdvice, IsBroken, IsCommittedTold, IsOpenText, IsUntold, ShowsAs, TellsCommitted, TellsOpen, TellsRevised, TellsUsed, committed_lines, effect_of, makes_file, taking};
 
 use crate::done::Done;
 use crate::explained::refused_edit;
@@ -27,9 +27,9 @@ use signal_office_faults::{Fault, SystemFolder};
 use signal_office_in_file::{Kind, OfficeTask};
 use signal_office_line::{Edit, Folder as FolderKind, Name, Part, Request, Shown};
 use signal_office_reports::{report, used};
+use signal_plans::{Warning, warnings_text};
 use signal_records::{InterId, Interval, NoMemory};
 use signal_rules::Violation;
-use signal_plans::warnings_text;
 use std::alloc::Global;
 
 /// Whether a request makes the file where there is none. What only asks, changes a plan that has to
@@ -282,7 +282,18 @@ fn tell_open<S: Shelf>(
 {
     let text = open_text(alloc, office, edit, violations)?;
     let clerk = edit.clerk.to_words(alloc)?;
-    Done::left_open(text, violations, edit.commit, &clerk)
+    Done::left_open(alloc, &text, violations, edit.commit, &clerk)
+}
+
+/// What is told of a draft that was committed and of which an engineer is warned so.
+fn committed_lines(alloc: Global, found: &[Warning]) -> Result<Vec<u8>, Fault>
+    ensures { IfOk result (λ text. text.items ≡ committed_lines found.now) }
+{
+    let mut text = Vec::new(alloc);
+    text.extend_from_slice(b"no violations\n")?;
+    text.extend_from_slice(&warnings_text(alloc, found)?)?;
+    text.extend_from_slice(b"committed\n")?;
+    Ok(text)
 }
 
 /// The text of a draft that was committed, with its warnings.
@@ -297,11 +308,7 @@ fn committed_text<S: Shelf>(
         IsCommittedTold id (S.content office.old) text.items) }
 {
     let found = committed_warnings(alloc, office, id)?;
-    let mut text = Vec::new(alloc);
-    text.extend_from_slice(b"no violations\n")?;
-    text.extend_from_slice(&warnings_text(alloc, &found)?)?;
-    text.extend_from_slice(b"committed\n")?;
-    Ok(text)
+    committed_lines(alloc, &found)
 }
 
 /// Tells of a draft that was committed: where its warnings are asked for and cannot be told, that.

@@ -13,9 +13,9 @@ use office_http::{Sink, Source};
 use signal_office_commands::{compare_files, diagram_in, page_in};
 use signal_office_faults::Fault;
 use signal_office_line::{CsvFile, PlanShown};
+use signal_plans::{warnings, warnings_text};
 use signal_records::TimingSet;
 use signal_rules::{reasons, violations};
-use signal_plans::{warnings, warnings_text};
 use std::alloc::Global;
 
 /// Tells the rules that a plan breaks, with their reasons where that is asked.

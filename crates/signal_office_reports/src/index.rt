@@ -9,9 +9,9 @@ use crate::seen::{ListedCabinet, Seen};
 use cabinet_core::{Day, PartCode};
 use office_listings::{NamedOrder, UsedPart, add_named_orders, add_used, used_list};
 use office_machine::reply::Stock;
-use signal_page::{IndexEntry, IndexShown, add_entry, index_page};
 use signal_office_faults::Fault;
 use signal_office_line::Shown;
+use signal_page::{IndexEntry, IndexShown, add_entry, index_page};
 use signal_records::{Listing, NoMemory};
 use std::alloc::Global;
 
