@@ -1,8 +1,6 @@
 //! The two ends of a stream in memory: a reader that ends, fails, waits or goes on behind its bytes,
 //! and a writer that has room for so many.
 
-ghost use Rattle.std.specs.Prelude.{◌≤◌, length};
-
 use crate::asking::Bench;
 use office_desk::office::Office;
 use office_http::{FromRead, ServeFault, Served, ToWrite, serve};
@@ -36,30 +34,20 @@ struct Feed<'a> {
     calls: u64,
 }
 
-impl Feed<'_> {
-    /// Copies as many bytes as there is room for, and as a read gives.
-    fn give(&mut self, buf: &mut [u8]) -> usize
-        ensures { result ≤ length buf.new }
-    {
-        let (all, most, after) = self.stream;
-        let n = all.len().min(buf.len()).min(most);
-        buf[..n].copy_from_slice(&all[..n]);
-        self.stream = (&all[n..], most, after);
-        n
-    }
-}
-
 impl Read for Feed<'_> {
     fn read(&mut self, buf: &mut [u8]) -> io::Result<usize> {
         self.calls = self.calls.saturating_add(1);
-        let (bytes, most, after) = self.stream;
+        let (mut bytes, most, after) = self.stream;
         if bytes.is_empty() {
             if self.taken.get() < after.1 {
                 return Err(io::Error::from(ErrorKind::Interrupted));
             }
-            self.stream = (after.0, most, after);
+            bytes = after.0;
         }
-        Ok(self.give(buf))
+        let mut part = bytes.get(..most).unwrap_or(bytes);
+        let n = part.read(buf)?;
+        self.stream = (bytes.get(n..).unwrap_or(b""), most, after);
+        Ok(n)
     }
 }
 

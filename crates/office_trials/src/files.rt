@@ -11,6 +11,7 @@ use crate::worked::play_all;
 use office_desk::office::Office;
 use office_tables::open::{Left, OpenFault};
 use office_tables::sql_shelf::SqlShelf;
+use office_tables_shelf::shelf::Shelf;
 use sqlite::{Alter, Connection, FileStore, Options};
 use sqlite_disk::{Crash, Disk, Files, Fuse, Memory};
 use std::process::Abort;
@@ -56,10 +57,9 @@ pub(crate) enum Work<'a> {
     Migrate,
 }
 
-/// What tables of version 1 show.
+/// What tables of version 1 show, and what a migration shows that is done.
 const OLD: &[u8] = b"version 1";
 
-/// What a migration shows that is done.
 const MIGRATED: &[u8] = b"migrated";
 
 /// What makes tables of version 1 of those of a new office: a phase, and the draft of it that a
@@ -77,7 +77,16 @@ fn with_old_tables<S: Alter + Drop>(rt: &Bench<impl Abort>, conn: Connection<S>)
     conn
 }
 
-/// Serves a stream or makes a script by the office over these tables, and gives what it shows.
+/// Serves a stream or makes a script by an office, and gives what it shows.
+fn shown_by<S: Shelf>(rt: &Bench<impl Abort>, office: &mut Office<S>, work: Work<'_>) -> Vec<u8> {
+    match work {
+        Work::Serve(requests) => answers_to(rt, office, requests),
+        Work::Script(script, most) => play_all(rt, office, script, most),
+        _ => Vec::new(rt.1),
+    }
+}
+
+/// What is shown by the office over the tables of a database.
 fn show_over<S: Alter + Drop>(
     rt: &Bench<impl Abort>,
     conn: Connection<S>,
@@ -88,15 +97,13 @@ fn show_over<S: Alter + Drop>(
     match SqlShelf::open_arranged(rt.1, conn) {
         Ok(shelf) => {
             let mut office = Office::new(shelf);
-            let shown = match work {
-                Work::Serve(requests) => answers_to(rt, &mut office, requests),
-                Work::Script(script, most) => play_all(rt, &mut office, script, most),
-                _ => Vec::new(rt.1),
-            };
+            let shown = shown_by(rt, &mut office, work);
             (shown, Ok(office.into_shelf().into_conn()))
         }
-        Err((OpenFault::Version, left)) => (copy(rt, OLD), left),
-        Err((_, left)) => (Vec::new(rt.1), left),
+        Err((fault, left)) => {
+            let is_old = matches!(fault, OpenFault::Version);
+            (copy(rt, if is_old { OLD } else { b"" }), left)
+        }
     }
 }
 

@@ -112,22 +112,24 @@ impl Shelf for Refusing {
     ghost honest_is_clean = { λ _ honest. honest };
 }
 
-/// Refuses one call for a plan that is committed. The tables are as before the request of the call
-/// then, and this and the others are done. Tells whether there is such a call.
-fn is_refused(rt: &Bench<impl Abort>, script: &Script, left: u32) -> bool {
+/// Commits a plan by an office over tables that refuse a call. Tells which request was answered as
+/// unavailable, and gives the tables as they were left.
+fn play_refusing(rt: &Bench<impl Abort>, script: &Script, left: u32) -> (usize, MapShelf) {
     let inner = MapShelf::new(rt.1);
     let mut office = Office::new(Refusing { inner, left });
     let n = play(rt, &mut office, script, 0);
-    let is_refused = n < script.requests.len();
     let shelf = office.into_shelf();
+    let is_refused = n < script.requests.len();
     assert!(rt; is_refused == (shelf.left > left), "call {left}");
-    let mut office = Office::new(shelf.inner);
+    (n, shelf.inner)
+}
+
+/// An office shows what was there before a request, and this and the others are done.
+fn goes_on<S: Shelf>(rt: &Bench<impl Abort>, office: &mut Office<S>, script: &Script, n: usize) {
     let before = script.states.get(n).expect(rt, "a state");
-    let seen = state_of(rt, &mut office);
-    same(rt, "tables after a refusal", before, &seen);
-    let n = play(rt, &mut office, script, n);
+    same(rt, "tables after a refusal", before, &state_of(rt, office));
+    let n = play(rt, office, script, n);
     assert!(rt; n == script.requests.len(), "the requests after a refusal");
-    is_refused
 }
 
 /// Each call in turn is refused, until there is none left.
@@ -136,8 +138,13 @@ fn each_call_of_a_shelf_is_refused(host: HostRuntime) {
     let rt = (&host, host.alloc());
     let script = script_of(&rt, 7);
     let mut refused = 0u32;
-    while refused < 1_000 && is_refused(&rt, &script, refused) {
-        refused += 1;
+    for left in 0..1_000 {
+        let (n, shelf) = play_refusing(&rt, &script, left);
+        goes_on(&rt, &mut Office::new(shelf), &script, n);
+        if n == script.requests.len() {
+            break;
+        }
+        refused = refused.saturating_add(1);
     }
     let is_right = refused > 9 && refused < 1_000;
     assert!(rt; is_right, "{refused} calls were refused");

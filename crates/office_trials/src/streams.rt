@@ -11,7 +11,6 @@ use std::io;
 use std::io::Write;
 use std::net::{Ipv4Addr, Shutdown, SocketAddr, TcpListener, TcpStream};
 use std::process::Abort;
-use std::test::Fail;
 
 /// What must be answered to the first requests, of 93, 53 and 76 bytes: 89, 184 and 126 bytes.
 static ANSWERS: [&str; 7] = [
@@ -115,10 +114,9 @@ fn ends_fail_and_wait(host: HostRuntime) {
     ] {
         let stream = (bytes.get(..end).unwrap_or(b""), usize::MAX, after);
         let (ended, taken) = serve_ends(&rt, &mut in_maps(&rt), stream, room, limit);
-        let is_right = ended == wanted && taken.len() == count;
-        assert!(rt; is_right, "{end} bytes: {} {}", ended.0, ended.1);
         let begun = answers.as_bytes().get(..count).unwrap_or(b"");
-        assert!(rt; taken.starts_with(begun), "answers to {end} bytes");
+        let is_right = ended == wanted && taken.len() == count && taken.starts_with(begun);
+        assert!(rt; is_right, "{end} bytes: {} {}", ended.0, ended.1);
     }
 }
 
@@ -130,28 +128,42 @@ fn send(rt: &HostRuntime, listener: &TcpListener, bytes: &[u8]) -> io::Result<Tc
     Ok(wire)
 }
 
+/// Serves two connections of a listener.
+fn serve_two<S: Shelf>(rt: &Bench<impl Abort>, listener: TcpListener, office: &mut Office<S>) {
+    assert!(rt; serve_on(rt.1, &listener, 1, office).is_ok());
+    let mut listener = FromListener::new(listener);
+    assert!(rt; serve_each(rt.1, &mut listener, 1, office).is_ok());
+    let counts = listener.counts();
+    assert!(rt; counts.accepted == 1 && counts.failures == 0);
+}
+
+/// A connection gets two answers.
+fn gets(rt: &Bench<impl Abort>, connection: TcpStream, answers: [&str; 2]) {
+    let came = io::read_to_string(rt.1, connection).ok();
+    let came = came.expect(rt, "answers");
+    let wanted = bytes_of_answers(rt, &answers);
+    same(rt, "a connection", wanted.as_bytes(), came.as_bytes());
+}
+
 /// Two connections wait, and each gets its own two answers: the first adds the intersection, and
 /// the second finds it there. Two laws are there to be called.
 #[test]
-fn two_connections_are_served(host: HostRuntime) -> Result<(), Fail> {
+fn two_connections_are_served(host: HostRuntime) {
     let rt = (&host, host.alloc());
     one_front();
     one_list_of_requests();
     let bytes = bytes_of(&rt, &requests(&rt, 2));
     let address = SocketAddr::from((Ipv4Addr::LOCALHOST, 0));
-    let listener = TcpListener::bind(&host, address)?;
-    let first = send(&host, &listener, bytes.as_bytes())?;
-    let second = send(&host, &listener, bytes.as_bytes())?;
-    let mut office = in_maps(&rt);
-    assert!(rt; serve_on(rt.1, &listener, 1, &mut office).is_ok());
-    let mut listener = FromListener::new(listener);
-    assert!(rt; serve_each(rt.1, &mut listener, 1, &mut office).is_ok());
-    let counts = listener.counts();
-    assert!(rt; counts.accepted == 1 && counts.failures == 0);
-    for (connection, result) in [(first, ANSWERS[0]), (second, r#"200 OK {"result":"same"}"#)] {
-        let came = io::read_to_string(rt.1, connection)?;
-        let wanted = bytes_of_answers(&rt, &[result, ANSWERS[1]]);
-        same(&rt, "a connection", wanted.as_bytes(), came.as_bytes());
-    }
-    Ok(())
+    let listener = TcpListener::bind(&host, address).ok();
+    let listener = listener.expect(&rt, "a listener");
+    let first = send(&host, &listener, bytes.as_bytes()).ok();
+    let second = send(&host, &listener, bytes.as_bytes()).ok();
+    serve_two(&rt, listener, &mut in_maps(&rt));
+    let again = r#"200 OK {"result":"same"}"#;
+    gets(
+        &rt,
+        first.expect(&rt, "a connection"),
+        [ANSWERS[0], ANSWERS[1]],
+    );
+    gets(&rt, second.expect(&rt, "a connection"), [again, ANSWERS[1]]);
 }

@@ -16,7 +16,7 @@ use std::process::Abort;
 /// How many requests come by streams, and how many before those that come one by one.
 const STREAMED: usize = 7;
 
-const LISTED: usize = 20;
+const LISTED: usize = 19;
 
 /// How many committed rows and draft rows, two digits and two, are written before the requests that
 /// come one by one, and by each of these. Plans of eleven rows, of two that are abandoned, and then
@@ -99,10 +99,12 @@ pub(crate) fn play_all<S: Shelf>(
 }
 
 /// How many relays there are on a shelf.
-fn relays<S: Shelf>(rt: &Bench<impl Abort>, shelf: &mut S) -> Option<u32> {
+fn relays<S: Shelf>(rt: &Bench<impl Abort>, shelf: &mut S) -> u32 {
     let part = PartCode::new(rt.1, b"RELAY").ok().expect(rt, "memory");
-    let hand = shelf.hand(rt.1, &part.expect(rt, "a part"));
-    hand.ok().expect(rt, "a shelf").map(|hand| hand.get())
+    match shelf.hand(rt.1, &part.expect(rt, "a part")) {
+        Ok(Some(hand)) => hand.get(),
+        _ => 0,
+    }
 }
 
 #[test]
@@ -115,7 +117,7 @@ fn both_kinds_of_tables_answer_equally(host: HostRuntime) {
         let wanted = play_all(&rt, &mut office, &script, most);
         let (came, _) = after(&rt, b"", Work::Script(&script, most));
         same(&rt, "what is there", &wanted, &came);
-        assert!(rt; relays(&rt, &mut office.into_shelf()) == Some(999_999_997));
+        assert!(rt; relays(&rt, &mut office.into_shelf()) == 999_999_997);
     }
     let mates = PhaseList::new(rt.1, &[6, 2]).ok().expect(&rt, "memory");
     assert!(rt; mates.expect(&rt, "phases").as_slice().len() == 2);
