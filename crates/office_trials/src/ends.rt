@@ -1,5 +1,5 @@
-//! The two ends of a stream in memory: a reader that ends, fails, waits or goes on behind its bytes,
-//! and a writer that has room for so many.
+//! The two ends of a stream in memory: a reader that ends, fails, waits or goes on behind its
+//! bytes, and a writer that has room for so many.
 
 use crate::asking::Bench;
 use office_desk::office::Office;

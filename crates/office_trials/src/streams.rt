@@ -62,10 +62,8 @@ fn serve_as<S: Shelf>(
 ) {
     let stream = (stream.0, stream.1, END);
     let ((end, count), came) = serve_ends(rt, office, stream, ANY, 10_000);
-    assert!(rt;
-        end == "end" && count as usize == requests,
-        "the end of a stream"
-    );
+    let is_right = end == "end" && count as usize == requests;
+    assert!(rt; is_right, "the end of a stream");
     let wanted = bytes_of_answers(rt, answers);
     same(rt, "a worked stream", wanted.as_bytes(), &came);
 }
@@ -138,7 +136,8 @@ fn serve_two<S: Shelf>(rt: &Bench<impl Abort>, listener: TcpListener, office: &m
 }
 
 /// A connection gets two answers.
-fn gets(rt: &Bench<impl Abort>, connection: TcpStream, answers: [&str; 2]) {
+fn gets(rt: &Bench<impl Abort>, connection: Option<TcpStream>, answers: [&str; 2]) {
+    let connection = connection.expect(rt, "a connection");
     let came = io::read_to_string(rt.1, connection).ok();
     let came = came.expect(rt, "answers");
     let wanted = bytes_of_answers(rt, &answers);
@@ -160,10 +159,6 @@ fn two_connections_are_served(host: HostRuntime) {
     let second = send(&host, &listener, bytes.as_bytes()).ok();
     serve_two(&rt, listener, &mut in_maps(&rt));
     let again = r#"200 OK {"result":"same"}"#;
-    gets(
-        &rt,
-        first.expect(&rt, "a connection"),
-        [ANSWERS[0], ANSWERS[1]],
-    );
-    gets(&rt, second.expect(&rt, "a connection"), [again, ANSWERS[1]]);
+    gets(&rt, first, [ANSWERS[0], ANSWERS[1]]);
+    gets(&rt, second, [again, ANSWERS[1]]);
 }
