@@ -1,11 +1,8 @@
 //! The printed register of a cabinet.
 
-ghost use Rattle.std.specs.Prelude.{◌≡◌, ◌++◌, OnOk, IfOk, filter, flat_map};
-ghost use Rattle.std.specs.Prelude.{string_bytes};
+ghost use Rattle.std.specs.Prelude.{◌≡◌, ◌++◌, OnOk, IfOk, filter, flat_map, string_bytes};
 ghost use Rattle.office_files.specs.Records.{is_line_of};
-ghost use Rattle.office_listings.specs.Cabinet.{cabinet_count, cabinet_records, cabinet_register};
-ghost use Rattle.office_listings.specs.Cabinet.{cabinet_title};
-ghost use Rattle.office_listings.specs.Cabinet.{closing_line, due_line, order_lines, used_line};
+ghost use Rattle.office_listings.specs.Cabinet.{cabinet_count, cabinet_records, cabinet_register, cabinet_title, closing_line, due_line, order_lines, used_line};
 
 use crate::next_numbers::push_next_numbers;
 use crate::table::{Cell, Listed, Print, push_line, push_lines};

@@ -1,8 +1,7 @@
 //! The list of the intersections.
 
 ghost use Rattle.std.specs.Prelude.{◌≡◌, IfOk, IsUtf8};
-ghost use Rattle.office_listings.specs.Intersections.{intersections_table, owner_word, stage_word};
-ghost use Rattle.office_listings.specs.Intersections.{state_word};
+ghost use Rattle.office_listings.specs.Intersections.{intersections_table, owner_word, stage_word, state_word};
 ghost use Rattle.office_listings.specs.Table.{table_text};
 
 use crate::table::{Cell, Listed, Print, print_table};
@@ -69,7 +68,8 @@ pub fn intersections_list(
     csv: bool,
     list: &[ListedIntersection],
 ) -> Result<Vec<u8>, NoMemory>
-    ensures text { IfOk result (λ text. text.items ≡ table_text csv (intersections_table list.now)) }
+    ensures text { IfOk result (λ text.
+        text.items ≡ table_text csv (intersections_table list.now)) }
     ensures utf8 { IfOk result (λ text. IsUtf8 text.items) }
 {
     let heading = "    No     Rev  State        Owner         Rows  Days  Name\n";

@@ -2,8 +2,7 @@
 
 ghost use Rattle.std.specs.Prelude.{◌≡◌, ◌++◌, OnOk, IfOk, IsUtf8, filter, map};
 ghost use Rattle.cabinet_core.specs.Orders.{is_open};
-ghost use Rattle.office_listings.specs.Orders.{named_orders, open_orders, order_named, order_on};
-ghost use Rattle.office_listings.specs.Orders.{orders_listing, orders_table};
+ghost use Rattle.office_listings.specs.Orders.{named_orders, open_orders, order_named, order_on, orders_listing, orders_table};
 ghost use Rattle.office_listings.specs.Table.{table_text};
 
 use crate::table::{Cell, Listed, Print, columns, print_table};

@@ -1,13 +1,10 @@
 //! Tables: rows of cells, printed as lines of columns or as records of CSV.
 
-ghost use Rattle.std.specs.Prelude.{◌≡◌, ◌++◌, ℕ, List, OnOk, IfOk, IsUtf8, flat_map, map, replicate};
-ghost use Rattle.std.specs.Prelude.{codes, decimal, string_bytes};
+ghost use Rattle.std.specs.Prelude.{◌≡◌, ◌++◌, ℕ, List, OnOk, IfOk, IsUtf8, flat_map, map, replicate, codes, decimal, string_bytes};
 ghost use Rattle.cabinet_core.specs.Day.{day_text};
 ghost use Rattle.csv.specs.Records.{AllText, fields_of};
 ghost use Rattle.office_files.specs.Cells.{right_aligned};
-ghost use Rattle.office_listings.specs.Table.{cell_of, cell_text, columns_text, field_at};
-ghost use Rattle.office_listings.specs.Table.{field_text, left_aligned, line_text, table_text};
-ghost use Rattle.office_listings.specs.Table.{record_fields, records_csv};
+ghost use Rattle.office_listings.specs.Table.{cell_of, cell_text, columns_text, field_at, field_text, left_aligned, line_text, table_text, record_fields, records_csv};
 
 use cabinet_core::{Date, push_date, write_date};
 use csv::ByteRecord;
@@ -251,8 +248,8 @@ pub(crate) fn print_table<T: Listed>(
     order: &[usize],
     list: &[T],
 ) -> Result<Vec<u8>, NoMemory>
-    ensures text { IfOk result (λ text. text.items ≡
-        table_text csv (record { heading = heading.now; order = order.now; rows = map T.cells list.now })) }
+    ensures text { IfOk result (λ text. text.items ≡ table_text csv
+        (record { heading = heading.now; order = order.now; rows = map T.cells list.now })) }
     ensures utf8 { IfOk result (λ text. IsUtf8 text.items) }
 {
     match csv {

@@ -2,8 +2,7 @@
 
 ghost use Rattle.std.specs.Prelude.{◌≡◌, ◌++◌, OnOk, IfOk, IsUtf8};
 ghost use Rattle.office_listings.specs.Table.{table_text};
-ghost use Rattle.office_listings.specs.Used.{is_asked_part, is_used_in, used_for};
-ghost use Rattle.office_listings.specs.Used.{used_in_order, used_on, used_table};
+ghost use Rattle.office_listings.specs.Used.{is_asked_part, is_used_in, used_for, used_in_order, used_on, used_table};
 
 use crate::table::{Cell, Listed, Print, print_table};
 use cabinet_core::{Day, Order, PartCode, UsedLine};

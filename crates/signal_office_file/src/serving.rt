@@ -97,7 +97,8 @@ fn serve_over<S: Alter + Drop, R: Source, W: Sink>(
         (image : Image) → AreOpenedIn (state S.Store) image office → (before : OfficeState) →
         StandForSound (content_now (state S.Store office.conn)) before → (after : OfficeState)
         × Did office_protocol (ServesFiles (state S.Store)
-        (content_now (state S.Store office.conn)) before result.0 after) max_requests (ends_of (R.told reader.old) (W.told writer.old))
+        (content_now (state S.Store office.conn)) before result.0 after) max_requests
+        (ends_of (R.told reader.old) (W.told writer.old))
         (ends_of (R.told reader.new) (W.told writer.new)) result.1 }
     // Today's version is stored, also in whatever a crash may leave.
     ensures current { IsCurrent (state S.Store result.0.conn) }

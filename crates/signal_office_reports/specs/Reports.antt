@@ -23,8 +23,7 @@ use Rattle.office_machine.specs.declared.reply.Reply.TheVariants as reply
 use Rattle.office_machine.specs.declared.reply.RunningTiming.{RunningTiming}
 use Rattle.office_tables_shelf.specs.Content.{Content}
 use Rattle.signal_diagram.specs.Diagram.{diagram_text}
-use Rattle.signal_page.specs.Index.{IsIndex}
-use Rattle.signal_page.specs.Index.{index_entry}
+use Rattle.signal_page.specs.Index.{IsIndex, index_entry}
 use Rattle.signal_page.specs.declared.index_shown.IndexEntry.{IndexEntry}
 use Rattle.signal_page.specs.declared.index_shown.IndexShown.{IndexShown}
 use Rattle.signal_office_faults.specs.declared.fault.Fault.{Fault}

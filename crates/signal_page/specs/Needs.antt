@@ -1,7 +1,6 @@
 -- What a plan has beyond its rows: the need of a split and what it has to spare, and the coordinated
 -- phases of a pattern.
-use Rattle.std.specs.Prelude.{ℕ, ◌-◌, ◌&&◌, nat_lt, Bool, if◌then◌else◌, List, [], ◌∷◌, codes, filter}
-use Rattle.std.specs.Prelude.{Option, Some, None, option_map, is_some}
+use Rattle.std.specs.Prelude.{ℕ, ◌-◌, ◌&&◌, nat_lt, Bool, if◌then◌else◌, List, [], ◌∷◌, codes, filter, Option, Some, None, option_map, is_some}
 use Rattle.signal_records.specs.declared.record.Ped.{Ped}
 use Rattle.signal_records.specs.declared.record.Phase.{Phase}
 use Rattle.signal_records.specs.declared.record.Split.{Split}

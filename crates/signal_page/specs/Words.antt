@@ -1,6 +1,5 @@
 -- Names and texts of others as a page has them, and what a reader makes of a page's characters.
-use Rattle.std.specs.Prelude.{ℕ, zero, suc, ◌==◌, ◌||◌, ◌&&◌, if◌then◌else◌, Bool, true, false}
-use Rattle.std.specs.Prelude.{List, [], ◌∷◌, filter, flat_map, codes}
+use Rattle.std.specs.Prelude.{ℕ, zero, suc, ◌==◌, ◌||◌, ◌&&◌, if◌then◌else◌, Bool, true, false, List, [], ◌∷◌, filter, flat_map, codes}
 
 -- a byte of a name or text as it is written: `&`, `<`, `>` and the two quotes as entities
 abbrev pub escaped_byte : ℕ → List ℕ

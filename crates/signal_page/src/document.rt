@@ -81,7 +81,8 @@ fn push_links(text: &mut String, linked: bool, drafted: bool) -> Result<(), Allo
             Node::Own("<li><a href='#plan'>The committed plan</a></li>\n"),
             Node::Own(link_if(drafted, draft)),
             Node::Own(
-                "<li><a href='#cabinet'>The cabinet</a></li>\n</ul>\n</nav>\n</header>\n<main id='main'>\n",
+                "<li><a href='#cabinet'>The cabinet</a></li>\n</ul>\n</nav>\n</header>\n\
+                 <main id='main'>\n",
             ),
         ],
     )
@@ -140,7 +141,8 @@ fn push_plan_section(
 {
     push_own(
         text,
-        "<section id='plan' aria-labelledby='plan-title'>\n<h2 id='plan-title'>The committed plan</h2>\n",
+        "<section id='plan' aria-labelledby='plan-title'>\n\
+         <h2 id='plan-title'>The committed plan</h2>\n",
     )?;
     push_plan(alloc, text, " of the committed plan", &[], committed)?;
     push_own(text, "</section>\n")
@@ -209,7 +211,8 @@ fn push_cabinet_section(text: &mut String, shown: &IntersectionShown) -> Result<
 {
     push_own(
         text,
-        "<section id='cabinet' aria-labelledby='cabinet-title'>\n<h2 id='cabinet-title'>The cabinet</h2>\n",
+        "<section id='cabinet' aria-labelledby='cabinet-title'>\n\
+         <h2 id='cabinet-title'>The cabinet</h2>\n",
     )?;
     push_register(text, shown.state.interval, &shown.cabinet.view)?;
     push_own(text, "</section>\n")

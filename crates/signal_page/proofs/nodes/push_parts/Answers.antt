@@ -1,6 +1,5 @@
-use Rattle.std.proofs.Common.{sym, ◌∙◌}
+use Rattle.std.proofs.Common.{sym, ◌∙◌, rules}
 use Rattle.signal_page.proofs.Filtered.{none_of, some_of}
-use Rattle.std.proofs.Common.{rules}
 use Rattle.signal_page.proofs.nodes.push_parts.Goals as goal
 
 pub returns-in-true : goal.returns-in-true
