@@ -23,13 +23,17 @@ unfolding right_aligned
 number_placed (Ok x) old one new width n word is spaces written = rw (written, spaces, is) (simp append_assoc)
 number_placed (Err e) old one new width n word is spaces written = tt
 
--- the field of the cell at a place
+-- the field of the cell at a place that the row has
 pub field_there : (cells : List Held) (place : ℕ) (cell : Held) → place < length cells
     → field_at (map cell_of cells) place ≡ field_text (cell_of (get_or cells place cell))
 field_there cells place cell low = ap field_text (get_or-map cell_of cells place cell (Word 0 []) low)
 
+-- the empty field at a place past the row
 pub field_lacks : (cells : List Held) (place : ℕ) → length cells ≤ place → field_at (map cell_of cells) place ≡ []
 field_lacks cells place past = ap field_text (get_or_past (map cell_of cells) place (Word 0 []) (rw length-map past))
+
+-- the field at any place
+pub ruleset fields = (field_there, field_lacks)
 
 -- four parts, the last of them by a call that may fail
 pub four_parts : {A E : Type 0} (result : Result A E) (old first second third fourth one two three new : List ℕ) → one ≡ old ++ first → two ≡ one ++ second
@@ -37,7 +41,7 @@ pub four_parts : {A E : Type 0} (result : Result A E) (old first second third fo
 four_parts (Ok x) old first second third fourth one two three new a b c d = rw (d, c, b, a) (simp append_assoc)
 four_parts (Err e) old first second third fourth one two three new a b c d = tt
 
--- and five
+-- five parts, each appended to what was there
 pub five_parts : (old first second third fourth fifth one two three four five : List ℕ) → one ≡ old ++ first → two ≡ one ++ second
     → three ≡ two ++ third → four ≡ three ++ fourth → five ≡ four ++ fifth → five ≡ old ++ (first ++ second ++ third ++ fourth ++ fifth)
 five_parts old first second third fourth fifth one two three four five a b c d e = rw (e, d, c, b, a) (simp append_assoc)

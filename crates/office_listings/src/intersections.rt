@@ -11,7 +11,7 @@ use signal_records::state::{Holder, Stage};
 use std::alloc::Global;
 
 /// The word for a state in which a clerk holds the draft.
-pub fn stage_word(stage: Stage) -> &'static str
+fn stage_word(stage: Stage) -> &'static str
     ensures { result.now ≡ stage_word stage }
 {
     match stage {
@@ -21,8 +21,8 @@ pub fn stage_word(stage: Stage) -> &'static str
     }
 }
 
-/// The word for the state of a transaction.
-fn state_word(holder: &Option<Holder>) -> &str
+/// The word for the state of a transaction: `normal` where nobody holds a draft.
+pub fn state_word(holder: &Option<Holder>) -> &'static str
     ensures { result.now ≡ state_word holder.now }
 {
     match holder {

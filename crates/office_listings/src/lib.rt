@@ -13,7 +13,7 @@ mod table;
 mod used;
 
 pub use cabinet::cabinet_text;
-pub use intersections::{intersections_list, stage_word};
+pub use intersections::{intersections_list, state_word};
 pub use next_numbers::push_next_numbers;
 pub use orders::{
     NamedOrder, OpenOrder, add_named, add_named_orders, add_open_orders, orders_list, orders_text,

@@ -183,7 +183,7 @@ fn field_of(alloc: Global, cell: &Cell<'_>) -> Result<String, NoMemory>
 }
 
 /// The field of the cell at a place of a row; an empty one where there is none.
-#[tactic(auto, using(crate::proofs::TableLemmas::field_there, crate::proofs::TableLemmas::field_lacks))]
+#[tactic(auto, using(crate::proofs::TableLemmas::fields))]
 fn field_at(alloc: Global, cells: &[Cell<'_>], place: usize) -> Result<String, NoMemory>
     ensures { IfOk result (λ field. string_bytes field ≡ field_at (map cell_of cells.now) place) }
 {

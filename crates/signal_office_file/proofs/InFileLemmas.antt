@@ -42,7 +42,7 @@ module _ {D : Type 0} (g : Disk D) (image : Image) (files : Files D) (new : AreN
   counted_at (Closed (Err why) back) it = λ clean. (files, new, inr it)
   counted_at (Unclosed why back) it = (files, new, it)
 
-  -- and so is what a migration counted
+  -- what a migration counted is noted too, where its outcome is handed on
   pub counted_noted : (r result : Ended (Result ℕ Fault) (FileLeft D g)) → result ≡ r → EndsMigration files r → IsCounted (view_at g image) result
   counted_noted r result same it = subst (IsCounted (view_at g image)) (sym same) (counted_at r it)
 

@@ -10,8 +10,9 @@ use Rattle.signal_page.specs.Words.{escaped, marks}
 
 -- What stands in a page: markup and words of its own, numbers, tenths above and below zero, a dash
 -- in place of a number, nothing; the number that heads a row, alone or as a link to the page of an
--- intersection; phases; words with the tenths of a second by which a split is short; a day, the day of the latest inspection, and the due day with the mark of
--- what is overdue; a name or text of others in the page and in its title; and the lines of an order.
+-- intersection; phases; words with the tenths of a second by which a split is short; a day, the day
+-- of the latest inspection, and the due day with the mark of what is overdue; a name or text of
+-- others in the page and in its title; and the lines of an order.
 pub data Shown : Type 0 where
   Own : List ℕ → Shown
   Number : ℕ → Shown
@@ -70,11 +71,11 @@ order_line_text line =
     codes "<div>" ++ decimal line.line ++ codes ": " ++ decimal line.count ++ codes " &times; "
     ++ isolated line.part ++ codes "</div>"
 
--- by how many tenths of a second a split is short
+-- the words for a split that is short by so many tenths of a second
 unfoldable pub short_words : ℕ → List ℕ
 short_words n = codes " <strong class='short'>" ++ tenths n ++ codes " s short</strong>"
 
--- that, where it is short
+-- by how many tenths of a second a split is short, where it is
 abbrev pub short_mark : ℕ → List ℕ
 short_mark n = if n == 0 then [] else short_words n
 
@@ -117,8 +118,8 @@ blank (Parts lines) = Parts (map blank_line lines)
 blank other = other
 
 -- The text is the page. Whatever its names and texts hold, all characters of which tags and
--- attributes are made are the page's own: with those names and texts empty, it has the same ones in
--- the same order.
+-- attributes are made are the page's own: they are those of the page whose names and texts are
+-- empty, in their order.
 pub record IsHtml (nodes : List Shown) (text : List ℕ) : Type 0 where
   pub text_is : text ≡ html nodes
   pub markup : marks text ≡ marks (html (map blank nodes))

@@ -14,15 +14,15 @@ abbrev pub is_overdue : Option ℕ → IndexEntry → Bool
 is_overdue None entry = false
 is_overdue (Some day) entry = is_past_due day entry.listed.interval entry.last
 
--- those that are overdue on the day
+-- the intersections that are overdue on the day
 abbrev pub overdue_among : Option ℕ → List IndexEntry → List IndexEntry
 overdue_among day entries = filter (is_overdue day) entries
 
--- those that are not overdue on the day
+-- the intersections that are not overdue on the day
 abbrev pub others_among : Option ℕ → List IndexEntry → List IndexEntry
 others_among day entries = filter (λ entry. not (is_overdue day entry)) entries
 
--- all, those that are overdue first
+-- all intersections, those that are overdue first
 abbrev pub overdue_before : Option ℕ → List IndexEntry → List IndexEntry
 overdue_before day entries = overdue_among day entries ++ others_among day entries
 

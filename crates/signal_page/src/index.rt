@@ -1,7 +1,6 @@
 //! The index page.
 
 ghost use Rattle.std.specs.Prelude.{◌≡◌, ◌++◌, IfOk, List, OnOk, length, map, string_bytes, ℕ};
-ghost use Rattle.office_listings.specs.Intersections.{state_word};
 ghost use Rattle.signal_page.specs.Index.{IsIndex, day_note, entry_line, holder_node, index, intersections_part, main_opening, named_line, named_orders_part, overdue_note, stock_line, stock_part};
 ghost use Rattle.signal_page.specs.Nodes.{IsHtml, html, shown_by};
 ghost use Rattle.signal_page.specs.Overdue.{is_overdue, is_past_due, others_among, overdue_among, overdue_before};
@@ -15,7 +14,7 @@ use crate::index_shown::{IndexEntry, IndexShown};
 use crate::nodes::{Node, push_nodes};
 use crate::tables::{end_table, open_table, push_row};
 use cabinet_core::{Date, Day, Hand, PartCode, due};
-use office_listings::{NamedOrder, stage_word};
+use office_listings::{NamedOrder, state_word};
 use signal_records::state::Holder;
 use signal_records::{Interval, NoMemory};
 use std::alloc::{AllocError, Global};
@@ -45,16 +44,6 @@ fn is_overdue(day: &Option<Day>, entry: &IndexEntry) -> bool
     match day {
         None => false,
         Some(day) => is_past_due(*day, entry.listed.interval, entry.last),
-    }
-}
-
-/// The state of the transaction of an intersection.
-fn state_word(holder: &Option<Holder>) -> &'static str
-    ensures { result.now ≡ state_word holder.now }
-{
-    match holder {
-        None => "normal",
-        Some(holder) => stage_word(holder.stage),
     }
 }
 
