@@ -6,8 +6,8 @@ use Rattle.sqlite.specs.declared.FileStore.{FileStore}
 use Rattle.sqlite_disk.specs.declared.Disk.{Ghosts as Disk}
 use Rattle.sqlite_disk.specs.declared.Files.{Files}
 use Rattle.office_tables.specs.{Content.Content, Stored.content_of}
+use Rattle.office_tables_sql.specs.{Version.AreToday}
 use Rattle.office_tables.proofs.Migration.{stand_anew}
-use Rattle.office_tables_open.specs.{Version.AreToday}
 use Rattle.signal_office_file.specs.Files.{KeepTables}
 use Rattle.signal_office_file.specs.Left.{closed_of, database_of}
 use Rattle.signal_office_file.specs.Migrating.{IsClosedMigrated}

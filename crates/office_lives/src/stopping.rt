@@ -9,7 +9,7 @@ ghost use Rattle.sqlite.specs.WalReads.{AreClean};
 ghost use Rattle.sqlite_store.specs.FileStore.{recovers, view};
 ghost use Rattle.sqlite_trees.specs.View.{IsClean};
 ghost use Rattle.office_tables.specs.Content.{Content};
-ghost use Rattle.office_tables_open.specs.SqlShelf.{IsCurrent};
+ghost use Rattle.office_tables.specs.SqlShelf.{IsCurrent};
 ghost use Rattle.signal_office_file.specs.Files.{AreThoseOf, HoldIn};
 ghost use Rattle.signal_office_file.specs.Left.{IsCleanFile, LeavesDatabases, MayLeaveOf};
 ghost use Rattle.office_lives.specs.Life.{IsNumbered};

@@ -18,7 +18,7 @@ use Rattle.sqlite.proofs.StateLemmas.{survives_then}
 use Rattle.office_machine.specs.Office.{Office}
 use Rattle.office_tables.proofs.Migration.{migrated, stand_anew}
 use Rattle.office_tables.specs.Migrate.{IsBrought, IsSpelledToday, StandFormerly}
-use Rattle.office_tables_open.specs.Version.{AreToday, Completes, version_in, current_version, first_version}
+use Rattle.office_tables_sql.specs.Version.{AreToday, Completes, version_in, current_version, first_version}
 
 -- changes after changes
 pub changed_after : (tables : Content) (first second : List RowChange) → changed_by tables (first ++ second) ≡ changed_by (changed_by tables first) second

@@ -1,3 +1,8 @@
+pub mod SqlShelf
+pub mod Arranged
+pub mod Found
+pub mod Moved
+pub mod Opening
 pub mod Rewritten
 pub mod Listing
 pub mod Migrate

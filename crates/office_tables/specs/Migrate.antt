@@ -19,10 +19,10 @@ use Rattle.office_tables_statements.specs.Stored.{content_now, content_of}
 use Rattle.office_tables.specs.Rewritten.{HasNoFormer, HasNoFormerRow}
 use Rattle.office_tables.specs.Migration.{IsMigrated, StandAnew}
 use Rattle.office_tables.specs.declared.rewritten.Migrated.{Migrated}
-use Rattle.office_tables_open.specs.declared.open.OpenFault.{OpenFault}
-use Rattle.office_tables_open.specs.declared.open.OpenFault.TheVariants as fault
-use Rattle.office_tables_open.specs.declared.version.TheConstants.{FIND}
-use Rattle.office_tables_open.specs.Version.{AreToday, Completes, version_in, current_version, first_version}
+use Rattle.office_tables.specs.declared.open.OpenFault.{OpenFault}
+use Rattle.office_tables.specs.declared.open.OpenFault.TheVariants as fault
+use Rattle.office_tables.specs.declared.version.TheConstants.{FIND}
+use Rattle.office_tables_sql.specs.Version.{AreToday, Completes, version_in, current_version, first_version}
 
 -- the tables are those of version 1, spelled anew and stored as today's version
 abbrev pub IsSpelledToday : Content → Trees → Type 0

@@ -6,17 +6,18 @@ ghost use Rattle.sqlite.specs.Held.{state};
 ghost use Rattle.office_tables_statements.specs.Stored.{content_now};
 ghost use Rattle.office_tables_statements.specs.Calls.{IsHonest, IsOffice, StandsOn, StaysOpen};
 ghost use Rattle.office_tables.specs.Migrate.{KeepNoVersion, IsChangedToday, IsSpelledToday, MayBecome, WritesToday, WritesAllToday, Migrates, AreNeither, Brings, ShowsNeither, StaysIdle, TellsVersion, TellsFormerDamage, TellsDamage};
-ghost use Rattle.office_tables_open.specs.Promises.{WasHonest, StaysReady, LeavesNoMore, KeepsTrees, KeepsCommitted, Commits, IsArrangedIfClean};
-ghost use Rattle.office_tables_open.specs.Version.{AreToday};
+ghost use Rattle.office_tables_sql.specs.Promises.{WasHonest, StaysReady, LeavesNoMore, KeepsTrees, KeepsCommitted, Commits};
+ghost use Rattle.office_tables.specs.Arranged.{IsArrangedIfClean};
+ghost use Rattle.office_tables_sql.specs.Version.{AreToday};
 
-use crate::change::change_rows;
 use crate::listing::{draft_rows, timing_rows};
+use crate::open::OpenFault;
 use crate::rewritten::{Migrated, draft_changes, timing_changes};
-use office_tables_open::open::OpenFault;
-use office_tables_open::version::{
+use crate::version::{
     FIND, FIRST_VERSION, VERSION, is_version, renew_version, stored_version,
 };
 use office_tables_shelf::rows::RowChange;
+use office_tables_sql::change::change_rows;
 use office_tables_statements::schema::is_office;
 use office_tables_statements::statement::SqlFault;
 use signal_records::NoMemory;

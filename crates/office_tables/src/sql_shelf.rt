@@ -5,22 +5,22 @@ ghost use Rattle.sqlite.specs.State.{Survives};
 ghost use Rattle.sqlite.specs.Held.{state};
 ghost use Rattle.office_tables_statements.specs.Calls.{IsHonest, StaysOpen};
 ghost use Rattle.office_tables.specs.Migrate.{Brings, StandsAnew, MayBecome, StaysIdle, TellsVersion, TellsDamage};
-ghost use Rattle.office_tables_open.specs.Promises.{KeepsCommitted, Settles, IsArrangedIfClean};
-ghost use Rattle.office_tables_open.specs.SqlShelf.{IsCurrent};
-ghost use Rattle.office_tables_open.specs.Opening.{HasOtherVersion, HasRowsAlone, StaysClean, IsOpened, IsRefused};
+ghost use Rattle.office_tables_sql.specs.Promises.{KeepsCommitted, Settles};
+ghost use Rattle.office_tables.specs.Arranged.{IsArrangedIfClean};
+ghost use Rattle.office_tables.specs.SqlShelf.{IsCurrent};
+ghost use Rattle.office_tables.specs.Opening.{HasOtherVersion, HasRowsAlone, StaysClean, IsOpened, IsRefused};
 ghost use Rattle.office_tables_statements.specs.Schema.{office_schema};
 
-use crate::change;
+use crate::found::{checked, has_only_ours};
 use crate::migrate::migrate;
+use crate::open::{Left, OpenFault, prepared};
 use crate::rewritten::Migrated;
 use cabinet_core::{Day, Hand, Inspection, Order, PartCode, UsedLine};
-use office_tables_open::found::{checked, has_only_ours};
-use office_tables_open::open::{Left, OpenFault, prepared};
 use office_tables_shelf::counts::WriteCounts;
 use office_tables_shelf::register::{RegisterKey, RegisterRecord};
 use office_tables_shelf::rows::{IntersectionRow, RowChange, Table};
 use office_tables_shelf::shelf::{Shelf, ShelfFault};
-use office_tables_sql::{each_row, inspection, intersection, order, register, timing};
+use office_tables_sql::{change, each_row, inspection, intersection, order, register, timing};
 use signal_records::{Change, InterId, Row};
 use sqlite::{Alter, Connection};
 use std::alloc::Global;
@@ -36,7 +36,7 @@ pub struct SqlShelf<S: Alter> {
 
 impl<S: Alter> Model for SqlShelf<S> {
     ghost use Rattle.sqlite.specs.Held.{state};
-    ghost use Rattle.office_tables_open.specs.SqlShelf.{IsCurrent, SqlView, view_code};
+    ghost use Rattle.office_tables.specs.SqlShelf.{IsCurrent, SqlView, view_code};
 
     ghost Value = { SqlView S };
 
@@ -185,7 +185,7 @@ impl<S: Alter> Shelf for SqlShelf<S> {
     ghost use Rattle.sqlite.specs.State.{HasCleanDisk};
     ghost use Rattle.office_tables_statements.specs.Stored.{content_now};
     ghost use Rattle.office_tables_statements.specs.Calls.{IsHonest};
-    ghost use Rattle.office_tables_open.specs.SqlShelf.{MayLeave};
+    ghost use Rattle.office_tables.specs.SqlShelf.{MayLeave};
 
     ghost content = { λ s. content_now (state S.Store s.conn) };
 

@@ -8,3 +8,5 @@ pub mod UsedTexts
 pub mod OrderTexts
 pub mod TimingTexts
 pub mod DraftTexts
+pub mod Version
+pub mod Promises

@@ -2,6 +2,7 @@
 //! by its own texts.
 #![tactic(auto)]
 
+pub mod change;
 pub mod delivery;
 pub mod draft;
 pub mod each_row;

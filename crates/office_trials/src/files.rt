@@ -4,7 +4,7 @@
 ghost use Rattle.std.specs.Prelude.{IfOk};
 ghost use Rattle.sqlite.specs.Files.{file_state};
 ghost use Rattle.sqlite.specs.Held.{state};
-ghost use Rattle.office_tables_open.specs.Promises.{IsArrangedIfClean};
+ghost use Rattle.office_tables.specs.Arranged.{IsArrangedIfClean};
 
 use crate::asking::{Bench, QUERIES, Script, answers_to, copy, count_answered, same, script_of};
 use crate::worked::play_all;

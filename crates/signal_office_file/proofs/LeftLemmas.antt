@@ -9,12 +9,13 @@ use Rattle.sqlite.specs.declared.error.ErrorCode.TheVariants.{OutOfMemory}
 use Rattle.sqlite_disk.specs.declared.Disk.{Ghosts as Disk}
 use Rattle.sqlite_disk.specs.declared.Files.{Files}
 use Rattle.sqlite_trees.specs.{Props.Trees-set, declared.store.Store.Ghosts}
-use Rattle.office_tables_open.specs.{Found.HasOtherVersion, Found.HasRowsAlone, Found.Hold, Version.AreToday}
+use Rattle.office_tables.specs.{Found.HasOtherVersion, Found.HasRowsAlone, Found.Hold}
+use Rattle.office_tables_sql.specs.{Version.AreToday}
 use Rattle.office_tables.specs.Stored.{content_of}
-use Rattle.office_tables_open.specs.Opening.{IsCleanStore, IsRefused, store_left}
-use Rattle.office_tables_open.specs.declared.open.OpenFault.{OpenFault}
-use Rattle.office_tables_open.specs.declared.open.OpenFault.TheVariants as why
-use Rattle.office_tables_open.proofs.MovedLemmas.{hold_office, today_rows, today_version}
+use Rattle.office_tables.specs.Opening.{IsCleanStore, IsRefused, store_left}
+use Rattle.office_tables.specs.declared.open.OpenFault.{OpenFault}
+use Rattle.office_tables.specs.declared.open.OpenFault.TheVariants as why
+use Rattle.office_tables.proofs.MovedLemmas.{hold_office, today_rows, today_version}
 use Rattle.signal_office_faults.specs.declared.fault.Fault.{Fault}
 use Rattle.signal_office_file.specs.{Files.HoldToday, Files.IsAlike, Told.told_of, Told.told_of_error}
 use Rattle.signal_office_file.specs.Left.{IsOpenedIn, IsRefusedIn, KeepsToday, TellsNoTables}

@@ -4,9 +4,9 @@ use Rattle.std.specs.Prelude.{IfOk, OnOk}
 use Rattle.sqlite.specs.{Closing.IsCopied, Files.file_state, Files.over_files, Held.Held, State.HasCleanDisk, State.State, Tree.Trees, WalReads.AreClean, declared.FileStore.FileStore}
 use Rattle.sqlite_disk.specs.declared.Disk.{Ghosts as Disk}
 use Rattle.sqlite_disk.specs.declared.Files.{Files}
-use Rattle.office_tables.specs.{Calls.IsHonest, Migrate.IsBrought, Stored.content_of, declared.rewritten.Migrated.Migrated}
+use Rattle.office_tables.specs.{Calls.IsHonest, Migrate.IsBrought, Stored.content_of, declared.rewritten.Migrated.Migrated, declared.open.OpenFault.OpenFault}
+use Rattle.office_tables_sql.specs.{Version.current_version, Version.first_version}
 use Rattle.office_tables.proofs.Migration.{stand_anew}
-use Rattle.office_tables_open.specs.{Version.current_version, Version.first_version, declared.open.OpenFault.OpenFault}
 use Rattle.signal_office_file.specs.Migrating.{AreMigrated, BringsToday, ClosedMigrated, MigratesOnDisk, MigratesIn, told_of_outcome}
 use Rattle.signal_office_file.proofs.FilesLemmas.{copied_alone}
 use Rattle.signal_office_in_file.specs.declared.Ended.TheVariants.{Closed}

@@ -7,7 +7,7 @@ use Rattle.office_tables.specs.{Calls.IsHonest, Content.Content, Stored.content_
 use Rattle.office_tables_shelf.specs.Counts.{no_writes}
 use Rattle.signal_office_in_file.specs.Stopping.{AfterRequest}
 use Rattle.signal_office_in_file.proofs.StopLemmas.{left_of_run}
-use Rattle.office_tables_open.specs.SqlShelf.{MayLeave, SqlView}
+use Rattle.office_tables.specs.SqlShelf.{MayLeave, SqlView}
 use Rattle.office_desk.specs.StandFor.{StandForSound}
 use Rattle.office_http.specs.Protocol.{office_protocol}
 use Rattle.office_http_framing.specs.{Front.PlainRequest, Protocol.Protocol, Serve.Did, Serve.Ends, Stops.Leaves, Stops.Moment, Stops.Storage}

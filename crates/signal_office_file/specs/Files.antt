@@ -10,8 +10,8 @@ use Rattle.sqlite_disk.specs.declared.Disk.{Ghosts as Disk}
 use Rattle.sqlite_disk.specs.declared.Files.{Files}
 use Rattle.office_tables.specs.Content.{Content}
 use Rattle.office_tables.specs.Stored.{content_of}
-use Rattle.office_tables_open.specs.Found.{Hold}
-use Rattle.office_tables_open.specs.Version.{AreToday}
+use Rattle.office_tables.specs.Found.{Hold}
+use Rattle.office_tables_sql.specs.Version.{AreToday}
 
 -- the trees are those of the office's tables with today's version, and hold what the others hold
 pub record IsAlike (trees found : Trees) : Type 0 where

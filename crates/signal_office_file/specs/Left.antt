@@ -13,10 +13,10 @@ use Rattle.sqlite_disk.specs.declared.Disk.{Ghosts as Disk}
 use Rattle.sqlite_disk.specs.declared.Files.{Files}
 use Rattle.sqlite_trees.specs.declared.error.StoreError.{StoreError}
 use Rattle.office_tables.specs.Content.{Content}
-use Rattle.office_tables_open.specs.Found.{Hold}
-use Rattle.office_tables_open.specs.Opening.{IsCleanStore, IsRefused, store_left}
-use Rattle.office_tables_open.specs.Version.{AreToday}
-use Rattle.office_tables_open.specs.declared.open.OpenFault.{OpenFault}
+use Rattle.office_tables.specs.Found.{Hold}
+use Rattle.office_tables.specs.Opening.{IsCleanStore, IsRefused, store_left}
+use Rattle.office_tables_sql.specs.Version.{AreToday}
+use Rattle.office_tables.specs.declared.open.OpenFault.{OpenFault}
 use Rattle.signal_office_faults.specs.declared.fault.Fault.{Fault}
 use Rattle.signal_office_faults.specs.declared.fault.Fault.TheVariants as fault
 use Rattle.signal_office_file.specs.Files.{AreUsable, IsAlike}

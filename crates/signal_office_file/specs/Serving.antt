@@ -8,7 +8,7 @@ use Rattle.sqlite_disk.specs.declared.Disk.{Ghosts as Disk}
 use Rattle.office_tables.specs.Calls.{IsHonest}
 use Rattle.office_tables.specs.Content.{Content}
 use Rattle.office_tables.specs.Stored.{content_now}
-use Rattle.office_tables_open.specs.SqlShelf.{MayLeave, SqlView}
+use Rattle.office_tables.specs.SqlShelf.{MayLeave, SqlView}
 use Rattle.office_tables_shelf.specs.Counts.{no_writes}
 use Rattle.office_tables_shelf.specs.declared.counts.WriteCounts.{WriteCounts}
 use Rattle.office_machine.specs.Office.{Office}

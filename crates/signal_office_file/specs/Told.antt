@@ -2,8 +2,8 @@
 use Rattle.sqlite.specs.declared.error.Error.{Error}
 use Rattle.sqlite.specs.declared.error.Error.TheVariants.{SqliteFailure}
 use Rattle.sqlite.specs.declared.error.ErrorCode.TheVariants.{OutOfMemory}
-use Rattle.office_tables_open.specs.declared.open.OpenFault.{OpenFault}
-use Rattle.office_tables_open.specs.declared.open.OpenFault.TheVariants as why
+use Rattle.office_tables.specs.declared.open.OpenFault.{OpenFault}
+use Rattle.office_tables.specs.declared.open.OpenFault.TheVariants as why
 use Rattle.signal_office_faults.specs.declared.fault.Fault.{Fault}
 use Rattle.signal_office_faults.specs.declared.fault.Fault.TheVariants as fault
 

@@ -4,7 +4,7 @@ ghost use Rattle.std.specs.Prelude.{◌≡◌};
 ghost use Rattle.signal_office_file.specs.Migrating.{told_of_outcome, told_unclosed, BringsToday, EndsMigration, MigratesOnDisk};
 ghost use Rattle.sqlite.specs.Held.{state};
 ghost use Rattle.sqlite.specs.State.{HasCleanDisk};
-ghost use Rattle.office_tables_open.specs.Promises.{IsArrangedIfClean};
+ghost use Rattle.office_tables.specs.Arranged.{IsArrangedIfClean};
 
 use crate::left::{FileLeft, fault_of_opening};
 use crate::opening::{close_file, database_in};

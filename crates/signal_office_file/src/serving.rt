@@ -7,7 +7,7 @@ ghost use Rattle.sqlite.specs.Recovery.{Image};
 ghost use Rattle.sqlite.specs.State.{HasCleanDisk};
 ghost use Rattle.sqlite.specs.Tree.{Trees};
 ghost use Rattle.sqlite.specs.WalReads.{AreClean};
-ghost use Rattle.office_tables_open.specs.SqlShelf.{IsCurrent};
+ghost use Rattle.office_tables.specs.SqlShelf.{IsCurrent};
 ghost use Rattle.office_machine.specs.Office.{Office as OfficeState};
 ghost use Rattle.office_desk.specs.StandFor.{StandForSound};
 ghost use Rattle.office_tables.specs.Content.{Content};

@@ -1,7 +1,7 @@
 use Rattle.std.proofs.Common.{subst}
 use Rattle.std.proofs.Math.Logic.{∥∥₁_map}
 use Rattle.sqlite.specs.{Files.file_state, State.HasCleanDisk}
-use Rattle.office_tables_open.specs.SqlShelf.{IsCurrent}
+use Rattle.office_tables.specs.SqlShelf.{IsCurrent}
 use Rattle.office_lives.proofs.stopping.stopped.Goals as goal
 
 pub returns-clause-clean : goal.returns-clause-clean

@@ -1,7 +1,7 @@
 use Rattle.std.proofs.Common.{sym, ◌∙◌}
 use Rattle.std.proofs.lemmas.Bool.{not-true}
 use Rattle.sqlite.specs.Held.{state}
-use Rattle.office_tables_open.proofs.OpenLemmas.{arranged_office}
+use Rattle.office_tables.proofs.OpenLemmas.{arranged_office}
 use Rattle.office_tables.proofs.migrate.migrate.Goals as goal
 
 pub stored_version-requires : goal.stored_version-requires

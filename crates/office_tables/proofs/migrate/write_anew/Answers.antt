@@ -3,7 +3,7 @@ use Rattle.sqlite.specs.{Tree.Trees, Held.state, State.Survives}
 use Rattle.office_tables_shelf.specs.Change.{changed_by}
 use Rattle.office_tables_statements.specs.{Calls.IsHonest, Calls.IsOffice, Stored.content_now}
 use Rattle.office_tables_statements.proofs.CallLemmas.{commit_undone, commit_survives}
-use Rattle.office_tables_open.specs.Version.{Completes}
+use Rattle.office_tables_sql.specs.Version.{Completes}
 use Rattle.office_tables.proofs.migrate.write_anew.Goals as goal
 
 pub returns-in_err-commit-clause-office : goal.returns-in_err-commit-clause-office

@@ -1,4 +1,4 @@
-use Rattle.office_tables_open.proofs.ArrangedLemmas.{found_arranged}
+use Rattle.office_tables.proofs.ArrangedLemmas.{found_arranged}
 use Rattle.office_trials.proofs.files.database.Goals as goal
 
 -- what an opening finds in files is arranged

@@ -1,5 +1,5 @@
 use Rattle.std.proofs.Common.{sym, subst}
-use Rattle.office_tables_open.proofs.ArrangedLemmas.{found_arranged}
+use Rattle.office_tables.proofs.ArrangedLemmas.{found_arranged}
 use Rattle.signal_office_file.specs.Migrating.{BringsToday}
 use Rattle.signal_office_file.proofs.MigratingLemmas.{closed_migrated, stands_today}
 use Rattle.signal_office_in_file.specs.declared.Ended.TheVariants.{Closed}

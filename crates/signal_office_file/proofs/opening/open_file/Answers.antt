@@ -1,7 +1,7 @@
 use Rattle.std.proofs.Common.{sym, ◌∙◌}
 use Rattle.sqlite.specs.Files.{file_state}
 use Rattle.sqlite_store.specs.Laws.{settled_at}
-use Rattle.office_tables_open.proofs.ArrangedLemmas.{found_arranged}
+use Rattle.office_tables.proofs.ArrangedLemmas.{found_arranged}
 use Rattle.signal_office_file.proofs.LeftLemmas.{keeps_today}
 use Rattle.signal_office_file.specs.declared.left.FileLeft.TheVariants as left
 use Rattle.signal_office_file.proofs.opening.open_file.Goals as goal

@@ -5,7 +5,7 @@ use Rattle.office_http_framing.proofs.ServeLemmas.{Did-weaker}
 use Rattle.office_http.proofs.ServedLemmas.{from_opened}
 use Rattle.office_tables.specs.Stored.{content_now}
 use Rattle.office_tables_shelf.specs.Counts.{no_writes}
-use Rattle.office_tables_open.specs.SqlShelf.{IsCurrent}
+use Rattle.office_tables.specs.SqlShelf.{IsCurrent}
 use Rattle.signal_office_file.specs.Serving.{sql_storage}
 use Rattle.signal_office_file.proofs.serving.serve_over.Goals as goal
 

@@ -1,5 +1,5 @@
 use Rattle.std.proofs.Common.{sym, subst}
-use Rattle.office_tables_open.specs.{Opening.IsRefused, declared.open.OpenFault.OpenFault}
+use Rattle.office_tables.specs.{Opening.IsRefused, declared.open.OpenFault.OpenFault}
 use Rattle.office_tables.proofs.sql_shelf.SqlShelf.open.Goals as goal
 
 pub returns-in-Err-clause-refused : goal.returns-in-Err-clause-refused

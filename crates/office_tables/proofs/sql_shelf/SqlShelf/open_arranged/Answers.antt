@@ -1,7 +1,8 @@
 use Rattle.std.proofs.Common.{◌≡◌, IsTrue, sym, ap, subst, ◌∙◌}
 use Rattle.sqlite.specs.{Effect.Database, Held.state, State.State, Tree.Trees}
-use Rattle.office_tables_open.specs.{Opening.IsPrepared, SqlShelf.IsCurrent, Version.AreToday}
-use Rattle.office_tables_open.proofs.OpenLemmas.{opened_over}
+use Rattle.office_tables.specs.{Opening.IsPrepared, SqlShelf.IsCurrent}
+use Rattle.office_tables_sql.specs.{Version.AreToday}
+use Rattle.office_tables.proofs.OpenLemmas.{opened_over}
 use Rattle.office_tables.proofs.sql_shelf.SqlShelf.open_arranged.Goals as goal
 
 -- tables that were prepared on a clean disk leave the version that they store

@@ -1,5 +1,5 @@
 use Rattle.std.proofs.lemmas.Result.{IfOk-weaker, IfErr-weaker}
-use Rattle.office_tables_open.proofs.LeftLemmas.{opened_before, refused_before, refused_found, refused_given}
+use Rattle.office_tables.proofs.LeftLemmas.{opened_before, refused_before, refused_found, refused_given}
 use Rattle.office_tables.proofs.sql_shelf.SqlShelf.open_returning.Goals as goal
 
 pub returns-then-not-is_autocommit-clause-refused : goal.returns-then-not-is_autocommit-clause-refused

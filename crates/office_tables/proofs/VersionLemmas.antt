@@ -1,0 +1,83 @@
+-- The stored version and its statements.
+use Rattle.std.proofs.Common.{◌≡◌, ℕ, [], ◌∷◌, length, codes, refl, sym, ap, subst, ◌∙◌, cond, Option, Some, IfSome, option_map, pos}
+use Rattle.std.specs.{Option.option_to_list, FinMap.get, FinMap.insert, FinMap.get-insert}
+use Rattle.sqlite.specs.{Command.TheVariants.Select, Command.TheVariants.Insert, Command.TheVariants.Delete, Effect.Database, Listing.understood, Order.Row, Tree.Trees, Cast.cast_row, Source.Source, State.State, Source.TheVariants.Values, Term.lit, Term.col, View.IsShaped}
+use Rattle.sqlite.specs.declared.types.Value.TheVariants.{Null, Int}
+use Rattle.sqlite_tied.specs.Compute.{everything}
+use Rattle.office_tables_statements.specs.Layout as layout
+use Rattle.office_tables_shelf.specs.{Cells.number, declared.rows.Table.Table}
+use Rattle.office_tables_statements.specs.{Stored.rows_in, Stored.cells, Stored.rows_stored, Stored.content_now, Calls.Reads, Calls.IsReady, Calls.Ran, Tables.found_by, Layout.office_version}
+use Rattle.office_tables_statements.specs.Schema.{office_schema, version_table}
+use Rattle.office_tables_sql.specs.Version.{version_in, version_of, current_version}
+use Rattle.office_tables_statements.proofs.QueryLemmas.{IsRead, IsWrite, AreShaped, found_by_key, has_width}
+use Rattle.office_tables_statements.proofs.WriteLemmas.{Added, adds, IsIdle, wrote}
+use Rattle.office_tables_statements.proofs.{StoredLemmas.get_columns, StoredLemmas.sound_rowids, Casts.cast_int, Casts.cast_null, RemoveLemmas.remove_keyed, ContentLemmas.tie_self, ContentLemmas.put_at, ContentLemmas.free_rowid, TableLemmas.apart, TableLemmas.none_in}
+use Rattle.sqlite_trees.specs.declared.store.Shape.TheVariants as shape
+use Rattle.office_tables_shelf.proofs.CellLemmas.{cells_total}
+use Rattle.office_tables.specs.declared.version.TheConstants.{FIND as FIND_VERSION, DROP as DROP_VERSION, PUT as PUT_VERSION}
+
+pub find_version_is : IsRead FIND_VERSION.now (Select (record { lets = []; body = found_by office_version office_version.columns }) (codes "version" ∷ []))
+unfolding understood everything
+find_version_is = record { is = refl; query = record { plain = (refl, refl); unlisted = refl } }
+
+pub put_version_is : IsWrite PUT_VERSION.now (Insert 8 (Values (col 0 0 ∷ lit Null ∷ col 0 1 ∷ []) 3))
+unfolding understood everything
+put_version_is = record { is = refl; plain = (refl, refl) }
+
+pub drop_version_is : IsWrite DROP_VERSION.now (Delete 8 (record { lets = []; body = found_by office_version (0 ∷ []) }))
+unfolding understood everything
+drop_version_is = record { is = refl; plain = (refl, refl) }
+
+pub find_version : (db : Database) → AreShaped db.trees office_version → (row : Option Row) → Reads FIND_VERSION.now (Int (pos 1) ∷ []) db (option_to_list row) → option_map cells row ≡ version_in db.trees
+find_version db shaped row reads =
+    let rows = db.trees 15 in
+    ap (option_map cells) (found_by_key office_version tt office_version.columns FIND_VERSION.now _
+    find_version_is.is (Int (pos 1) ∷ []) db rows refl row reads)
+    ∙ sym (get_columns office_version rows (Int (pos 1) ∷ [])
+    (sound_rowids office_version refl rows shaped) refl)
+
+pub version_width : (db : Database) (row : Option Row) → Reads FIND_VERSION.now (Int (pos 1) ∷ []) db (option_to_list row) → IfSome row (λ r. length r ≡ 1)
+version_width db = has_width office_version tt office_version.columns FIND_VERSION.now _
+    find_version_is.is (Int (pos 1) ∷ []) db (db.trees 15) refl
+
+-- ---- what is stored
+
+version_idle : IsIdle office_schema version_table
+version_idle = record { on_change = λ olds new. refl; on_delete = λ olds. refl }
+
+abbrev stored_version : Row
+stored_version = Int (pos 1) ∷ Null ∷ Int (pos 2) ∷ []
+
+abbrev version_source : Source
+version_source = Values (col 0 0 ∷ lit Null ∷ col 0 1 ∷ []) 3
+
+cast_version : cast_row version_table stored_version ≡ stored_version
+cast_version = λ i. cast_int (pos 1) i ∷ cast_null i ∷ cast_int (pos 2) i ∷ []
+
+pub put_version : (old new : State) (count : ℕ) → IsReady old → Ran PUT_VERSION.now (Int (pos 1) ∷ Int (pos 2) ∷ []) old new count
+    → IsReady new × ((content_now new ≡ content_now old) × (version_in new.now.trees ≡ Some current_version))
+put_version old new count ready did =
+    let params = Int (pos 1) ∷ Int (pos 2) ∷ [] in
+    let rows = old.now.trees 15 in
+    let was : IsShaped shape.Table rows = ready.ordered.1.1.1.1.1.1.1.1.0 in
+    let wrote_it = wrote PUT_VERSION.now _ put_version_is 8 version_table refl params old new count (record { runs = λ w. w; does = λ db out d. d }) ready did in
+    let it = subst (Added version_table refl version_idle version_source params stored_version old.step_limit old.now.trees) (sym wrote_it.trees)
+    (adds version_table refl version_idle version_source params stored_version old.step_limit old.now.trees (λ rows h. h.1) cast_version was wrote_it.written wrote_it.rows) in
+    let at : rows_in layout.office_version (new.now.trees 15) ≡ insert (rows_stored layout.office_version old.now.trees) (number (pos 1) ∷ []) current_version =
+    ap (rows_in layout.office_version) it.rows ∙ put_at layout.office_version rows [] stored_version (λ r id there among at_id. absurd among) (free_rowid rows (pos 1) (Null ∷ Int (pos 2) ∷ []) was it.fresh layout.office_version refl) it.fresh in
+    let key = number (pos 1) ∷ [] in (
+      wrote_it.goes_on it.others it.shapes,
+      (
+        none_in old.now.trees new.now.trees 15 it.others apart,
+        ap (λ rows. get rows key) at ∙ get-insert cells_total (rows_stored layout.office_version old.now.trees) key current_version key ∙ ap (λ b. cond b (Some current_version) (version_in old.now.trees)) (tie_self key),
+      ),
+    )
+
+pub drop_version : (old new : State) (count : ℕ) → IsReady old → Ran DROP_VERSION.now (Int (pos 1) ∷ []) old new count → IsReady new × (content_now new ≡ content_now old)
+drop_version old new count ready did =
+    let was : IsShaped shape.Table (old.now.trees 15) = ready.ordered.1.1.1.1.1.1.1.1.0 in
+    let it = remove_keyed office_version tt version_table 8 refl (λ trees. refl) version_idle DROP_VERSION.now drop_version_is (Int (pos 1) ∷ []) refl
+    old new count was (sound_rowids office_version refl (old.now.trees 15) was) ready did in (
+      it.0,
+      none_in old.now.trees new.now.trees 15 it.1.others apart,
+    )

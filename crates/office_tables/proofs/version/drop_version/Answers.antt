@@ -1,0 +1,17 @@
+use Rattle.std.proofs.Common.{arith}
+use Rattle.office_tables.proofs.VersionLemmas.{drop_version_is, drop_version}
+use Rattle.office_tables.proofs.version.drop_version.Goals as goal
+
+pub write-requires : goal.write-requires
+write-requires g c = drop_version_is.plain
+
+pub returns-clause-honest : goal.returns-clause-honest
+returns-clause-honest g c clean = let it = c.in_ok-write.ensures in (omega (arith, clean, it.crash.clean), (it.ran clean).was_open)
+
+pub returns-clause-ready : goal.returns-clause-ready
+returns-clause-ready g c honest ready =
+    (drop_version _ _ _ ready (rw c.params-to_sql.ensures at (c.in_ok-write.ensures.ran honest))).0
+
+pub returns-clause-same : goal.returns-clause-same
+returns-clause-same g c honest ready =
+    (drop_version _ _ _ ready (rw c.params-to_sql.ensures at (c.in_ok-write.ensures.ran honest))).1

@@ -1,0 +1,120 @@
+-- What trees hold of an office whatever the layout of its tables: in another order, without STRICT, or with some of them missing.
+use Rattle.std.specs.Prelude.{◌≡◌, ◌≢◌, ◌⊎◌, ℕ, ℤ, pos, List, [], ◌∷◌, map, None, Some, true}
+use Rattle.std.specs.List.{AllByRecursion}
+use Rattle.sqlite.specs.Order.{Row}
+use Rattle.sqlite.specs.Tree.{Trees}
+use Rattle.sqlite_catalog.specs.Listing.{AreListed}
+use Rattle.sqlite_schema.specs.Names.{same_name}
+use Rattle.sqlite_schema.specs.declared.schema.Column.{Column}
+use Rattle.sqlite_schema.specs.declared.schema.Schema.{Schema}
+use Rattle.sqlite_schema.specs.declared.schema.Table.{Table}
+use Rattle.sqlite_trees.specs.Objects.{catalog_tree}
+use Rattle.office_tables_statements.specs.Schema.{IsOffices}
+use Rattle.office_tables_shelf.specs.Cells.{number}
+use Rattle.office_tables_shelf.specs.Content.{Content}
+use Rattle.office_tables_statements.specs.Stored.{content_of}
+use Rattle.office_tables.specs.Moved.{Part, content_by, moved_from, rows_named}
+use Rattle.office_tables_sql.specs.Version.{AreToday, version_in, version_of, current_version}
+use Rattle.office_tables.specs.declared.open.OpenFault.{OpenFault}
+use Rattle.office_tables.specs.declared.open.OpenFault.TheVariants as fault
+use Rattle.office_tables.specs.declared.found.TheConstants.{OURS, KEEPER, COLUMNS}
+use Rattle.office_tables.specs.declared.gather.TheConstants.{CHILDREN_FIRST}
+
+-- the name is one of these
+abbrev pub IsNameAmong : List ℕ → List (List ℕ) → Type 0
+IsNameAmong name [] = ⊥
+IsNameAmong name (first ∷ more) = (name ≡ first) ⊎ IsNameAmong name more
+
+-- it is that of one of the office's tables
+abbrev pub IsOurs : List ℕ → Type 0
+IsOurs name = IsNameAmong name (map (λ text. text.now) OURS)
+
+-- the table keeps a version beside the number `one`, which is its rowid
+pub record KeepsVersion (table : Table) : Type 0 where
+  pub rowid : table.key ≡ Some 0
+  pub columns : map (λ (c : Column). c.name) table.columns ≡ map (λ text. text.now) COLUMNS
+
+-- each table of the version's name does so
+abbrev pub KeepVersion : List Table → Type 0
+KeepVersion = AllByRecursion (λ t. same_name t.name KEEPER.now ≡ true → KeepsVersion t)
+
+-- the rows store a number, and another one than today's version
+pub record StoreOther (rows : List Row) : Type 0 where
+  pub version : ℤ
+  pub stored : version_of rows ≡ Some (number version ∷ [])
+  pub other : version ≢ pos 2
+
+-- none of these tables has a row
+abbrev pub HaveNoRow : List Part → Type 0
+HaveNoRow = AllByRecursion (λ part. part.1 ≡ [])
+
+-- ---- what is reported of tables, by the rows of the version's and those of the eight
+
+-- another version than today's is stored
+abbrev pub StoreAnother : List Table → List Row → Type 0
+StoreAnother tables keeper = KeepVersion tables × StoreOther keeper
+
+-- no version is stored, and a table has a row
+abbrev pub HaveRowsAlone : List Row → List Part → Type 0
+HaveRowsAlone keeper eight = (version_of keeper ≡ None) × ¬ HaveNoRow eight
+
+-- no version is stored, and no table has a row
+abbrev pub AreUnclaimed : List Row → List Part → Type 0
+AreUnclaimed keeper eight = (version_of keeper ≡ None) × HaveNoRow eight
+
+-- each is the office's but for its number, and today's version is stored; those that are missing were never made, or they were dropped
+abbrev pub Lack : List Table → List Row → Type 0
+Lack tables keeper = AllByRecursion IsOffices tables × (version_of keeper ≡ Some current_version)
+
+-- such tables may be made anew
+abbrev pub MayBeMade : List Table → List Row → List Part → Type 0
+MayBeMade tables keeper eight = Lack tables keeper ⊎ AreUnclaimed keeper eight
+
+-- the fault tells what they hold
+pub record TellsHeld (why : OpenFault) (tables : List Table) (keeper : List Row) (eight : List Part) : Type 0 where
+  pub version : why ≡ fault.Version → StoreAnother tables keeper
+  pub damaged : why ≡ fault.Damaged → HaveRowsAlone keeper eight
+
+-- ---- of trees that list them
+
+-- the rows of the table of the tables' version
+abbrev pub keeper_rows : List Table → Trees → List Row
+keeper_rows tables trees = rows_named tables trees KEEPER.now
+
+-- the rows of the eight tables, by table
+abbrev pub eight_rows : List Table → Trees → List Part
+eight_rows tables trees = moved_from CHILDREN_FIRST (rows_named tables trees)
+
+-- a fact about the tables of a file, the rows of the version's table, and those of the eight
+abbrev pub InTables : (List Table → List Row → List Part → Type 0) → Trees → Type 0
+InTables Holds trees = (schema : Schema) × AreListed (trees catalog_tree) schema × Holds schema.tables (keeper_rows schema.tables trees) (eight_rows schema.tables trees)
+
+-- a file stores another version than that of today
+abbrev pub HasOtherVersion : Trees → Type 0
+HasOtherVersion = InTables (λ tables keeper eight. StoreAnother tables keeper)
+
+-- a file has rows and no version
+abbrev pub HasRowsAlone : Trees → Type 0
+HasRowsAlone = InTables (λ tables. HaveRowsAlone)
+
+-- a file stores no version, and none of its tables has a row
+abbrev pub IsUnclaimed : Trees → Type 0
+IsUnclaimed = InTables (λ tables. AreUnclaimed)
+
+-- a file stores today's version, and each of its tables is the office's but for its number
+abbrev pub IsLacking : Trees → Type 0
+IsLacking = InTables (λ tables keeper eight. Lack tables keeper)
+
+-- what the tables hold by their names; one that is missing holds nothing
+abbrev pub Hold : Trees → Content → Type 0
+Hold trees tables = (schema : Schema) × AreListed (trees catalog_tree) schema × (tables ≡ content_by (rows_named schema.tables trees))
+
+-- today's version is stored, also where tables are missing; or none is, and no table has a row
+abbrev pub MayBeTaken : Trees → Type 0
+MayBeTaken trees = (version_in trees ≡ Some current_version) ⊎ (IsUnclaimed trees ⊎ IsLacking trees)
+
+-- the office's tables took what tables held that may be taken, and store today's version
+pub record TakesOver (old new : Trees) : Type 0 where
+  pub taken : MayBeTaken old
+  pub kept : Hold old (content_of new)
+  pub today : AreToday new

@@ -1,0 +1,33 @@
+-- What a shelf over SQL shows: its connection and its counts.
+use Rattle.std.specs.Prelude.{◌≡◌, Some, refl}
+use Rattle.std.specs.Coded.{Coded, code_by, coded×}
+use Rattle.sqlite.specs.Held.{Held, held_code}
+use Rattle.sqlite.specs.State.{State, HasCleanDisk}
+use Rattle.sqlite.specs.Tree.{Trees}
+use Rattle.office_tables_shelf.specs.Content.{Content}
+use Rattle.office_tables_shelf.specs.Counts.{counts_code}
+use Rattle.office_tables_shelf.specs.declared.counts.WriteCounts.{WriteCounts}
+use Rattle.office_tables_statements.specs.Calls.{IsHonest, IsOffice}
+use Rattle.office_tables_statements.specs.Stored.{content_of}
+use Rattle.office_tables_sql.specs.Version.{AreToday, version_in, current_version}
+
+-- the connection, and how often the rows of each table were written
+pub record SqlView (S : Type 0) : Type 0 where
+  pub conn : Held S
+  pub counts : WriteCounts
+
+-- the tables are those of the office, and today's version is stored, also in whatever a crash may leave
+pub record IsCurrent (s : State) : Type 0 where
+  pub office : IsOffice s
+  pub stored : IsHonest s → version_in s.now.trees ≡ Some current_version
+  pub left : HasCleanDisk s → (trees : Trees) → s.may_leave trees → AreToday trees
+
+-- the disk has returned what was written, and a crash may leave trees with this content
+abbrev pub MayLeave : State → Content → Type 0
+MayLeave s tables = HasCleanDisk s × (trees : Trees) × s.may_leave trees × (content_of trees ≡ tables)
+
+-- ---- how the logic stores it
+
+-- what is seen of a shelf in SQL, as codes that a proof can compare
+abbrev pub view_code : {S : Type 0} → Coded S → Coded (SqlView S)
+view_code {S} store = code_by (Held S × WriteCounts) (coded× (held_code store) counts_code) (λ v. (v.conn, v.counts)) (λ p. record { conn = p.0; counts = p.1 }) (λ _. refl)

@@ -1,0 +1,276 @@
+//! What a database holds whose tables are the office's in another layout.
+
+ghost use Rattle.std.specs.Prelude.{◌≡◌, ◌≢◌, ◌∷◌, None, Some, Err, [], map, pos, IsTrue, IfOk, IfErr, IfSome, OnOk};
+ghost use Rattle.std.specs.List.{AllByRecursion};
+ghost use Rattle.sqlite.specs.Held.{state};
+ghost use Rattle.sqlite.specs.State.{HasCleanDisk};
+ghost use Rattle.sqlite_trees.specs.View.{IsClean, IsQuiet};
+ghost use Rattle.sqlite_value.specs.Value.{owned};
+ghost use Rattle.sqlite_value.specs.declared.value.Value.TheVariants.{Int};
+ghost use Rattle.office_tables_shelf.specs.Cells.{number};
+ghost use Rattle.office_tables_shelf.specs.Content.{no_content};
+ghost use Rattle.office_tables.specs.Arranged.{IsUnchanged, IsTaken, IsCheckedAgain};
+ghost use Rattle.office_tables.specs.Found.{HaveNoRow, IsNameAmong, IsOurs, KeepsVersion, KeepVersion, MayBeMade, TellsHeld, HasOtherVersion, HasRowsAlone, eight_rows, keeper_rows};
+ghost use Rattle.office_tables.specs.Moved.{all_put, part_moved};
+ghost use Rattle.office_tables.specs.Opening.{IsAsFound, MayMake};
+ghost use Rattle.office_tables_sql.specs.Promises.{IsSettled};
+ghost use Rattle.office_tables_sql.specs.Version.{version_of};
+
+use crate::gather::{Moved, gathered, read_named};
+use crate::open::OpenFault;
+use crate::version::VERSION;
+use office_tables_statements::schema::are_of_office;
+use office_tables_statements::statement::SqlFault;
+use sqlite::{Alter, Connection};
+use sqlite_schema::names::same_name;
+use sqlite_schema::schema::{Column, Schema, Table};
+use sqlite_trees::error::StoreError;
+use sqlite_trees::store::Store;
+use sqlite_value::row::Row;
+use sqlite_value::value::ValueRef;
+use std::alloc::Global;
+
+/// The names of the tables.
+pub const OURS: [&str; 9] = [
+    "intersection",
+    "timing",
+    "draft",
+    "inspection",
+    "work_order",
+    "part",
+    "delivery",
+    "used_part",
+    KEEPER,
+];
+
+/// The name of the table that keeps the version.
+pub const KEEPER: &str = "office_version";
+
+/// Its columns: the number 1, which is its rowid, and the version.
+const COLUMNS: [&str; 2] = ["one", "version"];
+
+fn is_one_of(name: &[u8], names: &[&str]) -> bool
+    ensures { IsTrue result → IsNameAmong name.now (map (λ text. text.now) names.now) }
+{
+    let Some((first, names)) = names.split_first() else {
+        return false;
+    };
+    name == first.as_bytes() || is_one_of(name, names)
+}
+
+fn are_ours(tables: &[Table]) -> bool
+    ensures { IsTrue result → AllByRecursion (λ t. IsOurs t.name) tables.now }
+{
+    let Some((table, tables)) = tables.split_first() else {
+        return true;
+    };
+    is_one_of(table.name.as_slice(), &OURS) && are_ours(tables)
+}
+
+/// Whether each table has one of the nine names, and there is no view.
+pub fn has_only_ours(schema: &Schema) -> bool
+    ensures named { IsTrue result → AllByRecursion (λ t. IsOurs t.name) schema.now.tables }
+    ensures no_views { IsTrue result → schema.now.views ≡ [] }
+{
+    schema.views.is_empty() && are_ours(schema.tables.as_slice())
+}
+
+fn are_named(columns: &[Column], names: &[&str]) -> bool
+    ensures { IsTrue result → map (λ c. c.name) columns.now ≡ map (λ text. text.now) names.now }
+{
+    let Some((column, columns)) = columns.split_first() else {
+        return names.is_empty();
+    };
+    let Some((name, names)) = names.split_first() else {
+        return false;
+    };
+    column.name.as_slice() == name.as_bytes() && are_named(columns, names)
+}
+
+/// Whether a table keeps a version as the office does.
+fn keeps_version(table: &Table) -> bool
+    ensures { IsTrue result → KeepsVersion table.now }
+{
+    table.key == Some(0) && are_named(table.columns.as_slice(), &COLUMNS)
+}
+
+/// Whether each table of the version's name does so.
+fn keep_version(tables: &[Table]) -> bool
+    ensures { IsTrue result → KeepVersion tables.now }
+{
+    let Some((table, tables)) = tables.split_first() else {
+        return true;
+    };
+    let is_keeper = same_name(table.name.as_slice(), KEEPER.as_bytes());
+    (!is_keeper || keeps_version(table)) && keep_version(tables)
+}
+
+fn is_one(value: ValueRef<'_>) -> bool
+    ensures one { IsTrue result → owned value.entry ≡ Int (pos 1) }
+    ensures other { ¬ IsTrue result → owned value.entry ≢ Int (pos 1) }
+{
+    match value {
+        ValueRef::Int(number) => number == 1,
+        _ => false,
+    }
+}
+
+/// The number that a value is, if it is one.
+fn number_of(value: ValueRef<'_>) -> Option<i64>
+    ensures { IfSome result (λ number. owned value.entry ≡ Int number) }
+{
+    match value {
+        ValueRef::Int(number) => Some(number),
+        _ => None,
+    }
+}
+
+/// The number that the rows store as the version, if it is one.
+fn stored_number(rows: &[Row]) -> Option<i64>
+    ensures { IfSome result (λ stored. version_of rows.now ≡ Some (number stored ∷ [])) }
+{
+    for row in rows {
+        if is_one(row.get(0)) {
+            return number_of(row.get(2));
+        }
+    }
+    None
+}
+
+fn have_no_row(eight: &[Moved]) -> bool
+    ensures all { IsTrue result → HaveNoRow (map part_moved eight.now) }
+    ensures some { ¬ IsTrue result → ¬ HaveNoRow (map part_moved eight.now) }
+{
+    let Some((first, eight)) = eight.split_first() else {
+        return true;
+    };
+    first.rows.is_empty() && have_no_row(eight)
+}
+
+/// Why tables are not made anew, by the rows of the version's and those of the eight.
+fn refusal(tables: &[Table], version: &[Row], eight: &[Moved]) -> Option<OpenFault>
+    ensures made { result ≡ None →
+        MayBeMade tables.now version.now (map part_moved eight.now) }
+    ensures told { IfSome result (λ why.
+        TellsHeld why tables.now version.now (map part_moved eight.now)) }
+{
+    if version.is_empty() {
+        if have_no_row(eight) {
+            return None;
+        }
+        return Some(OpenFault::Damaged);
+    }
+    if !keep_version(tables) {
+        return Some(OpenFault::Store);
+    }
+    let Some(number) = stored_number(version) else {
+        return Some(OpenFault::Store);
+    };
+    if number != i64::from(VERSION) {
+        return Some(OpenFault::Version);
+    }
+    if !are_of_office(tables) {
+        return Some(OpenFault::Store);
+    }
+    None
+}
+
+/// The rows of tables that may be made anew, or why they are not.
+pub(crate) type Looked = Result<Vec<Moved>, OpenFault>;
+
+/// Reads the rows of all tables.
+fn look<S: Store>(alloc: Global, store: &mut S, tables: &[Table]) -> Result<Looked, StoreError>
+    ensures made { IsClean (S.Store.view store.new) → IfOk result (λ looked. IfOk looked (λ eight.
+        (map part_moved eight.items ≡ eight_rows tables.now (S.Store.view store.old).trees)
+        × MayBeMade tables.now (keeper_rows tables.now (S.Store.view store.old).trees)
+        (eight_rows tables.now (S.Store.view store.old).trees))) }
+    ensures told { IsClean (S.Store.view store.new) → IfOk result (λ looked. IfErr looked (λ why.
+        TellsHeld why tables.now (keeper_rows tables.now (S.Store.view store.old).trees)
+        (eight_rows tables.now (S.Store.view store.old).trees))) }
+    ensures same { IsClean (S.Store.view store.new) →
+        OnOk result (IsUnchanged (S.Store.view store.old) (S.Store.view store.new)) }
+    ensures quiet { IsQuiet S.Store.view S.Store.faults S.Store.recovers S.Store.is_shielded
+        store.old store.new }
+{
+    let version = read_named(alloc, store, tables, KEEPER)?;
+    let eight = gathered(alloc, store, tables)?;
+    match refusal(tables, version.as_slice(), eight.as_slice()) {
+        None => Ok(Ok(eight)),
+        Some(why) => Ok(Err(why)),
+    }
+}
+
+/// The store of a connection that is given up, as the last commit left it, if no failure has broken
+/// it.
+fn store_of<S: Alter + Drop>(conn: Connection<S>) -> Result<S, S>
+    ensures taken { IfOk result (λ s. IsTaken (state S.Store conn) (S.Store.view s)) }
+    ensures found { IfOk result (IsAsFound S.Store conn) }
+    ensures left { IfErr result (IsAsFound S.Store conn) }
+{
+    let store = conn.into_store();
+    if store.is_broken() {
+        return Err(store);
+    }
+    Ok(store)
+}
+
+/// The database, which was checked again, so that each tree is known to hold what its list
+/// of objects says. Where it is refused its store comes back.
+pub fn checked<S: Alter + Drop>(
+    alloc: Global,
+    conn: Connection<S>,
+) -> Result<Connection<S>, (SqlFault, S)>
+    ensures again { IfOk result (λ c. IsCheckedAgain (state S.Store conn) (state S.Store c)) }
+    ensures left { IfErr result (λ e. IsAsFound S.Store conn e.1) }
+{
+    let store = match store_of(conn) {
+        Ok(store) => store,
+        Err(store) => return Err((SqlFault::Store, store)),
+    };
+    match Connection::over(alloc, store) {
+        Ok(conn) => Ok(conn),
+        Err((error, store)) => Err((SqlFault::from(error), store)),
+    }
+}
+
+fn fault_of(error: StoreError) -> SqlFault {
+    match error {
+        StoreError::OutOfMemory => SqlFault::NoMemory,
+        _ => SqlFault::Store,
+    }
+}
+
+/// The database, checked again, and the rows of its tables if they may be made anew, or why
+/// not. Where it is refused its store comes back.
+pub(crate) fn looked<S: Alter + Drop>(
+    alloc: Global,
+    conn: Connection<S>,
+) -> Result<(Looked, Connection<S>), (SqlFault, S)>
+    requires { IsSettled (state S.Store conn) }
+    ensures again { IfOk result (λ f. IsCheckedAgain (state S.Store conn) (state S.Store f.1)) }
+    ensures made { IfOk result (λ f. HasCleanDisk (state S.Store f.1) → IfOk f.0 (λ eight.
+        MayMake (all_put no_content (map part_moved eight.items))
+        (state S.Store conn).committed.trees)) }
+    ensures version { IfOk result (λ f. HasCleanDisk (state S.Store f.1) →
+        f.0 ≡ Err OpenFault.Version → HasOtherVersion (state S.Store conn).committed.trees) }
+    ensures damaged { IfOk result (λ f. HasCleanDisk (state S.Store f.1) →
+        f.0 ≡ Err OpenFault.Damaged → HasRowsAlone (state S.Store conn).committed.trees) }
+    ensures left { IfErr result (λ e. IsAsFound S.Store conn e.1) }
+{
+    let copied = conn.schema().copy(alloc);
+    let mut store = match store_of(conn) {
+        Ok(store) => store,
+        Err(store) => return Err((SqlFault::Store, store)),
+    };
+    let Ok(schema) = copied else {
+        return Err((SqlFault::NoMemory, store));
+    };
+    let told = match look(alloc, &mut store, schema.tables.as_slice()) {
+        Ok(told) => told,
+        Err(error) => return Err((fault_of(error), store)),
+    };
+    match Connection::over(alloc, store) {
+        Ok(conn) => Ok((told, conn)),
+        Err((error, store)) => Err((SqlFault::from(error), store)),
+    }
+}

@@ -1,0 +1,119 @@
+//! The rows of a database's tables, read by the names of these, whatever their numbers.
+
+ghost use Rattle.std.specs.Prelude.{◌≡◌, ◌++◌, map, IfOk, OnOk};
+ghost use Rattle.sqlite_trees.specs.View.{IsClean, IsQuiet};
+ghost use Rattle.office_tables_statements.specs.Tables.{schema_at};
+ghost use Rattle.office_tables.specs.Arranged.{IsUnchanged};
+ghost use Rattle.office_tables.specs.Found.{eight_rows};
+ghost use Rattle.office_tables.specs.Moved.{part_moved, rows_named, moved_from};
+
+use office_tables_shelf::rows::Table;
+use sqlite_exec::check::all_rows;
+use sqlite_exec::work::Workspace;
+use sqlite_schema::names::same_name;
+use sqlite_schema::schema::Table as SqlTable;
+use sqlite_trees::error::StoreError;
+use sqlite_trees::store::Store;
+use sqlite_value::row::Row;
+use std::alloc::Global;
+
+/// The rows of one of the eight tables.
+#[derive(Drop)]
+pub struct Moved {
+    pub table: Table,
+    pub rows: Vec<Row>,
+}
+
+/// The eight tables, those first that refer to others.
+pub const CHILDREN_FIRST: [Table; 8] = [
+    Table::UsedPart,
+    Table::Delivery,
+    Table::WorkOrder,
+    Table::Inspection,
+    Table::Draft,
+    Table::Timing,
+    Table::Part,
+    Table::Intersection,
+];
+
+fn name_of(table: Table) -> &'static str
+    ensures { result.now ≡ (schema_at table).name }
+{
+    match table {
+        Table::Intersection => "intersection",
+        Table::Timing => "timing",
+        Table::Draft => "draft",
+        Table::Inspection => "inspection",
+        Table::WorkOrder => "work_order",
+        Table::Part => "part",
+        Table::Delivery => "delivery",
+        Table::UsedPart => "used_part",
+    }
+}
+
+/// The rows of the table of that name; none where it is missing.
+pub(crate) fn read_named<S: Store>(
+    alloc: Global,
+    store: &mut S,
+    tables: &[SqlTable],
+    name: &str,
+) -> Result<Vec<Row>, StoreError>
+    ensures rows { IsClean (S.Store.view store.new) → IfOk result (λ rows.
+        rows.items ≡ rows_named tables.now (S.Store.view store.old).trees name.now) }
+    ensures same { IsClean (S.Store.view store.new) →
+        OnOk result (IsUnchanged (S.Store.view store.old) (S.Store.view store.new)) }
+    ensures quiet { IsQuiet S.Store.view S.Store.faults S.Store.recovers S.Store.is_shielded
+        store.old store.new }
+{
+    let Some((table, tables)) = tables.split_first() else {
+        return Ok(Vec::new(alloc));
+    };
+    if same_name(table.name.as_slice(), name.as_bytes()) {
+        let mut work = Workspace::new(alloc);
+        return all_rows(store, &mut work, table.tree);
+    }
+    read_named(alloc, store, tables, name)
+}
+
+/// Adds the rows of these tables, one after another.
+fn gather<S: Store>(
+    alloc: Global,
+    store: &mut S,
+    tables: &[SqlTable],
+    homes: &[Table],
+    moved: &mut Vec<Moved>,
+) -> Result<(), StoreError>
+    ensures rows { IsClean (S.Store.view store.new) → OnOk result (
+        map part_moved moved.new.items ≡ map part_moved moved.old.items
+        ++ moved_from homes.now (rows_named tables.now (S.Store.view store.old).trees)) }
+    ensures same { IsClean (S.Store.view store.new) →
+        OnOk result (IsUnchanged (S.Store.view store.old) (S.Store.view store.new)) }
+    ensures quiet { IsQuiet S.Store.view S.Store.faults S.Store.recovers S.Store.is_shielded
+        store.old store.new }
+{
+    let Some((table, homes)) = homes.split_first() else {
+        return Ok(());
+    };
+    let table = *table;
+    let rows = read_named(alloc, store, tables, name_of(table))?;
+    moved.push(Moved { table, rows })?;
+    gather(alloc, store, tables, homes, moved)
+}
+
+/// The rows of the eight tables.
+pub(crate) fn gathered<S: Store>(
+    alloc: Global,
+    store: &mut S,
+    tables: &[SqlTable],
+) -> Result<Vec<Moved>, StoreError>
+    ensures rows { IsClean (S.Store.view store.new) → IfOk result (λ all.
+        map part_moved all.items ≡ eight_rows tables.now (S.Store.view store.old).trees) }
+    ensures same { IsClean (S.Store.view store.new) →
+        OnOk result (IsUnchanged (S.Store.view store.old) (S.Store.view store.new)) }
+    ensures quiet { IsQuiet S.Store.view S.Store.faults S.Store.recovers S.Store.is_shielded
+        store.old store.new }
+{
+    let mut all = Vec::new(alloc);
+    gather(alloc, store, tables, &CHILDREN_FIRST, &mut all)?;
+    Ok(all)
+}

@@ -1,0 +1,245 @@
+//! Opening the tables of the office.
+
+ghost use Rattle.std.specs.Prelude.{◌≡◌, true, false, map, Err, IfOk, IfErr, OnOk};
+ghost use Rattle.sqlite.specs.State.{HasCleanDisk, Survives};
+ghost use Rattle.sqlite.specs.Held.{state};
+ghost use Rattle.office_tables_statements.specs.Schema.{no_schema};
+ghost use Rattle.office_tables_shelf.specs.Content.{no_content};
+ghost use Rattle.office_tables_statements.specs.Calls.{IsHonest, IsOffice, StandsOn, StaysOpen};
+ghost use Rattle.office_tables.specs.Moved.{all_put, part_moved};
+ghost use Rattle.office_tables.specs.Opening.{AreOurs, AreRun, IsMade, IsPrepared, IsRefused};
+ghost use Rattle.office_tables_sql.specs.Promises.{IsSettled, KeepsCommitted, LeavesNoMore, WasHonest};
+ghost use Rattle.office_tables.specs.Arranged.{IsArrangedIfClean};
+ghost use Rattle.office_tables_sql.specs.Version.{Completes};
+
+use crate::found::{has_only_ours, looked};
+use crate::gather::Moved;
+use crate::refill::put_all;
+use crate::version::{is_today, put_version};
+use office_tables_shelf::shelf::ShelfFault;
+use office_tables_statements::schema::{CREATES, is_office};
+use office_tables_statements::statement::SqlFault;
+use signal_records::NoMemory;
+use sqlite::{Alter, Connection, Transaction};
+use std::alloc::Global;
+
+/// Why the tables of a database were not opened.
+#[derive(Clone, Copy, Debug, PartialEq, Eq)]
+pub enum OpenFault {
+    /// Another version is stored.
+    Version,
+    /// No version is stored, and a table has a row.
+    Damaged,
+    /// The database refused, or it has other tables, or these in another layout with rows, or a
+    /// transaction is under way.
+    Store,
+    /// A growth was refused.
+    NoMemory,
+}
+
+impl From<SqlFault> for OpenFault {
+    ghost use Rattle.std.specs.Prelude.{◌≢◌};
+    ghost use Rattle.office_tables.specs.declared.open.OpenFault.TheVariants as open_fault;
+
+    ghost from_gives = { λ _ fault. (fault ≢ open_fault.Version) × (fault ≢ open_fault.Damaged) };
+
+    fn from(fault: SqlFault) -> OpenFault {
+        match fault {
+            SqlFault::NoMemory => OpenFault::NoMemory,
+            SqlFault::Store => OpenFault::Store,
+        }
+    }
+}
+
+impl From<ShelfFault> for OpenFault {
+    ghost use Rattle.std.specs.Prelude.{◌≡◌, ◌≢◌};
+    ghost use Rattle.office_tables.specs.declared.open.OpenFault.TheVariants as open_fault;
+    ghost use Rattle.office_tables_shelf.specs.declared.shelf.ShelfFault.TheVariants as shelf;
+
+    ghost from_gives = { λ why fault.
+        (fault ≢ open_fault.Version) × (fault ≡ open_fault.Damaged → why ≡ shelf.Damaged) };
+
+    fn from(fault: ShelfFault) -> OpenFault {
+        match fault {
+            ShelfFault::NoMemory => OpenFault::NoMemory,
+            ShelfFault::Store => OpenFault::Store,
+            ShelfFault::Damaged => OpenFault::Damaged,
+        }
+    }
+}
+
+impl From<NoMemory> for OpenFault {
+    ghost use Rattle.std.specs.Prelude.{◌≡◌};
+    ghost use Rattle.office_tables.specs.declared.open.OpenFault.TheVariants as told;
+
+    ghost from_gives = { λ _ fault. fault ≡ told.NoMemory };
+
+    fn from(_refused: NoMemory) -> OpenFault {
+        OpenFault::NoMemory
+    }
+}
+
+/// What drops the tables of the nine names, those first that refer to others.
+const DROPS: [&str; 9] = [
+    "DROP TABLE IF EXISTS used_part",
+    "DROP TABLE IF EXISTS delivery",
+    "DROP TABLE IF EXISTS work_order",
+    "DROP TABLE IF EXISTS inspection",
+    "DROP TABLE IF EXISTS draft",
+    "DROP TABLE IF EXISTS timing",
+    "DROP TABLE IF EXISTS part",
+    "DROP TABLE IF EXISTS intersection",
+    "DROP TABLE IF EXISTS office_version",
+];
+
+/// Runs the statements one after another.
+fn run_all<S: Alter>(tx: &mut Transaction<'_, S>, texts: &[&str]) -> Result<(), SqlFault>
+    ensures same_reference { tx.new.conn.ghost_name ≡ tx.old.conn.ghost_name }
+    ensures stands { StandsOn (state S.Store tx.old.conn.now) (state S.Store tx.new.conn.now) }
+    ensures crash { LeavesNoMore (state S.Store tx.old.conn.now) (state S.Store tx.new.conn.now) }
+    ensures run { HasCleanDisk (state S.Store tx.new.conn.now) →
+        tx.old.conn.now.in_transaction ≡ true →
+        OnOk result (AreRun S.Store (map (λ text. text.now) texts.now)
+        tx.old.conn.now tx.new.conn.now) }
+{
+    for sql in texts {
+        tx.execute(sql, &[])?;
+    }
+    Ok(())
+}
+
+/// Makes all tables in the order of their numbers, and stores today's version.
+fn make_all<S: Alter>(tx: &mut Transaction<'_, S>) -> Result<(), SqlFault>
+    ensures same_reference { tx.new.conn.ghost_name ≡ tx.old.conn.ghost_name }
+    ensures stands { StandsOn (state S.Store tx.old.conn.now) (state S.Store tx.new.conn.now) }
+    ensures crash { LeavesNoMore (state S.Store tx.old.conn.now) (state S.Store tx.new.conn.now) }
+    ensures honest { WasHonest result (state S.Store tx.old.conn.now)
+        (state S.Store tx.new.conn.now) }
+    ensures made { HasCleanDisk (state S.Store tx.new.conn.now) →
+        tx.old.conn.now.in_transaction ≡ true → tx.old.conn.now.schema ≡ no_schema →
+        OnOk result (IsMade no_content (state S.Store tx.new.conn.now)) }
+{
+    run_all(tx, &CREATES)?;
+    put_version(tx)
+}
+
+/// Drops the tables, makes all of them and stores today's version, and puts the rows into them.
+fn make_again<S: Alter>(
+    alloc: Global,
+    tx: &mut Transaction<'_, S>,
+    eight: Vec<Moved>,
+) -> Result<(), SqlFault>
+    ensures same_reference { tx.new.conn.ghost_name ≡ tx.old.conn.ghost_name }
+    ensures stands { StandsOn (state S.Store tx.old.conn.now) (state S.Store tx.new.conn.now) }
+    ensures crash { LeavesNoMore (state S.Store tx.old.conn.now) (state S.Store tx.new.conn.now) }
+    ensures honest { WasHonest result (state S.Store tx.old.conn.now)
+        (state S.Store tx.new.conn.now) }
+    ensures made { HasCleanDisk (state S.Store tx.new.conn.now) →
+        tx.old.conn.now.in_transaction ≡ true → AreOurs (state S.Store tx.old.conn.now).now →
+        OnOk result (IsMade (all_put no_content (map part_moved eight.items))
+        (state S.Store tx.new.conn.now)) }
+{
+    run_all(tx, &DROPS)?;
+    make_all(tx)?;
+    put_all(alloc, tx, eight)
+}
+
+/// Makes the tables again with these rows, in one transaction: all of it, or nothing.
+fn make_tables<S: Alter>(
+    alloc: Global,
+    conn: &mut Connection<S>,
+    eight: Vec<Moved>,
+) -> Result<(), SqlFault>
+    requires autocommit { (state S.Store conn.old).in_transaction ≡ false }
+    requires ours { IsHonest (state S.Store conn.old) → AreOurs (state S.Store conn.old).now }
+    ensures office { OnOk result (IsOffice (state S.Store conn.new)) }
+    ensures open { StaysOpen result (state S.Store conn.new) }
+    ensures autocommit { (state S.Store conn.new).in_transaction ≡ false }
+    ensures honest { IsHonest (state S.Store conn.new) → IsHonest (state S.Store conn.old) }
+    ensures made { IsHonest (state S.Store conn.new) → OnOk result (Completes
+        (all_put no_content (map part_moved eight.items)) (state S.Store conn.new).now.trees) }
+    ensures kept { KeepsCommitted result (state S.Store conn.old) (state S.Store conn.new) }
+    ensures crash { Survives (state S.Store conn.old) (state S.Store conn.new)
+        (λ trees. IsHonest (state S.Store conn.old)
+        × Completes (all_put no_content (map part_moved eight.items)) trees) }
+{
+    let mut tx = conn.transaction();
+    make_again(alloc, &mut tx, eight)?;
+    tx.commit()?;
+    Ok(())
+}
+
+/// What is left of a database whose tables were refused: its connection, or its store where the
+/// database was to be checked again and was not.
+pub type Left<S> = Result<Connection<S>, S>;
+
+/// Why tables were refused, and what is left of the database.
+pub type Refused<S> = (OpenFault, Left<S>);
+
+/// The database, whose tables are made again with the rows that they have, and today's
+/// version, where that is stored in tables of the office's, or none is and there is no row.
+fn made_again<S: Alter + Drop>(
+    alloc: Global,
+    conn: Connection<S>,
+) -> Result<Connection<S>, Refused<S>>
+    requires { IsSettled (state S.Store conn) }
+    ensures prepared { IfOk result (λ c. IsPrepared (state S.Store conn) (state S.Store c)) }
+    ensures refused { IfErr result (λ e. IsRefused S.Store conn e.0 e.1) }
+{
+    let (told, mut conn) = match looked(alloc, conn) {
+        Ok(found) => found,
+        Err((fault, store)) => return Err((OpenFault::from(fault), Err(store))),
+    };
+    let eight = match told {
+        Ok(eight) => eight,
+        Err(why) => return Err((why, Ok(conn))),
+    };
+    if !has_only_ours(conn.schema()) {
+        return Err((OpenFault::Store, Ok(conn)));
+    }
+    match make_tables(alloc, &mut conn, eight) {
+        Ok(()) => Ok(conn),
+        Err(fault) => Err((OpenFault::from(fault), Ok(conn))),
+    }
+}
+
+/// The database, whose tables are the office's: as they are where today's version is stored.
+fn taken<S: Alter + Drop>(
+    alloc: Global,
+    mut conn: Connection<S>,
+) -> Result<Connection<S>, Refused<S>>
+    requires office { IsOffice (state S.Store conn) }
+    requires arranged { IsArrangedIfClean (state S.Store conn) }
+    ensures prepared { IfOk result (λ c. IsPrepared (state S.Store conn) (state S.Store c)) }
+    ensures refused { IfErr result (λ e. IsRefused S.Store conn e.0 e.1) }
+{
+    match is_today(&mut conn) {
+        Ok(true) => Ok(conn),
+        Ok(false) => made_again(alloc, conn),
+        Err(fault) => Err((OpenFault::from(fault), Ok(conn))),
+    }
+}
+
+/// The database with the tables of the office and today's version. They are made where there
+/// are none, some are missing, or no row is stored; those that are there keep their rows.
+pub fn prepared<S: Alter + Drop>(
+    alloc: Global,
+    conn: Connection<S>,
+) -> Result<Connection<S>, Refused<S>>
+    requires { IsArrangedIfClean (state S.Store conn) }
+    ensures prepared { IfOk result (λ c. IsPrepared (state S.Store conn) (state S.Store c)) }
+    ensures under_way { (state S.Store conn).in_transaction ≡ true →
+        result ≡ Err (OpenFault.Store, Ok conn) }
+    ensures refused { IfErr result (λ e. IsRefused S.Store conn e.0 e.1) }
+{
+    if !conn.is_autocommit() {
+        return Err((OpenFault::Store, Ok(conn)));
+    }
+    if is_office(conn.schema()) {
+        return taken(alloc, conn);
+    }
+    if has_only_ours(conn.schema()) {
+        return made_again(alloc, conn);
+    }
+    Err((OpenFault::Store, Ok(conn)))
+}

@@ -1,0 +1,215 @@
+//! Rows put into the tables of the office again.
+
+ghost use Rattle.std.specs.Prelude.{◌≡◌, map, IsTrue, true, IfOk};
+ghost use Rattle.sqlite.specs.Held.{state};
+ghost use Rattle.sqlite.specs.Order.{column};
+ghost use Rattle.sqlite.specs.Values.{bound, bound_value};
+ghost use Rattle.sqlite_value.specs.Value.{owned};
+ghost use Rattle.office_tables_statements.specs.Calls.{StandsOn, TurnsTo};
+ghost use Rattle.office_tables_statements.specs.Stored.{are_sound, cell_of, cells_at, content_now, is_sound};
+ghost use Rattle.office_tables_statements.specs.Tables.{layout_at, schema_at, suits_kind, places_of as places_in, IsInsertText};
+ghost use Rattle.office_tables.specs.Moved.{part_moved, row_put, rows_put, all_put, suit_kinds};
+ghost use Rattle.office_tables_sql.specs.Promises.{LeavesNoMore};
+
+use crate::gather::Moved;
+use office_tables_shelf::rows::Table;
+use office_tables_statements::statement::{SqlFault, write};
+use signal_records::NoMemory;
+use sqlite::types::ValueRef;
+use sqlite::{Alter, Transaction};
+use sqlite_schema::schema::Kind;
+use sqlite_value::row::Row;
+use std::alloc::Global;
+
+const INTERSECTION: &str = "INSERT INTO intersection VALUES (?1, ?2, ?3, ?4, ?5, ?6)";
+
+const TIMING: &str = "INSERT INTO timing VALUES (?1, ?2, ?3, ?4, ?5)";
+
+const DRAFT: &str = "INSERT INTO draft VALUES (?1, ?2, ?3, ?4, ?5)";
+
+const INSPECTION: &str = "INSERT INTO inspection VALUES (?1, ?2, ?3, ?4, ?5)";
+
+const WORK_ORDER: &str = "INSERT INTO work_order VALUES (?1, ?2, ?3, ?4, ?5, ?6, ?7)";
+
+const PART: &str = "INSERT INTO part VALUES (?1, ?2)";
+
+const DELIVERY: &str = "INSERT INTO delivery VALUES (?1, ?2, ?3, ?4)";
+
+const USED_PART: &str = "INSERT INTO used_part VALUES (?1, ?2, ?3, ?4, ?5)";
+
+fn insert_of(table: Table) -> &'static str
+    ensures { IsInsertText table result.now }
+{
+    match table {
+        Table::Intersection => INTERSECTION,
+        Table::Timing => TIMING,
+        Table::Draft => DRAFT,
+        Table::Inspection => INSPECTION,
+        Table::WorkOrder => WORK_ORDER,
+        Table::Part => PART,
+        Table::Delivery => DELIVERY,
+        Table::UsedPart => USED_PART,
+    }
+}
+
+/// The places of the key in a stored row.
+fn keys_of(table: Table) -> &'static [usize]
+    ensures { result.now ≡ (layout_at table).keys }
+{
+    match table {
+        Table::Intersection => &[0],
+        Table::Timing | Table::Draft => &[1, 2, 3, 4],
+        Table::Inspection | Table::WorkOrder | Table::Delivery => &[1, 2],
+        Table::Part => &[1],
+        Table::UsedPart => &[1, 2, 3],
+    }
+}
+
+/// The places of all columns in a stored row.
+fn places_of(table: Table) -> &'static [usize]
+    ensures { result.now ≡ places_in table }
+{
+    match table {
+        Table::Intersection => &[0, 2, 3, 4, 5, 6],
+        Table::Timing | Table::Draft | Table::Inspection => &[1, 2, 3, 4, 5],
+        Table::WorkOrder => &[1, 2, 3, 4, 5, 6, 7],
+        Table::Part => &[1, 2],
+        Table::Delivery => &[1, 2, 3, 4],
+        Table::UsedPart => &[1, 2, 3, 4, 5],
+    }
+}
+
+fn kinds_of(table: Table) -> &'static [Kind]
+    ensures { result.now ≡ map (λ c. c.kind) (schema_at table).columns }
+{
+    const I: Kind = Kind::Integer;
+    const T: Kind = Kind::Text;
+    match table {
+        Table::Intersection => &[I, T, I, I, I, T],
+        Table::Timing | Table::Draft => &[I, I, I, I, T],
+        Table::Inspection => &[I, I, I, T, T],
+        Table::WorkOrder => &[I, I, I, T, T, I, T],
+        Table::Part => &[T, I],
+        Table::Delivery => &[T, I, I, I],
+        Table::UsedPart => &[I, I, I, T, I],
+    }
+}
+
+fn suits(value: ValueRef<'_>, kind: Kind) -> bool
+    ensures { IsTrue result → suits_kind kind (cell_of (owned value.entry)) ≡ true }
+{
+    match value {
+        ValueRef::Null => kind == Kind::Integer || kind == Kind::Text,
+        ValueRef::Int(_) => kind == Kind::Integer,
+        ValueRef::Text(_) => kind == Kind::Text,
+        _ => false,
+    }
+}
+
+/// Whether columns of these kinds take what stands at the places.
+fn suit(row: &Row, places: &[usize], kinds: &[Kind]) -> bool
+    ensures { IsTrue result → suit_kinds kinds.now (cells_at places.now row.now) ≡ true }
+{
+    let Some((kind, kinds)) = kinds.split_first() else {
+        return true;
+    };
+    let Some((place, places)) = places.split_first() else {
+        return true;
+    };
+    suits(row.get(*place), *kind) && suit(row, places, kinds)
+}
+
+fn is_told(value: ValueRef<'_>) -> bool
+    ensures { IsTrue result → is_sound (owned value.entry) ≡ true }
+{
+    matches!(value, ValueRef::Int(_) | ValueRef::Text(_))
+}
+
+/// Whether there is a number or a text at each of the places.
+fn are_told(row: &Row, places: &[usize]) -> bool
+    ensures { IsTrue result → are_sound places.now row.now ≡ true }
+{
+    let Some((place, places)) = places.split_first() else {
+        return true;
+    };
+    is_told(row.get(*place)) && are_told(row, places)
+}
+
+/// What stands at the places.
+fn values_of<'a>(
+    alloc: Global,
+    row: &'a Row,
+    places: &[usize],
+) -> Result<Vec<ValueRef<'a>>, NoMemory>
+    ensures { IfOk result (λ values.
+        bound values.items ≡ map (λ p. bound_value (column row.now p)) places.now) }
+{
+    let mut values = Vec::new(alloc);
+    for place in places {
+        values.push(row.get(*place))?;
+    }
+    Ok(values)
+}
+
+/// Puts a row as it was stored.
+fn put_row<S: Alter>(
+    alloc: Global,
+    tx: &mut Transaction<'_, S>,
+    table: Table,
+    row: &Row,
+) -> Result<(), SqlFault>
+    ensures same_reference { tx.new.conn.ghost_name ≡ tx.old.conn.ghost_name }
+    ensures put { TurnsTo result
+        (row_put table (content_now (state S.Store tx.old.conn.now)) row.now)
+        (state S.Store tx.old.conn.now) (state S.Store tx.new.conn.now) }
+    ensures stands { StandsOn (state S.Store tx.old.conn.now) (state S.Store tx.new.conn.now) }
+    ensures crash { LeavesNoMore (state S.Store tx.old.conn.now) (state S.Store tx.new.conn.now) }
+{
+    let places = places_of(table);
+    if !are_told(row, keys_of(table)) || !suit(row, places, kinds_of(table)) {
+        return Err(SqlFault::Store);
+    }
+    let values = values_of(alloc, row, places)?;
+    write(tx, insert_of(table), values.as_slice())?;
+    Ok(())
+}
+
+/// Puts the rows of one table, from the last one to the first.
+fn put_rows<S: Alter>(
+    alloc: Global,
+    tx: &mut Transaction<'_, S>,
+    table: Table,
+    mut rows: Vec<Row>,
+) -> Result<(), SqlFault>
+    ensures same_reference { tx.new.conn.ghost_name ≡ tx.old.conn.ghost_name }
+    ensures put { TurnsTo result
+        (rows_put table (content_now (state S.Store tx.old.conn.now)) rows.items)
+        (state S.Store tx.old.conn.now) (state S.Store tx.new.conn.now) }
+    ensures stands { StandsOn (state S.Store tx.old.conn.now) (state S.Store tx.new.conn.now) }
+    ensures crash { LeavesNoMore (state S.Store tx.old.conn.now) (state S.Store tx.new.conn.now) }
+{
+    while let Some(row) = rows.pop() {
+        put_row(alloc, tx, table, &row)?;
+    }
+    Ok(())
+}
+
+/// Puts the rows of all tables, those of the last one first.
+pub(crate) fn put_all<S: Alter>(
+    alloc: Global,
+    tx: &mut Transaction<'_, S>,
+    mut all: Vec<Moved>,
+) -> Result<(), SqlFault>
+    ensures same_reference { tx.new.conn.ghost_name ≡ tx.old.conn.ghost_name }
+    ensures put { TurnsTo result
+        (all_put (content_now (state S.Store tx.old.conn.now)) (map part_moved all.items))
+        (state S.Store tx.old.conn.now) (state S.Store tx.new.conn.now) }
+    ensures stands { StandsOn (state S.Store tx.old.conn.now) (state S.Store tx.new.conn.now) }
+    ensures crash { LeavesNoMore (state S.Store tx.old.conn.now) (state S.Store tx.new.conn.now) }
+{
+    let Some(moved) = all.pop() else {
+        return Ok(());
+    };
+    put_rows(alloc, tx, moved.table, moved.rows)?;
+    put_all(alloc, tx, all)
+}

@@ -1,5 +1,0 @@
-use Rattle.std.proofs.Common.{length}
-use Rattle.office_tables_open.proofs.refill.+suit.Given as goal
-
-abbrev pub decreases-suit : goal.decreases-suit
-decreases-suit l = length l.places.now

@@ -1,0 +1,60 @@
+-- What a call that may fail promises of a connection, by the state that it found and the one that it left.
+use Rattle.std.specs.Prelude.{◌≡◌, Bool, Result, Some, IsTrue, IfOk, OnOk, OnErr}
+use Rattle.sqlite.specs.Effect.{IsDatabase}
+use Rattle.sqlite.specs.State.{State, HasCleanDisk, Survives}
+use Rattle.sqlite.specs.Tree.{Trees}
+use Rattle.office_tables_statements.specs.Calls.{IsHonest, IsReady}
+use Rattle.office_tables_shelf.specs.Content.{Content}
+use Rattle.office_tables_statements.specs.Schema.{office_schema}
+use Rattle.office_tables_statements.specs.Stored.{content_now, content_of}
+use Rattle.office_tables_sql.specs.Version.{version_in, current_version}
+
+-- a step of a transaction that succeeds on a clean disk found it honest
+abbrev pub WasHonest : {A E : Type 0} → Result A E → State → State → Type 0
+WasHonest result old new = HasCleanDisk new → OnOk result (IsHonest old)
+
+-- it leaves the transaction as ready as it was
+abbrev pub StaysReady : {A E : Type 0} → Result A E → State → State → Type 0
+StaysReady result old new = HasCleanDisk new → OnOk result (IsReady old → IsReady new)
+
+-- the eight tables hold what they held
+abbrev pub StaysSame : {A E : Type 0} → Result A E → State → State → Type 0
+StaysSame result old new = HasCleanDisk new → OnOk result (IsReady old → content_now new ≡ content_now old)
+
+-- today's version is stored
+abbrev pub StoresToday : {A E : Type 0} → Result A E → State → State → Type 0
+StoresToday result old new = HasCleanDisk new → OnOk result (IsReady old → version_in new.now.trees ≡ Some current_version)
+
+-- a stop leaves what it could leave before the call
+abbrev pub LeavesNoMore : State → State → Type 0
+LeavesNoMore old new = Survives old new (λ _. ⊥)
+
+-- a call leaves the version that is stored as it was, if the database is open after it
+abbrev pub KeepsVersion : State → State → Type 0
+KeepsVersion old new = IsHonest new → version_in new.now.trees ≡ version_in old.now.trees
+
+-- trees are those of the office's tables and hold this, under the version that others store
+pub record HoldUnder (tables : Content) (old trees : Trees) : Type 0 where
+  pub sound : IsDatabase (record { schema = office_schema; trees = trees })
+  pub content : content_of trees ≡ tables
+  pub version : version_in trees ≡ version_in old
+
+-- where the call fails, all that can be read is as it was
+abbrev pub KeepsTrees : {A E : Type 0} → Result A E → State → State → Type 0
+KeepsTrees result old new = IsHonest new → OnErr result (new.now.trees ≡ old.now.trees)
+
+-- a call that fails leaves the last commit as it was, if the database is open after it
+abbrev pub KeepsCommitted : {A E : Type 0} → Result A E → State → State → Type 0
+KeepsCommitted result old new = IsHonest new → OnErr result (new.committed.trees ≡ old.committed.trees)
+
+-- where it succeeds, all is committed
+abbrev pub Commits : {A E : Type 0} → Result A E → State → Type 0
+Commits result new = IsHonest new → OnOk result (new.committed.trees ≡ new.now.trees)
+
+-- after a call that succeeds, a stop leaves what the database then holds, if it is open
+abbrev pub Settles : {A E : Type 0} → Result A E → State → Type 0
+Settles result new = IsHonest new → OnOk result ((trees : Trees) → new.may_leave trees → trees ≡ new.now.trees)
+
+-- what is seen is what was committed
+abbrev pub IsSettled : State → Type 0
+IsSettled s = IsHonest s → s.now ≡ s.committed

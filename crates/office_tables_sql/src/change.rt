@@ -1,0 +1,102 @@
+//! Changes of rows in one transaction.
+
+ghost use Rattle.std.specs.Prelude.{◌≡◌, ◌≢◌, [], OnOk, OnErr};
+ghost use Rattle.sqlite.specs.State.{HasCleanDisk, Survives};
+ghost use Rattle.sqlite.specs.Held.{state};
+ghost use Rattle.office_tables_shelf.specs.Change.{changed, changed_by};
+ghost use Rattle.office_tables_statements.specs.Stored.{content_now};
+ghost use Rattle.office_tables_statements.specs.Calls.{IsHonest, IsOffice, StandsOn, TurnsTo};
+ghost use Rattle.office_tables_sql.specs.Promises.{WasHonest, KeepsVersion, LeavesNoMore, HoldUnder};
+
+use crate::{draft, intersection, part, stored_row};
+use office_tables_shelf::rows::RowChange;
+use office_tables_statements::statement::SqlFault;
+use signal_records::{Change, Row};
+use sqlite::{Alter, Connection, Transaction};
+use std::alloc::Global;
+
+/// Makes one change.
+fn change_row<S: Alter>(
+    alloc: Global,
+    tx: &mut Transaction<'_, S>,
+    change: &RowChange,
+) -> Result<(), SqlFault>
+    ensures same_reference { tx.new.conn.ghost_name ≡ tx.old.conn.ghost_name }
+    ensures changed { TurnsTo result
+        (changed (content_now (state S.Store tx.old.conn.now)) change.now)
+        (state S.Store tx.old.conn.now) (state S.Store tx.new.conn.now) }
+    ensures honest { WasHonest result (state S.Store tx.old.conn.now)
+        (state S.Store tx.new.conn.now) }
+    ensures stands { StandsOn (state S.Store tx.old.conn.now) (state S.Store tx.new.conn.now) }
+    ensures crash { LeavesNoMore (state S.Store tx.old.conn.now) (state S.Store tx.new.conn.now) }
+{
+    match change {
+        RowChange::AddIntersection(id, row) => intersection::add(alloc, tx, *id, row),
+        RowChange::PutIntersection(id, row) => intersection::put(alloc, tx, *id, row),
+        RowChange::AddTiming(id, row) => stored_row::add(alloc, tx, *id, row),
+        RowChange::PutTiming(id, row) => stored_row::put(alloc, tx, *id, row),
+        RowChange::RemoveTiming(id, key) => stored_row::remove::<Row, S>(tx, *id, key),
+        RowChange::AddDraft(id, change) => stored_row::add(alloc, tx, *id, change),
+        RowChange::PutDraft(id, change) => stored_row::put(alloc, tx, *id, change),
+        RowChange::RemoveDraft(id, key) => stored_row::remove::<Change, S>(tx, *id, key),
+        RowChange::DropDraft(id) => draft::drop_all(tx, *id),
+        RowChange::AddInspection(id, found) => stored_row::add(alloc, tx, *id, found),
+        RowChange::AddOrder(id, found) => stored_row::add(alloc, tx, *id, found),
+        RowChange::PutOrder(id, found) => stored_row::put(alloc, tx, *id, found),
+        RowChange::AddLine(id, line) => stored_row::add(alloc, tx, *id, line),
+        RowChange::PutPart(code, hand) => part::put(alloc, tx, code, *hand),
+        RowChange::AddDelivery(found) => stored_row::add(alloc, tx, (), found),
+    }
+}
+
+/// Makes the changes one after another.
+pub fn change_rows<S: Alter>(
+    alloc: Global,
+    tx: &mut Transaction<'_, S>,
+    changes: &[RowChange],
+) -> Result<(), SqlFault>
+    ensures same_reference { tx.new.conn.ghost_name ≡ tx.old.conn.ghost_name }
+    ensures changed { TurnsTo result
+        (changed_by (content_now (state S.Store tx.old.conn.now)) changes.now)
+        (state S.Store tx.old.conn.now) (state S.Store tx.new.conn.now) }
+    ensures honest { HasCleanDisk (state S.Store tx.new.conn.now) →
+        OnOk result (changes.now ≢ [] → IsHonest (state S.Store tx.old.conn.now)) }
+    ensures stands { StandsOn (state S.Store tx.old.conn.now) (state S.Store tx.new.conn.now) }
+    ensures crash { LeavesNoMore (state S.Store tx.old.conn.now) (state S.Store tx.new.conn.now) }
+{
+    for change in changes {
+        change_row(alloc, tx, change)?;
+    }
+    Ok(())
+}
+
+/// Makes all changes in their order, or none.
+pub fn apply<S: Alter>(
+    alloc: Global,
+    conn: &mut Connection<S>,
+    changes: &[RowChange],
+) -> Result<(), SqlFault>
+    requires { IsOffice (state S.Store conn.old) }
+    ensures office { IsOffice (state S.Store conn.new) }
+    ensures honest { IsHonest (state S.Store conn.new) → IsHonest (state S.Store conn.old) }
+    ensures applied { IsHonest (state S.Store conn.new) →
+        OnOk result (content_now (state S.Store conn.new) ≡ changed_by
+        (content_now (state S.Store conn.old)) changes.now) }
+    ensures unchanged { IsHonest (state S.Store conn.new) →
+        OnErr result (content_now (state S.Store conn.new) ≡ content_now (state S.Store conn.old)) }
+    ensures version { KeepsVersion (state S.Store conn.old) (state S.Store conn.new) }
+    ensures open { HasCleanDisk (state S.Store conn.new) → OnOk result (changes.now ≢ [] →
+        IsHonest (state S.Store conn.new)) }
+    ensures crash { Survives (state S.Store conn.old) (state S.Store conn.new) (λ trees.
+        IsHonest (state S.Store conn.old) × HoldUnder (changed_by
+        (content_now (state S.Store conn.old)) changes.now)
+        (state S.Store conn.old).now.trees trees) }
+{
+    if changes.is_empty() {
+        return Ok(());
+    }
+    let mut tx = conn.transaction();
+    change_rows(alloc, &mut tx, changes)?;
+    tx.commit()?;
+    Ok(())
+}
