@@ -1,3 +1,4 @@
 pub mod TableLemmas
 pub mod CsvLemmas
 pub mod NextLemmas
+pub mod ReadBack

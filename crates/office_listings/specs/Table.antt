@@ -1,5 +1,6 @@
 -- Tables: rows of cells, printed as lines of columns or as records of CSV. Places count bytes.
-use Rattle.std.specs.Prelude.{◌≡◌, All, ℕ, ◌-◌, ◌==◌, Bool, if◌then◌else◌, List, [], ◌∷◌, ◌++◌, length, get_or, map, flat_map, replicate, codes, decimal}
+use Rattle.std.specs.Prelude.{◌≡◌, ◌≤◌, All, ℕ, ◌-◌, ◌==◌, Bool, if◌then◌else◌, List, [], ◌∷◌, ◌++◌, length, get_or, map, flat_map, replicate, codes, decimal}
+use Rattle.csv.specs.Reading.{records as csv_read, default_config}
 use Rattle.csv.specs.Records.{AllText, Row as Fields, fields_of}
 use Rattle.cabinet_core.specs.Day.{day_text}
 use Rattle.office_files.specs.Cells.{right_aligned}
@@ -78,6 +79,11 @@ AddsRecord order cells old new =
 -- the CSV file: a record for each row
 abbrev pub records_csv : List ℕ → List Row → List ℕ
 records_csv order rows = csv_text (map (record_fields order) rows)
+
+-- the file of a table is read as the cells of its rows, in order: no word makes a field or a record of its own
+abbrev pub IsReadBack : (order : List ℕ) → List Row → (text : List ℕ) → Type 0
+IsReadBack order rows text =
+    1 ≤ length order → csv_read default_config text ≡ map (record_fields order) rows
 
 -- ---- as either
 

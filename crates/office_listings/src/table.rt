@@ -1,10 +1,10 @@
 //! Tables: rows of cells, printed as lines of columns or as records of CSV.
 
-ghost use Rattle.std.specs.Prelude.{◌≡◌, ◌++◌, ℕ, List, OnOk, IfOk, IsUtf8, flat_map, map, replicate, codes, decimal, string_bytes};
+ghost use Rattle.std.specs.Prelude.{◌≡◌, ◌++◌, ℕ, List, true, OnOk, IfOk, IsUtf8, flat_map, map, replicate, codes, decimal, string_bytes};
 ghost use Rattle.cabinet_core.specs.Day.{day_text};
 ghost use Rattle.csv.specs.Records.{AllText, fields_of};
 ghost use Rattle.office_files.specs.Cells.{right_aligned};
-ghost use Rattle.office_listings.specs.Table.{cell_of, cell_text, columns_text, field_at, field_text, left_aligned, line_text, table_text, record_fields, records_csv};
+ghost use Rattle.office_listings.specs.Table.{IsReadBack, cell_of, cell_text, columns_text, field_at, field_text, left_aligned, line_text, table_text, record_fields, records_csv};
 
 use cabinet_core::{Date, push_date, write_date};
 use csv::ByteRecord;
@@ -231,6 +231,8 @@ pub(crate) fn records<T: Listed>(
 ) -> Result<Vec<u8>, NoMemory>
     ensures text { IfOk result (λ text. text.items ≡
         records_csv order.now (map T.cells list.now)) }
+    ensures read { IfOk result (λ text.
+        IsReadBack order.now (map T.cells list.now) text.items) }
     ensures utf8 { IfOk result (λ text. IsUtf8 text.items) }
 {
     let mut rows = Vec::new(alloc);
@@ -250,6 +252,8 @@ pub(crate) fn print_table<T: Listed>(
 ) -> Result<Vec<u8>, NoMemory>
     ensures text { IfOk result (λ text. text.items ≡ table_text csv
         (record { heading = heading.now; order = order.now; rows = map T.cells list.now })) }
+    ensures read { csv ≡ true → IfOk result (λ text.
+        IsReadBack order.now (map T.cells list.now) text.items) }
     ensures utf8 { IfOk result (λ text. IsUtf8 text.items) }
 {
     match csv {
