@@ -1,3 +1,2 @@
 pub mod TableLemmas
 pub mod CsvLemmas
-pub mod NextLemmas

@@ -7,7 +7,7 @@ use Rattle.cabinet_core.specs.{Orders.is_open, Register.records_at, declared.rec
 use Rattle.office_desk.specs.Damage.{MeetsDamage}
 use Rattle.office_desk.proofs.IntersectionTable.{Entry}
 use Rattle.office_desk_timing.specs.Listing.{ListsEachIntersection, listed_in}
-use Rattle.office_listings.specs.{Orders.order_named, declared.orders.NamedOrder.NamedOrder}
+use Rattle.office_machine.specs.{Orders.order_named, declared.orders.NamedOrder.NamedOrder}
 use Rattle.office_machine.specs.declared.command.Command.TheVariants as command
 use Rattle.office_machine.specs.declared.intersections.ListedIntersection.{ListedIntersection}
 use Rattle.office_machine.specs.declared.reply.CabinetShown.{CabinetShown}

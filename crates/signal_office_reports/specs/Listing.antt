@@ -6,9 +6,9 @@ use Rattle.cabinet_core.specs.Register.{records_at}
 use Rattle.cabinet_core.specs.declared.overdue_inspections.OverdueRow.{OverdueRow}
 use Rattle.cabinet_core.specs.declared.record.Order.{Order}
 use Rattle.office_files.specs.Overdue.{overdue_report}
-use Rattle.office_listings.specs.Orders.{named_orders, order_named}
+use Rattle.office_machine.specs.Orders.{named_orders, order_named}
 use Rattle.office_listings.specs.Overdue.{overdue_csv_text}
-use Rattle.office_listings.specs.declared.orders.NamedOrder.{NamedOrder}
+use Rattle.office_machine.specs.declared.orders.NamedOrder.{NamedOrder}
 use Rattle.office_machine.specs.Office.{Office}
 use Rattle.office_machine.specs.Step.{cabinet_shown}
 use Rattle.office_machine.specs.declared.intersections.ListedIntersection.{ListedIntersection}

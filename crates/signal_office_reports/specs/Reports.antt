@@ -9,11 +9,12 @@ use Rattle.office_files.specs.Sheet.{sheet_text}
 use Rattle.office_files.specs.Timing.{timing_csv_text}
 use Rattle.office_listings.specs.Cabinet.{cabinet_register}
 use Rattle.office_listings.specs.Intersections.{intersections_table}
-use Rattle.office_listings.specs.Orders.{named_orders, open_orders, orders_listing, orders_table}
+use Rattle.office_listings.specs.Orders.{orders_listing, orders_table}
+use Rattle.office_machine.specs.Orders.{named_orders, open_orders}
 use Rattle.office_listings.specs.Stock.{stock_table}
 use Rattle.office_listings.specs.Table.{table_text}
 use Rattle.office_listings.specs.Used.{used_on, used_table}
-use Rattle.office_listings.specs.declared.orders.NamedOrder.{NamedOrder}
+use Rattle.office_machine.specs.declared.orders.NamedOrder.{NamedOrder}
 use Rattle.office_listings.specs.declared.used.UsedPart.{UsedPart}
 use Rattle.office_machine.specs.declared.intersections.ListedIntersection.{ListedIntersection}
 use Rattle.office_machine.specs.declared.refusal.Refusal.TheVariants as refusal

@@ -7,8 +7,8 @@ ghost use Rattle.signal_office_reports.specs.Reports.{cabinet_in, cabinets_in, d
 use crate::refused::fault_of;
 use crate::seen::{ListedCabinet, Seen};
 use draft_core::refusal::DraftRefusal;
-use office_listings::NamedOrder;
 use office_machine::intersections::ListedIntersection;
+use office_machine::orders::NamedOrder;
 use office_machine::refusal::Refusal;
 use office_machine::reply::{
     CabinetShown, IntersectionState, OverdueList, Reply, RunningTiming, Stock,

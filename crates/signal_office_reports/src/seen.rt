@@ -1,8 +1,8 @@
 //! What a report asks of an office, and what it sees.
 
 use cabinet_core::Day;
-use office_listings::NamedOrder;
 use office_machine::intersections::ListedIntersection;
+use office_machine::orders::NamedOrder;
 use office_machine::reply::{CabinetShown, Reply};
 use signal_records::{InterId, Listing};
 

@@ -15,9 +15,9 @@ use crate::seen::Seen;
 use cabinet_core::Day;
 use office_files::{overdue_text, records_csv, timing_csv, timing_sheet};
 use office_listings::{
-    add_named_orders, add_open_orders, cabinet_text, intersections_list, orders_list, orders_text,
-    overdue_csv, stock_list,
+    cabinet_text, intersections_list, orders_list, orders_text, overdue_csv, stock_list,
 };
+use office_machine::orders::{add_named_orders, add_open_orders};
 use signal_diagram::diagram;
 use signal_office_faults::Fault;
 use signal_office_line::{Shown, View};

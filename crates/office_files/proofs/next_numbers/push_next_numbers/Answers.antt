@@ -1,8 +1,8 @@
 use Rattle.std.proofs.Common.{codes, map}
 use Rattle.cabinet_core.specs.Places.{inspection_place, order_place}
-use Rattle.office_listings.specs.Next.{next_number, next_word}
-use Rattle.office_listings.proofs.TableLemmas.{four_parts}
-use Rattle.office_listings.proofs.next_numbers.push_next_numbers.Goals as goal
+use Rattle.office_files.specs.NextNumbers.{next_number, next_word}
+use Rattle.office_files.proofs.NextLemmas.{four_parts}
+use Rattle.office_files.proofs.next_numbers.push_next_numbers.Goals as goal
 
 pub returns : goal.returns
 returns c =

@@ -1,7 +1,8 @@
--- How the greatest of some numbers grows by one number.
-use Rattle.std.proofs.Common.{◌≡◌, ◌<◌, ◌+◌, ◌++◌, ℕ, List, [], ◌∷◌, map, length, get_or, take, max, ap, sym, refl, ◌∙◌, arith}
+-- How the greatest of some numbers grows by one number, and four parts of a text.
+use Rattle.std.proofs.Common.{◌≡◌, ◌<◌, ◌+◌, ◌++◌, ℕ, List, [], ◌∷◌, map, length, get_or, take, max, Result, Ok, Err, ap, sym, refl, ◌∙◌, append_assoc, arith}
+use Rattle.std.specs.Prelude.{OnOk}
 use Rattle.std.proofs.lemmas.List.{map-append, take_more}
-use Rattle.office_listings.specs.Next.{greatest_of}
+use Rattle.office_files.specs.NextNumbers.{greatest_of}
 
 exchanged : (n m k : ℕ) → max n (max m k) ≡ max m (max n k)
 exchanged n m k = omega arith
@@ -18,3 +19,9 @@ greatest_more place list i one greatest low at so_far =
     let next : take (i + 1) list ≡ take i list ++ one ∷ [] = take_more list i one low ∙ ap (λ x. take i list ++ x ∷ []) (sym at) in
     ap (λ k. max (place one) k) so_far ∙ greatest_push (map place (take i list)) (place one)
     ∙ ap greatest_of (sym (ap (λ xs. map place xs) next ∙ map-append place (take i list) (one ∷ [])))
+
+-- four parts, the last of them by a call that may fail
+pub four_parts : {A E : Type 0} (result : Result A E) (old first second third fourth one two three new : List ℕ) → one ≡ old ++ first → two ≡ one ++ second
+    → three ≡ two ++ third → OnOk result (new ≡ three ++ fourth) → OnOk result (new ≡ old ++ (first ++ second ++ third ++ fourth))
+four_parts (Ok x) old first second third fourth one two three new a b c d = rw (d, c, b, a) (simp append_assoc)
+four_parts (Err e) old first second third fourth one two three new a b c d = tt

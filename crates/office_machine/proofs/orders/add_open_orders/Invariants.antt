@@ -1,7 +1,7 @@
 use Rattle.std.proofs.Common.{◌≡◌, ◌++◌, map, take, filter}
 use Rattle.cabinet_core.specs.Orders.{is_open}
-use Rattle.office_listings.specs.Orders.{order_on}
-use Rattle.office_listings.proofs.orders.add_open_orders.Given as goal
+use Rattle.office_machine.specs.Orders.{order_on}
+use Rattle.office_machine.proofs.orders.add_open_orders.Given as goal
 
 -- the open ones of the first orders
 abbrev pub invariant-loop-order : goal.invariant-loop-order

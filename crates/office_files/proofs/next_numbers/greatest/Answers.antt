@@ -1,6 +1,6 @@
 use Rattle.std.proofs.Common.{◌∙◌, ap, arith, max}
-use Rattle.office_listings.proofs.NextLemmas.{greatest_more}
-use Rattle.office_listings.proofs.next_numbers.greatest.Goals as goal
+use Rattle.office_files.proofs.NextLemmas.{greatest_more}
+use Rattle.office_files.proofs.next_numbers.greatest.Goals as goal
 
 pub loop-placed-preserved : goal.loop-placed-preserved
 loop-placed-preserved g c =

@@ -1,6 +1,6 @@
 use Rattle.std.proofs.Common.{◌≡◌, map, take}
-use Rattle.office_listings.specs.Next.{greatest_of}
-use Rattle.office_listings.proofs.next_numbers.greatest.Given as goal
+use Rattle.office_files.specs.NextNumbers.{greatest_of}
+use Rattle.office_files.proofs.next_numbers.greatest.Given as goal
 
 -- the greatest of the first ones
 abbrev pub invariant-loop-placed : goal.invariant-loop-placed

@@ -1,7 +1,7 @@
 //! The next free numbers of a cabinet's records.
 
 ghost use Rattle.std.specs.Prelude.{◌≡◌, ◌++◌, OnOk, map, string_bytes};
-ghost use Rattle.office_listings.specs.Next.{greatest_of, next_after, next_numbers_words, next_word};
+ghost use Rattle.office_files.specs.NextNumbers.{greatest_of, next_after, next_numbers_words, next_word};
 
 use cabinet_core::{CabinetView, Placed};
 use std::alloc::AllocError;
