@@ -1,7 +1,7 @@
 -- The names of fields.
 use Rattle.std.specs.Prelude.{ℕ, List, codes}
-use Rattle.office_http_faults.specs.declared.field.Field.{Field}
-use Rattle.office_http_faults.specs.declared.field.Field.TheVariants.{Clerk, Count, Csv, Day, Id, Interval, Line, Name, Number, Order, Part, Rows, Text}
+use Rattle.office_http_requests.specs.declared.field.Field.{Field}
+use Rattle.office_http_requests.specs.declared.field.Field.TheVariants.{Clerk, Count, Csv, Day, Id, Interval, Line, Name, Number, Order, Part, Rows, Text}
 
 -- the name of a field, as paths and bodies spell it
 abbrev pub field_name : Field → List ℕ

@@ -1,4 +1,4 @@
-//! The form of an answer.
+//! The form of an answer, which its request asks for.
 
 /// The form of an answer's content.
 #[derive(Clone, Copy)]

@@ -1,6 +1,6 @@
 //! The fields of requests.
 ghost use Rattle.std.specs.Prelude.{◌≡◌};
-ghost use Rattle.office_http_faults.specs.Fields.{field_name};
+ghost use Rattle.office_http_requests.specs.Fields.{field_name};
 
 /// A field of a path or a key of a body.
 #[derive(Clone, Copy)]

@@ -1,6 +1,6 @@
 //! Why a request asks nothing.
 ghost use Rattle.std.specs.Prelude.{◌≡◌};
-ghost use Rattle.office_http_faults.specs.declared.fault.AskFault.TheVariants.{
+ghost use Rattle.office_http_requests.specs.declared.fault.AskFault.TheVariants.{
   NoMemory as OutOfMemory,
 };
 
@@ -43,7 +43,7 @@ impl<T: Drop> From<AllocFailed<T>> for AskFault {
 
 /// A bad record of a CSV text is one of the request.
 impl From<CsvFault> for AskFault {
-    ghost use Rattle.office_http_faults.specs.AskFault.{ask_fault};
+    ghost use Rattle.office_http_requests.specs.AskFault.{ask_fault};
 
     ghost from_gives = { λ fault told. told ≡ ask_fault fault };
 
