@@ -13,3 +13,4 @@ pub mod RecordLaws
 pub mod Utf8Lemmas
 pub mod SpelledTexts
 pub mod ChangeTexts
+pub mod NextLemmas

@@ -8,7 +8,7 @@ use Rattle.office_machine.specs.declared.reply.Reply.TheVariants.{Refused}
 use Rattle.office_desk.proofs.Writes.{no_rise}
 use Rattle.office_http_responses.specs.{Answers.answer_bytes, Faults.ask_fault_text}
 use Rattle.office_http_requests.specs.declared.command.Asked.{Asked}
-use Rattle.office_http_faults.specs.{declared.fault.AskFault.AskFault, declared.fault.AskFault.TheVariants.NoMemory}
+use Rattle.office_http_requests.specs.{declared.fault.AskFault.AskFault, declared.fault.AskFault.TheVariants.NoMemory}
 use Rattle.office_http_framing.specs.{Front.PlainRequest, Protocol.bytes_of, Stops.DealsBy, Stops.StandsAfterStep, Stops.Moment, Stops.Storage, Stops.moment_of}
 use Rattle.office_http_framing.specs.declared.machine.Answer.{Answer}
 use Rattle.office_http_framing.specs.declared.machine.Unavailable.{Unavailable as IsUnavailable}

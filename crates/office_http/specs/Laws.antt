@@ -10,7 +10,7 @@ use Rattle.office_machine.specs.declared.command.Command.{Command}
 use Rattle.office_machine.specs.declared.refusal.Refusal.TheVariants.{Unavailable}
 use Rattle.office_machine.specs.declared.reply.Reply.{Reply}
 use Rattle.office_machine.specs.declared.reply.Reply.TheVariants.{Refused}
-use Rattle.office_http_faults.specs.declared.fault.AskFault.{AskFault}
+use Rattle.office_http_requests.specs.declared.fault.AskFault.{AskFault}
 use Rattle.office_http_framing.specs.Front.{PlainRequest}
 use Rattle.office_http_framing.specs.Stops.{Moment, Ran, Storage}
 use Rattle.office_tables_shelf.specs.Content.{Content}

@@ -16,7 +16,7 @@ use Rattle.office_http_responses.specs.Unavailable.{unavailable_bytes}
 use Rattle.office_http_requests.specs.Commands.{command_at}
 use Rattle.office_http_responses.specs.Faults.{ask_fault_text, framing_fault_text}
 use Rattle.office_http_requests.specs.declared.command.Asked.{Asked}
-use Rattle.office_http_faults.specs.declared.fault.AskFault.{AskFault}
+use Rattle.office_http_requests.specs.declared.fault.AskFault.{AskFault}
 
 -- the command takes its step of the office machine, and its reply is written
 pub record AnswersAsked (before : Office) (asked : Asked) (answer : List ℕ) (after : Office) : Type 0 where

@@ -6,7 +6,7 @@ use Rattle.std.specs.{Option.option_and_then, Str.IsUtf8, Str.is_utf8}
 use Rattle.serde_json.specs.{Data.Data, Data.object, Errors.IsMemory, View.view, declared.error.Error.Error, declared.value.Value.Value}
 use Rattle.serde_json.specs.Find.{as_object}
 use Rattle.serde_json.specs.Read.{read, read as read_text}
-use Rattle.office_http_faults.specs.{declared.fault.AskFault.AskFault, declared.fault.AskFault.TheVariants.Json}
+use Rattle.office_http_requests.specs.{declared.fault.AskFault.AskFault, declared.fault.AskFault.TheVariants.Json}
 use Rattle.office_http_requests.specs.FaultsInOrder.{or_fault, Gives, WantsMemoryOnlyIf}
 use Rattle.office_http_requests.specs.Bodies.{object_in, body_of, data_of, opens_object, IsBodyTold, MayBeObject}
 use Rattle.office_http_requests.proofs.OpeningLemmas.{read-no_object}

@@ -6,7 +6,7 @@ use Rattle.office_http_requests.specs.{Bodies.body_of, Bodies.data_of, Commands.
 use Rattle.office_http_requests.specs.Commands.{edited_by_csv, edited_in, id_and_clerk_in, imported_in}
 use Rattle.office_http_requests.specs.declared.kind.RecordKind.TheVariants.{UsePart, CloseOrder, Receive}
 use Rattle.office_http_requests.specs.declared.route.Endpoint.TheVariants.{Begin, Edit, EditCsv, Verify, Check, Commit, Reopen, Abandon, Record, Import, Stock}
-use Rattle.office_http_faults.specs.{declared.fault.AskFault.AskFault, declared.fault.AskFault.TheVariants.NoMemory}
+use Rattle.office_http_requests.specs.{declared.fault.AskFault.AskFault, declared.fault.AskFault.TheVariants.NoMemory}
 
 gives-refl : {A : Type 0} (r : Result A AskFault) → Gives r r
 gives-refl (Ok x) = refl

@@ -8,8 +8,8 @@ use Rattle.std.specs.Prelude.{Any, IsOkAnd}
 use Rattle.signal_records.specs.Reading.{change_at, PutsList, WantsOnlyFor}
 use Rattle.signal_records.specs.{Within.current_limits, declared.fault.RowFault.RowFault, declared.record.Change.Change}
 use Rattle.signal_records.specs.declared.fault.RowFault.TheVariants as row
-use Rattle.office_http_faults.specs.{AskFault.ask_fault, declared.fault.AskFault.AskFault, declared.fault.AskFault.TheVariants.NoMemory, Fields.field_name}
-use Rattle.office_http_faults.specs.declared.field.Field.TheVariants.{Rows as FieldRows}
+use Rattle.office_http_requests.specs.{AskFault.ask_fault, declared.fault.AskFault.AskFault, declared.fault.AskFault.TheVariants.NoMemory, Fields.field_name}
+use Rattle.office_http_requests.specs.declared.field.Field.TheVariants.{Rows as FieldRows}
 use Rattle.office_files.specs.CsvFault.{bad_row as bad_record, told_at}
 use Rattle.office_files.specs.{CsvRow.csv_rows, declared.fault.CsvFault.CsvFault}
 use Rattle.office_files.specs.declared.fault.CsvFault.TheVariants as file

@@ -10,12 +10,12 @@ use Rattle.serde_json.specs.View.{view}
 use Rattle.serde_json.specs.declared.error.Error.{Error}
 use Rattle.serde_json.specs.declared.value.Value.{Value}
 use Rattle.office_files.specs.RecordReading.{day_of, part_of, words_of}
-use Rattle.office_http_faults.specs.declared.fault.AskFault.{AskFault}
-use Rattle.office_http_faults.specs.declared.fault.AskFault.TheVariants.{Json, NoMemory}
-use Rattle.office_http_faults.specs.declared.field.Field.{Field}
-use Rattle.office_http_faults.specs.declared.field.Field.TheVariants.{Day, Id, Interval, Part}
+use Rattle.office_http_requests.specs.declared.fault.AskFault.{AskFault}
+use Rattle.office_http_requests.specs.declared.fault.AskFault.TheVariants.{Json, NoMemory}
+use Rattle.office_http_requests.specs.declared.field.Field.{Field}
+use Rattle.office_http_requests.specs.declared.field.Field.TheVariants.{Day, Id, Interval, Part}
 use Rattle.office_http_requests.specs.FaultsInOrder.{or_fault, or_field}
-use Rattle.office_http_faults.specs.Fields.{field_name}
+use Rattle.office_http_requests.specs.Fields.{field_name}
 use Rattle.signal_records.specs.Reading.{within}
 
 -- the data that bytes in JSON are

@@ -6,10 +6,10 @@ use Rattle.signal_records.specs.declared.record.Change.{Change}
 use Rattle.office_machine.specs.declared.command.Command.{Command}
 use Rattle.office_machine.specs.declared.command.Command.TheVariants as command
 use Rattle.office_http_requests.specs.declared.command.Asked.{Asked}
-use Rattle.office_http_faults.specs.declared.fault.AskFault.{AskFault}
-use Rattle.office_http_faults.specs.declared.fault.AskFault.TheVariants.{Json as NoObject, Method, NoMemory}
-use Rattle.office_http_faults.specs.declared.field.Field.TheVariants.{Clerk, Name}
-use Rattle.office_http_faults.specs.declared.form.Form.TheVariants.{Json, Csv}
+use Rattle.office_http_requests.specs.declared.fault.AskFault.{AskFault}
+use Rattle.office_http_requests.specs.declared.fault.AskFault.TheVariants.{Json as NoObject, Method, NoMemory}
+use Rattle.office_http_requests.specs.declared.field.Field.TheVariants.{Clerk, Name}
+use Rattle.office_http_requests.specs.declared.form.Form.TheVariants.{Json, Csv}
 use Rattle.office_http_requests.specs.declared.route.Endpoint.{Endpoint}
 use Rattle.office_http_requests.specs.declared.route.Endpoint.TheVariants.{AddIntersection, State, Timing, TimingCsv, Draft, Begin, Edit, EditCsv, Verify, Check, Commit, Reopen, Abandon, Record, Import, Cabinet, CabinetCsv, OpenOrders, Stock, Overdue}
 use Rattle.office_http_requests.specs.FaultsInOrder.{◌>>=◌, or_no_route, MayWant}

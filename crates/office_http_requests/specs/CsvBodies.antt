@@ -8,9 +8,9 @@ use Rattle.office_files.specs.Changes.{changes_of}
 use Rattle.office_files.specs.Records.{commands_of}
 use Rattle.office_http_requests.specs.FaultsInOrder.{◌>>=◌, or_bad_row, or_field}
 use Rattle.office_http_requests.specs.Bodies.{text_in}
-use Rattle.office_http_faults.specs.declared.fault.AskFault.{AskFault}
-use Rattle.office_http_faults.specs.declared.fault.AskFault.TheVariants.{NoMemory}
-use Rattle.office_http_faults.specs.declared.field.Field.TheVariants.{Csv}
+use Rattle.office_http_requests.specs.declared.fault.AskFault.{AskFault}
+use Rattle.office_http_requests.specs.declared.fault.AskFault.TheVariants.{NoMemory}
+use Rattle.office_http_requests.specs.declared.field.Field.TheVariants.{Csv}
 
 -- the CSV text under its key
 abbrev pub csv_in : Data → Result (List ℕ) AskFault

@@ -2,10 +2,10 @@
 use Rattle.std.specs.Prelude.{◌≡◌, ◌≢◌, Option, Some, None, Result, Ok, Err, ⊤}
 use Rattle.std.specs.Result.{result_map_both}
 use Rattle.office_files.specs.declared.fault.CsvFault.{CsvFault}
-use Rattle.office_http_faults.specs.AskFault.{ask_fault}
-use Rattle.office_http_faults.specs.declared.fault.AskFault.{AskFault}
-use Rattle.office_http_faults.specs.declared.fault.AskFault.TheVariants.{NoRoute, Method, Json, Field as FieldFault, BadRow, NoMemory}
-use Rattle.office_http_faults.specs.declared.field.Field.{Field}
+use Rattle.office_http_requests.specs.AskFault.{ask_fault}
+use Rattle.office_http_requests.specs.declared.fault.AskFault.{AskFault}
+use Rattle.office_http_requests.specs.declared.fault.AskFault.TheVariants.{NoRoute, Method, Json, Field as FieldFault, BadRow, NoMemory}
+use Rattle.office_http_requests.specs.declared.field.Field.{Field}
 
 -- what a text or rows spell, or the first bad one
 abbrev pub or_bad_row : {A : Type 0} → Result A CsvFault → Result A AskFault

@@ -1,3 +1,5 @@
+pub mod AskFault
+pub mod Fields
 pub mod FaultsInOrder
 pub mod Bodies
 pub mod Commands

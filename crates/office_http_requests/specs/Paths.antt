@@ -2,8 +2,8 @@
 use Rattle.std.specs.Prelude.{ℕ, zero, suc, List, Bool, ◌==◌, Result}
 use Rattle.std.specs.List.{before_first, after_first}
 use Rattle.office_files.specs.RecordReading.{day_of}
-use Rattle.office_http_faults.specs.declared.fault.AskFault.{AskFault}
-use Rattle.office_http_faults.specs.declared.field.Field.TheVariants.{Day, Id, Order}
+use Rattle.office_http_requests.specs.declared.fault.AskFault.{AskFault}
+use Rattle.office_http_requests.specs.declared.field.Field.TheVariants.{Day, Id, Order}
 use Rattle.office_http_requests.specs.FaultsInOrder.{or_field}
 use Rattle.signal_records.specs.Reading.{number_spelled}
 

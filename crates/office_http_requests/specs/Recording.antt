@@ -8,8 +8,8 @@ use Rattle.cabinet_core.specs.declared.record.Delivery.{Delivery}
 use Rattle.cabinet_core.specs.declared.record.Inspection.{Inspection}
 use Rattle.cabinet_core.specs.declared.record.Opening.{Opening}
 use Rattle.cabinet_core.specs.declared.record.UsedLine.{UsedLine}
-use Rattle.office_http_faults.specs.declared.fault.AskFault.{AskFault}
-use Rattle.office_http_faults.specs.declared.field.Field.TheVariants.{Clerk, Count, Line, Number, Text}
+use Rattle.office_http_requests.specs.declared.fault.AskFault.{AskFault}
+use Rattle.office_http_requests.specs.declared.field.Field.TheVariants.{Clerk, Count, Line, Number, Text}
 use Rattle.office_http_requests.specs.FaultsInOrder.{◌>>=◌}
 use Rattle.office_http_requests.specs.Bodies.{day_in, part_in, ranged_in, words_in}
 use Rattle.office_http_requests.specs.Paths.{id_at, order_at}

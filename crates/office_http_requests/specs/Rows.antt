@@ -8,10 +8,10 @@ use Rattle.signal_records.specs.Reading.{change_at, texts, PutsList}
 use Rattle.signal_records.specs.Within.{current_limits}
 use Rattle.signal_records.specs.declared.record.Change.{Change}
 use Rattle.office_files.specs.CsvRow.{csv_rows}
-use Rattle.office_http_faults.specs.declared.fault.AskFault.{AskFault}
-use Rattle.office_http_faults.specs.declared.field.Field.TheVariants.{Rows}
+use Rattle.office_http_requests.specs.declared.fault.AskFault.{AskFault}
+use Rattle.office_http_requests.specs.declared.field.Field.TheVariants.{Rows}
 use Rattle.office_http_requests.specs.FaultsInOrder.{◌>>=◌, or_bad_row, or_field}
-use Rattle.office_http_faults.specs.Fields.{field_name}
+use Rattle.office_http_requests.specs.Fields.{field_name}
 
 -- the items of an array, as a list
 abbrev pub list_of : Items → List Data

@@ -7,9 +7,10 @@ ghost use Rattle.office_http_requests.specs.Bodies.{number_in, text_in, ranged_i
 ghost use Rattle.cabinet_core.specs.Part.{IsPartCode};
 ghost use Rattle.signal_values.specs.Words.{AreWords};
 
+use crate::fault::AskFault;
+use crate::field::Field;
 use crate::value::{day_spelled, number_within, part_parsed, words_parsed};
 use cabinet_core::{Day, PartCode};
-use office_http_faults::{AskFault, Field};
 use serde_json::{Error, Value};
 use signal_records::{Number, Words};
 use std::alloc::Global;

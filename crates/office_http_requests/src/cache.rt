@@ -4,8 +4,8 @@ ghost use Rattle.office_http_requests.specs.FaultsInOrder.{Gives, WantsMemoryOnl
 ghost use Rattle.office_http_requests.specs.Commands.{MayWantFor, command_at};
 
 use crate::command::Asked;
+use crate::fault::AskFault;
 use crate::route::Routes;
-use office_http_faults::AskFault;
 use office_http_framing::front::Request;
 use std::alloc::Global;
 

@@ -6,10 +6,12 @@ ghost use Rattle.office_http_requests.specs.Bodies.{data_of, MayBeObject};
 ghost use Rattle.office_http_requests.specs.Routes.{method_of, takes_body};
 ghost use Rattle.office_http_requests.specs.Commands.{MayWantFor, added_intersection, asked_at, body_for, clerk_and_csv_in, clerk_and_rows_in, asked_in_csv, asked_in_json, command_at, edited_by_csv, edited_in, id_and_clerk_in, imported_in};
 
+use crate::fault::AskFault;
+use crate::field::Field;
+use crate::form::Form;
 use crate::route::{Endpoint, Routes};
 use crate::{body, csv_body, path, recording, rows};
 use draft_core::changes::Changes;
-use office_http_faults::{AskFault, Field, Form};
 use office_http_framing::front::Request;
 use office_machine::command::Command;
 use office_machine::records::Records;

@@ -5,9 +5,10 @@ ghost use Rattle.office_http_requests.specs.FaultsInOrder.{MayWant, WantsMemoryO
 ghost use Rattle.office_http_requests.specs.CsvBodies.{csv_in, csv_changes_in, csv_records_in, GivesList};
 
 use crate::body;
+use crate::fault::AskFault;
+use crate::field::Field;
 use cabinet_core::RecordCommand;
 use office_files::{read_records_csv, read_timing_csv};
-use office_http_faults::{AskFault, Field};
 use serde_json::Value;
 use signal_records::Change;
 use std::alloc::Global;

@@ -1,10 +1,15 @@
-//! Requests read as commands: the routes, the fields of paths, and the JSON and CSV of bodies.
+//! Requests read as commands: the routes, the fields of paths, and the JSON and CSV of bodies. An
+//! answer has to know the form that its request asks for (`form`), or why that asks nothing
+//! (`fault`) and which field is to blame (`field`).
 #![tactic(auto)]
 
 mod body;
 mod cache;
 mod command;
 mod csv_body;
+mod fault;
+mod field;
+mod form;
 mod kind;
 mod path;
 mod record;
@@ -15,6 +20,8 @@ mod value;
 
 pub use cache::RouteCache;
 pub use command::{Asked, command_of};
+pub use fault::AskFault;
+pub use field::Field;
+pub use form::Form;
 pub use kind::RecordKind;
-pub use office_http_faults::{AskFault, Field, Form};
 pub use route::{Endpoint, Routes};

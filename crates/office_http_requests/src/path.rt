@@ -3,9 +3,10 @@ ghost use Rattle.std.specs.Prelude.{◌≡◌, ◌≤◌, length, position, IfEr
 ghost use Rattle.std.specs.List.{position_or_len, after_first};
 ghost use Rattle.office_http_requests.specs.Paths.{is_slash, segment as segment_of, id_at, order_at, day_at};
 
+use crate::fault::AskFault;
+use crate::field::Field;
 use crate::value::day_spelled;
 use cabinet_core::Day;
-use office_http_faults::{AskFault, Field};
 use signal_records::{InterId, RecordNo};
 
 fn first_slash(path: &[u8]) -> Option<usize>

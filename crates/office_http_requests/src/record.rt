@@ -6,8 +6,9 @@ ghost use Rattle.office_http_requests.specs.FaultsInOrder.{Gives, WantsMemoryOnl
 ghost use Rattle.office_http_requests.specs.Recording.{inspection_in, opening_in, used_in, closing_in, delivery_in};
 
 use crate::body as keys;
+use crate::fault::AskFault;
+use crate::field::Field;
 use cabinet_core::{Closing, Delivery, Inspection, Opening, UsedLine};
-use office_http_faults::{AskFault, Field};
 use serde_json::Value;
 use signal_records::{RecordNo, Words};
 use std::alloc::Global;

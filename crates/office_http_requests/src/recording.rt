@@ -4,10 +4,10 @@ ghost use Rattle.office_http_requests.specs.Bodies.{data_of};
 ghost use Rattle.office_http_requests.specs.Recording.{received_in, record_asked};
 ghost use Rattle.office_http_requests.specs.declared.kind.RecordKind.TheVariants as kind;
 
+use crate::fault::AskFault;
 use crate::kind::RecordKind;
 use crate::{path, record};
 use cabinet_core::RecordCommand;
-use office_http_faults::AskFault;
 use serde_json::Value;
 use std::alloc::Global;
 

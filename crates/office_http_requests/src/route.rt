@@ -4,10 +4,10 @@ ghost use Rattle.matchit.specs.declared.error.InsertError.TheVariants.{OutOfMemo
 ghost use Rattle.office_http_requests.specs.FaultsInOrder.{or_no_route};
 ghost use Rattle.office_http_requests.specs.Routes.{route_rows, route_text, record_route_text, method_of, takes_body, endpoint_of};
 
+use crate::fault::AskFault;
 use crate::kind::RecordKind;
 use http::Method;
 use matchit::{InsertError, Router};
-use office_http_faults::AskFault;
 use signal_records::NoMemory;
 use std::alloc::Global;
 use std::marker::Model;

@@ -4,12 +4,13 @@ ghost use Rattle.std.specs.List.{list_all};
 ghost use Rattle.serde_json.specs.Find.{get, as_array, as_str};
 ghost use Rattle.serde_json.specs.View.{view, items_view};
 ghost use Rattle.office_http_requests.specs.FaultsInOrder.{Gives, MayWant, WantsMemoryOnlyIf};
-ghost use Rattle.office_http_faults.specs.Fields.{field_name};
+ghost use Rattle.office_http_requests.specs.Fields.{field_name};
 ghost use Rattle.office_http_requests.specs.Rows.{texts_in, rows_in, changes_spelled, changes_in, rows_seen, PutsListAt, ShowsTexts, ShowsRows};
 
+use crate::fault::AskFault;
+use crate::field::Field;
 use draft_core::changes::Changes;
 use office_files::told_of_record;
-use office_http_faults::{AskFault, Field};
 use serde_json::Value;
 use signal_records::{Change, read_change};
 use std::alloc::{AllocError, Global};

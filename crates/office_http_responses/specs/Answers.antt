@@ -6,7 +6,7 @@ use Rattle.serde_json.specs.Written.{compact_text}
 use Rattle.office_machine.specs.Refusal.{line_of}
 use Rattle.office_machine.specs.declared.reply.Reply.{Reply}
 use Rattle.office_machine.specs.declared.reply.Reply.TheVariants.{Refused}
-use Rattle.office_http_faults.specs.declared.form.Form.{Form}
+use Rattle.office_http_requests.specs.declared.form.Form.{Form}
 use Rattle.office_http_responses.specs.Trees.{tree_in}
 
 -- an answer with this status and this content

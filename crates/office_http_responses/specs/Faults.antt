@@ -4,15 +4,15 @@ use Rattle.serde_json.specs.Data.{Data}
 use Rattle.office_machine.specs.Refusal.{RefusalLine}
 use Rattle.office_http_framing.specs.declared.front.Fault.{Fault}
 use Rattle.office_http_framing.specs.declared.front.Fault.TheVariants as framing
-use Rattle.office_http_faults.specs.declared.fault.AskFault.{AskFault}
-use Rattle.office_http_faults.specs.declared.fault.AskFault.TheVariants as ask
+use Rattle.office_http_requests.specs.declared.fault.AskFault.{AskFault}
+use Rattle.office_http_requests.specs.declared.fault.AskFault.TheVariants as ask
 use Rattle.office_http_responses.specs.declared.fault.FaultKind.{FaultKind}
 use Rattle.office_http_responses.specs.declared.fault.FaultKind.TheVariants as kind
 use Rattle.office_http_responses.specs.declared.fault.More.{More}
 use Rattle.office_http_responses.specs.declared.fault.More.TheVariants.{Nothing, Field as FieldMore, Row as RowMore}
 use Rattle.office_http_responses.specs.Answers.{answer_text}
 use Rattle.office_http_responses.specs.Unavailable.{unavailable_bytes}
-use Rattle.office_http_faults.specs.Fields.{field_name}
+use Rattle.office_http_requests.specs.Fields.{field_name}
 use Rattle.office_http_responses.specs.Json.{count, text, keys}
 use Rattle.signal_records.specs.RowFault.{fault_name, fault_field}
 

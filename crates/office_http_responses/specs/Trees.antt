@@ -15,8 +15,8 @@ use Rattle.office_machine.specs.declared.reply.Reply.{Reply}
 use Rattle.office_machine.specs.declared.reply.Reply.TheVariants.{Added, Same, Moved, Imported, State, Timing, Draft, Cabinet, OpenOrders, Stock, Overdue, Refused}
 use Rattle.office_machine.specs.declared.reply.RunningTiming.{RunningTiming}
 use Rattle.office_http_responses.specs.Json.{count, text, or_null, array_of, keys}
-use Rattle.office_http_faults.specs.declared.form.Form.{Form}
-use Rattle.office_http_faults.specs.declared.form.Form.TheVariants.{Json, Csv}
+use Rattle.office_http_requests.specs.declared.form.Form.{Form}
+use Rattle.office_http_requests.specs.declared.form.Form.TheVariants.{Json, Csv}
 use Rattle.office_files.specs.Records.{records_csv_text}
 use Rattle.office_files.specs.Timing.{timing_csv_text}
 use Rattle.office_http_responses.specs.RegisterTrees.{cabinet_tree, open_tree, stock_tree, overdue_tree}

@@ -2,7 +2,7 @@
 use Rattle.std.specs.Prelude.{ℕ, List}
 use Rattle.office_machine.specs.declared.refusal.Refusal.TheVariants.{Unavailable}
 use Rattle.office_machine.specs.declared.reply.Reply.TheVariants.{Refused}
-use Rattle.office_http_faults.specs.declared.form.Form.TheVariants.{Json}
+use Rattle.office_http_requests.specs.declared.form.Form.TheVariants.{Json}
 use Rattle.office_http_responses.specs.Answers.{answer_bytes}
 
 -- the answer where there is no memory, or the database refused

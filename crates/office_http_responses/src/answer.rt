@@ -4,7 +4,7 @@ ghost use Rattle.serde_json.specs.Written.{compact_text};
 ghost use Rattle.office_machine.specs.Refusal.{line_of};
 ghost use Rattle.office_machine.specs.declared.refusal.Refusal.TheVariants.{Damaged};
 ghost use Rattle.office_machine.specs.declared.reply.Reply.TheVariants.{Refused};
-ghost use Rattle.office_http_faults.specs.declared.form.Form.{Form};
+ghost use Rattle.office_http_requests.specs.declared.form.Form.{Form};
 ghost use Rattle.office_http_responses.specs.Answers.{answer_bytes, status_of};
 ghost use Rattle.office_http_responses.specs.Trees.{tree_in};
 
@@ -12,7 +12,7 @@ use crate::head::with_head;
 use crate::reply::write_in_form;
 use http::StatusCode;
 use json::Writer;
-use office_http_faults::Form;
+use office_http_requests::Form;
 use office_machine::refusal::Refusal;
 use office_machine::reply::Reply;
 use std::alloc::{AllocError, Global};

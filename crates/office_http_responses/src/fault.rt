@@ -1,7 +1,7 @@
 //! The answers of requests that ask nothing.
 ghost use Rattle.std.specs.Prelude.{◌≡◌, ◌≢◌, IfOk};
 ghost use Rattle.serde_json.specs.Written.{compact_text};
-ghost use Rattle.office_http_faults.specs.declared.fault.AskFault.TheVariants.{NoMemory};
+ghost use Rattle.office_http_requests.specs.declared.fault.AskFault.TheVariants.{NoMemory};
 ghost use Rattle.office_http_responses.specs.Faults.{line_of, first_numbered, kind_numbered, framing_kind, fault_tree, fault_bytes, ask_fault_text, framing_fault_text, IsFault};
 ghost use Rattle.office_http_responses.specs.Writing.{AddsTree};
 
@@ -12,8 +12,8 @@ use crate::writing::object;
 use http::StatusCode;
 use json::Writer;
 use office_files::BadRow;
-use office_http_faults::{AskFault, Field};
 use office_http_framing::front::Fault;
+use office_http_requests::{AskFault, Field};
 use std::alloc::{AllocError, Global};
 
 /// What the answer of a fault shows beside its name and number.

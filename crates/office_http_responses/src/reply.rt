@@ -13,7 +13,7 @@ use crate::writing::{Scalar, array, object, object_of_array};
 use draft_core::refusal::DraftRefusal;
 use draft_core::state::Verdict;
 use json::Writer;
-use office_http_faults::Form;
+use office_http_requests::Form;
 use office_machine::refusal::Refusal;
 use office_machine::reply::{
     IntersectionState, OpenDraft, OverdueList, Reply, RunningTiming, state_name,

@@ -1,4 +1,3 @@
 pub mod TableLemmas
 pub mod CsvLemmas
-pub mod NextLemmas
 pub mod ReadBack

@@ -35,12 +35,6 @@ field_lacks cells place past = ap field_text (get_or_past (map cell_of cells) pl
 -- the field at any place
 pub ruleset fields = (field_there, field_lacks)
 
--- four parts, the last of them by a call that may fail
-pub four_parts : {A E : Type 0} (result : Result A E) (old first second third fourth one two three new : List ℕ) → one ≡ old ++ first → two ≡ one ++ second
-    → three ≡ two ++ third → OnOk result (new ≡ three ++ fourth) → OnOk result (new ≡ old ++ (first ++ second ++ third ++ fourth))
-four_parts (Ok x) old first second third fourth one two three new a b c d = rw (d, c, b, a) (simp append_assoc)
-four_parts (Err e) old first second third fourth one two three new a b c d = tt
-
 -- five parts, each appended to what was there
 pub five_parts : (old first second third fourth fifth one two three four five : List ℕ) → one ≡ old ++ first → two ≡ one ++ second
     → three ≡ two ++ third → four ≡ three ++ fourth → five ≡ four ++ fifth → five ≡ old ++ (first ++ second ++ third ++ fourth ++ fifth)

@@ -1,21 +1,9 @@
 -- The list of the intersections, as a table.
 use Rattle.std.specs.Prelude.{ℕ, List, [], ◌∷◌, map, codes, Option, Some, None}
 use Rattle.signal_records.specs.declared.state.Holder.{Holder}
-use Rattle.signal_records.specs.declared.state.Stage.{Stage}
-use Rattle.signal_records.specs.declared.state.Stage.TheVariants.{Transaction, Verify, Done}
+use Rattle.office_files.specs.States.{state_word}
 use Rattle.office_machine.specs.declared.intersections.ListedIntersection.{ListedIntersection}
 use Rattle.office_listings.specs.Table.{Row, Table, Number, Word}
-
--- the state in which a clerk holds a draft
-abbrev pub stage_word : Stage → List ℕ
-stage_word Transaction = codes "transaction"
-stage_word Verify = codes "verify"
-stage_word Done = codes "done"
-
--- the state of the transaction of an intersection by who holds its draft
-abbrev pub state_word : Option Holder → List ℕ
-state_word None = codes "normal"
-state_word (Some holder) = stage_word holder.stage
 
 -- who holds a draft; nothing stands for nobody, since a clerk may be called by a dash
 abbrev pub owner_word : Option Holder → List ℕ

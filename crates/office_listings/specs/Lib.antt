@@ -3,6 +3,5 @@ pub mod Intersections
 pub mod Stock
 pub mod Orders
 pub mod Used
-pub mod Next
 pub mod Cabinet
 pub mod Overdue

@@ -1,27 +1,8 @@
 -- The lists of open orders, as tables.
-use Rattle.std.specs.Prelude.{ℕ, List, [], ◌∷◌, map, filter, codes}
-use Rattle.cabinet_core.specs.Orders.{is_open}
-use Rattle.cabinet_core.specs.declared.record.Order.{Order}
-use Rattle.office_machine.specs.declared.reply.CabinetShown.{CabinetShown}
-use Rattle.office_listings.specs.declared.orders.NamedOrder.{NamedOrder}
-use Rattle.office_listings.specs.declared.orders.OpenOrder.{OpenOrder}
+use Rattle.std.specs.Prelude.{ℕ, List, [], ◌∷◌, map, codes}
+use Rattle.office_machine.specs.declared.orders.NamedOrder.{NamedOrder}
+use Rattle.office_machine.specs.declared.orders.OpenOrder.{OpenOrder}
 use Rattle.office_listings.specs.Table.{Row, Table, columns_text, Number, Word, Day}
-
--- an order on an intersection
-abbrev pub order_on : ℕ → Order → OpenOrder
-order_on id order = record { id = id; order = order }
-
--- the open orders of a cabinet, by their numbers
-abbrev pub open_orders : CabinetShown → List OpenOrder
-open_orders cabinet = map (order_on cabinet.id) (filter is_open cabinet.view.orders)
-
--- an order with the number and the name of its intersection
-abbrev pub order_named : List ℕ → ℕ → Order → NamedOrder
-order_named name id order = record { name = name; listed = order_on id order }
-
--- the open orders of a cabinet by their numbers, with the name of its intersection
-abbrev pub named_orders : List ℕ → CabinetShown → List NamedOrder
-named_orders name cabinet = map (order_named name cabinet.id) (filter is_open cabinet.view.orders)
 
 -- `    12       1  2026-05-01  Ana           Lamp`
 abbrev pub open_order_cells : OpenOrder → Row

@@ -4,11 +4,11 @@ ghost use Rattle.std.specs.Prelude.{◌≡◌, ◌++◌, OnOk, IfOk, filter, fla
 ghost use Rattle.office_files.specs.Records.{is_line_of};
 ghost use Rattle.office_listings.specs.Cabinet.{cabinet_count, cabinet_records, cabinet_register, cabinet_title, closing_line, due_line, order_lines, used_line};
 
-use crate::next_numbers::push_next_numbers;
 use crate::table::{Cell, Listed, Print, push_line, push_lines};
 use cabinet_core::{
     CabinetView, Closing, Day, Inspection, Order, UsedLine, due, latest, open_count, write_date,
 };
+use office_files::push_next_numbers;
 use office_machine::reply::CabinetShown;
 use signal_records::{InterId, Interval, NoMemory, RecordNo, Words};
 use std::alloc::{AllocError, Global};

@@ -1,35 +1,15 @@
 //! The list of the intersections.
 
 ghost use Rattle.std.specs.Prelude.{◌≡◌, IfOk, IsUtf8};
-ghost use Rattle.office_listings.specs.Intersections.{intersections_table, owner_word, stage_word, state_word};
+ghost use Rattle.office_listings.specs.Intersections.{intersections_table, owner_word};
 ghost use Rattle.office_listings.specs.Table.{table_text};
 
 use crate::table::{Cell, Listed, Print, print_table};
+use office_files::state_word;
 use office_machine::intersections::ListedIntersection;
 use signal_records::NoMemory;
-use signal_records::state::{Holder, Stage};
+use signal_records::state::Holder;
 use std::alloc::Global;
-
-/// The word for a state in which a clerk holds the draft.
-fn stage_word(stage: Stage) -> &'static str
-    ensures { result.now ≡ stage_word stage }
-{
-    match stage {
-        Stage::Transaction => "transaction",
-        Stage::Verify => "verify",
-        Stage::Done => "done",
-    }
-}
-
-/// The word for the state of a transaction: `normal` where nobody holds a draft.
-pub fn state_word(holder: &Option<Holder>) -> &'static str
-    ensures { result.now ≡ state_word holder.now }
-{
-    match holder {
-        None => "normal",
-        Some(holder) => stage_word(holder.stage),
-    }
-}
 
 /// Who holds the draft; nothing where nobody does, since a clerk may be called by a dash.
 fn owner_word(holder: &Option<Holder>) -> &str

@@ -1,87 +1,13 @@
 //! The lists of open orders.
 
-ghost use Rattle.std.specs.Prelude.{◌≡◌, ◌++◌, OnOk, IfOk, IsUtf8, filter, map};
-ghost use Rattle.cabinet_core.specs.Orders.{is_open};
-ghost use Rattle.office_listings.specs.Orders.{named_orders, open_orders, order_named, order_on, orders_listing, orders_table};
+ghost use Rattle.std.specs.Prelude.{◌≡◌, IfOk, IsUtf8};
+ghost use Rattle.office_listings.specs.Orders.{orders_listing, orders_table};
 ghost use Rattle.office_listings.specs.Table.{table_text};
 
 use crate::table::{Cell, Listed, Print, columns, print_table};
-use cabinet_core::Order;
-use office_machine::reply::CabinetShown;
-use signal_records::{InterId, NoMemory, Words};
+use office_machine::orders::{NamedOrder, OpenOrder};
+use signal_records::NoMemory;
 use std::alloc::Global;
-
-/// An open order, with its intersection.
-#[derive(Drop)]
-pub struct OpenOrder {
-    pub id: InterId,
-    pub order: Order,
-}
-
-/// An open order, with the number and the name of its intersection.
-#[derive(Drop)]
-pub struct NamedOrder {
-    pub name: Words<120>,
-    pub listed: OpenOrder,
-}
-
-/// Appends the open orders of a cabinet, by their numbers.
-pub fn add_open_orders(found: &mut Vec<OpenOrder>, cabinet: &CabinetShown) -> Result<(), NoMemory>
-    ensures { OnOk result (found.new.items ≡ found.old.items ++ open_orders cabinet.now) }
-{
-    for order in cabinet.view.orders.as_slice() {
-        if order.closing.is_none() {
-            let order = order.clone()?;
-            found.push(OpenOrder {
-                id: cabinet.id,
-                order,
-            })?;
-        }
-    }
-    Ok(())
-}
-
-/// An order with the number and the name of its intersection.
-fn order_named(name: &Words<120>, id: InterId, order: &Order) -> Result<NamedOrder, NoMemory>
-    ensures { IfOk result (λ named. named ≡ order_named name.now id order.now) }
-{
-    let name = name.clone()?;
-    let order = order.clone()?;
-    Ok(NamedOrder {
-        name,
-        listed: OpenOrder { id, order },
-    })
-}
-
-/// Appends those of some orders on an intersection that are open, with its name.
-pub fn add_named(
-    found: &mut Vec<NamedOrder>,
-    name: &Words<120>,
-    id: InterId,
-    orders: &[Order],
-) -> Result<(), NoMemory>
-    ensures { OnOk result (found.new.items ≡
-        found.old.items ++ map (order_named name.now id) (filter is_open orders.now)) }
-{
-    for order in orders {
-        let is_open = order.closing.is_none();
-        if is_open {
-            found.push(order_named(name, id, order)?)?;
-        }
-    }
-    Ok(())
-}
-
-/// Appends the open orders of a cabinet, by their numbers, with the name of its intersection.
-pub fn add_named_orders(
-    found: &mut Vec<NamedOrder>,
-    name: &Words<120>,
-    cabinet: &CabinetShown,
-) -> Result<(), NoMemory>
-    ensures { OnOk result (found.new.items ≡ found.old.items ++ named_orders name.now cabinet.now) }
-{
-    add_named(found, name, cabinet.id, cabinet.view.orders.as_slice())
-}
 
 impl Listed for OpenOrder {
     ghost use Rattle.office_listings.specs.Orders.{open_order_cells};

@@ -3,6 +3,7 @@ pub mod Refusal
 pub mod States
 pub mod Step
 pub mod Listed
+pub mod Orders
 pub mod Timing
 pub mod RegisterRuns
 pub mod Repeats

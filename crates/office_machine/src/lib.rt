@@ -5,6 +5,7 @@
 
 pub mod command;
 pub mod intersections;
+pub mod orders;
 pub mod records;
 pub mod refusal;
 pub mod reply;

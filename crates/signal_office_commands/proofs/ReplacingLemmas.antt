@@ -16,8 +16,8 @@ use Rattle.signal_office_commands.specs.declared.revising.{Outcome.Outcome, Outc
 use Rattle.signal_office_commands.specs.declared.standing.StandingPlan.{StandingPlan}
 use Rattle.signal_office_faults.specs.declared.fault.Fault.{Fault}
 use Rattle.signal_office_line.specs.declared.job.Edit.{Edit}
-use Rattle.signal_office_reports.specs.Reports.{◌>>=◌, open_draft_in}
-use Rattle.signal_office_reports.specs.declared.seen.Seen.TheVariants as seen
+use Rattle.signal_office_queries.specs.Parts.{◌>>=◌, open_draft_in}
+use Rattle.signal_office_queries.specs.declared.seen.Seen.TheVariants as seen
 use Rattle.signal_records.specs.TimingSet.{Rows, after_changes}
 use Rattle.signal_records.specs.declared.record.Change.{Change}
 use Rattle.signal_rules.specs.declared.violation.Violation.{Violation}

@@ -12,8 +12,8 @@ use Rattle.signal_office_commands.specs.Stopping.{AfterEither, AfterOneOf, After
 use Rattle.signal_office_commands.specs.declared.revising.{Revised.Revised, Revision.Revision}
 use Rattle.signal_office_faults.specs.declared.fault.Fault.{Fault}
 use Rattle.signal_office_line.specs.declared.job.Edit.{Edit}
-use Rattle.signal_office_reports.proofs.SeenLemmas.{handed, still_held}
-use Rattle.signal_office_reports.specs.Reports.{◌>>=◌}
+use Rattle.signal_office_queries.proofs.SeenLemmas.{handed, still_held}
+use Rattle.signal_office_queries.specs.Parts.{◌>>=◌}
 use Rattle.signal_records.specs.declared.record.Change.{Change}
 use Rattle.signal_rules.specs.declared.violation.Violation.{Violation}
 

@@ -13,9 +13,10 @@ use Rattle.signal_office_faults.specs.declared.fault.Fault.{Fault}
 use Rattle.signal_office_faults.specs.declared.fault.Fault.TheVariants as told
 use Rattle.signal_office_commands.specs.Commands.{IsUnread}
 use Rattle.office_machine.specs.declared.reply.RunningTiming.{RunningTiming}
-use Rattle.signal_office_reports.specs.Reports.{IsTextOf, first_seen, plans_in, timing_in}
-use Rattle.signal_office_reports.specs.Seen.{IsMadeOfAnswers}
-use Rattle.signal_office_reports.specs.declared.seen.Query.TheVariants as query
+use Rattle.signal_office_queries.specs.Parts.{◌>>=◌, IsTextOf, draft_in, first_seen, rest_of, timing_in}
+use Rattle.signal_office_queries.specs.Seen.{IsMadeOfAnswers}
+use Rattle.signal_office_queries.specs.declared.seen.Query.TheVariants as query
+use Rattle.signal_office_queries.specs.declared.seen.Seen.{Seen}
 
 -- they are those of the plans of two files
 pub record ComparesFiles (first second : List ℕ) (found : List Difference) : Type 0 where
@@ -35,6 +36,17 @@ abbrev pub IsFirstBad : List ℕ → List ℕ → Fault → Type 0
 IsFirstBad first second why =
     IsUnread (changes_of first) why
     ⊎ ((before : Rows) × IsPlan first before × IsOtherUnread (changes_of second) why)
+
+-- a committed timing set and its draft
+abbrev pub plans_of : (timing draft : Seen) → Result (Rows × Rows) Fault
+plans_of timing draft = do
+  runs ← timing_in timing
+  drafted ← draft_in draft
+  Ok (runs.rows, drafted)
+
+-- the committed plan and its draft among what was seen
+abbrev pub plans_in : List Seen → Result (Rows × Rows) Fault
+plans_in found = plans_of (first_seen found) (first_seen (rest_of found))
 
 -- they are those of a committed timing set and its draft, or this is why there are none
 abbrev pub ComparesDraft : Content → ℕ → Result (List Difference) Fault → Type 0

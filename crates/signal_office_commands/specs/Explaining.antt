@@ -2,9 +2,9 @@
 use Rattle.std.specs.Prelude.{◌≡◌, ℕ, List, [], ◌∷◌, Result}
 use Rattle.office_tables_shelf.specs.Content.{Content}
 use Rattle.signal_office_faults.specs.declared.fault.Fault.{Fault}
-use Rattle.signal_office_reports.specs.Reports.{IsTextOf, draft_in, first_seen, timing_in}
-use Rattle.signal_office_reports.specs.Seen.{IsMadeOfAnswers}
-use Rattle.signal_office_reports.specs.declared.seen.Query.TheVariants as query
+use Rattle.signal_office_queries.specs.Parts.{IsTextOf, draft_in, first_seen, timing_in}
+use Rattle.signal_office_queries.specs.Seen.{IsMadeOfAnswers}
+use Rattle.signal_office_queries.specs.declared.seen.Query.TheVariants as query
 use Rattle.signal_rules.specs.Violations.{AreReasons}
 use Rattle.signal_rules.specs.declared.reason.Explained.{Explained}
 use Rattle.signal_records.specs.TimingSet.{Rows}

@@ -12,8 +12,8 @@ use Rattle.office_machine.specs.declared.reply.Reply.TheVariants as reply
 use Rattle.office_tables_shelf.specs.Content.{Content}
 use Rattle.signal_office_faults.specs.declared.fault.Fault.{Fault}
 use Rattle.signal_office_faults.specs.declared.fault.Fault.TheVariants as told
-use Rattle.signal_office_reports.specs.Refused.{fault_of}
-use Rattle.signal_office_reports.specs.Reports.{◌>>=◌}
+use Rattle.signal_office_queries.specs.Refused.{fault_of}
+use Rattle.signal_office_queries.specs.Parts.{◌>>=◌}
 
 -- The office answered one command. A row that the command reads and that is no record was reported, and none was passed over.
 pub record Answered (old : Content) (asked : Command) (given : Reply) (new : Content) : Type 0 where

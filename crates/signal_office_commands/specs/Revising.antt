@@ -20,7 +20,7 @@ use Rattle.signal_office_commands.specs.declared.standing.StandingPlan.{Standing
 use Rattle.signal_office_faults.specs.declared.fault.Fault.{Fault}
 use Rattle.signal_office_faults.specs.declared.fault.Fault.TheVariants as told
 use Rattle.signal_office_line.specs.declared.job.Edit.{Edit}
-use Rattle.signal_office_reports.specs.Reports.{◌>>=◌}
+use Rattle.signal_office_queries.specs.Parts.{◌>>=◌}
 use Rattle.signal_records.specs.TimingSet.{after_changes}
 use Rattle.signal_records.specs.declared.record.Change.{Change}
 use Rattle.signal_rules.specs.declared.violation.Violation.{Violation}

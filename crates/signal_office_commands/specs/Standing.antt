@@ -4,10 +4,10 @@ use Rattle.std.specs.FinMap.{empty}
 use Rattle.office_tables_shelf.specs.Content.{Content}
 use Rattle.signal_office_commands.specs.declared.standing.StandingPlan.{StandingPlan}
 use Rattle.signal_office_faults.specs.declared.fault.Fault.{Fault}
-use Rattle.signal_office_reports.specs.Reports.{◌>>=◌, first_seen, open_draft_in, rest_of, timing_in}
-use Rattle.signal_office_reports.specs.Seen.{IsMadeOfAnswers}
-use Rattle.signal_office_reports.specs.declared.seen.Query.TheVariants as query
-use Rattle.signal_office_reports.specs.declared.seen.Seen.{Seen}
+use Rattle.signal_office_queries.specs.Parts.{◌>>=◌, first_seen, open_draft_in, rest_of, timing_in}
+use Rattle.signal_office_queries.specs.Seen.{IsMadeOfAnswers}
+use Rattle.signal_office_queries.specs.declared.seen.Query.TheVariants as query
+use Rattle.signal_office_queries.specs.declared.seen.Seen.{Seen}
 use Rattle.signal_records.specs.TimingSet.{Rows, after_changes}
 use Rattle.signal_records.specs.declared.record.Change.{Change}
 

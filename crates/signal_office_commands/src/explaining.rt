@@ -3,14 +3,14 @@
 ghost use Rattle.office_desk.specs.Running.{TellsTables};
 ghost use Rattle.office_tables_shelf.specs.Keeps.{KeepsShelf};
 ghost use Rattle.signal_office_commands.specs.Explaining.{AreWarnings, ExplainsDraft, WarnsOfCommitted, WarnsOfDraft};
-ghost use Rattle.signal_office_reports.specs.Reports.{IsTextOf, draft_in, first_seen, timing_in};
-ghost use Rattle.signal_office_reports.specs.Seen.{Gives};
+ghost use Rattle.signal_office_queries.specs.Parts.{IsTextOf, draft_in, first_seen, timing_in};
+ghost use Rattle.signal_office_queries.specs.Seen.{Gives};
 ghost use Rattle.signal_rules.specs.Violations.{AreReasons};
 
 use office_desk::office::Office;
 use office_tables_shelf::shelf::Shelf;
 use signal_office_faults::Fault;
-use signal_office_reports::{Query, Seen, draft_in, first_seen, look, timing_in};
+use signal_office_queries::{Query, Seen, draft_in, first_seen, look, timing_in};
 use signal_plans::{Warning, warnings};
 use signal_records::InterId;
 use signal_rules::{Explained, reasons};

@@ -13,7 +13,7 @@ use office_machine::refusal::Refusal;
 use office_machine::reply::Reply;
 use office_tables_shelf::shelf::Shelf;
 use signal_office_faults::Fault;
-use signal_office_reports::fault_of;
+use signal_office_queries::fault_of;
 use std::alloc::Global;
 
 /// Whether a refusal says that a step of the transaction is not due: one is under way, or its draft

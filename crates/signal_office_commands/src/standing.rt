@@ -9,7 +9,7 @@ use draft_core::changes::Changes;
 use office_desk::office::Office;
 use office_tables_shelf::shelf::Shelf;
 use signal_office_faults::Fault;
-use signal_office_reports::{Query, Seen, look, next_of, open_draft_in, timing_in};
+use signal_office_queries::{Query, Seen, look, next_of, open_draft_in, timing_in};
 use signal_plans::{Difference, changes, compare};
 use signal_records::{Change, InterId, NoMemory, TimingSet};
 use std::alloc::Global;

@@ -11,10 +11,10 @@ use Rattle.signal_office_faults.specs.declared.hints.Hint.{Hint}
 use Rattle.office_tables_shelf.specs.Content.{Content}
 use Rattle.signal_office_faults.specs.declared.fault.Fault.{Fault}
 use Rattle.signal_office_faults.specs.declared.fault.Fault.TheVariants as fault
-use Rattle.signal_office_reports.specs.Reports.{first_seen, state_in}
-use Rattle.signal_office_reports.specs.Seen.{Looks}
-use Rattle.signal_office_reports.specs.declared.seen.Query.TheVariants as query
-use Rattle.signal_office_reports.specs.declared.seen.Seen.{Seen}
+use Rattle.signal_office_queries.specs.Parts.{first_seen, state_in}
+use Rattle.signal_office_queries.specs.Seen.{Looks}
+use Rattle.signal_office_queries.specs.declared.seen.Query.TheVariants as query
+use Rattle.signal_office_queries.specs.declared.seen.Seen.{Seen}
 
 -- ---- the record of a plan's CSV file that spells nothing
 

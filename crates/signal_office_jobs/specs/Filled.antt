@@ -7,9 +7,10 @@ use Rattle.signal_office_faults.specs.declared.fault.Fault.TheVariants as fault
 use Rattle.signal_office_faults.specs.Folder.{AddsFiles, IsUnput, KnownFiles, NamedText}
 use Rattle.signal_office_line.specs.declared.shows.Shown.{Shown}
 use Rattle.signal_office_jobs.specs.Filed.{file_name, file_shown, files_in}
-use Rattle.signal_office_reports.specs.Reports.{IsShown, first_seen, intersections_in}
-use Rattle.signal_office_reports.specs.Seen.{IsMadeOfAnswers}
-use Rattle.signal_office_reports.specs.declared.seen.Query.TheVariants as query
+use Rattle.signal_office_queries.specs.Parts.{first_seen, intersections_in}
+use Rattle.signal_office_reports.specs.Reports.{IsShown}
+use Rattle.signal_office_queries.specs.Seen.{IsMadeOfAnswers}
+use Rattle.signal_office_queries.specs.declared.seen.Query.TheVariants as query
 use Rattle.signal_office_jobs.specs.declared.filed.FileOf.{FileOf}
 use Rattle.signal_office_line.specs.declared.job.Folder.{Folder}
 

@@ -4,7 +4,7 @@
 ghost use Rattle.std.specs.Prelude.{◌≡◌};
 ghost use Rattle.office_tables_shelf.specs.Keeps.{KeepsShelf};
 ghost use Rattle.signal_office_jobs.specs.Explained.{IsEditExplained, IsEditRefused, IsFileExplained, IsOwnerTold, TellsOwner, TellsOwnerIn, with_hint};
-ghost use Rattle.signal_office_reports.specs.Reports.{first_seen, state_in};
+ghost use Rattle.signal_office_queries.specs.Parts.{first_seen, state_in};
 ghost use Rattle.office_files.specs.declared.fault.CsvFault.TheVariants as file;
 ghost use Rattle.signal_office_faults.specs.declared.fault.Fault.TheVariants as fault;
 
@@ -15,7 +15,7 @@ use office_files::{BadRow, CsvFault};
 use office_machine::refusal::Refusal;
 use office_tables_shelf::shelf::Shelf;
 use signal_office_faults::{Fault, Hint, hint_of, line_of_record};
-use signal_office_reports::{Query, Seen, first_seen, look, state_in};
+use signal_office_queries::{Query, Seen, first_seen, look, state_in};
 use signal_records::{InterId, Words};
 use std::alloc::Global;
 

@@ -12,7 +12,7 @@ use office_machine::intersections::ListedIntersection;
 use office_tables_shelf::shelf::Shelf;
 use signal_office_faults::{Fault, Folder};
 use signal_office_line::{Folder as FolderKind, Shown};
-use signal_office_reports::{Query, first_seen, intersections_in, look};
+use signal_office_queries::{Query, first_seen, intersections_in, look};
 use signal_records::Listing;
 use std::alloc::Global;
 

@@ -4,7 +4,7 @@ ghost use Rattle.std.specs.Prelude.{◌≡◌, ◌≢◌, true, Ok, Err, IfErr, 
 ghost use Rattle.office_http_framing.specs.Ends.{Told};
 ghost use Rattle.office_tables_shelf.specs.Keeps.{KeepsShelf};
 ghost use Rattle.signal_office_reports.specs.Reports.{IsShown, IsUsedShown};
-ghost use Rattle.signal_office_reports.specs.Seen.{Gives};
+ghost use Rattle.signal_office_queries.specs.Seen.{Gives};
 ghost use Rattle.signal_office_commands.specs.Explaining.{ExplainsDraft, WarnsOfDraft};
 ghost use Rattle.signal_office_commands.specs.Stopping.{AfterAbandoning, AfterAdding, AfterImporting, AfterRevising, StopLeaves};
 ghost use Rattle.signal_office_in_file.specs.Doing.{DoesTask};

@@ -1,4 +1,1 @@
-pub mod SeenLemmas
-pub mod LookLemmas
-mod GatheringLemmas
 pub mod MeaningLemmas

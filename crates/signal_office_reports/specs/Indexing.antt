@@ -8,7 +8,7 @@ use Rattle.office_machine.specs.Step.{overdue_on}
 use Rattle.signal_page.specs.Index.{IsIndex}
 use Rattle.signal_page.specs.Overdue.{number_of_entry, overdue_among}
 use Rattle.signal_office_reports.specs.Reports.{index_shown}
-use Rattle.signal_office_reports.specs.Seen.{cabinet_listed}
+use Rattle.signal_office_queries.specs.Seen.{cabinet_listed}
 use Rattle.signal_page.specs.declared.index_shown.IndexShown.{IndexShown}
 
 -- what the index of an office shows: its intersections by their numbers, their open orders, and the stock

@@ -1,26 +1,22 @@
 -- What is shown of an office: the queries for it, and what is made of what they see.
-use Rattle.std.specs.Prelude.{◌≡◌, ◌⊎◌, ℕ, Bool, true, false, if◌then◌else◌, List, [], ◌∷◌, flat_map, map, Option, Some, None, is_some, Result, Ok, Err}
+use Rattle.std.specs.Prelude.{◌≡◌, ℕ, Bool, true, false, if◌then◌else◌, List, [], ◌∷◌, flat_map, map, Option, Some, None, is_some, Result, Ok, Err}
 use Rattle.std.specs.FinMap.{values}
-use Rattle.cabinet_core.specs.Overdue.{Listed, listed_of}
+use Rattle.cabinet_core.specs.Overdue.{listed_of}
 use Rattle.cabinet_core.specs.declared.overdue_inspections.OverdueRow.{OverdueRow}
-use Rattle.draft_core.specs.declared.refusal.DraftRefusal.TheVariants as draft
+use Rattle.office_files.specs.Overdue.{overdue_report}
 use Rattle.office_files.specs.Records.{records_csv_text}
 use Rattle.office_files.specs.Sheet.{sheet_text}
 use Rattle.office_files.specs.Timing.{timing_csv_text}
 use Rattle.office_listings.specs.Cabinet.{cabinet_register}
 use Rattle.office_listings.specs.Intersections.{intersections_table}
-use Rattle.office_listings.specs.Orders.{named_orders, open_orders, orders_listing, orders_table}
+use Rattle.office_listings.specs.Orders.{orders_listing, orders_table}
+use Rattle.office_listings.specs.Overdue.{overdue_csv_text}
+use Rattle.office_machine.specs.Orders.{named_orders, open_orders}
 use Rattle.office_listings.specs.Stock.{stock_table}
 use Rattle.office_listings.specs.Table.{table_text}
 use Rattle.office_listings.specs.Used.{used_on, used_table}
-use Rattle.office_listings.specs.declared.orders.NamedOrder.{NamedOrder}
+use Rattle.office_machine.specs.declared.orders.NamedOrder.{NamedOrder}
 use Rattle.office_listings.specs.declared.used.UsedPart.{UsedPart}
-use Rattle.office_machine.specs.declared.intersections.ListedIntersection.{ListedIntersection}
-use Rattle.office_machine.specs.declared.refusal.Refusal.TheVariants as refusal
-use Rattle.office_machine.specs.declared.reply.CabinetShown.{CabinetShown}
-use Rattle.office_machine.specs.declared.reply.IntersectionState.{IntersectionState}
-use Rattle.office_machine.specs.declared.reply.Reply.TheVariants as reply
-use Rattle.office_machine.specs.declared.reply.RunningTiming.{RunningTiming}
 use Rattle.office_tables_shelf.specs.Content.{Content}
 use Rattle.signal_diagram.specs.Diagram.{diagram_text}
 use Rattle.signal_page.specs.Index.{IsIndex, index_entry}
@@ -32,14 +28,12 @@ use Rattle.signal_office_line.specs.declared.shows.Shown.{Shown}
 use Rattle.signal_office_line.specs.declared.shows.Shown.TheVariants as shown
 use Rattle.signal_office_line.specs.declared.shows.View.{View}
 use Rattle.signal_office_line.specs.declared.shows.View.TheVariants as view
-use Rattle.signal_office_reports.specs.Listing.{overdue_written}
-use Rattle.signal_office_reports.specs.Refused.{fault_of}
-use Rattle.signal_office_reports.specs.Seen.{IsMadeOfAnswers}
-use Rattle.signal_office_reports.specs.declared.seen.ListedCabinet.{ListedCabinet}
-use Rattle.signal_office_reports.specs.declared.seen.Query.{Query}
-use Rattle.signal_office_reports.specs.declared.seen.Query.TheVariants as query
-use Rattle.signal_office_reports.specs.declared.seen.Seen.{Seen}
-use Rattle.signal_office_reports.specs.declared.seen.Seen.TheVariants as seen
+use Rattle.signal_office_queries.specs.Parts.{◌>>=◌, IsTextOf, cabinet_in, cabinets_in, draft_in, first_seen, intersections_in, open_draft_in, orders_seen, overdue_in, register_in, rest_of, state_in, stock_in, timing_in}
+use Rattle.signal_office_queries.specs.Seen.{IsMadeOfAnswers}
+use Rattle.signal_office_queries.specs.declared.seen.ListedCabinet.{ListedCabinet}
+use Rattle.signal_office_queries.specs.declared.seen.Query.{Query}
+use Rattle.signal_office_queries.specs.declared.seen.Query.TheVariants as query
+use Rattle.signal_office_queries.specs.declared.seen.Seen.{Seen}
 use Rattle.signal_page.specs.Page.{IsPage}
 use Rattle.signal_page.specs.declared.shown.IntersectionShown.{IntersectionShown}
 use Rattle.signal_records.specs.TimingSet.{Rows}
@@ -72,105 +66,7 @@ queries_of (shown.Diagram id pattern) = query.Timing id ∷ []
 queries_of (shown.Page id linked) = query.State id ∷ query.Timing id ∷ query.OpenDraft id ∷ query.Cabinet id ∷ []
 queries_of (shown.Index day) = query.Cabinets ∷ query.Stock ∷ []
 
--- ---- what a query showed, or the fault of its refusal
-
--- the state of an intersection that was seen, or the fault
-abbrev pub state_in : Seen → Result IntersectionState Fault
-state_in (seen.Reply (reply.State state)) = Ok state
-state_in (seen.Reply (reply.Refused why)) = Err (fault_of why)
-state_in other = Err told.Store
-
--- the committed plan that was seen, or the fault
-abbrev pub timing_in : Seen → Result RunningTiming Fault
-timing_in (seen.Reply (reply.Timing timing)) = Ok timing
-timing_in (seen.Reply (reply.Refused why)) = Err (fault_of why)
-timing_in other = Err told.Store
-
--- the draft that was seen, or the fault
-abbrev pub draft_in : Seen → Result Rows Fault
-draft_in (seen.Reply (reply.Draft draft)) = Ok draft.rows
-draft_in (seen.Reply (reply.Refused why)) = Err (fault_of why)
-draft_in other = Err told.Store
-
--- where nobody holds a draft, there is none to show
-abbrev pub open_draft_in : Seen → Result (Option Rows) Fault
-open_draft_in (seen.Reply (reply.Draft draft)) = Ok (Some draft.rows)
-open_draft_in (seen.Reply (reply.Refused (refusal.Draft draft.NotTransaction))) = Ok None
-open_draft_in (seen.Reply (reply.Refused why)) = Err (fault_of why)
-open_draft_in other = Err told.Store
-
--- the register of a cabinet that was seen, or the fault
-abbrev pub cabinet_in : Seen → Result CabinetShown Fault
-cabinet_in (seen.Reply (reply.Cabinet cabinet)) = Ok cabinet
-cabinet_in (seen.Reply (reply.Refused why)) = Err (fault_of why)
-cabinet_in other = Err told.Store
-
--- the stock that was seen, or the fault
-abbrev pub stock_in : Seen → Result (List (List ℕ × ℕ)) Fault
-stock_in (seen.Reply (reply.Stock parts)) = Ok parts
-stock_in (seen.Reply (reply.Refused why)) = Err (fault_of why)
-stock_in other = Err told.Store
-
--- the list of the overdue that was seen, or the fault
-abbrev pub overdue_in : Seen → Result (List Listed) Fault
-overdue_in (seen.Reply (reply.Overdue listed)) = Ok listed
-overdue_in other = Err told.Store
-
--- the list of intersections that was seen, or the fault
-abbrev pub intersections_in : Seen → Result (List ListedIntersection) Fault
-intersections_in (seen.Intersections list) = Ok list
-intersections_in other = Err told.Store
-
--- the open orders that were seen, or the fault
-abbrev pub orders_seen : Seen → Result (List NamedOrder) Fault
-orders_seen (seen.Orders orders) = Ok orders
-orders_seen other = Err told.Store
-
--- the cabinets that were seen, or the fault
-abbrev pub cabinets_in : Seen → Result (List ListedCabinet) Fault
-cabinets_in (seen.Cabinets cabinets) = Ok cabinets
-cabinets_in other = Err told.Store
-
--- the first of what was seen, and the rest
-abbrev pub first_seen : List Seen → Seen
-first_seen [] = seen.Reply (reply.Refused refusal.Unavailable)
-first_seen (it ∷ rest) = it
-
--- what was seen after the first answer
-abbrev pub rest_of : List Seen → List Seen
-rest_of [] = []
-rest_of (it ∷ rest) = rest
-
--- ---- what is shown of several
-
--- what comes next, where a step gave a value; else its fault
-infixl 10 ◌>>=◌
--- a result that is used further, or its fault
-abbrev pub ◌>>=◌ : {A B : Type 0} → Result A Fault → (A → Result B Fault) → Result B Fault
-(Ok x) >>= f = f x
-(Err e) >>= f = Err e
-
--- the register of a cabinet, with what is known of its intersection
-abbrev pub register_of : (state cabinet : Seen) → Result (IntersectionState × CabinetShown) Fault
-register_of state cabinet = do
-  known ← state_in state
-  holds ← cabinet_in cabinet
-  Ok (known, holds)
-
--- the state and the register among what was seen
-abbrev pub register_in : List Seen → Result (IntersectionState × CabinetShown) Fault
-register_in found = register_of (first_seen found) (first_seen (rest_of found))
-
--- a committed timing set and its draft
-abbrev pub plans_of : (timing draft : Seen) → Result (Rows × Rows) Fault
-plans_of timing draft = do
-  runs ← timing_in timing
-  drafted ← draft_in draft
-  Ok (runs.rows, drafted)
-
--- the two plans among what was seen
-abbrev pub plans_in : List Seen → Result (Rows × Rows) Fault
-plans_in found = plans_of (first_seen found) (first_seen (rest_of found))
+-- ---- what is shown
 
 -- a committed timing set that has a pattern
 abbrev pub if_with : ℕ → Rows → Result Rows Fault
@@ -229,11 +125,9 @@ used_among part cabinets = flat_map (parts_used_in part) cabinets
 
 -- ---- the texts
 
--- the text says this of what is shown; or nothing is, or memory was refused, and this is why
-abbrev pub IsTextOf : {A B : Type 0} → (text : A → B → Type 0) → Result A Fault → Result B Fault → Type 0
-IsTextOf text (Ok it) (Ok bytes) = text it bytes
-IsTextOf text (Err cause) (Ok bytes) = ⊥
-IsTextOf text it (Err why) = (why ≡ told.Memory) ⊎ (it ≡ Err why)
+-- the overdue on a day as CSV or as a report
+abbrev pub overdue_written : Bool → ℕ → List OverdueRow → List ℕ
+overdue_written csv day rows = if csv then overdue_csv_text rows else overdue_report day rows
 
 -- the text of the open orders, of all or of one intersection, is made of what was seen
 abbrev pub IsOrdersMade : Option ℕ → (csv : Bool) → List Seen → Result (List ℕ) Fault → Type 0

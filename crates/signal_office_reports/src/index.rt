@@ -2,15 +2,15 @@
 
 ghost use Rattle.std.specs.Prelude.{◌≡◌, flat_map, map, IfOk};
 ghost use Rattle.signal_office_reports.specs.Reports.{IsMade, IsUsedMade, index_entry_of, index_in, index_of, index_shown, named_of, used_among};
-ghost use Rattle.signal_office_reports.specs.Seen.{Gives};
+ghost use Rattle.signal_office_queries.specs.Seen.{Gives};
 
-use crate::parts::{cabinets_in, first_seen, next_of, stock_in};
-use crate::seen::{ListedCabinet, Seen};
 use cabinet_core::{Day, PartCode};
-use office_listings::{NamedOrder, UsedPart, add_named_orders, add_used, used_list};
+use office_listings::{UsedPart, add_used, used_list};
+use office_machine::orders::{NamedOrder, add_named_orders};
 use office_machine::reply::Stock;
 use signal_office_faults::Fault;
 use signal_office_line::Shown;
+use signal_office_queries::{ListedCabinet, Seen, cabinets_in, first_seen, next_of, stock_in};
 use signal_page::{IndexEntry, IndexShown, add_entry, index_page};
 use signal_records::{Listing, NoMemory};
 use std::alloc::Global;

@@ -2,12 +2,11 @@
 
 ghost use Rattle.std.specs.Prelude.{◌≡◌};
 ghost use Rattle.signal_office_reports.specs.Reports.{IsMade, page_in, page_of};
-ghost use Rattle.signal_office_reports.specs.Seen.{Gives};
+ghost use Rattle.signal_office_queries.specs.Seen.{Gives};
 
-use crate::parts::{cabinet_in, next_of, open_draft_in, state_in, timing_in};
-use crate::seen::Seen;
 use signal_office_faults::Fault;
 use signal_office_line::Shown;
+use signal_office_queries::{Seen, cabinet_in, next_of, open_draft_in, state_in, timing_in};
 use signal_page::{IntersectionShown, intersection_page};
 use signal_records::InterId;
 use std::alloc::Global;

@@ -3,8 +3,8 @@
 ghost use Rattle.std.specs.Prelude.{◌≡◌, IfOk};
 ghost use Rattle.signal_office_reports.specs.Reports.{export_queries, orders_queries, queries_of};
 
-use crate::seen::Query;
 use signal_office_line::{Shown, View};
+use signal_office_queries::Query;
 use signal_records::{InterId, NoMemory};
 use std::alloc::Global;
 

@@ -3,18 +3,17 @@
 ghost use Rattle.office_desk.specs.Running.{TellsTables};
 ghost use Rattle.office_tables_shelf.specs.Keeps.{KeepsShelf};
 ghost use Rattle.signal_office_reports.specs.Reports.{IsShown, IsUsedShown, queries_of};
-ghost use Rattle.signal_office_reports.specs.Seen.{Gives, Looks};
+ghost use Rattle.signal_office_queries.specs.Seen.{Gives, Looks};
 
 use crate::index::used_text_of;
-use crate::looking::look;
 use crate::queries::queries_of;
-use crate::seen::{Query, Seen};
 use crate::text::text_by;
 use cabinet_core::PartCode;
 use office_desk::office::Office;
 use office_tables_shelf::shelf::Shelf;
 use signal_office_faults::Fault;
 use signal_office_line::Shown;
+use signal_office_queries::{Query, Seen, look};
 use std::alloc::Global;
 
 /// What is seen for it.

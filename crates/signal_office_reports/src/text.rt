@@ -1,27 +1,25 @@
 //! The text of a report, made of what was seen. No office is asked.
 
-ghost use Rattle.std.specs.Prelude.{false, true, IfErr, IfOk, None, Some};
-ghost use Rattle.signal_office_reports.specs.Drawing.{Draws, DrawsNone};
+ghost use Rattle.std.specs.Prelude.{false, true, None, Some};
 ghost use Rattle.signal_office_reports.specs.Reports.{IsExportMade, IsMade, IsOrdersMade};
-ghost use Rattle.signal_office_reports.specs.Seen.{Gives};
+ghost use Rattle.signal_office_queries.specs.Seen.{Gives};
 
 use crate::index::index;
 use crate::page::page;
-use crate::parts::{
-    cabinet_in, draft_in, first_seen, intersections_in, orders_seen, overdue_in, register_in,
-    stock_in, timing_in,
-};
-use crate::seen::Seen;
 use cabinet_core::Day;
 use office_files::{overdue_text, records_csv, timing_csv, timing_sheet};
 use office_listings::{
-    add_named_orders, add_open_orders, cabinet_text, intersections_list, orders_list, orders_text,
-    overdue_csv, stock_list,
+    cabinet_text, intersections_list, orders_list, orders_text, overdue_csv, stock_list,
 };
+use office_machine::orders::{add_named_orders, add_open_orders};
 use signal_diagram::diagram;
 use signal_office_faults::Fault;
 use signal_office_line::{Shown, View};
-use signal_records::{InterId, PatternNo, TimingSet};
+use signal_office_queries::{
+    Seen, cabinet_in, draft_in, first_seen, intersections_in, orders_seen, overdue_in, register_in,
+    stock_in, timing_in,
+};
+use signal_records::{InterId, PatternNo};
 use std::alloc::Global;
 
 fn sheet(alloc: Global, id: InterId, seen: Vec<Seen>) -> Result<Vec<u8>, Fault>
@@ -134,17 +132,6 @@ fn export(alloc: Global, view: View, seen: Vec<Seen>) -> Result<Vec<u8>, Fault>
     }
 }
 
-/// The picture of a pattern, which the plan has to have.
-pub fn draw(alloc: Global, plan: &TimingSet, pattern: PatternNo) -> Result<Vec<u8>, Fault>
-    ensures draws { IfOk result (λ text. Draws plan.now pattern text.items) }
-    ensures fault { IfErr result (DrawsNone plan.now pattern) }
-{
-    match diagram(alloc, plan, pattern)? {
-        Some(text) => Ok(text),
-        None => Err(Fault::UnknownPattern),
-    }
-}
-
 fn picture(
     alloc: Global,
     id: InterId,
@@ -154,7 +141,10 @@ fn picture(
     ensures { Gives (IsMade (Shown.Diagram id pattern) seen.items) result }
 {
     let timing = timing_in(first_seen(seen))?;
-    draw(alloc, &timing.rows, pattern)
+    match diagram(alloc, &timing.rows, pattern)? {
+        Some(text) => Ok(text),
+        None => Err(Fault::UnknownPattern),
+    }
 }
 
 /// What is made of what was seen.

@@ -2,8 +2,8 @@
 use Rattle.std.specs.Prelude.{◌≡◌, ℕ, List, [], ◌∷◌, ◌++◌, filter, length, map, codes, Option, Some, None}
 use Rattle.cabinet_core.specs.Orders.{is_open}
 use Rattle.cabinet_core.specs.Overdue.{latest_day}
-use Rattle.office_listings.specs.Intersections.{state_word}
-use Rattle.office_listings.specs.declared.orders.NamedOrder.{NamedOrder}
+use Rattle.office_files.specs.States.{state_word}
+use Rattle.office_machine.specs.declared.orders.NamedOrder.{NamedOrder}
 use Rattle.office_machine.specs.declared.intersections.ListedIntersection.{ListedIntersection}
 use Rattle.office_machine.specs.declared.reply.CabinetShown.{CabinetShown}
 use Rattle.signal_records.specs.declared.state.Holder.{Holder}

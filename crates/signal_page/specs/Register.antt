@@ -9,7 +9,7 @@ use Rattle.cabinet_core.specs.declared.record.Inspection.{Inspection}
 use Rattle.cabinet_core.specs.declared.record.Order.{Order}
 use Rattle.cabinet_core.specs.declared.record.UsedLine.{UsedLine}
 use Rattle.office_files.specs.Records.{is_line_of}
-use Rattle.office_listings.specs.Next.{next_numbers_words}
+use Rattle.office_files.specs.NextNumbers.{next_numbers_words}
 use Rattle.signal_page.specs.Nodes.{Shown, Own, Number, Head, Day, Name, Parts}
 use Rattle.signal_page.specs.Tables.{Heading, Numbers, Words, TableLine, Row, table}
 

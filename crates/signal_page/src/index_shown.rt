@@ -4,8 +4,8 @@ ghost use Rattle.std.specs.Prelude.{◌≡◌, ◌∷◌, ◌++◌, [], IfOk, On
 ghost use Rattle.signal_page.specs.Index.{index_entry};
 
 use cabinet_core::{Day, latest, open_count};
-use office_listings::NamedOrder;
 use office_machine::intersections::ListedIntersection;
+use office_machine::orders::NamedOrder;
 use office_machine::reply::{CabinetShown, Stock};
 use signal_records::state::Holder;
 use signal_records::{Listing, NoMemory};

@@ -10,7 +10,7 @@ use crate::columns::{CLOSED_COLUMNS, INSPECTION_COLUMNS, OPEN_COLUMNS};
 use crate::nodes::{Node, push_nodes};
 use crate::tables::{end_table, open_table, push_row};
 use cabinet_core::{CabinetView, Closing, Day, Inspection, Order, UsedLine, due, latest};
-use office_listings::push_next_numbers;
+use office_files::push_next_numbers;
 use signal_records::{Interval, NoMemory};
 use std::alloc::AllocError;
 

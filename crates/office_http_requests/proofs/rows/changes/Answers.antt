@@ -3,7 +3,7 @@ use Rattle.std.proofs.lemmas.Result.{err_from_is_err_and}
 use Rattle.signal_records.specs.{Reading.change_at, Reading.texts, Within.current_limits}
 use Rattle.office_files.specs.CsvRow.{rows_from}
 use Rattle.office_files.proofs.CsvRowLemmas.{told-next, told-stop}
-use Rattle.office_http_faults.specs.AskFault.{ask_fault}
+use Rattle.office_http_requests.specs.AskFault.{ask_fault}
 use Rattle.office_http_requests.specs.{FaultsInOrder.or_bad_row, Rows.PutsListAt, Rows.RowRefs}
 use Rattle.office_http_requests.proofs.RowLemmas.{any_row, told_memory}
 use Rattle.office_http_requests.proofs.rows.changes.Goals as goal

@@ -2,7 +2,7 @@ use Rattle.std.proofs.Common.{◌≡◌, refl}
 use Rattle.std.specs.Fmt.{digits}
 use Rattle.serde_json.proofs.OnLiterals.{serde_json_on_literals}
 use Rattle.office_machine.specs.{declared.refusal.Refusal.TheVariants.Damaged, declared.reply.Reply.TheVariants.Refused}
-use Rattle.office_http_faults.specs.{declared.form.Form.Form, declared.form.Form.TheVariants.Json, declared.form.Form.TheVariants.Csv}
+use Rattle.office_http_requests.specs.{declared.form.Form.Form, declared.form.Form.TheVariants.Json, declared.form.Form.TheVariants.Csv}
 use Rattle.office_http_responses.specs.Answers.{answer_with, answer_bytes}
 use Rattle.office_http_responses.proofs.answer.damaged.Goals as goal
 

@@ -5,7 +5,7 @@ use Rattle.office_machine.specs.declared.reply.Reply.TheVariants as reply
 use Rattle.signal_office_commands.proofs.InTurnLemmas.{stop_none}
 use Rattle.signal_office_commands.proofs.abandoning.abandon_draft.Goals as goal
 use Rattle.signal_office_commands.specs.{Commands.Abandons, InTurn.RunsInTurn, Stopping.AfterAbandoning, Stopping.StopLeaves}
-use Rattle.signal_office_reports.proofs.SeenLemmas.{handed}
+use Rattle.signal_office_queries.proofs.SeenLemmas.{handed}
 
 pub returns-clause-abandons : goal.returns-clause-abandons
 returns-clause-abandons g c = λ clean tables held.

@@ -5,7 +5,7 @@ use Rattle.office_machine.specs.declared.reply.Reply.TheVariants as reply
 use Rattle.signal_office_commands.proofs.InTurnLemmas.{stop_none}
 use Rattle.signal_office_commands.proofs.adding.add_intersection.Goals as goal
 use Rattle.signal_office_commands.specs.{Commands.AddsIntersection, InTurn.RunsInTurn, Stopping.AfterAdding, Stopping.StopLeaves}
-use Rattle.signal_office_reports.proofs.SeenLemmas.{handed}
+use Rattle.signal_office_queries.proofs.SeenLemmas.{handed}
 
 pub returns-clause-adds : goal.returns-clause-adds
 returns-clause-adds g c = λ clean tables held.

@@ -2,7 +2,7 @@ use Rattle.std.proofs.Common.{Result, Ok, ap, subst, ◌∙◌}
 use Rattle.office_machine.specs.declared.reply.RunningTiming.{RunningTiming}
 use Rattle.signal_office_commands.specs.Comparing.{IsCompared}
 use Rattle.signal_office_faults.specs.declared.fault.Fault.{Fault}
-use Rattle.signal_office_reports.specs.Reports.{timing_in}
+use Rattle.signal_office_queries.specs.Parts.{timing_in}
 use Rattle.signal_office_commands.proofs.comparing.compare_running.Goals as goal
 
 pub returns : goal.returns

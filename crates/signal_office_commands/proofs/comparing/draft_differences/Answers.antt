@@ -1,11 +1,12 @@
 use Rattle.std.proofs.Common.{[], ◌∷◌, Err, refl}
 use Rattle.signal_office_commands.specs.Comparing.{ComparesDraft}
 use Rattle.signal_plans.specs.Difference.{AreTold}
-use Rattle.signal_office_reports.proofs.LookLemmas.{made_of_seen}
-use Rattle.signal_office_reports.proofs.SeenLemmas.{handed}
-use Rattle.signal_office_reports.specs.Reports.{IsTextOf, plans_in}
-use Rattle.signal_office_reports.specs.Seen.{Gives}
-use Rattle.signal_office_reports.specs.declared.seen.Query.TheVariants as query
+use Rattle.signal_office_queries.proofs.LookLemmas.{made_of_seen}
+use Rattle.signal_office_queries.proofs.SeenLemmas.{handed}
+use Rattle.signal_office_queries.specs.Parts.{IsTextOf}
+use Rattle.signal_office_commands.specs.Comparing.{plans_in}
+use Rattle.signal_office_queries.specs.Seen.{Gives}
+use Rattle.signal_office_queries.specs.declared.seen.Query.TheVariants as query
 use Rattle.signal_office_commands.proofs.comparing.draft_differences.Goals as goal
 
 pub returns-clause-compares : goal.returns-clause-compares

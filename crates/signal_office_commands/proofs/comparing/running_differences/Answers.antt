@@ -1,10 +1,10 @@
 use Rattle.std.proofs.Common.{[], ◌∷◌, Err, refl}
 use Rattle.signal_office_commands.specs.Comparing.{ComparesRunning, IsCompared}
-use Rattle.signal_office_reports.proofs.LookLemmas.{made_of_seen}
-use Rattle.signal_office_reports.proofs.SeenLemmas.{handed}
-use Rattle.signal_office_reports.specs.Reports.{first_seen, timing_in}
-use Rattle.signal_office_reports.specs.Seen.{Gives}
-use Rattle.signal_office_reports.specs.declared.seen.Query.TheVariants as query
+use Rattle.signal_office_queries.proofs.LookLemmas.{made_of_seen}
+use Rattle.signal_office_queries.proofs.SeenLemmas.{handed}
+use Rattle.signal_office_queries.specs.Parts.{first_seen, timing_in}
+use Rattle.signal_office_queries.specs.Seen.{Gives}
+use Rattle.signal_office_queries.specs.declared.seen.Query.TheVariants as query
 use Rattle.signal_office_commands.proofs.comparing.running_differences.Goals as goal
 
 pub returns-clause-compares : goal.returns-clause-compares

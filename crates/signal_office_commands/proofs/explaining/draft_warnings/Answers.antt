@@ -1,10 +1,10 @@
 use Rattle.std.proofs.Common.{[], ◌∷◌, Err, refl}
 use Rattle.signal_office_commands.specs.Explaining.{AreWarnings, WarnsOfDraft}
-use Rattle.signal_office_reports.proofs.LookLemmas.{made_of_seen}
-use Rattle.signal_office_reports.proofs.SeenLemmas.{handed}
-use Rattle.signal_office_reports.specs.Reports.{IsTextOf, draft_in, first_seen}
-use Rattle.signal_office_reports.specs.Seen.{Gives}
-use Rattle.signal_office_reports.specs.declared.seen.Query.TheVariants as query
+use Rattle.signal_office_queries.proofs.LookLemmas.{made_of_seen}
+use Rattle.signal_office_queries.proofs.SeenLemmas.{handed}
+use Rattle.signal_office_queries.specs.Parts.{IsTextOf, draft_in, first_seen}
+use Rattle.signal_office_queries.specs.Seen.{Gives}
+use Rattle.signal_office_queries.specs.declared.seen.Query.TheVariants as query
 use Rattle.signal_office_commands.proofs.explaining.draft_warnings.Goals as goal
 
 pub returns-clause-warns : goal.returns-clause-warns

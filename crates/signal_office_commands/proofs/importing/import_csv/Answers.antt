@@ -5,7 +5,7 @@ use Rattle.office_machine.specs.declared.reply.Reply.TheVariants as reply
 use Rattle.signal_office_commands.proofs.InTurnLemmas.{stop_by, stop_none}
 use Rattle.signal_office_commands.proofs.importing.import_csv.Goals as goal
 use Rattle.signal_office_commands.specs.{Importing.Imports, InTurn.RunsInTurn, Stopping.StopLeaves}
-use Rattle.signal_office_reports.proofs.SeenLemmas.{handed}
+use Rattle.signal_office_queries.proofs.SeenLemmas.{handed}
 
 pub returns-clause-imports : goal.returns-clause-imports
 returns-clause-imports g c = λ clean tables held.

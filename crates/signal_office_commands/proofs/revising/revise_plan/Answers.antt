@@ -4,7 +4,7 @@ use Rattle.signal_office_commands.proofs.ReplacingLemmas.{plan_left_by}
 use Rattle.signal_office_commands.proofs.RevisedLemmas.{looking_stops, revises_as, revises_by, revises_idly, revises_not, revising_stops}
 use Rattle.signal_office_commands.proofs.revising.revise_plan.Goals as goal
 use Rattle.signal_office_commands.specs.Revising.{RevisesSo, wrote_timing}
-use Rattle.signal_office_reports.proofs.SeenLemmas.{handed}
+use Rattle.signal_office_queries.proofs.SeenLemmas.{handed}
 
 pub returns-in-Some-clause-writes : goal.returns-in-Some-clause-writes
 returns-in-Some-clause-writes g c =

@@ -1,7 +1,7 @@
 use Rattle.std.proofs.Common.{inl, inr, refl, rules}
 use Rattle.signal_office_commands.proofs.revising.revision_in.Goals as goal
 use Rattle.signal_office_commands.specs.Revising.{ComesTo}
-use Rattle.signal_office_reports.proofs.SeenLemmas.{handed}
+use Rattle.signal_office_queries.proofs.SeenLemmas.{handed}
 
 pub returns-clause-comes : goal.returns-clause-comes
 returns-clause-comes g c = λ clean tables held.

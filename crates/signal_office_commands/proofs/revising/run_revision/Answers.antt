@@ -4,7 +4,7 @@ use Rattle.signal_office_commands.proofs.FaultLemmas.{err_is}
 use Rattle.signal_office_commands.proofs.RevisedLemmas.{drafts_not, drafts_then, either_stops, first_stops}
 use Rattle.signal_office_commands.proofs.revising.run_revision.Goals as goal
 use Rattle.signal_office_commands.specs.Revising.{commands_due, outcome_of, revised}
-use Rattle.signal_office_reports.specs.Reports.{◌>>=◌}
+use Rattle.signal_office_queries.specs.Parts.{◌>>=◌}
 
 pub returns-in_err-reply-clause-drafts : goal.returns-in_err-reply-clause-drafts
 returns-in_err-reply-clause-drafts g c =

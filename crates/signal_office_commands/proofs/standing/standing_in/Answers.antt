@@ -1,6 +1,6 @@
 use Rattle.std.proofs.Common.{Ok, Err, refl}
 use Rattle.signal_office_commands.specs.Standing.{StandsAs}
-use Rattle.signal_office_reports.proofs.SeenLemmas.{handed}
+use Rattle.signal_office_queries.proofs.SeenLemmas.{handed}
 use Rattle.signal_office_commands.proofs.standing.standing_in.Goals as goal
 
 pub returns-clause-stands : goal.returns-clause-stands

@@ -1,7 +1,7 @@
 use Rattle.std.proofs.Common.{◌++◌, [], ◌∷◌, List, Ok, Err, arith, refl, subst}
 use Rattle.std.proofs.lemmas.List.{take_all}
 use Rattle.office_tables_shelf.specs.Content.{Content}
-use Rattle.signal_office_reports.proofs.SeenLemmas.{◌then◌}
+use Rattle.signal_office_queries.proofs.SeenLemmas.{◌then◌}
 use Rattle.signal_office_line.specs.declared.shows.Shown.{Shown}
 use Rattle.signal_office_jobs.specs.Filed.{file_name}
 use Rattle.signal_office_jobs.specs.Filled.{AreFilesOf}

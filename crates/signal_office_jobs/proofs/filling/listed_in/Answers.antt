@@ -1,9 +1,9 @@
 use Rattle.std.proofs.Common.{[], ◌∷◌, Ok, Err, ap, refl, ◌∙◌}
 use Rattle.signal_office_commands.proofs.HonestLemmas.{honest_tells}
-use Rattle.signal_office_reports.proofs.SeenLemmas.{handed}
-use Rattle.signal_office_reports.specs.Reports.{intersections_in}
-use Rattle.signal_office_reports.specs.Seen.{Looks}
-use Rattle.signal_office_reports.specs.declared.seen.Query.TheVariants as query
+use Rattle.signal_office_queries.proofs.SeenLemmas.{handed}
+use Rattle.signal_office_queries.specs.Parts.{intersections_in}
+use Rattle.signal_office_queries.specs.Seen.{Looks}
+use Rattle.signal_office_queries.specs.declared.seen.Query.TheVariants as query
 use Rattle.signal_office_jobs.specs.Filled.{ListsOffice}
 use Rattle.signal_office_jobs.proofs.filling.listed_in.Goals as goal
 

@@ -1,6 +1,6 @@
 use Rattle.signal_office_commands.proofs.HonestLemmas.{honest_tells}
 use Rattle.signal_office_reports.specs.Reports.{IsShown}
-use Rattle.signal_office_reports.specs.Seen.{Gives}
+use Rattle.signal_office_queries.specs.Seen.{Gives}
 use Rattle.signal_office_jobs.proofs.office.shown_of.Goals as goal
 
 pub returns-clause-shown : goal.returns-clause-shown

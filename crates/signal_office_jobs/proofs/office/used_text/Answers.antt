@@ -1,9 +1,9 @@
 use Rattle.std.proofs.Common.{Err, refl, subst}
 use Rattle.signal_office_commands.proofs.HonestLemmas.{honest_tells}
 use Rattle.signal_office_faults.specs.declared.fault.Fault.TheVariants as fault
-use Rattle.signal_office_reports.proofs.SeenLemmas.{handed, unseen_memory}
+use Rattle.signal_office_queries.proofs.SeenLemmas.{handed, unseen_memory}
 use Rattle.signal_office_reports.specs.Reports.{IsUsedShown}
-use Rattle.signal_office_reports.specs.Seen.{Gives}
+use Rattle.signal_office_queries.specs.Seen.{Gives}
 use Rattle.signal_office_jobs.proofs.office.used_text.Goals as goal
 
 pub returns-clause-shown : goal.returns-clause-shown

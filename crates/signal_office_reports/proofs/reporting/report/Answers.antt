@@ -1,8 +1,8 @@
 use Rattle.std.proofs.Common.{Err, refl}
-use Rattle.signal_office_reports.proofs.LookLemmas.{made_of_seen}
-use Rattle.signal_office_reports.proofs.SeenLemmas.{handed}
+use Rattle.signal_office_queries.proofs.LookLemmas.{made_of_seen}
+use Rattle.signal_office_queries.proofs.SeenLemmas.{handed}
 use Rattle.signal_office_reports.specs.Reports.{IsMade, IsShown, queries_of}
-use Rattle.signal_office_reports.specs.Seen.{Gives}
+use Rattle.signal_office_queries.specs.Seen.{Gives}
 use Rattle.signal_office_reports.proofs.reporting.report.Goals as goal
 
 pub returns-clause-shown : goal.returns-clause-shown

@@ -1,10 +1,10 @@
 use Rattle.std.proofs.Common.{List, ◌∙◌, subst}
 use Rattle.signal_office_faults.specs.declared.fault.Fault.TheVariants as told
-use Rattle.signal_office_reports.proofs.LookLemmas.{kept_same}
-use Rattle.signal_office_reports.proofs.SeenLemmas.{handed, unseen_memory}
+use Rattle.signal_office_queries.proofs.LookLemmas.{kept_same}
+use Rattle.signal_office_queries.proofs.SeenLemmas.{handed, unseen_memory}
 use Rattle.signal_office_reports.specs.Reports.{queries_of}
-use Rattle.signal_office_reports.specs.Seen.{Gives, Looks, MeetsAny}
-use Rattle.signal_office_reports.specs.declared.seen.Query.{Query}
+use Rattle.signal_office_queries.specs.Seen.{Gives, Looks, MeetsAny}
+use Rattle.signal_office_queries.specs.declared.seen.Query.{Query}
 use Rattle.signal_office_reports.proofs.reporting.seen_for.Goals as goal
 
 pub returns-clause-looks : goal.returns-clause-looks

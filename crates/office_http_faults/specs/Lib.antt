@@ -1,2 +1,0 @@
-pub mod AskFault
-pub mod Fields

@@ -1,0 +1,81 @@
+//! Open orders as lists show them, each with its intersection.
+
+ghost use Rattle.std.specs.Prelude.{◌≡◌, ◌++◌, OnOk, IfOk, filter, map};
+ghost use Rattle.cabinet_core.specs.Orders.{is_open};
+ghost use Rattle.office_machine.specs.Orders.{named_orders, open_orders, order_named, order_on};
+
+use crate::reply::CabinetShown;
+use cabinet_core::Order;
+use signal_records::{InterId, NoMemory, Words};
+
+/// An open order, with its intersection.
+#[derive(Drop)]
+pub struct OpenOrder {
+    pub id: InterId,
+    pub order: Order,
+}
+
+/// An open order, with the number and the name of its intersection.
+#[derive(Drop)]
+pub struct NamedOrder {
+    pub name: Words<120>,
+    pub listed: OpenOrder,
+}
+
+/// Appends the open orders of a cabinet, by their numbers.
+pub fn add_open_orders(found: &mut Vec<OpenOrder>, cabinet: &CabinetShown) -> Result<(), NoMemory>
+    ensures { OnOk result (found.new.items ≡ found.old.items ++ open_orders cabinet.now) }
+{
+    for order in cabinet.view.orders.as_slice() {
+        if order.closing.is_none() {
+            let order = order.clone()?;
+            found.push(OpenOrder {
+                id: cabinet.id,
+                order,
+            })?;
+        }
+    }
+    Ok(())
+}
+
+/// An order with the number and the name of its intersection.
+fn order_named(name: &Words<120>, id: InterId, order: &Order) -> Result<NamedOrder, NoMemory>
+    ensures { IfOk result (λ named. named ≡ order_named name.now id order.now) }
+{
+    let name = name.clone()?;
+    let order = order.clone()?;
+    Ok(NamedOrder {
+        name,
+        listed: OpenOrder { id, order },
+    })
+}
+
+/// Appends those of some orders on an intersection that are open, with its name.
+pub fn add_named(
+    found: &mut Vec<NamedOrder>,
+    name: &Words<120>,
+    id: InterId,
+    orders: &[Order],
+) -> Result<(), NoMemory>
+    ensures { OnOk result (found.new.items ≡
+        found.old.items ++ map (order_named name.now id) (filter is_open orders.now)) }
+{
+    for order in orders {
+        let is_open = order.closing.is_none();
+        if is_open {
+            found.push(order_named(name, id, order)?)?;
+        }
+    }
+    Ok(())
+}
+
+/// Appends the open orders of a cabinet, by their numbers, with the name of its intersection.
+pub fn add_named_orders(
+    found: &mut Vec<NamedOrder>,
+    name: &Words<120>,
+    cabinet: &CabinetShown,
+) -> Result<(), NoMemory>
+    ensures { OnOk result (found.new.items ≡ found.old.items ++ named_orders name.now cabinet.now) }
+{
+    add_named(found, name, cabinet.id, cabinet.view.orders.as_slice())
+}

@@ -1,0 +1,3 @@
+pub mod SeenLemmas
+pub mod LookLemmas
+mod GatheringLemmas

@@ -1,0 +1,5 @@
+pub mod Refused
+pub mod NamedOrders
+pub mod Seen
+pub mod Gathering
+pub mod Parts

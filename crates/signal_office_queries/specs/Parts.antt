@@ -1,0 +1,113 @@
+-- What a query showed, or the fault of its refusal.
+use Rattle.std.specs.Prelude.{◌≡◌, ◌⊎◌, List, [], ◌∷◌, ℕ, Option, Some, None, Result, Ok, Err}
+use Rattle.cabinet_core.specs.Overdue.{Listed}
+use Rattle.draft_core.specs.declared.refusal.DraftRefusal.TheVariants as draft
+use Rattle.office_machine.specs.declared.intersections.ListedIntersection.{ListedIntersection}
+use Rattle.office_machine.specs.declared.orders.NamedOrder.{NamedOrder}
+use Rattle.office_machine.specs.declared.refusal.Refusal.TheVariants as refusal
+use Rattle.office_machine.specs.declared.reply.CabinetShown.{CabinetShown}
+use Rattle.office_machine.specs.declared.reply.IntersectionState.{IntersectionState}
+use Rattle.office_machine.specs.declared.reply.Reply.TheVariants as reply
+use Rattle.office_machine.specs.declared.reply.RunningTiming.{RunningTiming}
+use Rattle.signal_office_faults.specs.declared.fault.Fault.{Fault}
+use Rattle.signal_office_faults.specs.declared.fault.Fault.TheVariants as told
+use Rattle.signal_office_queries.specs.Refused.{fault_of}
+use Rattle.signal_office_queries.specs.declared.seen.ListedCabinet.{ListedCabinet}
+use Rattle.signal_office_queries.specs.declared.seen.Seen.{Seen}
+use Rattle.signal_office_queries.specs.declared.seen.Seen.TheVariants as seen
+use Rattle.signal_records.specs.TimingSet.{Rows}
+
+-- the state of an intersection that was seen, or the fault
+abbrev pub state_in : Seen → Result IntersectionState Fault
+state_in (seen.Reply (reply.State state)) = Ok state
+state_in (seen.Reply (reply.Refused why)) = Err (fault_of why)
+state_in other = Err told.Store
+
+-- the committed plan that was seen, or the fault
+abbrev pub timing_in : Seen → Result RunningTiming Fault
+timing_in (seen.Reply (reply.Timing timing)) = Ok timing
+timing_in (seen.Reply (reply.Refused why)) = Err (fault_of why)
+timing_in other = Err told.Store
+
+-- the draft that was seen, or the fault
+abbrev pub draft_in : Seen → Result Rows Fault
+draft_in (seen.Reply (reply.Draft draft)) = Ok draft.rows
+draft_in (seen.Reply (reply.Refused why)) = Err (fault_of why)
+draft_in other = Err told.Store
+
+-- where nobody holds a draft, there is none to show
+abbrev pub open_draft_in : Seen → Result (Option Rows) Fault
+open_draft_in (seen.Reply (reply.Draft draft)) = Ok (Some draft.rows)
+open_draft_in (seen.Reply (reply.Refused (refusal.Draft draft.NotTransaction))) = Ok None
+open_draft_in (seen.Reply (reply.Refused why)) = Err (fault_of why)
+open_draft_in other = Err told.Store
+
+-- the register of a cabinet that was seen, or the fault
+abbrev pub cabinet_in : Seen → Result CabinetShown Fault
+cabinet_in (seen.Reply (reply.Cabinet cabinet)) = Ok cabinet
+cabinet_in (seen.Reply (reply.Refused why)) = Err (fault_of why)
+cabinet_in other = Err told.Store
+
+-- the stock that was seen, or the fault
+abbrev pub stock_in : Seen → Result (List (List ℕ × ℕ)) Fault
+stock_in (seen.Reply (reply.Stock parts)) = Ok parts
+stock_in (seen.Reply (reply.Refused why)) = Err (fault_of why)
+stock_in other = Err told.Store
+
+-- the list of the overdue that was seen, or the fault
+abbrev pub overdue_in : Seen → Result (List Listed) Fault
+overdue_in (seen.Reply (reply.Overdue listed)) = Ok listed
+overdue_in other = Err told.Store
+
+-- the list of intersections that was seen, or the fault
+abbrev pub intersections_in : Seen → Result (List ListedIntersection) Fault
+intersections_in (seen.Intersections list) = Ok list
+intersections_in other = Err told.Store
+
+-- the open orders that were seen, or the fault
+abbrev pub orders_seen : Seen → Result (List NamedOrder) Fault
+orders_seen (seen.Orders orders) = Ok orders
+orders_seen other = Err told.Store
+
+-- the cabinets that were seen, or the fault
+abbrev pub cabinets_in : Seen → Result (List ListedCabinet) Fault
+cabinets_in (seen.Cabinets cabinets) = Ok cabinets
+cabinets_in other = Err told.Store
+
+-- the first of what was seen, and the rest
+abbrev pub first_seen : List Seen → Seen
+first_seen [] = seen.Reply (reply.Refused refusal.Unavailable)
+first_seen (it ∷ rest) = it
+
+-- what was seen after the first answer
+abbrev pub rest_of : List Seen → List Seen
+rest_of [] = []
+rest_of (it ∷ rest) = rest
+
+-- ---- several that were seen
+
+-- what comes next, where a step gave a value; else its fault
+infixl 10 ◌>>=◌
+-- a result that is used further, or its fault
+abbrev pub ◌>>=◌ : {A B : Type 0} → Result A Fault → (A → Result B Fault) → Result B Fault
+(Ok x) >>= f = f x
+(Err e) >>= f = Err e
+
+-- the register of a cabinet, with what is known of its intersection
+abbrev pub register_of : (state cabinet : Seen) → Result (IntersectionState × CabinetShown) Fault
+register_of state cabinet = do
+  known ← state_in state
+  holds ← cabinet_in cabinet
+  Ok (known, holds)
+
+-- the state and the register among what was seen
+abbrev pub register_in : List Seen → Result (IntersectionState × CabinetShown) Fault
+register_in found = register_of (first_seen found) (first_seen (rest_of found))
+
+-- ---- what is made of it
+
+-- the text says this of what is shown; or nothing is, or memory was refused, and this is why
+abbrev pub IsTextOf : {A B : Type 0} → (text : A → B → Type 0) → Result A Fault → Result B Fault → Type 0
+IsTextOf text (Ok it) (Ok bytes) = text it bytes
+IsTextOf text (Err cause) (Ok bytes) = ⊥
+IsTextOf text it (Err why) = (why ≡ told.Memory) ⊎ (it ≡ Err why)

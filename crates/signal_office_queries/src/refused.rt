@@ -1,0 +1,62 @@
+//! How a refusal of the office is reported.
+
+ghost use Rattle.std.specs.Prelude.{◌≡◌};
+ghost use Rattle.signal_office_queries.specs.Refused.{fault_of, record_refusal, with_number};
+
+use cabinet_core::CabinetRefusal;
+use office_machine::refusal::Refusal;
+use signal_office_faults::Fault;
+
+/// The refusals that a record of the register may get.
+const OF_RECORDS: [Refusal; 11] = [
+    Refusal::UnknownIntersection,
+    Refusal::Cabinet(CabinetRefusal::InspectionDiffers),
+    Refusal::Cabinet(CabinetRefusal::OrderDiffers),
+    Refusal::Cabinet(CabinetRefusal::UnknownOrder),
+    Refusal::Cabinet(CabinetRefusal::OrderClosed),
+    Refusal::Cabinet(CabinetRefusal::DayBeforeOpening),
+    Refusal::Cabinet(CabinetRefusal::NoStock),
+    Refusal::Cabinet(CabinetRefusal::StockFull),
+    Refusal::Cabinet(CabinetRefusal::DeliveryDiffers),
+    Refusal::Cabinet(CabinetRefusal::LineDiffers),
+    Refusal::Cabinet(CabinetRefusal::CloseDiffers),
+];
+
+/// The first of some refusals that has a number.
+fn with_number(refusals: &[Refusal], number: u32) -> Option<Refusal>
+    ensures { result ≡ with_number number refusals.now }
+{
+    match refusals {
+        [] => None,
+        [first, rest @ ..] => {
+            if first.number() == number {
+                Some(*first)
+            } else {
+                with_number(rest, number)
+            }
+        }
+    }
+}
+
+/// The refusal of a record that has a number.
+fn record_refusal(number: u32) -> Option<Refusal>
+    ensures { result ≡ record_refusal number }
+{
+    with_number(&OF_RECORDS, number)
+}
+
+/// The fault that is reported of a refusal. A refused import tells its first refused record.
+pub fn fault_of(refusal: Refusal) -> Fault
+    ensures { result ≡ fault_of refusal }
+{
+    match refusal {
+        Refusal::UnknownIntersection => Fault::UnknownIntersection,
+        Refusal::Damaged => Fault::Damaged,
+        Refusal::Unavailable => Fault::Store,
+        Refusal::ImportRow { at, cause } => match record_refusal(cause) {
+            Some(refusal) => Fault::Record { at, refusal },
+            None => Fault::Refused(refusal),
+        },
+        refusal => Fault::Refused(refusal),
+    }
+}
