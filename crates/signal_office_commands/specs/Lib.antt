@@ -13,3 +13,6 @@ pub mod Telling
 pub mod Days
 pub mod Texts
 pub mod Checks
+pub mod Done
+pub mod Output
+pub mod Explained

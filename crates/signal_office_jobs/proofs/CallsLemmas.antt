@@ -6,9 +6,9 @@ use Rattle.signal_office_faults.specs.declared.fault.Fault.{Fault}
 use Rattle.signal_office_faults.specs.declared.fault.Fault.TheVariants as fault
 use Rattle.signal_office_in_file.specs.Calls.{AreCalled, FileCall, IsCalled, called}
 use Rattle.signal_office_in_file.specs.declared.Kind.{Kind}
-use Rattle.signal_office_jobs.specs.Done.{TellsOutcome}
-use Rattle.signal_office_jobs.specs.Output.{PrintsDone}
-use Rattle.signal_office_jobs.specs.declared.done.Done.{Done}
+use Rattle.signal_office_commands.specs.Done.{TellsOutcome}
+use Rattle.signal_office_commands.specs.Output.{PrintsDone}
+use Rattle.signal_office_commands.specs.declared.done.Done.{Done}
 
 -- a call by the path that a file has
 pub at_path : {A : Type 0} (old new : List FileCall) (path is : List ℕ) (wait : ℕ) (kind : Kind) → path ≡ is → IsCalled old new (called path wait kind) A

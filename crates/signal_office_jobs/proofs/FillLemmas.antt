@@ -11,7 +11,7 @@ use Rattle.signal_office_jobs.specs.Filed.{file_name, file_shown, files_in}
 use Rattle.signal_office_jobs.specs.Filled.{AreFilesOf, ChecksFiles, FillsWith, IsAnyUnshown, IsNotFilled, IsUnfilled, IsUnshownLate, ListsOffice, PutsFile, PutsFiles}
 use Rattle.signal_office_reports.specs.Reports.{IsShown}
 use Rattle.signal_office_jobs.specs.Requests.{FillsAs}
-use Rattle.signal_office_jobs.specs.declared.done.Done.{Done}
+use Rattle.signal_office_commands.specs.declared.done.Done.{Done}
 use Rattle.signal_office_jobs.specs.declared.filed.FileOf.{FileOf}
 use Rattle.signal_office_line.specs.declared.job.Folder.{Folder}
 

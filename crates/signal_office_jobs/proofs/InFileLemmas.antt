@@ -11,10 +11,10 @@ use Rattle.signal_office_faults.specs.declared.fault.Fault.TheVariants as fault
 use Rattle.signal_office_in_file.specs.Ended.{Effect, EndsOver, FileView, task_work}
 use Rattle.signal_office_in_file.specs.declared.Ended.{Ended}
 use Rattle.signal_office_in_file.specs.declared.Ended.TheVariants.{Unopened, Refused, Closed, Unclosed}
-use Rattle.signal_office_jobs.specs.Explained.{IsFileExplained, explained_file}
+use Rattle.signal_office_commands.specs.Explained.{IsFileExplained, explained_file}
 use Rattle.signal_office_jobs.specs.Jobs.{ChecksPlan, IsNoPlan, VerifiesFile}
-use Rattle.signal_office_jobs.specs.Output.{TellsNothing}
-use Rattle.signal_office_jobs.specs.declared.done.Done.{Done}
+use Rattle.signal_office_commands.specs.Output.{TellsNothing}
+use Rattle.signal_office_commands.specs.declared.done.Done.{Done}
 use Rattle.signal_records.specs.TimingSet.{Rows}
 
 -- where nothing was done, that is also what follows from it

@@ -8,7 +8,7 @@ use Rattle.signal_office_faults.specs.declared.fault.Fault.{Fault}
 use Rattle.signal_office_in_file.specs.Doing.{DoesTask}
 use Rattle.signal_office_jobs.proofs.StopLemmas.{changed_within, kept_within}
 use Rattle.signal_office_jobs.specs.Requests.{changing, looking}
-use Rattle.signal_office_jobs.specs.declared.done.Done.{Done}
+use Rattle.signal_office_commands.specs.declared.done.Done.{Done}
 
 module _ {S : Type 0} (g : Ghosts S) (old new : S) (result : Result Done Fault) where
   pub looks : (tells : Content → Result Done Fault → Type 0) → KeepsShelf g old new → (g.is_clean new → g.is_clean old)

@@ -10,7 +10,7 @@ use Rattle.signal_office_line.specs.declared.job.Edit.{Edit}
 use Rattle.signal_office_faults.specs.declared.fault.Fault.{Fault}
 use Rattle.signal_office_faults.specs.declared.fault.Fault.TheVariants as told
 use Rattle.signal_office_jobs.specs.Requests.{ComparesWith, EditsBy, IsCommittedTold, IsUntold, TellsEdit, TellsOpen, TellsRevised, committed_lines}
-use Rattle.signal_office_jobs.specs.declared.done.Done.{Done}
+use Rattle.signal_office_commands.specs.declared.done.Done.{Done}
 use Rattle.signal_plans.specs.declared.warning.Warning.{Warning}
 use Rattle.signal_rules.specs.declared.violation.Violation.{Violation}
 

@@ -14,9 +14,9 @@ use Rattle.office_machine.specs.Office.{Office}
 use Rattle.office_tables_shelf.specs.Content.{Content}
 use Rattle.office_tables_shelf.specs.declared.shelf.Shelf.{Ghosts}
 use Rattle.signal_office_faults.specs.declared.fault.Fault.{Fault}
-use Rattle.signal_office_jobs.specs.Done.{TellsOutcome}
+use Rattle.signal_office_commands.specs.Done.{TellsOutcome}
 use Rattle.signal_office_jobs.specs.Serving.{InTurn, ServesAs, ServesPort}
-use Rattle.signal_office_jobs.specs.declared.done.Done.{Done}
+use Rattle.signal_office_commands.specs.declared.done.Done.{Done}
 
 -- a fault that is passed on
 pub told_on : (why : Fault) (result : Result Done Fault) → IsErrAnd result (λ fault. fault ≡ why) → TellsOutcome {A = ⊤} (λ _. []) (Err why) result

@@ -6,10 +6,10 @@ use Rattle.signal_office_faults.specs.declared.fault.Fault.TheVariants as fault
 use Rattle.signal_office_in_file.specs.Ended.{EndsOver, FileView, copy_work, told_by}
 use Rattle.signal_office_in_file.specs.declared.Ended.{Ended}
 use Rattle.signal_office_jobs.specs.InFile.{IsMissing}
-use Rattle.signal_office_jobs.specs.Output.{Output, PrintsDone, TellsNothing, joined}
-use Rattle.signal_office_jobs.specs.Done.{TellsOutcome, copied_line}
+use Rattle.signal_office_commands.specs.Output.{Output, PrintsDone, TellsNothing, joined}
+use Rattle.signal_office_commands.specs.Done.{TellsOutcome, copied_line}
 use Rattle.signal_office_jobs.specs.declared.backup.Standing.{Standing}
-use Rattle.signal_office_jobs.specs.declared.done.Done.{Done}
+use Rattle.signal_office_commands.specs.declared.done.Done.{Done}
 
 -- A copy may be put where no log lies, which would bring another office back, nor a copy that was not finished; a file is replaced only by force.
 abbrev pub leaves_room : (force : Bool) → Standing → Bool

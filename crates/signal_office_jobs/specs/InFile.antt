@@ -5,9 +5,9 @@ use Rattle.signal_office_faults.specs.declared.fault.Fault.{Fault}
 use Rattle.signal_office_faults.specs.declared.fault.Fault.TheVariants as fault
 use Rattle.signal_office_in_file.specs.Ended.{Effect, EndsOver, FileView, IsCounted, task_work, told_by}
 use Rattle.signal_office_in_file.specs.declared.Ended.{Ended}
-use Rattle.signal_office_jobs.specs.Done.{TellsOutcome, migrated_line}
-use Rattle.signal_office_jobs.specs.Output.{Output, PrintsDone, TellsNothing, joined}
-use Rattle.signal_office_jobs.specs.declared.done.Done.{Done}
+use Rattle.signal_office_commands.specs.Done.{TellsOutcome, migrated_line}
+use Rattle.signal_office_commands.specs.Output.{Output, PrintsDone, TellsNothing, joined}
+use Rattle.signal_office_commands.specs.declared.done.Done.{Done}
 
 -- The task was done over the tables that the file held, and what it came to is printed once the file is closed, which holds the tables after it; or the file was
 -- refused or not closed, and that is reported: then a stop leaves of it what one leaves of the task.

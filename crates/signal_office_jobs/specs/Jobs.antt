@@ -23,15 +23,15 @@ use Rattle.signal_office_faults.specs.declared.fault.Fault.TheVariants as fault
 use Rattle.signal_office_in_file.specs.Ended.{EndsOver, FileView, stream_work, told_by}
 use Rattle.signal_office_in_file.specs.declared.Ended.{Ended}
 use Rattle.signal_office_jobs.specs.Backup.{BacksUpFile}
-use Rattle.signal_office_jobs.specs.Done.{checked_status, compared_status, compared_text, explained_status, status_of, text_of}
-use Rattle.signal_office_jobs.specs.Explained.{explained_file}
+use Rattle.signal_office_commands.specs.Done.{checked_status, compared_status, compared_text, explained_status, status_of, text_of}
+use Rattle.signal_office_commands.specs.Explained.{explained_file}
 use Rattle.signal_office_jobs.specs.InFile.{InFile, MigratesFile}
 use Rattle.signal_office_jobs.specs.Memory.{ServesInMemory, new_office}
-use Rattle.signal_office_jobs.specs.Output.{Output, PrintsDone, TellsNothing}
+use Rattle.signal_office_commands.specs.Output.{Output, PrintsDone, TellsNothing}
 use Rattle.signal_office_jobs.specs.Reading.{ArePlansRead, ArePlansUnread, IsPlanRead, IsPlanUnread, IsReadFor, IsUnreadFor}
 use Rattle.signal_office_jobs.specs.Requests.{effect_of, makes_file}
 use Rattle.signal_office_jobs.specs.Serving.{ServesAs, serving}
-use Rattle.signal_office_jobs.specs.declared.done.Done.{Done}
+use Rattle.signal_office_commands.specs.declared.done.Done.{Done}
 use Rattle.signal_office_line.specs.declared.job.Job.{Job}
 use Rattle.signal_office_line.specs.declared.job.Job.TheVariants as job
 use Rattle.signal_office_line.specs.declared.shows.PlanShown.{PlanShown}

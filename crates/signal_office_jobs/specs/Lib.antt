@@ -1,6 +1,3 @@
-pub mod Done
-pub mod Output
-pub mod Explained
 pub mod Filed
 pub mod Filled
 pub mod Serving

@@ -1,5 +1,5 @@
 -- What is asked of the office of a file: what it makes of the tables, what it tells, and what a stop leaves of it.
-use Rattle.std.specs.Prelude.{◌≡◌, ◌≢◌, ◌⊎◌, ℕ, List, [], ◌++◌, codes, decimal, Bool, true, false, Option, Result, Ok, Err}
+use Rattle.std.specs.Prelude.{◌≡◌, ◌≢◌, ◌⊎◌, ℕ, List, [], ◌++◌, codes, Bool, true, false, Option, Result, Ok, Err}
 use Rattle.office_files.specs.Violations.{violations_text, explained_text_of}
 use Rattle.office_tables_shelf.specs.Content.{Content}
 use Rattle.signal_plans.specs.declared.difference.Difference.{Difference}
@@ -10,10 +10,7 @@ use Rattle.signal_office_commands.specs.Explaining.{ExplainsDraft, WarnsOfCommit
 use Rattle.signal_office_commands.specs.Importing.{Imports}
 use Rattle.signal_office_commands.specs.Revising.{RevisesAs}
 use Rattle.signal_office_commands.specs.Stopping.{AfterAbandoning, AfterAdding, AfterImporting, AfterRevising}
-use Rattle.signal_office_commands.specs.declared.adding.Entered.{Entered}
-use Rattle.signal_office_commands.specs.declared.adding.Entered.TheVariants as entered
 use Rattle.signal_office_commands.specs.declared.checking.Report.{Report}
-use Rattle.signal_office_commands.specs.declared.importing.Imported.{Imported}
 use Rattle.signal_office_commands.specs.declared.revising.Outcome.{Outcome}
 use Rattle.signal_office_commands.specs.declared.revising.Outcome.TheVariants.{Open, Same, Committed}
 use Rattle.signal_office_commands.specs.declared.revising.Revised.{Revised}
@@ -22,10 +19,10 @@ use Rattle.signal_office_faults.specs.declared.fault.Fault.{Fault}
 use Rattle.signal_office_faults.specs.declared.fault.Fault.TheVariants as fault
 use Rattle.signal_office_in_file.specs.Ended.{Effect}
 use Rattle.signal_office_in_file.specs.Stopping.{SameOr}
-use Rattle.signal_office_jobs.specs.Done.{TellsLine, TellsOf, compared_status, compared_text, open_line, open_status, refused_status, status_of, text_of}
-use Rattle.signal_office_jobs.specs.Explained.{IsEditRefused}
+use Rattle.signal_office_commands.specs.Done.{TellsLine, TellsOf, compared_status, compared_text, entered_line, imported_line, open_line, open_status, refused_status, status_of, text_of}
+use Rattle.signal_office_commands.specs.Explained.{IsEditRefused}
 use Rattle.signal_office_jobs.specs.Filled.{AreFilesOfAll, IsBeginning, IsUnfilled}
-use Rattle.signal_office_jobs.specs.declared.done.Done.{Done}
+use Rattle.signal_office_commands.specs.declared.done.Done.{Done}
 use Rattle.signal_office_line.specs.declared.job.Edit.{Edit}
 use Rattle.signal_office_line.specs.declared.job.Folder.{Folder}
 use Rattle.signal_office_line.specs.declared.job.Request.{Request}
@@ -44,15 +41,6 @@ makes_file (request.Add id interval name) = true
 makes_file _ = false
 
 -- ---- what is reported
-
--- the line that tells whether an intersection was new
-abbrev pub entered_line : Entered → List ℕ
-entered_line entered.Added = codes "added\n"
-entered_line entered.Same = codes "same\n"
-
--- the line that tells how many records of an import were new, and how many were there
-abbrev pub imported_line : Imported → List ℕ
-imported_line imported = codes "added " ++ decimal imported.added ++ codes ", same " ++ decimal imported.same ++ codes "\n"
 
 -- what was used is reported with status 0, or why it is not
 abbrev pub TellsUsed : (part : Option (List ℕ)) → (csv : Bool) → Content → Result Done Fault → Type 0

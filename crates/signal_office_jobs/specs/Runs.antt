@@ -21,7 +21,7 @@ use Rattle.signal_office_line.specs.declared.job.BadWord.{BadWord}
 use Rattle.signal_office_line.specs.declared.job.BadWord.TheVariants as word
 use Rattle.signal_office_jobs.specs.Calls.{calls_found}
 use Rattle.signal_office_jobs.specs.Jobs.{Course, JobDoes}
-use Rattle.signal_office_jobs.specs.Output.{Prints}
+use Rattle.signal_office_commands.specs.Output.{Prints}
 
 -- the words ask for help
 abbrev pub IsHelp : ErrorKind → Type 0

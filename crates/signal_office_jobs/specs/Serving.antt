@@ -19,8 +19,8 @@ use Rattle.signal_office_faults.specs.declared.fault.Fault.{Fault}
 use Rattle.signal_office_faults.specs.declared.fault.Fault.TheVariants as fault
 use Rattle.signal_office_in_file.specs.Ended.{Effect}
 use Rattle.signal_office_in_file.specs.Stopping.{AfterRequest, SameOr}
-use Rattle.signal_office_jobs.specs.Done.{TellsOutcome}
-use Rattle.signal_office_jobs.specs.declared.done.Done.{Done}
+use Rattle.signal_office_commands.specs.Done.{TellsOutcome}
+use Rattle.signal_office_commands.specs.declared.done.Done.{Done}
 
 -- the line that says that a port is listened on
 abbrev pub listening_line : ℕ → List ℕ

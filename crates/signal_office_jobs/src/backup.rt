@@ -5,8 +5,8 @@ ghost use Rattle.signal_office_in_file.specs.Calls.{AreCalled, called};
 ghost use Rattle.signal_office_in_file.specs.declared.Kind.TheVariants as kind;
 ghost use Rattle.signal_office_jobs.specs.Backup.{BacksUpFile, CopiesTo, FindsRoom, IsPut, leaves_room};
 
-use crate::done::{copied, joined, print_done};
 use office_http::{Sink, ToWrite};
+use signal_office_commands::{copied, joined, print_done};
 use signal_office_faults::{Fault, is_missing};
 use signal_office_in_file::OfficeInFile;
 use signal_office_line::{OfficeFile, Path};

@@ -10,10 +10,10 @@ ghost use Rattle.signal_office_jobs.specs.Jobs.{ReadFirst};
 ghost use Rattle.signal_office_jobs.specs.Reading.{IsReadFor, IsUnreadFor};
 ghost use Rattle.signal_office_jobs.specs.Requests.{effect_of, makes_file};
 
-use crate::done::{Done, joined, migrated, print_done};
 use crate::office::{Asked, makes_file};
 use crate::reading::{CsvText, read_for};
 use office_http::{Sink, Source};
+use signal_office_commands::{Done, joined, migrated, print_done};
 use signal_office_faults::{Fault, is_missing};
 use signal_office_in_file::{OfficeInFile, OfficeTask};
 use signal_office_line::{OfficeFile, Request};

@@ -7,8 +7,6 @@
 #![tactic(auto)]
 
 mod backup;
-mod done;
-mod explained;
 mod filed;
 mod filling;
 mod in_file;

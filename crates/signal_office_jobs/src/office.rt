@@ -11,8 +11,6 @@ ghost use Rattle.signal_office_in_file.specs.Doing.{DoesTask};
 ghost use Rattle.signal_office_jobs.specs.Calls.{kind_of};
 ghost use Rattle.signal_office_jobs.specs.Requests.{AbandonsAs, AddsAs, ChecksAs, ComparesAs, ComparesWith, EditsBy, FillsAs, ImportsAs, IsAdvice, IsBroken, IsCommittedTold, IsOpenText, IsUntold, ShowsAs, TellsCommitted, TellsOpen, TellsRevised, TellsUsed, committed_lines, effect_of, makes_file, taking};
 
-use crate::done::Done;
-use crate::explained::refused_edit;
 use crate::filling::fill;
 use cabinet_core::PartCode;
 use office_desk::office::Office;
@@ -20,8 +18,9 @@ use office_files::{explained_text, violation_text};
 use office_http::Sink;
 use office_tables_shelf::shelf::Shelf;
 use signal_office_commands::{
-    Outcome, Revised, abandon_draft, add_intersection, check_csv, committed_warnings,
-    draft_differences, draft_reasons, draft_warnings, import_csv, revise_plan, running_differences,
+    Done, Outcome, Revised, abandon_draft, add_intersection, check_csv, committed_warnings,
+    draft_differences, draft_reasons, draft_warnings, import_csv, refused_edit, revise_plan,
+    running_differences,
 };
 use signal_office_faults::{Fault, SystemFolder};
 use signal_office_in_file::{Kind, OfficeTask};

@@ -5,12 +5,12 @@ ghost use Rattle.office_http_framing.specs.Serve.{ends_of};
 ghost use Rattle.signal_office_jobs.specs.Jobs.{ChecksPlan, Compares, Made, ReadFirst, ShowsPlan, TellsViolations, VerifiesFile};
 ghost use Rattle.signal_office_jobs.specs.Reading.{ArePlansRead, ArePlansUnread, IsPlanRead, IsPlanUnread};
 
-use crate::done::{Done, print_done};
-use crate::explained::explained_file;
 use crate::reading::{read_plan, read_plans};
 use office_files::read_plan_csv;
 use office_http::{Sink, Source};
-use signal_office_commands::{compare_files, diagram_in, page_in};
+use signal_office_commands::{
+    Done, compare_files, diagram_in, explained_file, page_in, print_done,
+};
 use signal_office_faults::Fault;
 use signal_office_line::{CsvFile, PlanShown};
 use signal_plans::{warnings, warnings_text};

@@ -9,13 +9,12 @@ ghost use Rattle.signal_office_jobs.specs.Jobs.{Batches, JobDoes, ServesNew, Ser
 ghost use Rattle.signal_office_jobs.specs.Runs.{DoesFound, EndsWith, RunsWords, ShowsRefusal, fault_of_word};
 
 use crate::backup::backup;
-use crate::done::{print_done, print_text};
 use crate::in_file::{ask_office, in_file, migrate};
 use crate::memory::{open_in_memory, serve_new_office};
 use crate::plans::{compare_plans, show_plan};
 use crate::serving::{Serving, serve as serve_office};
 use office_http::{ServeFault, Served, Sink, Source};
-use signal_office_commands::report;
+use signal_office_commands::{print_done, print_text, report};
 use signal_office_faults::Fault;
 use signal_office_in_file::OfficeInFile;
 use signal_office_line::{BadWord, Job, JobFault, OfficeFile, job_of};

@@ -9,10 +9,10 @@ ghost use Rattle.office_http.specs.Protocol.{office_storage};
 ghost use Rattle.signal_office_in_file.specs.Stopping.{StopsWithin};
 ghost use Rattle.signal_office_jobs.specs.Serving.{AfterServing, SaysListening, SaysPort, ServesAs, ServesPort, fault_of_stop};
 
-use crate::done::Done;
 use office_desk::office::Office;
 use office_http::{FromListener, ServeStop, Sink, serve_each, write_all};
 use office_tables_shelf::shelf::Shelf;
+use signal_office_commands::Done;
 use signal_office_faults::Fault;
 use signal_office_in_file::{Kind, OfficeTask};
 use std::alloc::Global;

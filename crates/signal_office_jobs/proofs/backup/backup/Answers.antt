@@ -1,5 +1,5 @@
 use Rattle.std.proofs.Common.{inl, inr, refl}
-use Rattle.signal_office_jobs.specs.Done.{copied_line}
+use Rattle.signal_office_commands.specs.Done.{copied_line}
 use Rattle.signal_office_jobs.proofs.CallsLemmas.{called_for, called_told}
 use Rattle.signal_office_jobs.proofs.backup.backup.Goals as goal
 

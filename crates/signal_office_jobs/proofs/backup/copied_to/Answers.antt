@@ -4,7 +4,7 @@ use Rattle.signal_office_in_file.specs.Ended.{told_by}
 use Rattle.signal_office_jobs.proofs.CallsLemmas.{at_path, called_so}
 use Rattle.signal_office_jobs.proofs.backup.copied_to.Goals as goal
 use Rattle.signal_office_jobs.specs.Backup.{IsPut}
-use Rattle.signal_office_jobs.specs.Output.{joined}
+use Rattle.signal_office_commands.specs.Output.{joined}
 
 pub returns-clause-copies : goal.returns-clause-copies
 returns-clause-copies g c = inl (record {

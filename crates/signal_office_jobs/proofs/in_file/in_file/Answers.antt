@@ -4,7 +4,7 @@ use Rattle.signal_office_in_file.specs.Ended.{told_by}
 use Rattle.signal_office_jobs.proofs.CallsLemmas.{at_path, called_for, called_so}
 use Rattle.signal_office_jobs.proofs.InFileLemmas.{ends_quietly}
 use Rattle.signal_office_jobs.proofs.in_file.in_file.Goals as goal
-use Rattle.signal_office_jobs.specs.Output.{PrintsDone, joined}
+use Rattle.signal_office_commands.specs.Output.{PrintsDone, joined}
 
 pub returns-clause-does : goal.returns-clause-does
 returns-clause-does g c =

@@ -3,8 +3,8 @@ use Rattle.signal_office_faults.specs.declared.fault.Fault.TheVariants as fault
 use Rattle.signal_office_in_file.specs.Ended.{told_by}
 use Rattle.signal_office_jobs.proofs.CallsLemmas.{at_path, called_for, called_so, called_told}
 use Rattle.signal_office_jobs.proofs.in_file.migrate.Goals as goal
-use Rattle.signal_office_jobs.specs.Output.{joined}
-use Rattle.signal_office_jobs.specs.Done.{migrated_line, TellsOutcome}
+use Rattle.signal_office_commands.specs.Output.{joined}
+use Rattle.signal_office_commands.specs.Done.{migrated_line, TellsOutcome}
 
 pub returns-clause-does : goal.returns-clause-does
 returns-clause-does g c = inl (record {

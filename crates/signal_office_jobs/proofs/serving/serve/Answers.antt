@@ -1,5 +1,5 @@
 use Rattle.std.proofs.Common.{[], Ok, sym, subst, ◌∙◌}
-use Rattle.signal_office_jobs.specs.Done.{TellsOutcome}
+use Rattle.signal_office_commands.specs.Done.{TellsOutcome}
 use Rattle.signal_office_jobs.proofs.StopLemmas.{served_within}
 use Rattle.signal_office_jobs.proofs.ServingLemmas.{serves, told_on}
 use Rattle.signal_office_jobs.proofs.serving.serve.Goals as goal

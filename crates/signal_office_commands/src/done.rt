@@ -3,15 +3,16 @@
 ghost use Rattle.std.specs.Prelude.{◌≡◌, ◌≤◌, ◌+◌, ◌++◌, Ok, IfOk, string_bytes};
 ghost use Rattle.arrayvec.specs.ArrayString.{array_string_len};
 ghost use Rattle.office_files.specs.Violations.{violations_text, explained_text_of};
-ghost use Rattle.signal_office_jobs.specs.Done.{TellsAs, TellsLine, TellsOutcome, checked_status, compared_status, compared_text, copied_line, explained_status, migrated_line, open_line, open_status, refused_status, status_of, text_of};
-ghost use Rattle.signal_office_jobs.specs.Output.{Prints, PrintsDone, joined};
-ghost use Rattle.signal_office_jobs.specs.Requests.{entered_line, imported_line};
+ghost use Rattle.signal_office_commands.specs.Done.{TellsAs, TellsLine, TellsOutcome, checked_status, compared_status, compared_text, copied_line, entered_line, explained_status, imported_line, migrated_line, open_line, open_status, refused_status, status_of, text_of};
+ghost use Rattle.signal_office_commands.specs.Output.{Prints, PrintsDone, joined};
 
+use crate::adding::Entered;
+use crate::checking::Report;
+use crate::importing::Imported;
 use arrayvec::ArrayString;
 use itoa::{Buffer, Integer};
 use office_files::{changes_csv, explained_text, violation_text};
-use office_http::{Sink, write_all};
-use signal_office_commands::{Entered, Imported, Report};
+use office_http_framing::ends::{Sink, write_all};
 use signal_office_faults::Fault;
 use signal_plans::{Difference, changes, comparison_text};
 use signal_records::{NoMemory, Words};
@@ -230,7 +231,7 @@ fn join_texts(alloc: Global, first: &[u8], more: &[u8], status: u8) -> Result<Do
 }
 
 /// Prints a text as a whole, and gives the status.
-pub(crate) fn print_text<W: Sink>(text: &[u8], status: u8, out: &mut W) -> Result<u8, Fault>
+pub fn print_text<W: Sink>(text: &[u8], status: u8, out: &mut W) -> Result<u8, Fault>
     ensures { Prints text.now status (W.told out.old) (W.told out.new) result }
 {
     match write_all(out, text) {

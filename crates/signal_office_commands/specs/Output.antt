@@ -4,8 +4,8 @@ use Rattle.std.specs.Io.KnownBytes.{Appends}
 use Rattle.office_http_framing.specs.Ends.{AppendsPart, FailsOrGivesNone, Told}
 use Rattle.signal_office_faults.specs.declared.fault.Fault.{Fault}
 use Rattle.signal_office_faults.specs.declared.fault.Fault.TheVariants as fault
-use Rattle.signal_office_jobs.specs.Done.{status_of, text_of}
-use Rattle.signal_office_jobs.specs.declared.done.Done.{Done}
+use Rattle.signal_office_commands.specs.Done.{status_of, text_of}
+use Rattle.signal_office_commands.specs.declared.done.Done.{Done}
 
 -- what an output took from its start to its end, and the status that came of it, or the fault
 abbrev pub Output : Type 1

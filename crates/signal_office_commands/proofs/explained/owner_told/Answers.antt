@@ -2,7 +2,7 @@ use Rattle.std.proofs.Common.{[], ◌∷◌, Ok, Err, refl}
 use Rattle.signal_office_commands.proofs.HonestLemmas.{honest_tells}
 use Rattle.signal_office_queries.specs.Seen.{Looks}
 use Rattle.signal_office_queries.specs.declared.seen.Query.TheVariants as query
-use Rattle.signal_office_jobs.proofs.explained.owner_told.Goals as goal
+use Rattle.signal_office_commands.proofs.explained.owner_told.Goals as goal
 
 pub returns-in-Ok-clause-told : goal.returns-in-Ok-clause-told
 returns-in-Ok-clause-told g c = λ honest. (

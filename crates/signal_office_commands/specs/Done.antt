@@ -6,10 +6,13 @@ use Rattle.signal_plans.specs.Comparison.{comparison_text}
 use Rattle.office_files.specs.Timing.{changes_csv_text}
 use Rattle.signal_rules.specs.declared.reason.Explained.{Explained}
 use Rattle.signal_rules.specs.declared.violation.Violation.{Violation}
+use Rattle.signal_office_commands.specs.declared.adding.Entered.{Entered}
+use Rattle.signal_office_commands.specs.declared.adding.Entered.TheVariants as entered
+use Rattle.signal_office_commands.specs.declared.importing.Imported.{Imported}
 use Rattle.signal_office_faults.specs.declared.fault.Fault.{Fault}
 use Rattle.signal_office_faults.specs.declared.fault.Fault.TheVariants as fault
-use Rattle.signal_office_jobs.specs.declared.done.Done.{Done}
-use Rattle.signal_office_jobs.specs.declared.done.Done.TheVariants as done
+use Rattle.signal_office_commands.specs.declared.done.Done.{Done}
+use Rattle.signal_office_commands.specs.declared.done.Done.TheVariants as done
 
 -- the status with which the command ends
 abbrev pub status_of : Done → ℕ
@@ -70,6 +73,15 @@ open_line false clerk = codes "the draft of " ++ (clerk ++ codes " stays open; c
 abbrev pub compared_text : (csv : Bool) → List Difference → List ℕ
 compared_text true differences = changes_csv_text (difference_changes differences)
 compared_text false differences = comparison_text differences
+
+-- the line that tells whether an intersection was new
+abbrev pub entered_line : Entered → List ℕ
+entered_line entered.Added = codes "added\n"
+entered_line entered.Same = codes "same\n"
+
+-- the line that tells how many records of an import were new, and how many were there
+abbrev pub imported_line : Imported → List ℕ
+imported_line imported = codes "added " ++ decimal imported.added ++ codes ", same " ++ decimal imported.same ++ codes "\n"
 
 -- what is reported of a copy
 abbrev pub copied_line : List ℕ

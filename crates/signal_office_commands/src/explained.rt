@@ -3,7 +3,7 @@
 
 ghost use Rattle.std.specs.Prelude.{◌≡◌};
 ghost use Rattle.office_tables_shelf.specs.Keeps.{KeepsShelf};
-ghost use Rattle.signal_office_jobs.specs.Explained.{IsEditExplained, IsEditRefused, IsFileExplained, IsOwnerTold, TellsOwner, TellsOwnerIn, with_hint};
+ghost use Rattle.signal_office_commands.specs.Explained.{IsEditExplained, IsEditRefused, IsFileExplained, IsOwnerTold, TellsOwner, TellsOwnerIn, with_hint};
 ghost use Rattle.signal_office_queries.specs.Parts.{first_seen, state_in};
 ghost use Rattle.office_files.specs.declared.fault.CsvFault.TheVariants as file;
 ghost use Rattle.signal_office_faults.specs.declared.fault.Fault.TheVariants as fault;
