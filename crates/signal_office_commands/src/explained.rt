@@ -111,7 +111,7 @@ fn explained_edit<S: Shelf>(
 }
 
 /// Why an edit is refused, with more where that is asked.
-pub(crate) fn refused_edit<S: Shelf>(
+pub fn refused_edit<S: Shelf>(
     alloc: Global,
     office: &mut Office<S>,
     id: InterId,
