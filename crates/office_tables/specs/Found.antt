@@ -30,13 +30,13 @@ abbrev pub IsOurs : List ℕ → Type 0
 IsOurs name = IsNameAmong name (map (λ text. text.now) OURS)
 
 -- the table keeps a version beside the number `one`, which is its rowid
-pub record KeepsVersion (table : Table) : Type 0 where
+pub record IsVersionKeeper (table : Table) : Type 0 where
   pub rowid : table.key ≡ Some 0
   pub columns : map (λ (c : Column). c.name) table.columns ≡ map (λ text. text.now) COLUMNS
 
 -- each table of the version's name does so
 abbrev pub KeepVersion : List Table → Type 0
-KeepVersion = AllByRecursion (λ t. same_name t.name KEEPER.now ≡ true → KeepsVersion t)
+KeepVersion = AllByRecursion (λ t. same_name t.name KEEPER.now ≡ true → IsVersionKeeper t)
 
 -- the rows store a number, and another one than today's version
 pub record StoreOther (rows : List Row) : Type 0 where

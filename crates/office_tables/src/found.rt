@@ -10,7 +10,7 @@ ghost use Rattle.sqlite_value.specs.declared.value.Value.TheVariants.{Int};
 ghost use Rattle.office_tables_shelf.specs.Cells.{number};
 ghost use Rattle.office_tables_shelf.specs.Content.{no_content};
 ghost use Rattle.office_tables.specs.Arranged.{IsUnchanged, IsTaken, IsCheckedAgain};
-ghost use Rattle.office_tables.specs.Found.{HaveNoRow, IsNameAmong, IsOurs, KeepsVersion, KeepVersion, MayBeMade, TellsHeld, HasOtherVersion, HasRowsAlone, eight_rows, keeper_rows};
+ghost use Rattle.office_tables.specs.Found.{HaveNoRow, IsNameAmong, IsOurs, IsVersionKeeper, KeepVersion, MayBeMade, TellsHeld, HasOtherVersion, HasRowsAlone, eight_rows, keeper_rows};
 ghost use Rattle.office_tables.specs.Moved.{all_put, part_moved};
 ghost use Rattle.office_tables.specs.Opening.{IsAsFound, MayMake};
 ghost use Rattle.office_tables_sql.specs.Promises.{IsSettled};
@@ -89,7 +89,7 @@ fn are_named(columns: &[Column], names: &[&str]) -> bool
 
 /// Whether a table keeps a version as the office does.
 fn keeps_version(table: &Table) -> bool
-    ensures { IsTrue result → KeepsVersion table.now }
+    ensures { IsTrue result → IsVersionKeeper table.now }
 {
     table.key == Some(0) && are_named(table.columns.as_slice(), &COLUMNS)
 }
