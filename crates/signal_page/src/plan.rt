@@ -216,16 +216,24 @@ fn is_of_plan(warning: &Warning) -> bool
     matches!(warning.subject, Scope::Plan)
 }
 
-/// Appends the warnings of the plan as a whole, each in a line.
+/// Appends the line of a warning of the plan as a whole.
 #[tactic(auto, unfolding(crate::specs::Plan::warned_line))]
+fn push_warned_line(text: &mut String, warning: &Warning) -> Result<(), AllocError>
+    ensures { OnOk result (string_bytes text.new
+        ≡ string_bytes text.old ++ html (warned_line warning.now)) }
+{
+    let advice = warning.advice;
+    write!(text, "<p class='warned'>Warning: {advice}</p>\n")
+}
+
+/// Appends the warnings of the plan as a whole, each in a line.
 fn push_whole_warnings(text: &mut String, warnings: &[Warning]) -> Result<(), AllocError>
     ensures { OnOk result (string_bytes text.new
         ≡ string_bytes text.old ++ html (whole_warnings warnings.now)) }
 {
     for warning in warnings {
         if is_of_plan(warning) {
-            let advice = warning.advice;
-            write!(text, "<p class='warned'>Warning: {advice}</p>\n")?;
+            push_warned_line(text, warning)?;
         }
     }
     Ok(())
