@@ -7,9 +7,10 @@ The program is the one that ./office runs, where none is named. It makes an offi
 texts look like markup or run from right to left, and the page of each intersection; checks in the
 browser's own document that each name and text is text, that nothing but a table's or a picture's
 own box is wider than the screen, that each element is displayed as the browser computes its style,
-and has letters of 11 pixels or more, each section, broken rule and change among them, on both
-screens and on paper; that what differs between the two rows of a change is marked, and nothing
-else, by bold and underlined letters; and puts pictures at 1280 and at 390 pixels of width, light
+and has letters of 11 pixels or more, each section, broken rule, warning and change among them, on
+both screens and on paper; that rules and warnings contrast with their ground by 4.5 or more, light
+and dark; that what differs between the two rows of a change is marked, and nothing else, by bold
+and underlined letters; and puts pictures at 1280 and at 390 pixels of width, light
 and dark, and one page as it is printed, into FOLDER, or into a folder of its own. So it looks at a
 folder of pages, and follows each of its links. It prints `ok` at the end.
 """
@@ -24,6 +25,7 @@ import tempfile
 TOP = pathlib.Path(__file__).resolve().parent.parent
 SCREENS = 1280, 390
 LEAST_LETTERS = 11  # pixels
+DARK = "--blink-settings=preferredColorScheme=0"
 # What each element of the body is shown as. The link past the head stands outside the page until
 # somebody goes to it by the keyboard.
 LOOKED_AT = """
@@ -46,9 +48,21 @@ for (const it of document.body.querySelectorAll('*')) {
   const scale = svg ? svg.getBoundingClientRect().width / svg.viewBox.baseVal.width : 1;
   if (own && parseFloat(style.fontSize) * scale < LEAST) small.push(name);
 }
+const part = x => x <= 0.04045 ? x / 12.92 : ((x + 0.055) / 1.055) ** 2.4;
+const light = color => {
+  const [r, g, b] = color.match(/[0-9.]+/g).map(x => part(x / 255));
+  return 0.2126 * r + 0.7152 * g + 0.0722 * b + 0.05;
+};
+const contrast = it => {
+  const [own, below] = [light(getComputedStyle(it).color), light(ground(it))];
+  return Math.max(own / below, below / own);
+};
 const count = x => document.querySelectorAll(x).length;
 document.title = JSON.stringify({
   width: document.body.scrollWidth, lost, small, sections: count('section'), rules: count('tr.why'),
+  warnings: count('tr.warned, p.warned'), dark: matchMedia('(prefers-color-scheme: dark)').matches,
+  pale: [...document.querySelectorAll('.why p, .warned p, p.warned, .broken, .sound')].filter(x =>
+    contrast(x) < 4.5).map(x => x.textContent.slice(0, 40)),
   changes: count('.changes tbody tr'), bare: count('tbody:empty'), marks: count('mark'),
   faint: [...document.querySelectorAll('mark')].map(x => getComputedStyle(x)).filter(x =>
     Number(x.fontWeight) < 700 || !x.textDecorationLine.includes('underline')).length,
@@ -76,6 +90,10 @@ split,1,6,45,4,1
 split,1,7,15,2,0
 split,1,8,35,5,0
 pattern,1,110,12,1,1
+"""
+# A plan that breaks no rule, with a warning of each phase and two of the plan as a whole.
+WARNED = """phase,2,1,0,20,30,40,10,6
+phase,6,2,10,30,5,40,15,2
 """
 # A shorter split of phase 2, another time of red, a phase more, a pattern less.
 CHANGES = """split,1,2,40,4,1
@@ -153,9 +171,10 @@ class Browser:
     def document(self, page, *words):
         return Document(self.run(page, "--dump-dom", *words))
 
-    def looked_at(self, page, screen, paper=False):
+    def looked_at(self, page, screen, *words, paper=False):
         """What a copy of the page tells of itself in its title: how wide it is on a screen, which
-        elements are not displayed or have small letters, and how much it has of what counts."""
+        elements are not displayed, or have small or pale letters, and how much it has of what
+        counts."""
         copy = self.folder / f"measured-{page.name}"
         narrow = f"document.documentElement.style.width = '{screen}px';"
         text = page.read_text()
@@ -163,7 +182,7 @@ class Browser:
             text = text.replace("@media print {", "@media all {")
         script = f"<script>{narrow}{LOOKED_AT.replace('LEAST', str(LEAST_LETTERS))}</script>"
         copy.write_text(text.replace("</body>", f"{script}</body>"))
-        return json.loads(self.document(copy, f"--window-size={screen},2600").names[0])
+        return json.loads(self.document(copy, f"--window-size={screen},2600", *words).names[0])
 
     def clicking(self, page, turn):
         """A copy of a page, beside it, on which one of its links is clicked."""
@@ -179,7 +198,8 @@ class Browser:
 def make(program, folder):
     """An office of three intersections, and the page of each."""
     office = folder / "office.db"
-    for name, text in (("plan", PLAN), ("changes", CHANGES), ("records", RECORDS)):
+    for name, text in (("plan", PLAN), ("changes", CHANGES), ("records", RECORDS),
+                       ("warned", WARNED)):
         (folder / f"{name}.csv").write_text(text)
 
     def run(*words, status=0):
@@ -193,6 +213,7 @@ def make(program, folder):
     run("edit", "--db", office, "--clerk", CLERK, 12, folder / "changes.csv")
     run("import", "--db", office, folder / "records.csv")
     run("add", "--db", office, 13, 90, NAME)
+    run("edit", "--db", office, "--clerk", CLERK, "--commit", 13, folder / "warned.csv")
     quoted = FOUND.replace('"', '""')
     (folder / "nasty.csv").write_text(f'inspection,13,1,2026-03-01,{CLERK},"{quoted}"\n')
     run("import", "--db", office, folder / "nasty.csv")
@@ -224,9 +245,13 @@ def check(browser, pages):
         fail(f"the names of 12 are shown as {drafted.names}")
     if drafted.marks != MARKED or shown.marks:
         fail(f"what differs is marked as {drafted.marks}, and without a draft {shown.marks}")
+    warned = pages[13].read_text()
+    if warned.count("<tr class='warned'>") != 2 or warned.count("<p class='warned'>") != 3:
+        fail("the page of 13 has other warnings than two below rows, two above, and their number")
     for page in pages.values():
         for screen in SCREENS:
             look_at(browser, page, screen)
+        look_at(browser, page, 1280, DARK)
         look_at(browser, page, 1280, paper=True)
 
 
@@ -245,18 +270,22 @@ def follow(browser, folder):
         fail(f"the index has {len(links)} links")
 
 
-def look_at(browser, page, screen, paper=False):
+def look_at(browser, page, screen, *words, paper=False):
     """Each element of a page is displayed, in letters that can be read, and the page has all of its
-    sections, broken rules and changes."""
-    text, told = page.read_text(), browser.looked_at(page, screen, paper)
+    sections, broken rules, warnings and changes."""
+    text, told = page.read_text(), browser.looked_at(page, screen, *words, paper=paper)
     where = "on paper" if paper else f"on a screen of {screen}"
+    if told["dark"] != (DARK in words):
+        fail(f"{page.name} is shown in the other colors {where}")
     if told["width"] > screen:
         fail(f"{page.name} is {told['width']} pixels wide {where}")
-    for what, names in (("not displayed", told["lost"]), ("too small", told["small"])):
+    for what, names in (("not displayed", told["lost"]), ("too small", told["small"]),
+                        ("too pale", told["pale"])):
         if names and not (paper and what == "too small"):
             fail(f"{page.name} has elements that are {what} {where}: {names[:5]}")
     marks = ("<tr class='added'", "<tr class='removed'", "<tr class='before'", "<tr class='after'")
     counts = {"sections": text.count("<section "), "rules": text.count("<tr class='why'>"),
+              "warnings": text.count("<tr class='warned'>") + text.count("<p class='warned'>"),
               "changes": sum(map(text.count, marks)), "bare": 0, "marks": text.count("<mark>"),
               "faint": 0}
     for what, count in counts.items():
@@ -269,8 +298,8 @@ def draw(browser, pages, target):
         for screen in ("1280,2600", "390,2600"):
             size = screen.partition(",")[0]
             browser.picture(page, target / f"{name}-{size}.png", screen)
-    dark = "--blink-settings=preferredColorScheme=0"
-    browser.picture(pages[12], target / "12-dark.png", "1280,2600", dark)
+    for number in (12, 13):
+        browser.picture(pages[number], target / f"{number}-dark.png", "1280,2600", DARK)
     browser.run(pages[12], f"--print-to-pdf={target / '12.pdf'}", "--no-pdf-header-footer")
 
 

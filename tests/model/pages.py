@@ -3,7 +3,7 @@ import html
 import pathlib
 import re
 
-from . import reasons, rules
+from . import reasons, rules, warnings
 from .pictures import picture
 from .plan import Pattern, Phase, Sequence, Split
 from .register import records_of
@@ -51,7 +51,7 @@ TABLES = {
 }
 ORDERS = ["Order", ["Opened"], ["Clerk"], ["Work"], ["Lines: parts used (pieces)"]]
 INSPECTIONS = ["Inspection", ["Day"], ["Clerk"], ["Findings"]]
-INTERSECTIONS = ["No", ["Name"], ["State"], ["Draft of"], "Revision", "Committed rows",
+INTERSECTIONS = ["No", ["Name"], ["State"], ["Draft of"], "Revision", "Committed rows", "Warnings",
                  "Open orders", ["Last inspection"], ["Next inspection due"]]
 NAMED_ORDERS = ["No", ["Name"], "Order", ["Opened"], ["Clerk"], ["Work"]]
 STOCK = [["Part"], "On hand (pieces)"]
@@ -166,20 +166,29 @@ def table(name, headings, rows):
             f"\n<tbody>{''.join(rows)}</tbody>\n</table>\n</div>\n")
 
 
-def why(row, broken):
-    """The rules that a row breaks, each with its reason in a row below it."""
+def remarks(row, broken, advice):
+    """The rules that a row breaks, each with its reason in a row below it, and then its warnings."""
     columns = next(len(names) for kind, names in TABLES.values() if isinstance(row, kind))
     subject = SUBJECTS[type(row)].format(*row)
-    return [f"<tr class='why'><td colspan='{columns}'><p>{it[len(subject) + 1:]}</p></td></tr>\n"
-            for it in broken if it.startswith(f"{subject} V")]
+    told = [("why", it[len(subject) + 1:]) for it in broken if it.startswith(f"{subject} V")]
+    told += [("warned", f"Warning: {it}") for it in advice_on(subject, advice)]
+    return "".join(f"<tr class='{kind}'><td colspan='{columns}'><p>{it}</p></td></tr>\n"
+                   for kind, it in told)
+
+
+def advice_on(subject, advice):
+    """What the warnings of a subject say."""
+    return [it.removeprefix(f"warning: {subject}: ") for it in advice
+            if it.startswith(f"warning: {subject}: ")]
 
 
 def plan_tables(plan, whose, broken):
     """The tables of a plan, named by what they are of."""
     view, rows = rules.View(plan), [plan[key] for key in sorted(plan)]
+    advice = warnings.warnings(plan)
     for name, (kind, names) in TABLES.items():
         yield table(name + whose, names, [
-            f"<tr>{''.join(CELLS[kind](view, it))}</tr>\n{''.join(why(it, broken))}"
+            f"<tr>{''.join(CELLS[kind](view, it))}</tr>\n{remarks(it, broken, advice)}"
             for it in rows if isinstance(it, kind)])
 
 
@@ -221,11 +230,22 @@ def count_broken(broken):
             "row.</p>\n")
 
 
+def count_warnings(plan):
+    """How many warnings a plan has, and those of the plan as a whole."""
+    advice = warnings.warnings(plan)
+    told = [f"Warning: {it}" for it in advice_on("plan", advice)]
+    if advice:
+        told.insert(0, f"Warnings: {len(advice)}. They refuse nothing. Each stands below its row, or "
+                       "here if it is of the whole plan.")
+    return "".join(f"<p class='warned'>{it}</p>\n" for it in told)
+
+
 def plan_page(plan):
     """The page of a plan alone."""
     broken, name = reasons.explained(plan), "Timing plan"
     head = HEAD.format(title=name, style=STYLE, heading=name, facts="")
-    return head + count_broken(broken) + plan_part(plan, broken=broken) + END
+    return "".join([head, count_broken(broken), count_warnings(plan),
+                    plan_part(plan, broken=broken), END])
 
 
 # ---- an intersection
@@ -254,7 +274,8 @@ def facts(office, id, linked):
             "Open orders": len(office.open_orders(id)["open"]),
             "State": it.state, "Draft of": isolated(it.owner) if it.owner else "nobody",
             "Verify status": VERDICTS[it.verdict()], "Revision": it.revision,
-            "Committed rows": len(it.committed)}
+            "Committed rows": len(it.committed),
+            "Warnings of the committed plan": len(warnings.warnings(it.committed)) or "none"}
     return (f"<dl>\n{''.join(fact(*pair) for pair in told.items())}</dl>\n"
             f"{links(it.draft is not None, linked)}")
 
@@ -307,10 +328,11 @@ def section(name, title, content):
 
 
 def draft_part(it):
-    """A draft: what it breaks, what it changes, and all of it."""
+    """A draft: what it breaks, its warnings, what it changes, and all of it."""
     broken = reasons.explained(it.draft)
-    return (count_broken(broken) + "".join(changes(it.committed, it.draft))
-            + "<h3>The whole draft</h3>\n" + plan_part(it.draft, " of the draft", broken))
+    return "".join([count_broken(broken), count_warnings(it.draft),
+                    *changes(it.committed, it.draft), "<h3>The whole draft</h3>\n",
+                    plan_part(it.draft, " of the draft", broken)])
 
 
 def order_cells(register, id, number, order):
@@ -354,7 +376,7 @@ def page(office, id, linked=False):
     head = HEAD.format(
         title=f"Intersection {id}: {quoted(it.name)}", style=STYLE,
         heading=f"Intersection {id}: {isolated(it.name)}", facts=facts(office, id, linked))
-    runs = plan_part(it.committed, " of the committed plan")
+    runs = count_warnings(it.committed) + plan_part(it.committed, " of the committed plan")
     parts = [section("plan", "The committed plan", runs)]
     if it.draft is not None:
         parts.append(section("draft", "The draft", draft_part(it)))
@@ -374,8 +396,9 @@ def entry(office, id, day):
     mark = " <strong class='late'>overdue</strong>" if late else ""
     cells = [f"<th scope='row'><a href='{id}.html'>{id}</a></th>", word(isolated(it.name)),
              word(it.state), word(isolated(it.owner) if it.owner else "nobody"), cell(it.revision),
-             cell(len(it.committed)), cell(len(office.open_orders(id)["open"])),
-             cell(last or "none", "d"), cell(f"{due or 'never inspected'}{mark}", "d")]
+             cell(len(it.committed)), cell(len(warnings.warnings(it.committed))),
+             cell(len(office.open_orders(id)["open"])), cell(last or "none", "d"),
+             cell(f"{due or 'never inspected'}{mark}", "d")]
     return late, f"<tr>{''.join(cells)}</tr>\n"
 
 

@@ -3,17 +3,18 @@ use Rattle.std.proofs.Common.{◌≡◌, ◌≤◌, ℕ, List, [], ◌∷◌, �
 use Rattle.std.proofs.lemmas.{Bool.eq-eqb, Bool.ne_eqb, Grind.common_steps, Grind.flat_map-append, List.length-append}
 use Rattle.signal_page.specs.declared.tables.Mark.TheVariants.{Removed, Added, Before, After}
 use Rattle.signal_page.specs.Nodes.{Shown, html}
-use Rattle.signal_page.specs.Tables.{Heading, TableLine, Row, Change, Broken, broken_row, line_nodes, lines_nodes, none_in, none_since, headings, rows_beginning, table_beginning, table_end, table_opening, table, plain_row}
+use Rattle.signal_page.specs.Tables.{Heading, TableLine, Row, Change, Broken, Warned, broken_row, line_nodes, lines_nodes, none_in, none_since, headings, rows_beginning, table_beginning, table_end, table_opening, table, plain_row, warned_row}
 
 -- a row has a text
 longer : (line : TableLine) (rest : List Shown) → 1 ≤ length (html (line_nodes line ++ rest))
-unfolding broken_row plain_row
+unfolding broken_row plain_row warned_row
 longer (Row cells) rest = omega arith
 longer (Change Removed cells others) rest = omega arith
 longer (Change Added cells others) rest = omega arith
 longer (Change Before cells others) rest = omega arith
 longer (Change After cells others) rest = omega arith
 longer (Broken columns broken) rest = omega arith
+longer (Warned columns warning) rest = omega arith
 
 -- the text is as long as before the rows where there is none
 none_is : (lines : List TableLine) (opened : List ℕ) (columns : ℕ)

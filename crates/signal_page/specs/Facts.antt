@@ -1,5 +1,5 @@
 -- How an intersection stands, above its plan.
-use Rattle.std.specs.Prelude.{ℕ, ◌+◌, Bool, true, false, List, [], ◌∷◌, ◌++◌, filter, length, option_map, codes, Option, Some, None}
+use Rattle.std.specs.Prelude.{ℕ, ◌+◌, ◌==◌, Bool, false, if◌then◌else◌, List, [], ◌∷◌, ◌++◌, filter, length, option_map, codes, Option, Some, None}
 use Rattle.cabinet_core.specs.Orders.{is_open}
 use Rattle.cabinet_core.specs.declared.record.Order.{Order}
 use Rattle.signal_records.specs.declared.state.Verdict.{Verdict}
@@ -29,14 +29,19 @@ fact name told =
     Own (codes "<div><dt>") ∷ Own name ∷ Own (codes "</dt><dd>") ∷ told
     ∷ Own (codes "</dd></div>\n") ∷ []
 
--- how the plan and its draft stand
-unfoldable pub draft_facts : IntersectionState → List Shown
-draft_facts state =
+-- how many there are, or that there is none
+abbrev pub number_or_none : ℕ → Shown
+number_or_none n = if n == 0 then Own (codes "none") else Number n
+
+-- how the plan and its draft stand, with how many warnings the committed plan has
+unfoldable pub draft_facts : IntersectionState → (warnings : ℕ) → List Shown
+draft_facts state warnings =
     fact (codes "State") (Own (state_name state.state))
     ++ fact (codes "Draft of") (owner_node state.owner)
     ++ fact (codes "Verify status") (Own (verdict_words state.verify))
     ++ fact (codes "Revision") (Number state.revision)
     ++ fact (codes "Committed rows") (Number state.rows)
+    ++ fact (codes "Warnings of the committed plan") (number_or_none warnings)
 
 -- how the cabinet stands, by the day of its latest inspection
 unfoldable pub cabinet_facts : ℕ → Option ℕ → List Order → List Shown

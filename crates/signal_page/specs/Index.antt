@@ -16,12 +16,14 @@ use Rattle.signal_page.specs.Overdue.{is_overdue, number_of_entry, overdue_among
 use Rattle.signal_page.specs.Page.{page_head, page_end}
 use Rattle.signal_page.specs.Tables.{TableLine, Row, Numbers, Words, table}
 
--- what the index shows of an intersection that is listed, by what the register holds of it
-abbrev pub index_entry : ListedIntersection → CabinetShown → IndexEntry
-index_entry listed cabinet = record {
+-- what the index shows of an intersection that is listed, by what the register holds of it, and by
+-- how many warnings its committed plan has
+abbrev pub index_entry : ListedIntersection → CabinetShown → (warnings : ℕ) → IndexEntry
+index_entry listed cabinet warnings = record {
   listed = listed;
   last = latest_day cabinet.view.inspections;
   open_orders = length (filter is_open cabinet.view.orders);
+  warnings = warnings;
 }
 
 -- ---- the tables
@@ -35,17 +37,18 @@ holder_node (Some holder) = owner_node (Some holder.owner)
 unfoldable pub entry_line : Option ℕ → IndexEntry → TableLine
 entry_line day entry =
     Row (Link entry.listed.id ∷ Name entry.listed.name ∷ Own (state_word entry.listed.holder)
-    ∷ holder_node entry.listed.holder
-    ∷ Number entry.listed.revision ∷ Number entry.listed.rows ∷ Number entry.open_orders
-    ∷ Last entry.last ∷ Due (due_day entry.listed.interval entry.last) (is_overdue day entry) ∷ [])
+    ∷ holder_node entry.listed.holder ∷ Number entry.listed.revision ∷ Number entry.listed.rows
+    ∷ Number entry.warnings ∷ Number entry.open_orders ∷ Last entry.last
+    ∷ Due (due_day entry.listed.interval entry.last) (is_overdue day entry) ∷ [])
 
 -- the intersections, those that are overdue first
 abbrev pub intersections_part : Option ℕ → List IndexEntry → List Shown
 intersections_part day entries =
     table (codes "Intersections") []
     (Numbers (codes "No") ∷ Words (codes "Name") ∷ Words (codes "State") ∷ Words (codes "Draft of")
-    ∷ Numbers (codes "Revision") ∷ Numbers (codes "Committed rows") ∷ Numbers (codes "Open orders")
-    ∷ Words (codes "Last inspection") ∷ Words (codes "Next inspection due") ∷ [])
+    ∷ Numbers (codes "Revision") ∷ Numbers (codes "Committed rows") ∷ Numbers (codes "Warnings")
+    ∷ Numbers (codes "Open orders") ∷ Words (codes "Last inspection")
+    ∷ Words (codes "Next inspection due") ∷ [])
     (map (entry_line day) (overdue_before day entries))
 
 -- the row of an open order

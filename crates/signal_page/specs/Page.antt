@@ -1,8 +1,10 @@
 -- The page of an intersection, and that of a plan alone.
-use Rattle.std.specs.Prelude.{◌≡◌, ℕ, Bool, if◌then◌else◌, List, [], ◌∷◌, ◌++◌, codes, is_some, Option, Some, None}
+use Rattle.std.specs.Prelude.{◌≡◌, ℕ, Bool, if◌then◌else◌, List, [], ◌∷◌, ◌++◌, codes, is_some, length, Option, Some, None}
 use Rattle.cabinet_core.specs.Overdue.{latest_day}
 use Rattle.signal_plans.specs.declared.difference.Difference.{Difference}
 use Rattle.signal_plans.specs.Difference.{AreTold}
+use Rattle.signal_plans.specs.Warnings.{warnings_of}
+use Rattle.signal_plans.specs.declared.warning.Warning.{Warning}
 use Rattle.signal_records.specs.TimingSet.{Rows}
 use Rattle.signal_rules.specs.declared.reason.Explained.{Explained}
 use Rattle.signal_rules.specs.Violations.{AreReasons}
@@ -11,7 +13,8 @@ use Rattle.signal_page.specs.declared.document.TheConstants.{BODY, HEAD}
 use Rattle.signal_page.specs.declared.style.TheConstants.{STYLE}
 use Rattle.signal_page.specs.Nodes.{Shown, Own, Number, Name, Title, IsHtml}
 use Rattle.signal_page.specs.Facts.{draft_facts, cabinet_facts}
-use Rattle.signal_page.specs.Plan.{plan_part, reasons_note}
+use Rattle.signal_page.specs.Plan.{plan_part, reasons_note, warnings_note}
+use Rattle.signal_page.specs.Rows.{PlanRemarks}
 use Rattle.signal_page.specs.Changes.{changes_part}
 use Rattle.signal_page.specs.Register.{register}
 
@@ -53,35 +56,37 @@ heading shown =
     page_head (title shown.state.id (Title shown.state.name)) BODY.now
     ++ (title shown.state.id (Name shown.state.name) ++ Own (codes "</h1>\n<dl>\n") ∷ [])
 
--- what stands above the plan
-unfoldable pub header : (linked : Bool) → IntersectionShown → List Shown
-header linked shown =
+-- what stands above the plan, with how many warnings the committed plan has
+unfoldable pub header : (linked : Bool) → IntersectionShown → (warnings : ℕ) → List Shown
+header linked shown warnings =
     heading shown
     ++ cabinet_facts shown.state.interval (latest_day shown.cabinet.view.inspections) shown.cabinet.view.orders
-    ++ draft_facts shown.state ++ links linked (is_some shown.draft)
+    ++ draft_facts shown.state warnings ++ links linked (is_some shown.draft)
 
--- the committed plan
-unfoldable pub plan_section : Rows → List Shown
-plan_section committed =
+-- the committed plan, with the remarks on it
+unfoldable pub plan_section : PlanRemarks → Rows → List Shown
+plan_section remarks committed =
     Own (codes "<section id='plan' aria-labelledby='plan-title'>\n<h2 id='plan-title'>The committed plan</h2>\n")
-    ∷ (plan_part (codes " of the committed plan") [] committed ++ Own (codes "</section>\n") ∷ [])
+    ∷ (warnings_note remarks.warnings ++ plan_part (codes " of the committed plan") remarks committed
+    ++ Own (codes "</section>\n") ∷ [])
 
--- how many rules a draft breaks, what it changes, and the whole of it
-unfoldable pub draft_body : Rows → Rows → List Difference → List Explained → List Shown
-draft_body committed draft differences reasons =
-    reasons_note reasons ++ changes_part committed draft differences
-    ++ Own (codes "<h3>The whole draft</h3>\n") ∷ [] ++ plan_part (codes " of the draft") reasons draft
+-- how many rules a draft breaks, its warnings, what it changes, and the whole of it
+unfoldable pub draft_body : Rows → Rows → List Difference → PlanRemarks → List Shown
+draft_body committed draft differences remarks =
+    reasons_note remarks.reasons ++ warnings_note remarks.warnings
+    ++ changes_part committed draft differences
+    ++ Own (codes "<h3>The whole draft</h3>\n") ∷ [] ++ plan_part (codes " of the draft") remarks draft
 
 -- a draft, in a section with its heading
-unfoldable pub open_draft : Rows → Rows → List Difference → List Explained → List Shown
-open_draft committed draft differences reasons =
+unfoldable pub open_draft : Rows → Rows → List Difference → PlanRemarks → List Shown
+open_draft committed draft differences remarks =
     Own (codes "<section id='draft' aria-labelledby='draft-title'>\n<h2 id='draft-title'>The draft</h2>\n")
-    ∷ (draft_body committed draft differences reasons ++ Own (codes "</section>\n") ∷ [])
+    ∷ (draft_body committed draft differences remarks ++ Own (codes "</section>\n") ∷ [])
 
 -- the draft, where there is one
-abbrev pub draft_section : Rows → Option Rows → List Difference → List Explained → List Shown
-draft_section committed None differences reasons = []
-draft_section committed (Some draft) differences reasons = open_draft committed draft differences reasons
+abbrev pub draft_section : Rows → Option Rows → List Difference → PlanRemarks → List Shown
+draft_section committed None differences remarks = []
+draft_section committed (Some draft) differences remarks = open_draft committed draft differences remarks
 
 -- the register of the cabinet
 unfoldable pub cabinet_section : IntersectionShown → List Shown
@@ -89,11 +94,11 @@ cabinet_section shown =
     Own (codes "<section id='cabinet' aria-labelledby='cabinet-title'>\n<h2 id='cabinet-title'>The cabinet</h2>\n")
     ∷ (register shown.state.interval shown.cabinet.view ++ Own (codes "</section>\n") ∷ [])
 
--- the page, by what the draft changes, and by why it breaks rules
-unfoldable pub page : (linked : Bool) → IntersectionShown → List Difference → List Explained → List Shown
-page linked shown differences reasons =
-    header linked shown ++ plan_section shown.committed
-    ++ draft_section shown.committed shown.draft differences reasons ++ cabinet_section shown
+-- the page, by what the draft changes, and by the remarks on the committed plan and on the draft
+unfoldable pub page : (linked : Bool) → IntersectionShown → List Difference → (runs drafted : PlanRemarks) → List Shown
+page linked shown differences runs drafted =
+    header linked shown (length runs.warnings) ++ plan_section runs shown.committed
+    ++ draft_section shown.committed shown.draft differences drafted ++ cabinet_section shown
     ++ page_end
 
 -- what a draft changes of the committed plan; nothing where there is none
@@ -106,26 +111,38 @@ abbrev pub AreDraftReasons : Option Rows → List Explained → Type 0
 AreDraftReasons None reasons = reasons ≡ []
 AreDraftReasons (Some draft) reasons = AreReasons draft reasons
 
--- the text is the page of an intersection, linked to the index or not, with the changes of its draft
--- and the reasons of the rules that it breaks
+-- what an engineer is warned of in a plan; nothing where there is none
+abbrev pub warnings_in : Option Rows → List Warning
+warnings_in None = []
+warnings_in (Some set) = warnings_of set
+
+-- the remarks on a plan, by why it breaks rules: those reasons, and all its warnings
+abbrev pub remarks_on : Option Rows → List Explained → PlanRemarks
+remarks_on set reasons = record { reasons = reasons; warnings = warnings_in set }
+
+-- the text is the page of an intersection, linked to the index or not, with all warnings of the
+-- committed plan; and of its draft with the changes, the reasons of the rules that it breaks, and
+-- all warnings
 pub record IsPage (linked : Bool) (shown : IntersectionShown) (text : List ℕ) : Type 0 where
   pub differences : List Difference
   pub changes : AreChanges shown.committed shown.draft differences
   pub reasons : List Explained
   pub why : AreDraftReasons shown.draft reasons
-  pub html : IsHtml (page linked shown differences reasons) text
+  pub html : IsHtml (page linked shown differences (remarks_on (Some shown.committed) []) (remarks_on shown.draft reasons)) text
 
 -- ---- the page of a plan
 
--- the page of a plan, by why it breaks rules
-unfoldable pub plan_page : Rows → List Explained → List Shown
-plan_page plan reasons =
+-- the page of a plan, by the remarks on it
+unfoldable pub plan_page : Rows → PlanRemarks → List Shown
+plan_page plan remarks =
     page_head (Own (codes "Timing plan") ∷ []) BODY.now
-    ++ Own (codes "Timing plan</h1>\n</header>\n<main id='main'>\n") ∷ [] ++ reasons_note reasons
-    ++ plan_part [] reasons plan ++ page_end
+    ++ Own (codes "Timing plan</h1>\n</header>\n<main id='main'>\n") ∷ []
+    ++ reasons_note remarks.reasons ++ warnings_note remarks.warnings
+    ++ plan_part [] remarks plan ++ page_end
 
--- the text is the page of a plan, with all rules that it breaks, each with a true reason
+-- the text is the page of a plan, with all rules that it breaks, each with a true reason, and with
+-- all its warnings
 pub record IsPlanPage (plan : Rows) (text : List ℕ) : Type 0 where
   pub reasons : List Explained
   pub why : AreReasons plan reasons
-  pub html : IsHtml (plan_page plan reasons) text
+  pub html : IsHtml (plan_page plan (remarks_on (Some plan) reasons)) text

@@ -1,7 +1,11 @@
 -- A plan in the page: the pictures of its patterns, and its tables.
-use Rattle.std.specs.Prelude.{ℕ, ◌+◌, ◌-◌, ◌*◌, ◌==◌, ◌&&◌, nat_lt, Bool, if◌then◌else◌, List, [], ◌∷◌, ◌++◌, flat_map, length, codes, Option, Some}
+use Rattle.std.specs.Prelude.{ℕ, ◌+◌, ◌-◌, ◌*◌, ◌==◌, ◌&&◌, nat_lt, Bool, true, false, if◌then◌else◌, List, [], ◌∷◌, ◌++◌, filter, flat_map, length, codes, Option, Some}
 use Rattle.std.specs.FinMap.{values}
 use Rattle.signal_diagram.specs.Diagram.{figure_text}
+use Rattle.signal_plans.specs.Texts.{advice_text}
+use Rattle.signal_plans.specs.declared.warning.Scope.{Scope}
+use Rattle.signal_plans.specs.declared.warning.Scope.TheVariants as scope
+use Rattle.signal_plans.specs.declared.warning.Warning.{Warning}
 use Rattle.signal_records.specs.declared.record.Pattern.{Pattern}
 use Rattle.signal_records.specs.declared.record.Ped.{Ped}
 use Rattle.signal_records.specs.declared.record.Phase.{Phase}
@@ -12,7 +16,7 @@ use Rattle.signal_records.specs.TimingSet.{Rows}
 use Rattle.signal_rules.specs.Lookup.{split_at}
 use Rattle.signal_rules.specs.declared.reason.Explained.{Explained}
 use Rattle.signal_page.specs.Nodes.{Shown, Own, Number, Tenths}
-use Rattle.signal_page.specs.Rows.{plan_tables}
+use Rattle.signal_page.specs.Rows.{PlanRemarks, plan_tables}
 
 -- ---- what a picture cannot show
 
@@ -64,14 +68,16 @@ pictures set rows = flat_map (picture_for set rows) rows
 -- ---- the plan
 
 -- a plan of some rows, with what its tables are of
-unfoldable pub plan_rows : List ℕ → List Explained → Rows → List Row → List Shown
-plan_rows whose reasons set rows =
+unfoldable pub plan_rows : List ℕ → PlanRemarks → Rows → List Row → List Shown
+plan_rows whose remarks set rows =
     if length rows == 0 then Own (codes "<p class='none'>It has no rows.</p>\n") ∷ []
-    else pictures set rows ++ plan_tables whose set reasons rows
+    else pictures set rows ++ plan_tables whose set remarks rows
 
--- a plan, with the reasons of the rules that it breaks
-abbrev pub plan_part : List ℕ → List Explained → Rows → List Shown
-plan_part whose reasons set = plan_rows whose reasons set (values set)
+-- a plan, with the remarks on its rows
+abbrev pub plan_part : List ℕ → PlanRemarks → Rows → List Shown
+plan_part whose remarks set = plan_rows whose remarks set (values set)
+
+-- ---- what stands above a plan
 
 -- how many reasons there are why rules are broken
 unfoldable pub reasons_note : List Explained → List Shown
@@ -79,3 +85,30 @@ reasons_note reasons =
     if length reasons == 0 then Own (codes "<p class='sound'>It breaks no rule.</p>\n") ∷ []
     else Own (codes "<p class='broken'>Reasons why rules are broken: ") ∷ Number (length reasons)
     ∷ Own (codes ". Each stands below its row.</p>\n") ∷ []
+
+-- a scope is the plan as a whole
+abbrev pub is_whole : Scope → Bool
+is_whole scope.Plan = true
+is_whole (scope.Subject s) = false
+
+-- a warning is of the plan as a whole
+abbrev pub is_of_plan : Warning → Bool
+is_of_plan warning = is_whole warning.subject
+
+-- the line of a warning of the plan as a whole
+unfoldable pub warned_line : Warning → List Shown
+warned_line warning =
+    Own (codes "<p class='warned'>Warning: ") ∷ Own (advice_text warning.advice)
+    ∷ Own (codes "</p>\n") ∷ []
+
+-- the warnings of the plan as a whole, each in a line
+abbrev pub whole_warnings : List Warning → List Shown
+whole_warnings warnings = flat_map warned_line (filter is_of_plan warnings)
+
+-- how many warnings there are, and those of the plan as a whole
+unfoldable pub warnings_note : List Warning → List Shown
+warnings_note warnings =
+    if length warnings == 0 then []
+    else Own (codes "<p class='warned'>Warnings: ") ∷ Number (length warnings)
+    ∷ Own (codes ". They refuse nothing. Each stands below its row, or here if it is of the whole plan.</p>\n")
+    ∷ whole_warnings warnings

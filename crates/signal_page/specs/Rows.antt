@@ -1,5 +1,8 @@
 -- The rows of a timing set as rows of tables, a table for each kind.
 use Rattle.std.specs.Prelude.{ℕ, ◌*◌, ◌==◌, ◌&&◌, Bool, true, false, if◌then◌else◌, List, [], ◌∷◌, ◌++◌, filter, flat_map, length, map, codes, Option, Some, None}
+use Rattle.signal_plans.specs.declared.warning.Scope.{Scope}
+use Rattle.signal_plans.specs.declared.warning.Scope.TheVariants as scope
+use Rattle.signal_plans.specs.declared.warning.Warning.{Warning}
 use Rattle.signal_records.specs.declared.record.Pattern.{Pattern}
 use Rattle.signal_records.specs.declared.record.Ped.{Ped}
 use Rattle.signal_records.specs.declared.record.Phase.{Phase}
@@ -16,9 +19,10 @@ use Rattle.signal_rules.specs.declared.violation.Subject.{Subject}
 use Rattle.signal_rules.specs.declared.violation.Subject.TheVariants as subject
 use Rattle.signal_page.specs.declared.rows.Kind.{Kind}
 use Rattle.signal_page.specs.declared.rows.Kind.TheVariants as kind
+use Rattle.signal_page.specs.declared.rows.Remarks.{Remarks}
 use Rattle.signal_page.specs.Needs.{called_cells, need_at, need_cell, spare_cell, coordinated}
 use Rattle.signal_page.specs.Nodes.{Shown, Own, Number, Tenths, Dash, Head, Phases}
-use Rattle.signal_page.specs.Tables.{Heading, Numbers, Words, TableLine, Row as row_line, Broken, table}
+use Rattle.signal_page.specs.Tables.{Heading, Numbers, Words, TableLine, Row as row_line, Broken, Warned, table}
 
 -- ---- the cells of a row
 
@@ -70,7 +74,16 @@ cells_of set (row.Seq n ring seq) = Head n ∷ Head ring ∷ Phases seq.list ∷
 cells_of set (row.Split n p split) = split_cells set n p split
 cells_of set (row.Pattern n pattern) = pattern_cells n pattern (coordinated set pattern.split)
 
--- ---- the rules that a row breaks
+-- ---- the remarks on a row
+
+-- the remarks on a plan: why it breaks rules, and what an engineer is warned of in it
+pub record PlanRemarks : Type 0 where
+  pub reasons : List Explained
+  pub warnings : List Warning
+
+-- the remarks that the code's value stands for
+abbrev pub remarks_by : Remarks → PlanRemarks
+remarks_by remarks = record { reasons = remarks.reasons.now; warnings = remarks.warnings.now }
 
 -- two subjects are one
 abbrev pub is_same_subject : Subject → Subject → Bool
@@ -87,6 +100,24 @@ breaks s broken = is_same_subject s broken.violation.subject
 -- the rules that a subject breaks, each in a row over so many columns
 abbrev pub broken_lines : ℕ → List Explained → Subject → List TableLine
 broken_lines columns reasons s = map (Broken columns) (filter (breaks s) reasons)
+
+-- the scope of a warning is a subject
+abbrev pub is_scope_of : Subject → Scope → Bool
+is_scope_of s (scope.Subject other) = is_same_subject s other
+is_scope_of s scope.Plan = false
+
+-- a warning is of a subject
+abbrev pub warns_of : Subject → Warning → Bool
+warns_of s warning = is_scope_of s warning.subject
+
+-- the warnings of a subject, each in a row over so many columns
+abbrev pub warned_lines : ℕ → List Warning → Subject → List TableLine
+warned_lines columns warnings s = map (Warned columns) (filter (warns_of s) warnings)
+
+-- the remarks on a subject: the rules that it breaks, and its warnings
+abbrev pub remark_lines : ℕ → PlanRemarks → Subject → List TableLine
+remark_lines columns remarks s =
+    broken_lines columns remarks.reasons s ++ warned_lines columns remarks.warnings s
 
 -- ---- the tables
 
@@ -125,22 +156,22 @@ is_of_kind kind.Splits (row.Split n p split) = true
 is_of_kind kind.Patterns (row.Pattern n pattern) = true
 is_of_kind kind other = false
 
--- a row of a set, and below it the rules that it breaks
-abbrev pub row_lines : ℕ → Rows → List Explained → Row → List TableLine
-row_lines columns set reasons r = row_line (cells_of set r) ∷ broken_lines columns reasons (subject_of r)
+-- a row of a set, and below it the remarks on it
+abbrev pub row_lines : ℕ → Rows → PlanRemarks → Row → List TableLine
+row_lines columns set remarks r = row_line (cells_of set r) ∷ remark_lines columns remarks (subject_of r)
 
 -- the rows of a kind, in their order
-abbrev pub kind_lines : Kind → Rows → List Explained → List Row → List TableLine
-kind_lines kind set reasons rows =
-    flat_map (row_lines (length (columns kind)) set reasons) (filter (is_of_kind kind) rows)
+abbrev pub kind_lines : Kind → Rows → PlanRemarks → List Row → List TableLine
+kind_lines kind set remarks rows =
+    flat_map (row_lines (length (columns kind)) set remarks) (filter (is_of_kind kind) rows)
 
 -- the table of a kind
-abbrev pub kind_table : List ℕ → Rows → List Explained → List Row → Kind → List Shown
-kind_table whose set reasons rows kind =
-    table (name_of kind) whose (columns kind) (kind_lines kind set reasons rows)
+abbrev pub kind_table : List ℕ → Rows → PlanRemarks → List Row → Kind → List Shown
+kind_table whose set remarks rows kind =
+    table (name_of kind) whose (columns kind) (kind_lines kind set remarks rows)
 
 -- the four tables of a plan
-unfoldable pub plan_tables : List ℕ → Rows → List Explained → List Row → List Shown
-plan_tables whose set reasons rows =
-    kind_table whose set reasons rows kind.Patterns ++ kind_table whose set reasons rows kind.Sequences
-    ++ kind_table whose set reasons rows kind.Splits ++ kind_table whose set reasons rows kind.Phases
+unfoldable pub plan_tables : List ℕ → Rows → PlanRemarks → List Row → List Shown
+plan_tables whose set remarks rows =
+    kind_table whose set remarks rows kind.Patterns ++ kind_table whose set remarks rows kind.Sequences
+    ++ kind_table whose set remarks rows kind.Splits ++ kind_table whose set remarks rows kind.Phases

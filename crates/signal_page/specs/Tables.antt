@@ -1,6 +1,8 @@
 -- The tables of a page: headings of columns, and rows of cells.
 use Rattle.std.specs.Prelude.{ℕ, ◌==◌, ◌&&◌, Bool, true, false, if◌then◌else◌, List, [], ◌∷◌, ◌++◌, flat_map, length, map, codes}
 use Rattle.std.specs.Str.{bytes_eq}
+use Rattle.signal_plans.specs.Texts.{advice_text}
+use Rattle.signal_plans.specs.declared.warning.Warning.{Warning}
 use Rattle.signal_rules.specs.declared.reason.Explained.{Explained}
 use Rattle.signal_rules.specs.Texts.{reason_text, rule_text}
 use Rattle.signal_page.specs.declared.tables.Column.{Column}
@@ -66,11 +68,12 @@ cells_beside (shown ∷ cells) (other ∷ others) =
 -- ---- rows
 
 -- A row of a table: cells; cells of a row that a draft changes, beside those of the row that it was
--- or becomes; and a rule that the row above breaks, over so many columns.
+-- or becomes; and over so many columns, a rule that the row above breaks, and a warning of it.
 pub data TableLine : Type 0 where
   Row : List Shown → TableLine
   Change : Mark → List Shown → List Shown → TableLine
   Broken : ℕ → Explained → TableLine
+  Warned : ℕ → Warning → TableLine
 
 -- how a row opens that was removed or added, or that was changed, as it was and as it is to be
 abbrev pub change_opening : Mark → List ℕ
@@ -94,11 +97,18 @@ broken_row columns broken =
     ∷ Own (rule_text broken.violation.rule) ∷ Own (codes ": ") ∷ Own (reason_text broken.reason)
     ∷ Own (codes "</p></td></tr>\n") ∷ []
 
+-- a warning: `Warning: the minimum green is 0 s`
+unfoldable pub warned_row : ℕ → Warning → List Shown
+warned_row columns warning =
+    Own (codes "<tr class='warned'><td colspan='") ∷ Number columns ∷ Own (codes "'><p>Warning: ")
+    ∷ Own (advice_text warning.advice) ∷ Own (codes "</p></td></tr>\n") ∷ []
+
 -- what stands in a row
 abbrev pub line_nodes : TableLine → List Shown
 line_nodes (Row cells) = plain_row cells
 line_nodes (Change mark cells others) = row_of (change_opening mark) (cells_beside cells others)
 line_nodes (Broken columns broken) = broken_row columns broken
+line_nodes (Warned columns warning) = warned_row columns warning
 
 -- what stands in rows
 abbrev pub lines_nodes : List TableLine → List Shown

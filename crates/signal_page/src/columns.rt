@@ -74,13 +74,14 @@ pub(crate) const INSPECTION_COLUMNS: [Column; 4] = [
     Column::Words("Findings"),
 ];
 
-pub(crate) const INTERSECTION_COLUMNS: [Column; 9] = [
+pub(crate) const INTERSECTION_COLUMNS: [Column; 10] = [
     Column::Numbers("No"),
     Column::Words("Name"),
     Column::Words("State"),
     Column::Words("Draft of"),
     Column::Numbers("Revision"),
     Column::Numbers("Committed rows"),
+    Column::Numbers("Warnings"),
     Column::Numbers("Open orders"),
     Column::Words("Last inspection"),
     Column::Words("Next inspection due"),

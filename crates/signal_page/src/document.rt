@@ -2,17 +2,19 @@
 
 ghost use Rattle.std.specs.Prelude.{◌≡◌, ◌++◌, ℕ, List, OnOk, IfOk, is_some, string_bytes};
 ghost use Rattle.signal_page.specs.Nodes.{IsHtml, html, shown_of};
-ghost use Rattle.signal_page.specs.Page.{AreChanges, AreDraftReasons, IsPage, IsPlanPage, cabinet_section, draft_body, draft_section, page_head, header, heading, link_if, links, open_draft, page, page_end, plan_page, plan_section};
+ghost use Rattle.signal_page.specs.Page.{AreChanges, AreDraftReasons, IsPage, IsPlanPage, cabinet_section, draft_body, draft_section, page_head, header, heading, link_if, links, open_draft, page, page_end, plan_page, plan_section, warnings_in};
+ghost use Rattle.signal_page.specs.Rows.{remarks_by};
 ghost use Rattle.signal_page.specs.Words.{escaped, unescaped};
 
 use crate::changes::push_changes_part;
 use crate::facts::{push_cabinet_facts, push_draft_facts};
 use crate::nodes::{Node, push_nodes, push_own};
-use crate::plan::{push_plan, push_reasons_note};
+use crate::plan::{push_plan, push_reasons_note, push_warnings_note};
 use crate::register::push_register;
+use crate::rows::Remarks;
 use crate::shown::IntersectionShown;
 use crate::style::STYLE;
-use signal_plans::{Difference, compare};
+use signal_plans::{Difference, Warning, compare, warnings};
 use signal_records::{NoMemory, TimingSet};
 use signal_rules::{Explained, reasons};
 use std::alloc::{AllocError, Global};
@@ -117,53 +119,61 @@ fn push_heading(text: &mut String, shown: &IntersectionShown) -> Result<(), Allo
     )
 }
 
-/// Appends what stands above the plan.
-fn push_header(text: &mut String, linked: bool, shown: &IntersectionShown) -> Result<(), AllocError>
+/// Appends what stands above the plan, with how many warnings the committed plan has.
+fn push_header(
+    text: &mut String,
+    linked: bool,
+    shown: &IntersectionShown,
+    warnings: usize,
+) -> Result<(), AllocError>
     ensures { OnOk result (string_bytes text.new
-        ≡ string_bytes text.old ++ html (header linked shown.now)) }
+        ≡ string_bytes text.old ++ html (header linked shown.now warnings)) }
 {
     let inspections = shown.cabinet.view.inspections.as_slice();
     let orders = shown.cabinet.view.orders.as_slice();
     push_heading(text, shown)?;
     push_cabinet_facts(text, shown.state.interval, inspections, orders)?;
-    push_draft_facts(text, &shown.state)?;
+    push_draft_facts(text, &shown.state, warnings)?;
     push_links(text, linked, shown.draft.is_some())
 }
 
-/// Appends the committed plan.
+/// Appends the committed plan, with the remarks on it.
 fn push_plan_section(
     alloc: Global,
     text: &mut String,
+    remarks: &Remarks<'_>,
     committed: &TimingSet,
 ) -> Result<(), NoMemory>
     ensures { OnOk result (string_bytes text.new
-        ≡ string_bytes text.old ++ html (plan_section committed.now)) }
+        ≡ string_bytes text.old ++ html (plan_section (remarks_by remarks.now) committed.now)) }
 {
     push_own(
         text,
         "<section id='plan' aria-labelledby='plan-title'>\n\
          <h2 id='plan-title'>The committed plan</h2>\n",
     )?;
-    push_plan(alloc, text, " of the committed plan", &[], committed)?;
+    push_warnings_note(text, remarks.warnings)?;
+    push_plan(alloc, text, " of the committed plan", remarks, committed)?;
     push_own(text, "</section>\n")
 }
 
-/// Appends how many rules a draft breaks, what it changes, and the whole of it.
+/// Appends how many rules a draft breaks, its warnings, what it changes, and the whole of it.
 fn push_draft_body(
     alloc: Global,
     text: &mut String,
     committed: &TimingSet,
     draft: &TimingSet,
     differences: &[Difference],
-    reasons: &[Explained],
+    remarks: &Remarks<'_>,
 ) -> Result<(), NoMemory>
     ensures { OnOk result (string_bytes text.new ≡ string_bytes text.old
-        ++ html (draft_body committed.now draft.now differences.now reasons.now)) }
+        ++ html (draft_body committed.now draft.now differences.now (remarks_by remarks.now))) }
 {
-    push_reasons_note(text, reasons)?;
+    push_reasons_note(text, remarks.reasons)?;
+    push_warnings_note(text, remarks.warnings)?;
     push_changes_part(alloc, text, committed, draft, differences)?;
     push_own(text, "<h3>The whole draft</h3>\n")?;
-    push_plan(alloc, text, " of the draft", reasons, draft)
+    push_plan(alloc, text, " of the draft", remarks, draft)
 }
 
 /// Appends a draft, in a section with its heading.
@@ -173,16 +183,16 @@ fn push_open_draft(
     committed: &TimingSet,
     draft: &TimingSet,
     differences: &[Difference],
-    reasons: &[Explained],
+    remarks: &Remarks<'_>,
 ) -> Result<(), NoMemory>
     ensures { OnOk result (string_bytes text.new ≡ string_bytes text.old
-        ++ html (open_draft committed.now draft.now differences.now reasons.now)) }
+        ++ html (open_draft committed.now draft.now differences.now (remarks_by remarks.now))) }
 {
     push_own(
         text,
         "<section id='draft' aria-labelledby='draft-title'>\n<h2 id='draft-title'>The draft</h2>\n",
     )?;
-    push_draft_body(alloc, text, committed, draft, differences, reasons)?;
+    push_draft_body(alloc, text, committed, draft, differences, remarks)?;
     push_own(text, "</section>\n")
 }
 
@@ -193,14 +203,14 @@ fn push_draft_section(
     committed: &TimingSet,
     draft: &Option<TimingSet>,
     differences: &[Difference],
-    reasons: &[Explained],
+    remarks: &Remarks<'_>,
 ) -> Result<(), NoMemory>
     ensures { OnOk result (string_bytes text.new ≡ string_bytes text.old
-        ++ html (draft_section committed.now draft.now differences.now reasons.now)) }
+        ++ html (draft_section committed.now draft.now differences.now (remarks_by remarks.now))) }
 {
     match draft {
         None => Ok(()),
-        Some(draft) => push_open_draft(alloc, text, committed, draft, differences, reasons),
+        Some(draft) => push_open_draft(alloc, text, committed, draft, differences, remarks),
     }
 }
 
@@ -242,37 +252,49 @@ fn draft_reasons(alloc: Global, draft: &Option<TimingSet>) -> Result<Vec<Explain
     }
 }
 
-/// The page by the changes of the draft, and by why it breaks rules.
+/// What an engineer is warned of in a draft; nothing where there is none.
+fn draft_warnings(alloc: Global, draft: &Option<TimingSet>) -> Result<Vec<Warning>, NoMemory>
+    ensures { IfOk result (λ found. found.items ≡ warnings_in draft.now) }
+{
+    match draft {
+        None => Ok(Vec::new(alloc)),
+        Some(draft) => warnings(alloc, draft),
+    }
+}
+
+/// The page by the changes of the draft, and by the remarks on the committed plan and on the draft.
 fn whole_page(
     alloc: Global,
     linked: bool,
     shown: &IntersectionShown,
     differences: &[Difference],
-    reasons: &[Explained],
+    runs: &Remarks<'_>,
+    drafted: &Remarks<'_>,
 ) -> Result<Vec<u8>, NoMemory>
-    ensures { IfOk result (λ text.
-        IsHtml (page linked shown.now differences.now reasons.now) text.items) }
+    ensures { IfOk result (λ text. IsHtml (page linked shown.now differences.now
+        (remarks_by runs.now) (remarks_by drafted.now)) text.items) }
 {
     let mut text = String::new(alloc);
-    push_header(&mut text, linked, shown)?;
-    push_plan_section(alloc, &mut text, &shown.committed)?;
+    push_header(&mut text, linked, shown, runs.warnings.len())?;
+    push_plan_section(alloc, &mut text, runs, &shown.committed)?;
     push_draft_section(
         alloc,
         &mut text,
         &shown.committed,
         &shown.draft,
         differences,
-        reasons,
+        drafted,
     )?;
     push_cabinet_section(&mut text, shown)?;
     end_page(&mut text)?;
     Ok(text.into_bytes())
 }
 
-/// The page of an intersection: how it stands, the pictures and tables of the committed plan, its
-/// draft with what it changes and the rules that it breaks, each with its reason below its row, and
-/// the register of its cabinet, open orders first. It is one HTML text, which needs nothing else,
-/// and has a link to `index.html` beside it where that is wanted.
+/// The page of an intersection: how it stands, the pictures and tables of the committed plan with
+/// its warnings, its draft with what it changes, the rules that it breaks, each with its reason
+/// below its row, and its warnings, and the register of its cabinet, open orders first. It is one
+/// HTML text, which needs nothing else, and has a link to `index.html` beside it where that is
+/// wanted.
 pub fn intersection_page(
     alloc: Global,
     linked: bool,
@@ -285,16 +307,32 @@ pub fn intersection_page(
 {
     let differences = changes_of(alloc, &shown.committed, &shown.draft)?;
     let reasons = draft_reasons(alloc, &shown.draft)?;
-    whole_page(alloc, linked, shown, &differences, &reasons)
+    let drafted = draft_warnings(alloc, &shown.draft)?;
+    let runs = warnings(alloc, &shown.committed)?;
+    whole_page(
+        alloc,
+        linked,
+        shown,
+        &differences,
+        &Remarks {
+            reasons: &[],
+            warnings: &runs,
+        },
+        &Remarks {
+            reasons: &reasons,
+            warnings: &drafted,
+        },
+    )
 }
 
-/// The page of a plan alone, by why it breaks rules.
+/// The page of a plan alone, by the remarks on it.
 fn whole_plan_page(
     alloc: Global,
     plan: &TimingSet,
-    reasons: &[Explained],
+    remarks: &Remarks<'_>,
 ) -> Result<Vec<u8>, NoMemory>
-    ensures { IfOk result (λ text. IsHtml (plan_page plan.now reasons.now) text.items) }
+    ensures { IfOk result (λ text.
+        IsHtml (plan_page plan.now (remarks_by remarks.now)) text.items) }
 {
     let mut text = String::new(alloc);
     push_head(&mut text, &[Node::Own("Timing plan")], BODY)?;
@@ -302,17 +340,26 @@ fn whole_plan_page(
         &mut text,
         &[Node::Own("Timing plan</h1>\n</header>\n<main id='main'>\n")],
     )?;
-    push_reasons_note(&mut text, reasons)?;
-    push_plan(alloc, &mut text, "", reasons, plan)?;
+    push_reasons_note(&mut text, remarks.reasons)?;
+    push_warnings_note(&mut text, remarks.warnings)?;
+    push_plan(alloc, &mut text, "", remarks, plan)?;
     end_page(&mut text)?;
     Ok(text.into_bytes())
 }
 
 /// The page of a plan alone: how many rules it breaks, its pictures, and its tables with the rules
-/// that each row breaks below it, each with its reason.
+/// that each row breaks below it, each with its reason, and its warnings.
 pub fn plan_page(alloc: Global, plan: &TimingSet) -> Result<Vec<u8>, NoMemory>
     ensures { IfOk result (λ text. IsPlanPage plan.now text.items) }
 {
     let broken = reasons(alloc, plan)?;
-    whole_plan_page(alloc, plan, &broken)
+    let advice = warnings(alloc, plan)?;
+    whole_plan_page(
+        alloc,
+        plan,
+        &Remarks {
+            reasons: &broken,
+            warnings: &advice,
+        },
+    )
 }

@@ -2,7 +2,7 @@
 
 ghost use Rattle.std.specs.Prelude.{◌≡◌, ◌++◌, OnOk, string_bytes};
 ghost use Rattle.cabinet_core.specs.Overdue.{latest_day};
-ghost use Rattle.signal_page.specs.Facts.{cabinet_facts, draft_facts, due_day, owner_node, verdict_words};
+ghost use Rattle.signal_page.specs.Facts.{cabinet_facts, draft_facts, due_day, number_or_none, owner_node, verdict_words};
 ghost use Rattle.signal_page.specs.Nodes.{html, shown_by};
 
 use crate::nodes::{Node, push_nodes};
@@ -52,13 +52,24 @@ pub(crate) fn due_day(interval: Interval, latest: Option<Day>) -> Option<Date>
     }
 }
 
-/// Appends how the plan and its draft stand.
+/// How many there are, or that there is none.
+fn number_or_none(count: usize) -> Node<'static>
+    ensures { shown_by result ≡ number_or_none count }
+{
+    match count {
+        0 => Node::Own("none"),
+        _ => Node::Number(count as u64),
+    }
+}
+
+/// Appends how the plan and its draft stand, with how many warnings the committed plan has.
 pub(crate) fn push_draft_facts(
     text: &mut String,
     state: &IntersectionState,
+    warnings: usize,
 ) -> Result<(), AllocError>
     ensures { OnOk result (string_bytes text.new
-        ≡ string_bytes text.old ++ html (draft_facts state.now)) }
+        ≡ string_bytes text.old ++ html (draft_facts state.now warnings)) }
 {
     push_nodes(
         text,
@@ -73,6 +84,8 @@ pub(crate) fn push_draft_facts(
             Node::Number(u64::from(state.revision.get())),
             Node::Own("</dd></div>\n<div><dt>Committed rows</dt><dd>"),
             Node::Number(state.rows as u64),
+            Node::Own("</dd></div>\n<div><dt>Warnings of the committed plan</dt><dd>"),
+            number_or_none(warnings),
             Node::Own("</dd></div>\n"),
         ],
     )

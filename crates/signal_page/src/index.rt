@@ -74,6 +74,7 @@ fn push_entry(text: &mut String, day: &Option<Day>, entry: &IndexEntry) -> Resul
             holder_node(&entry.listed.holder),
             Node::Number(u64::from(entry.listed.revision.get())),
             Node::Number(entry.listed.rows as u64),
+            Node::Number(entry.warnings as u64),
             Node::Number(entry.open_orders as u64),
             Node::Last(date_of(entry.last)),
             Node::Due(due, is_overdue(day, entry)),

@@ -18,6 +18,8 @@ pub struct IndexEntry {
     pub last: Option<Day>,
     /// How many orders on it are open.
     pub open_orders: usize,
+    /// How many warnings its committed plan has.
+    pub warnings: usize,
 }
 
 /// What the index shows of an office.
@@ -54,9 +56,14 @@ fn listed_copied(listed: &ListedIntersection) -> Result<ListedIntersection, NoMe
     })
 }
 
-/// What the index shows of an intersection that is listed, by what the register holds of it.
-fn index_entry(listed: &ListedIntersection, cabinet: &CabinetShown) -> Result<IndexEntry, NoMemory>
-    ensures { IfOk result (λ entry. entry ≡ index_entry listed.now cabinet.now) }
+/// What the index shows of an intersection that is listed, by what the register holds of it, and by
+/// how many warnings its committed plan has.
+fn index_entry(
+    listed: &ListedIntersection,
+    cabinet: &CabinetShown,
+    warnings: usize,
+) -> Result<IndexEntry, NoMemory>
+    ensures { IfOk result (λ entry. entry ≡ index_entry listed.now cabinet.now warnings) }
 {
     let last = latest(cabinet.view.inspections.as_slice());
     let open_orders = open_count(cabinet.view.orders.as_slice());
@@ -65,18 +72,21 @@ fn index_entry(listed: &ListedIntersection, cabinet: &CabinetShown) -> Result<In
         listed,
         last,
         open_orders,
+        warnings,
     })
 }
 
-/// Appends what the index shows of an intersection that is listed, by what the register holds.
+/// Appends what the index shows of an intersection that is listed, by what the register holds of
+/// it, and by how many warnings its committed plan has.
 pub fn add_entry(
     found: &mut Vec<IndexEntry>,
     listed: &ListedIntersection,
     cabinet: &CabinetShown,
+    warnings: usize,
 ) -> Result<(), NoMemory>
     ensures { OnOk result (found.new.items
-        ≡ found.old.items ++ index_entry listed.now cabinet.now ∷ []) }
+        ≡ found.old.items ++ index_entry listed.now cabinet.now warnings ∷ []) }
 {
-    found.push(index_entry(listed, cabinet)?)?;
+    found.push(index_entry(listed, cabinet, warnings)?)?;
     Ok(())
 }

@@ -3,14 +3,17 @@
 ghost use Rattle.std.specs.Prelude.{◌≡◌, ◌+◌, ◌++◌, OnOk, flat_map, string_bytes};
 ghost use Rattle.signal_diagram.specs.Diagram.{figure_text};
 ghost use Rattle.signal_page.specs.Nodes.{html};
-ghost use Rattle.signal_page.specs.Plan.{before_yellow, cut_note, cut_note_of, cut_words, is_cut, picture_for, pictures, plan_part, plan_rows, reasons_note, whole_figure};
+ghost use Rattle.signal_page.specs.Plan.{before_yellow, cut_note, cut_note_of, cut_words, is_cut, is_of_plan, picture_for, pictures, plan_part, plan_rows, reasons_note, warned_line, warnings_note, whole_figure, whole_warnings};
+ghost use Rattle.signal_page.specs.Rows.{remarks_by};
 
 use crate::nodes::{Node, push_nodes, push_own};
-use crate::rows::push_plan_tables;
+use crate::rows::{Remarks, push_plan_tables};
 use signal_diagram::figure;
+use signal_plans::{Scope, Warning};
 use signal_records::{NoMemory, Pattern, PatternNo, Ped, Phase, PhaseNo, Row, Split, TimingSet};
 use signal_rules::{Explained, split_at};
 use std::alloc::{AllocError, Global};
+use std::fmt::Write;
 
 /// Appends the picture of the pattern of a number.
 fn push_figure(
@@ -158,33 +161,33 @@ fn push_plan_rows(
     alloc: Global,
     text: &mut String,
     whose: &str,
-    reasons: &[Explained],
+    remarks: &Remarks<'_>,
     set: &TimingSet,
     rows: &[Row],
 ) -> Result<(), NoMemory>
     ensures { OnOk result (string_bytes text.new ≡ string_bytes text.old
-        ++ html (plan_rows whose.now reasons.now set.now rows.now)) }
+        ++ html (plan_rows whose.now (remarks_by remarks.now) set.now rows.now)) }
 {
     if rows.is_empty() {
         return text.push_str("<p class='none'>It has no rows.</p>\n");
     }
     push_pictures(alloc, text, set, rows)?;
-    push_plan_tables(alloc, text, whose, set, reasons, rows)
+    push_plan_tables(alloc, text, whose, set, remarks, rows)
 }
 
-/// Appends a plan, with what its tables are of and the reasons that are told of it.
+/// Appends a plan, with what its tables are of and the remarks on it.
 pub(crate) fn push_plan(
     alloc: Global,
     text: &mut String,
     whose: &str,
-    reasons: &[Explained],
+    remarks: &Remarks<'_>,
     set: &TimingSet,
 ) -> Result<(), NoMemory>
     ensures { OnOk result (string_bytes text.new ≡ string_bytes text.old
-        ++ html (plan_part whose.now reasons.now set.now)) }
+        ++ html (plan_part whose.now (remarks_by remarks.now) set.now)) }
 {
     let rows = set.rows(alloc)?;
-    push_plan_rows(alloc, text, whose, reasons, set, &rows)
+    push_plan_rows(alloc, text, whose, remarks, set, &rows)
 }
 
 /// Appends how many reasons there are why rules are broken.
@@ -204,4 +207,57 @@ pub(crate) fn push_reasons_note(text: &mut String, reasons: &[Explained]) -> Res
             Node::Own(". Each stands below its row.</p>\n"),
         ],
     )
+}
+
+/// Whether a warning is of the plan as a whole.
+fn is_of_plan(warning: &Warning) -> bool
+    ensures { result ≡ is_of_plan warning.now }
+{
+    matches!(warning.subject, Scope::Plan)
+}
+
+/// Appends the line of a warning of the plan as a whole.
+#[tactic(auto, unfolding(crate::specs::Plan::warned_line))]
+fn push_warned_line(text: &mut String, warning: &Warning) -> Result<(), AllocError>
+    ensures { OnOk result (string_bytes text.new
+        ≡ string_bytes text.old ++ html (warned_line warning.now)) }
+{
+    let advice = warning.advice;
+    write!(text, "<p class='warned'>Warning: {advice}</p>\n")
+}
+
+/// Appends the warnings of the plan as a whole, each in a line.
+fn push_whole_warnings(text: &mut String, warnings: &[Warning]) -> Result<(), AllocError>
+    ensures { OnOk result (string_bytes text.new
+        ≡ string_bytes text.old ++ html (whole_warnings warnings.now)) }
+{
+    for warning in warnings {
+        if is_of_plan(warning) {
+            push_warned_line(text, warning)?;
+        }
+    }
+    Ok(())
+}
+
+/// Appends how many warnings there are, and those of the plan as a whole.
+#[tactic(auto, unfolding(crate::specs::Plan::warnings_note))]
+pub(crate) fn push_warnings_note(text: &mut String, warnings: &[Warning]) -> Result<(), AllocError>
+    ensures { OnOk result (string_bytes text.new
+        ≡ string_bytes text.old ++ html (warnings_note warnings.now)) }
+{
+    if warnings.is_empty() {
+        return Ok(());
+    }
+    push_nodes(
+        text,
+        &[
+            Node::Own("<p class='warned'>Warnings: "),
+            Node::Number(warnings.len() as u64),
+            Node::Own(
+                ". They refuse nothing. Each stands below its row, or here if it is of the whole \
+                 plan.</p>\n",
+            ),
+        ],
+    )?;
+    push_whole_warnings(text, warnings)
 }

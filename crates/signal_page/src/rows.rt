@@ -2,13 +2,14 @@
 
 ghost use Rattle.std.specs.Prelude.{◌≡◌, ◌++◌, [], ◌∷◌, OnOk, length, string_bytes};
 ghost use Rattle.signal_page.specs.Nodes.{html, shown_of, Head, Phases};
-ghost use Rattle.signal_page.specs.Rows.{breaks, broken_lines, cells_of, columns, flag_words, is_of_kind, is_same_subject, kind_lines, kind_table, mode_words, name_of, pattern_cells, ped_cells, phase_cells, plan_tables, row_lines, split_cells};
+ghost use Rattle.signal_page.specs.Rows.{breaks, broken_lines, cells_of, columns, flag_words, is_of_kind, is_same_subject, kind_lines, kind_table, mode_words, name_of, pattern_cells, ped_cells, phase_cells, plan_tables, remark_lines, remarks_by, row_lines, split_cells, warned_lines, warns_of};
 ghost use Rattle.signal_page.specs.Tables.{cells_beside, headings_by, lines_nodes, row_of};
 
 use crate::columns::{PATTERN_COLUMNS, PHASE_COLUMNS, SEQUENCE_COLUMNS, SPLIT_COLUMNS};
 use crate::needs::{called_cells, coordinated, need_at, need_cell, spare_cell};
 use crate::nodes::Node;
-use crate::tables::{Column, end_table, open_table, push_broken_row, push_cells};
+use crate::tables::{Column, end_table, open_table, push_broken_row, push_cells, push_warned_row};
+use signal_plans::{Scope, Warning};
 use signal_records::{
     NoMemory, Pattern, PatternNo, Ped, Phase, PhaseNo, RingNo, Row, SeqNo, SeqRow, Split,
     SplitMode, SplitNo, TimingSet,
@@ -23,6 +24,15 @@ pub(crate) enum Kind {
     Sequences,
     Splits,
     Patterns,
+}
+
+/// The remarks on a plan.
+#[derive(Clone, Copy)]
+pub(crate) struct Remarks<'a> {
+    /// Why it breaks rules.
+    pub(crate) reasons: &'a [Explained],
+    /// What an engineer is warned of in it.
+    pub(crate) warnings: &'a [Warning],
 }
 
 /// The name of a table.
@@ -302,21 +312,63 @@ fn push_broken_rows(
     Ok(())
 }
 
-/// Appends a row, and below it the rules that it breaks.
+/// Whether a warning is of a subject.
+fn warns_of(subject: &Subject, warning: &Warning) -> bool
+    ensures { result ≡ warns_of subject.now warning.now }
+{
+    match &warning.subject {
+        Scope::Subject(other) => is_same(subject, other),
+        Scope::Plan => false,
+    }
+}
+
+/// Appends the warnings of a subject, each in a row over so many columns.
+fn push_warned_rows(
+    text: &mut String,
+    columns: usize,
+    warnings: &[Warning],
+    subject: &Subject,
+) -> Result<(), AllocError>
+    ensures { OnOk result (string_bytes text.new ≡ string_bytes text.old
+        ++ html (lines_nodes (warned_lines columns warnings.now subject.now))) }
+{
+    for warning in warnings {
+        if warns_of(subject, warning) {
+            push_warned_row(text, columns, warning)?;
+        }
+    }
+    Ok(())
+}
+
+/// Appends the remarks on a subject, each in a row over so many columns.
+fn push_remark_rows(
+    text: &mut String,
+    columns: usize,
+    remarks: &Remarks<'_>,
+    subject: &Subject,
+) -> Result<(), AllocError>
+    ensures { OnOk result (string_bytes text.new ≡ string_bytes text.old
+        ++ html (lines_nodes (remark_lines columns (remarks_by remarks.now) subject.now))) }
+{
+    push_broken_rows(text, columns, remarks.reasons, subject)?;
+    push_warned_rows(text, columns, remarks.warnings, subject)
+}
+
+/// Appends a row, and below it the remarks on it.
 #[tactic(auto, unfolding(crate::specs::Tables::plain_row))]
-fn push_row_and_reasons(
+fn push_row_and_remarks(
     alloc: Global,
     text: &mut String,
     columns: usize,
     set: &TimingSet,
-    reasons: &[Explained],
+    remarks: &Remarks<'_>,
     row: &Row,
 ) -> Result<(), NoMemory>
     ensures { OnOk result (string_bytes text.new ≡ string_bytes text.old
-        ++ html (lines_nodes (row_lines columns set.now reasons.now row.now))) }
+        ++ html (lines_nodes (row_lines columns set.now (remarks_by remarks.now) row.now))) }
 {
     push_row_alone(alloc, text, "<tr>", set, row)?;
-    push_broken_rows(text, columns, reasons, &subject_of(row))
+    push_remark_rows(text, columns, remarks, &subject_of(row))
 }
 
 /// Appends the rows of a kind.
@@ -325,16 +377,16 @@ fn push_rows(
     text: &mut String,
     kind: Kind,
     set: &TimingSet,
-    reasons: &[Explained],
+    remarks: &Remarks<'_>,
     rows: &[Row],
 ) -> Result<(), NoMemory>
     ensures { OnOk result (string_bytes text.new ≡ string_bytes text.old
-        ++ html (lines_nodes (kind_lines kind set.now reasons.now rows.now))) }
+        ++ html (lines_nodes (kind_lines kind set.now (remarks_by remarks.now) rows.now))) }
 {
     let columns = columns(kind).len();
     for row in rows {
         if is_of(kind, row) {
-            push_row_and_reasons(alloc, text, columns, set, reasons, row)?;
+            push_row_and_remarks(alloc, text, columns, set, remarks, row)?;
         }
     }
     Ok(())
@@ -348,16 +400,16 @@ fn push_kind_table(
     kind: Kind,
     whose: &str,
     set: &TimingSet,
-    reasons: &[Explained],
+    remarks: &Remarks<'_>,
     rows: &[Row],
 ) -> Result<(), NoMemory>
     ensures { OnOk result (string_bytes text.new ≡ string_bytes text.old
-        ++ html (kind_table whose.now set.now reasons.now rows.now kind)) }
+        ++ html (kind_table whose.now set.now (remarks_by remarks.now) rows.now kind)) }
 {
     let columns = columns(kind);
     open_table(text, name_of(kind), whose, columns)?;
     let before = text.len();
-    push_rows(alloc, text, kind, set, reasons, rows)?;
+    push_rows(alloc, text, kind, set, remarks, rows)?;
     end_table(text, before, columns.len())
 }
 
@@ -368,14 +420,14 @@ pub(crate) fn push_plan_tables(
     text: &mut String,
     whose: &str,
     set: &TimingSet,
-    reasons: &[Explained],
+    remarks: &Remarks<'_>,
     rows: &[Row],
 ) -> Result<(), NoMemory>
     ensures { OnOk result (string_bytes text.new ≡ string_bytes text.old
-        ++ html (plan_tables whose.now set.now reasons.now rows.now)) }
+        ++ html (plan_tables whose.now set.now (remarks_by remarks.now) rows.now)) }
 {
-    push_kind_table(alloc, text, Kind::Patterns, whose, set, reasons, rows)?;
-    push_kind_table(alloc, text, Kind::Sequences, whose, set, reasons, rows)?;
-    push_kind_table(alloc, text, Kind::Splits, whose, set, reasons, rows)?;
-    push_kind_table(alloc, text, Kind::Phases, whose, set, reasons, rows)
+    push_kind_table(alloc, text, Kind::Patterns, whose, set, remarks, rows)?;
+    push_kind_table(alloc, text, Kind::Sequences, whose, set, remarks, rows)?;
+    push_kind_table(alloc, text, Kind::Splits, whose, set, remarks, rows)?;
+    push_kind_table(alloc, text, Kind::Phases, whose, set, remarks, rows)
 }

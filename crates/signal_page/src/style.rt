@@ -6,13 +6,15 @@ pub const STYLE: &str = "\
   color-scheme: light dark;
   --ground: #f6f7f9; --card: #ffffff; --ink: #1b2430; --quiet: #556070; --line: #d9dee6;
   --stripe: #f3f5f8; --link: #0b57a4; --red: #a1121f; --red-ground: #fdecec; --green: #14612f;
-  --green-ground: #e8f5ec; --blue: #0b4a8f; --blue-ground: #e8f0fb; --mark: #ffe38a;
+  --green-ground: #e8f5ec; --blue: #0b4a8f; --blue-ground: #e8f0fb; --amber: #704600;
+  --amber-ground: #fdf1d8; --mark: #ffe38a;
 }
 @media (prefers-color-scheme: dark) {
   :root {
     --ground: #12161c; --card: #1b212a; --ink: #e6eaf0; --quiet: #9ba8b8; --line: #323c49;
     --stripe: #212935; --link: #8ec1ff; --red: #ff9a9a; --red-ground: #3d1f24; --green: #8fdcaa;
-    --green-ground: #183526; --blue: #a5cbff; --blue-ground: #1c2e47; --mark: #5c4a00;
+    --green-ground: #183526; --blue: #a5cbff; --blue-ground: #1c2e47; --amber: #f2c675;
+    --amber-ground: #3a2e14; --mark: #5c4a00;
   }
 }
 * { box-sizing: border-box; }
@@ -69,14 +71,16 @@ thead th {
 tbody th { font-weight: 600; }
 tbody tr { border-top: 1px solid var(--line); }
 tbody tr:nth-child(even) { background: var(--stripe); }
-.w, .d, .why td { text-align: left; }
+.w, .d, .why td, .warned td { text-align: left; }
 td:has(bdi) { min-width: 9rem; }
 .d { white-space: nowrap; }
-.why p {
+.why p, .warned p {
   position: sticky; left: 0.7rem; display: inline-block; max-width: min(44rem, 100vw - 4rem);
   margin: 0; color: var(--red); font-weight: 600;
 }
-tbody tr.why { border-top: 0; }
+.warned p { color: var(--amber); }
+tbody tr.why, tbody tr.warned { border-top: 0; }
+tbody tr.warned, tbody tr:has(+ .warned) { background: var(--amber-ground); }
 tbody tr.why, tbody tr:has(+ .why), tbody tr.removed { background: var(--red-ground); }
 tbody tr.added { background: var(--green-ground); }
 tbody tr.before, tbody tr.after { background: var(--blue-ground); }
@@ -93,15 +97,19 @@ mark {
 }
 .late, .short { color: var(--red); }
 mark:empty { padding: 0 0.5em; border-bottom: 2px solid; }
-.broken, .sound { padding: 0.6rem 0.9rem; border-left: 0.3rem solid; border-radius: 0.2rem; }
+.broken, .sound, p.warned {
+  padding: 0.6rem 0.9rem; border-left: 0.3rem solid; border-radius: 0.2rem;
+}
 .broken { color: var(--red); background: var(--red-ground); }
 .sound { color: var(--green); background: var(--green-ground); }
+p.warned { color: var(--amber); background: var(--amber-ground); }
 .none { color: var(--quiet); text-align: left; }
 @media print {
   :root {
     --ground: #ffffff; --card: #ffffff; --ink: #000000; --quiet: #000000; --line: #999999;
     --stripe: #ffffff; --red: #000000; --red-ground: #ffffff; --green: #000000;
-    --green-ground: #ffffff; --blue: #000000; --blue-ground: #ffffff; --mark: #ffffff;
+    --green-ground: #ffffff; --blue: #000000; --blue-ground: #ffffff; --amber: #000000;
+    --amber-ground: #ffffff; --mark: #ffffff;
   }
   @page { size: landscape; margin: 12mm; }
   body { font-size: 10pt; }

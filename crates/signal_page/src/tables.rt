@@ -3,9 +3,10 @@
 ghost use Rattle.std.specs.Prelude.{◌≡◌, ◌++◌, [], OnOk, length, true, string_bytes};
 ghost use Rattle.std.specs.Str.{bytes_eq};
 ghost use Rattle.signal_page.specs.Nodes.{html, node_text, shown_by, shown_of};
-ghost use Rattle.signal_page.specs.Tables.{cell, cell_end, cell_opening, cells_beside, change_opening, heading, heading_by, headings, headings_by, line_nodes, none_row, none_since, rows_beginning, shows_same, table_beginning, table_end, table_opening, unless_same, Broken, Row};
+ghost use Rattle.signal_page.specs.Tables.{cell, cell_end, cell_opening, cells_beside, change_opening, heading, heading_by, headings, headings_by, line_nodes, none_row, none_since, rows_beginning, shows_same, table_beginning, table_end, table_opening, unless_same, Broken, Row, Warned};
 
 use crate::nodes::{Node, push_node};
+use signal_plans::Warning;
 use signal_records::PhaseNo;
 use signal_rules::Explained;
 use std::alloc::AllocError;
@@ -153,6 +154,23 @@ pub(crate) fn push_broken_row(
     write!(
         text,
         "<tr class='why'><td colspan='{columns}'><p>{rule}: {reason}</p></td></tr>\n"
+    )
+}
+
+/// Appends a warning, in a row over so many columns.
+#[tactic(auto, unfolding(crate::specs::Tables::warned_row))]
+pub(crate) fn push_warned_row(
+    text: &mut String,
+    columns: usize,
+    warning: &Warning,
+) -> Result<(), AllocError>
+    ensures { OnOk result (string_bytes text.new
+        ≡ string_bytes text.old ++ html (line_nodes (Warned columns warning.now))) }
+{
+    let advice = warning.advice;
+    write!(
+        text,
+        "<tr class='warned'><td colspan='{columns}'><p>Warning: {advice}</p></td></tr>\n"
     )
 }
 

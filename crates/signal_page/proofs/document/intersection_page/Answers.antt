@@ -12,7 +12,7 @@ returns-clause-page c =
       changes = c.in_ok-differences.ensures;
       reasons = c.in_ok-reasons.reasons.items;
       why = c.in_ok-reasons.ensures;
-      html = rw (c.deref.ensures.value, c.deref-2.ensures.value) at is;
+      html = rw (c.deref.ensures.value, c.deref-2.ensures.value, c.deref-3.ensures.value, c.deref-4.ensures.value, c.in_ok-drafted.ensures, c.in_ok-runs.ensures) at is;
     }) c.whole_page.ensures
 
 pub returns-clause-read : goal.returns-clause-read
@@ -23,3 +23,9 @@ returns-in_err-differences-clause-read c = restored
 
 pub returns-in_err-reasons-clause-read : goal.returns-in_err-reasons-clause-read
 returns-in_err-reasons-clause-read c = restored
+
+pub returns-in_err-drafted-clause-read : goal.returns-in_err-drafted-clause-read
+returns-in_err-drafted-clause-read c = restored
+
+pub returns-in_err-runs-clause-read : goal.returns-in_err-runs-clause-read
+returns-in_err-runs-clause-read c = restored
