@@ -1,10 +1,11 @@
 """The picture of a pattern: its rings as lanes of an SVG, whose unit is a tenth of a second."""
 import itertools
 
-from . import reasons
+from . import reasons, warnings
 from .rules import View, of_pattern
 
 LEFT, RIGHT, LEAST, LANES_TOP, PITCH, RISE = 120, 60, 900, 140, 120, 12
+BELOW, LINE = 60, 22  # what stands below the lanes: the scale, and a line for each warning
 # Of each stretch how far below the top of its lane it begins, how high it is, and its colour.
 BANDS = {
     "green": (34, 30, "#dcefd8"),
@@ -161,7 +162,9 @@ def elements(plan, number, in_page):
     lanes = [starts(view, pattern, ring) for ring in rings]
     seconds = max([pattern.cycle, *(sum(it.time for _, it in lane) for lane in lanes)])
     bottom = LANES_TOP + PITCH * len(lanes)
-    yield opening(number, LEFT + max(LEAST, 10 * seconds) + RIGHT, bottom + 60, in_page)
+    warned = [] if in_page else warnings.in_pattern(view, pattern)
+    yield opening(number, LEFT + max(LEAST, 10 * seconds) + RIGHT,
+                  bottom + BELOW + LINE * len(warned), in_page)
     yield GROUND
     yield words(120, 36, f"Pattern {number}: cycle {pattern.cycle} s, offset {pattern.offset} s, "
                 f"split {pattern.split}, sequence {pattern.sequence}", " font-size='28'")
@@ -179,9 +182,12 @@ def elements(plan, number, in_page):
         x = LEFT + 10 * at
         yield line(x, LANES_TOP - RISE, x, bottom - RISE, 5 if is_barrier else 2)
     yield from scale(bottom, seconds)
+    for index, told in enumerate(warned):
+        yield words(12, bottom + BELOW + LINE * index, f"Warning: {told}", " font-size='15'")
     yield "</svg>"
 
 
 def picture(plan, number, in_page=False):
-    """The picture of a pattern, to be printed on a sheet or to stand in a page."""
+    """The picture of a pattern, to be printed on a sheet, with its warnings, or to stand in a page,
+    which has them below its rows."""
     return "".join(f"{it}\n" for it in elements(plan, number, in_page))

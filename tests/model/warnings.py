@@ -104,6 +104,16 @@ def of_plan(view):
                f"{rings(view)} rings waits for another")
 
 
+def in_pattern(view, pattern):
+    """Each warning of a pattern, after those of the rows of its split plan."""
+    rows = sorted((p, split) for (n, p), split in view.splits.items() if n == pattern.split)
+    subjects = [
+        *((f"split {pattern.split} {p}", of_split(view, split)) for p, split in rows),
+        (f"pattern {pattern.number}", of_pattern(view, pattern)),
+    ]
+    return [f"{subject}: {told}" for subject, all_told in subjects for told in all_told]
+
+
 def warnings(plan):
     """A line for each warning of a plan."""
     view = View(plan)

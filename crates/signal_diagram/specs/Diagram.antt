@@ -1,8 +1,9 @@
 -- The diagram of a pattern: an SVG picture of its rings and barriers.
-use Rattle.std.specs.Prelude.{◌≡◌, ℕ, ◌*◌, ◌/◌, List, [], ◌++◌, flat_map, length, codes, decimal, Option, Some, None}
+use Rattle.std.specs.Prelude.{◌≡◌, ℕ, ◌+◌, ◌*◌, ◌/◌, List, [], ◌++◌, flat_map, length, codes, decimal, Option, Some, None}
 use Rattle.signal_records.specs.declared.record.Pattern.{Pattern}
 use Rattle.signal_records.specs.TimingSet.{Rows}
 use Rattle.signal_rules.specs.Lookup.{pattern_at}
+use Rattle.signal_plans.specs.declared.warning.Warning.{Warning}
 use Rattle.signal_diagram.specs.declared.document.Sizing.{Sizing}
 use Rattle.signal_diagram.specs.declared.document.Sizing.TheVariants.{Sheet, Figure}
 use Rattle.signal_diagram.specs.Lane.{RingLane}
@@ -10,6 +11,7 @@ use Rattle.signal_diagram.specs.Chart.{lanes_of, longest, IsChart}
 use Rattle.signal_diagram.specs.Shapes.{shapes_of}
 use Rattle.signal_diagram.specs.Svg.{width_of, height_of, svg_of}
 use Rattle.signal_diagram.specs.Head.{head}
+use Rattle.signal_diagram.specs.Foot.{told_below, foot, foot_height}
 
 -- the opening of a picture of so many units, which prints on one page, and its white ground
 unfoldable pub sheet_opening : ℕ → ℕ → List ℕ
@@ -40,15 +42,17 @@ abbrev pub opening : Sizing → ℕ → ℕ → ℕ → List ℕ
 opening Sheet n width height = sheet_opening width height
 opening Figure n width height = figure_opening n width height
 
--- the picture of a pattern with these lanes
-abbrev pub drawing : Sizing → Rows → ℕ → Pattern → List RingLane → List ℕ
-drawing sizing set n pattern lanes =
-    opening sizing n (width_of (longest pattern.cycle lanes)) (height_of (length lanes))
-    ++ head set n pattern ++ flat_map svg_of (shapes_of set pattern lanes) ++ codes "</svg>\n"
+-- the picture of a pattern with these lanes, and these warnings below them
+abbrev pub drawing : Sizing → Rows → ℕ → Pattern → List RingLane → List Warning → List ℕ
+drawing sizing set n pattern lanes found =
+    opening sizing n (width_of (longest pattern.cycle lanes)) (height_of (length lanes) + foot_height found)
+    ++ head set n pattern ++ flat_map svg_of (shapes_of set pattern lanes)
+    ++ foot (height_of (length lanes)) found ++ codes "</svg>\n"
 
 -- the picture of a pattern
 abbrev pub picture : Sizing → Rows → ℕ → Pattern → List ℕ
-picture sizing set n pattern = drawing sizing set n pattern (lanes_of set pattern)
+picture sizing set n pattern =
+    drawing sizing set n pattern (lanes_of set pattern) (told_below sizing set n)
 
 -- the picture of a pattern that there may be
 abbrev pub picture_of : Sizing → Rows → ℕ → Option Pattern → List ℕ
@@ -63,10 +67,11 @@ diagram_text set n = picture_of Sheet set n (pattern_at set n)
 abbrev pub figure_text : Rows → ℕ → List ℕ
 figure_text set n = picture_of Figure set n (pattern_at set n)
 
--- the picture shows the chart of the pattern of a number, whatever it is drawn for
+-- the picture shows the chart of the pattern of a number and, below it, exactly the warnings that
+-- are told there, in their order
 pub record DrawsChart (sizing : Sizing) (set : Rows) (n : ℕ) (text : List ℕ) : Type 0 where
   pub pattern : Pattern
   pub found : pattern_at set n ≡ Some pattern
   pub lanes : List RingLane
   pub is_chart : IsChart set pattern lanes
-  pub drawn : text ≡ drawing sizing set n pattern lanes
+  pub drawn : text ≡ drawing sizing set n pattern lanes (told_below sizing set n)

@@ -7,6 +7,7 @@ ghost use Rattle.signal_diagram.specs.Shapes.{shapes_of};
 ghost use Rattle.signal_diagram.specs.Diagram.{sheet_opening, figure_words, figure_opening, opening, picture, picture_of, diagram_text, figure_text, DrawsChart};
 
 use crate::chart::{Lane, lanes_of, longest};
+use crate::foot::{foot_height, push_foot, told_below};
 use crate::head::push_head;
 use crate::lines::{add_lines, add_scale};
 use crate::phases::add_lanes;
@@ -128,11 +129,13 @@ fn picture(
     let lanes = lanes_of(alloc, set, pattern, &rings)?;
     let shapes = shapes_of(alloc, set, pattern, &lanes)?;
     let width = width_of(longest(pattern.cycle.get() as u16, &lanes));
-    let height = height_of(lanes.len() as u32);
+    let bottom = height_of(lanes.len() as u32);
+    let found = told_below(alloc, sizing, set, n)?;
     let mut text = String::new(alloc);
-    push_opening(&mut text, sizing, n, width, height)?;
+    push_opening(&mut text, sizing, n, width, bottom + foot_height(&found))?;
     push_head(alloc, &mut text, set, n, pattern)?;
     push_shapes(&mut text, &shapes)?;
+    push_foot(&mut text, bottom, &found)?;
     text.push_str("</svg>\n")?;
     Ok(text)
 }
@@ -164,8 +167,9 @@ fn picture_of(
 /// as long as its split time. A phase shows its number and seconds (a star and a thick edge where
 /// it is coordinated), a lead before its green, yellow and red at its end, and below it walk and
 /// clearance. A line stands over all lanes where all rings change phase together, and at the end
-/// of the cycle; a scale has a tick each 10 seconds. Where the pattern breaks V9 or V12, the
-/// picture says so and its lanes end where they end.
+/// of the cycle; a scale has a tick each 10 seconds. Where the pattern breaks V9, V12 or V13, the
+/// picture says so and its lanes end where they end. Below stands a line for each warning of the
+/// pattern and of the rows of its split plan.
 pub fn diagram(
     alloc: Global,
     set: &TimingSet,
@@ -174,7 +178,7 @@ pub fn diagram(
     ensures found { IfOk result (λ shown. IsSome shown ↔ IsSome (pattern_at set.now number)) }
     ensures text { IfOk result (λ shown. IfSome shown
         (λ text. text.items ≡ diagram_text set.now number)) }
-    // It shows the chart of the pattern, on which a reader relies.
+    // It shows the chart of the pattern and its warnings, on which a reader relies.
     ensures chart { IfOk result (λ shown. IfSome shown
         (λ text. DrawsChart Sizing.Sheet set.now number text.items)) }
 {
@@ -185,8 +189,8 @@ pub fn diagram(
 }
 
 /// The picture of a pattern to stand in a page of HTML: it is as wide and as high as its units, so
-/// that the page may scale it, and has words for those who don't see it. Nothing, where the set has
-/// no such pattern.
+/// that the page may scale it, and has words for those who don't see it. The page has the warnings.
+/// Nothing, where the set has no such pattern.
 pub fn figure(alloc: Global, set: &TimingSet, number: PatternNo) -> Result<Option<String>, NoMemory>
     ensures found { IfOk result (λ shown. IsSome shown ↔ IsSome (pattern_at set.now number)) }
     ensures text { IfOk result (λ shown. IfSome shown

@@ -9,6 +9,7 @@
 
 mod chart;
 mod document;
+mod foot;
 mod head;
 mod lines;
 mod phases;

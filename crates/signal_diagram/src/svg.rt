@@ -34,7 +34,8 @@ pub(crate) fn width_of(seconds: u16) -> u32
 
 /// How high a picture of so many lanes is, with its scale.
 pub(crate) fn height_of(lanes: u32) -> u64
-    ensures { result ≡ height_of lanes }
+    ensures exact { result ≡ height_of lanes }
+    ensures small { result < 2 ^ 41 }
 {
     top_of(lanes) + 60
 }

@@ -9,7 +9,7 @@ use Rattle.signal_rules.specs.declared.violation.Subject.{Subject}
 use Rattle.signal_rules.specs.declared.violation.Subject.TheVariants as subject
 use Rattle.signal_rules.specs.Cases.{Cases}
 use Rattle.signal_rules.specs.Lookup.{phase_at, split_at, pattern_at}
-use Rattle.signal_rules.specs.Violations.{subjects}
+use Rattle.signal_rules.specs.Violations.{subjects, split_rows}
 use Rattle.signal_plans.specs.declared.warning.Advice.{Advice}
 use Rattle.signal_plans.specs.declared.warning.Scope.{Scope}
 use Rattle.signal_plans.specs.declared.warning.Scope.TheVariants as scope
@@ -58,3 +58,12 @@ warnings_at set (subject.Pattern n) = pattern_warnings set n (pattern_at set n)
 -- the warnings of a set: those of its subjects, in the order of the rules, and then those of the plan as a whole
 unfoldable pub warnings_of : Rows → List Warning
 warnings_of set = flat_map (warnings_at set) (subjects set) ++ told_cases scope.Plan (plan_cases set)
+
+-- the subjects that a pattern runs by, if there is one: the rows of its split number (patternSplitNumber) and the pattern itself
+abbrev pub pattern_subjects : Rows → ℕ → Option Pattern → List Subject
+pattern_subjects set n None = []
+pattern_subjects set n (Some pattern) = split_rows set pattern.split ++ subject.Pattern n ∷ []
+
+-- the warnings of a pattern: those of the subjects that it runs by, the split rows by ascending phase and then the pattern itself
+unfoldable pub warnings_of_pattern : Rows → ℕ → List Warning
+warnings_of_pattern set n = flat_map (warnings_at set) (pattern_subjects set n (pattern_at set n))

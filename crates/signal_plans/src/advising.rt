@@ -1,16 +1,19 @@
 //! The warnings of a timing set, subject by subject.
 
 ghost use Rattle.std.specs.Prelude.{◌≡◌, ◌++◌, Some, OnOk, IfOk};
+ghost use Rattle.std.specs.List.{flat_map};
+ghost use Rattle.signal_rules.specs.Lookup as set_has;
+ghost use Rattle.signal_rules.specs.Violations.{split_rows};
 ghost use Rattle.signal_plans.specs.Parts.{AreParts};
-ghost use Rattle.signal_plans.specs.Warnings.{told_cases, phase_warnings, row_warnings, warnings_at, warnings_of};
+ghost use Rattle.signal_plans.specs.Warnings.{told_cases, phase_warnings, row_warnings, pattern_warnings, warnings_at, warnings_of, warnings_of_pattern};
 
 use crate::pattern::coordination_advice;
 use crate::phase::{crossing_cases, phase_cases};
 use crate::plan::{PlanParts, parts_of, plan_cases};
 use crate::split::split_cases;
 use crate::warning::{Advice, Scope, Warning};
-use signal_records::{NoMemory, Phase, PhaseNo, Split, SplitNo, TimingSet};
-use signal_rules::{Subject, pattern_at, phase_at, split_at, subjects_of};
+use signal_records::{NoMemory, Pattern, PatternNo, Phase, PhaseNo, Split, SplitNo, TimingSet};
+use signal_rules::{Subject, pattern_at, phase_at, phases_of, split_at, subjects_of};
 use std::alloc::Global;
 
 /// The warnings of a set: phases, split rows and patterns, each by ascending number, then the plan
@@ -27,6 +30,28 @@ pub fn warnings(alloc: Global, set: &TimingSet) -> Result<Vec<Warning>, NoMemory
         warn(alloc, set, &parts, *subject, &mut found)?;
     }
     tell(&Scope::Plan, &plan_cases(set, &parts), &mut found)?;
+    Ok(found)
+}
+
+/// The warnings of a pattern: those of the rows of its split plan by ascending phase, then its own.
+/// None, where the set has no such pattern. What it costs grows with no other pattern or split.
+///
+/// `NoMemory` means that a growth was really refused.
+#[tactic(auto, unfolding(crate::specs::Warnings::warnings_of_pattern))]
+pub fn warnings_of_pattern(
+    alloc: Global,
+    set: &TimingSet,
+    n: PatternNo,
+) -> Result<Vec<Warning>, NoMemory>
+    ensures { IfOk result (λ found. found.items ≡ warnings_of_pattern set.now n) }
+{
+    let mut found = Vec::new(alloc);
+    let Some(pattern) = pattern_at(set, n) else {
+        return Ok(found);
+    };
+    let phases = phases_of(alloc, set)?;
+    warn_rows(set, pattern.split, &mut found)?;
+    warn_pattern(alloc, set, &phases, n, &pattern, &mut found)?;
     Ok(found)
 }
 
@@ -52,12 +77,7 @@ fn warn(
             None => Ok(()),
         },
         Subject::Pattern(n) => match pattern_at(set, n) {
-            Some(pattern) => {
-                match coordination_advice(alloc, set, &parts.phases, &pattern)? {
-                    Some(advice) => tell(&Scope::Subject(subject), &[(true, advice)], found),
-                    None => Ok(()),
-                }
-            }
+            Some(pattern) => warn_pattern(alloc, set, &parts.phases, n, &pattern, found),
             None => Ok(()),
         },
     }
@@ -99,6 +119,41 @@ fn warn_split(
     };
     let scope = Scope::Subject(Subject::Split(n, p));
     tell(&scope, &split_cases(phase, split), found)
+}
+
+/// Adds the warnings of the rows of a split number, by ascending phase.
+fn warn_rows(set: &TimingSet, n: SplitNo, found: &mut Vec<Warning>) -> Result<(), NoMemory>
+    ensures { OnOk result (found.new.items ≡ found.old.items
+        ++ flat_map (warnings_at set.now) (split_rows set.now n)) }
+{
+    for p in PhaseNo::all() {
+        if let Some(split) = split_at(set, n, p) {
+            warn_split(set, n, p, &split, found)?;
+        }
+    }
+    Ok(())
+}
+
+/// Adds the warnings of a pattern itself. The phases are those of the set.
+fn warn_pattern(
+    alloc: Global,
+    set: &TimingSet,
+    phases: &[PhaseNo],
+    n: PatternNo,
+    pattern: &Pattern,
+    found: &mut Vec<Warning>,
+) -> Result<(), NoMemory>
+    requires { phases.now ≡ set_has.phases set.now }
+    ensures { OnOk result (found.new.items ≡ found.old.items
+        ++ pattern_warnings set.now n (Some pattern.now)) }
+{
+    match coordination_advice(alloc, set, phases, pattern)? {
+        Some(advice) => {
+            let scope = Scope::Subject(Subject::Pattern(n));
+            tell(&scope, &[(true, advice)], found)
+        }
+        None => Ok(()),
+    }
 }
 
 /// Adds of some cases, in their order, those that are so.

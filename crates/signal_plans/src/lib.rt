@@ -21,7 +21,7 @@ mod street;
 mod texts;
 mod warning;
 
-pub use advising::warnings;
+pub use advising::{warnings, warnings_of_pattern};
 pub use comparing::compare;
 pub use comparison::comparison_text;
 pub use difference::{Difference, changes};

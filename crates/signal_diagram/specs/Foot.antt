@@ -1,0 +1,31 @@
+-- The words below the lanes of a sheet: a line for each warning of the pattern and of the rows of its split plan.
+use Rattle.std.specs.Prelude.{ℕ, ◌+◌, ◌*◌, List, [], ◌∷◌, ◌++◌, length, codes, decimal}
+use Rattle.signal_records.specs.TimingSet.{Rows}
+use Rattle.signal_plans.specs.declared.warning.Warning.{Warning}
+use Rattle.signal_plans.specs.Texts.{warning_text}
+use Rattle.signal_plans.specs.Warnings.{warnings_of_pattern}
+use Rattle.signal_diagram.specs.declared.document.Sizing.{Sizing}
+use Rattle.signal_diagram.specs.declared.document.Sizing.TheVariants.{Sheet, Figure}
+use Rattle.signal_diagram.specs.Svg.{words_end}
+
+-- the warnings that a picture tells of a pattern: a page, where a figure stands, has them below its rows
+abbrev pub told_below : Sizing → Rows → ℕ → List Warning
+told_below Sheet set n = warnings_of_pattern set n
+told_below Figure set n = []
+
+-- the opening of a line of small words, from the left edge; the longest warning is no wider than the narrowest picture
+unfoldable pub small_words_at : ℕ → List ℕ
+small_words_at y = codes "<text x='12' y='" ++ decimal y ++ codes "' font-size='15'>"
+
+-- `Warning: split 1 2: the mode calls the walk of a phase that has no crossing`, without a character of markup: a warning has letters, digits, blanks and `:`, `,` and `.` alone
+abbrev pub line_below : ℕ → Warning → List ℕ
+line_below y warning = small_words_at y ++ (codes "Warning: " ++ warning_text warning) ++ words_end
+
+-- a line for each warning, the first at a height and each other one 22 below the one before
+abbrev pub foot : ℕ → List Warning → List ℕ
+foot y [] = []
+foot y (warning ∷ more) = line_below y warning ++ foot (y + 22) more
+
+-- how high the lines of some warnings are
+abbrev pub foot_height : List Warning → ℕ
+foot_height found = 22 * length found
