@@ -1,6 +1,6 @@
 -- Records that are tried in turn.
 use Rattle.std.proofs.Common.{◌≡◌, ◌+◌, ◌++◌, ℕ, zero, suc, Bool, List, [], ◌∷◌, Option, Some, None, drop, refl, ap, ap₂, sym, subst, ◌∙◌, inl, inr, append_assoc}
-use Rattle.std.specs.Prelude.{◌⊎◌, IfOk, IsErrAnd, Result, Ok, Err}
+use Rattle.std.specs.Prelude.{◌⊎◌, Result, Ok, Err}
 use Rattle.cabinet_core.specs.{Register.Register, Step.line_at}
 use Rattle.cabinet_core.specs.declared.{record.Delivery.Delivery, record.UsedLine.UsedLine, command.RecordCommand.RecordCommand, refusal.CabinetRefusal.CabinetRefusal}
 use Rattle.cabinet_core.specs.declared.command.RecordCommand.TheVariants as asks

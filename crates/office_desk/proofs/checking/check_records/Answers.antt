@@ -5,7 +5,7 @@ use Rattle.office_machine.specs.Step.{cabinet_of}
 use Rattle.office_tables_shelf.specs.Content.{Content}
 use Rattle.office_desk.proofs.TriedRecords.{CheckedSoFar, checked_more, damage_in_check, none_checked}
 use Rattle.office_tables_decisions.proofs.ReadLemmas.{handed_reports, handed_told, unread}
-use Rattle.office_desk.proofs.Imports.{is_next, none_next, some_read, taken_reads}
+use Rattle.office_desk.proofs.Imports.{is_next, some_read, taken_reads}
 use Rattle.office_desk.proofs.FoundAgain.{none_found}
 use Rattle.office_desk.proofs.checking.check_records.Goals as goal
 
