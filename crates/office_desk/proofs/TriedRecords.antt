@@ -6,7 +6,7 @@ use Rattle.cabinet_core.specs.declared.{record.Delivery.Delivery, record.UsedLin
 use Rattle.cabinet_core.specs.declared.command.RecordCommand.TheVariants as asks
 use Rattle.cabinet_core.specs.declared.refusal.CabinetRefusal.TheVariants as cabinet
 use Rattle.office_tables_shelf.specs.{Change.changed_by, Content.Content, declared.rows.RowChange.RowChange, RegisterStands.RegisterStandsSound}
-use Rattle.office_tables_shelf.specs.declared.{shelf.ShelfFault.ShelfFault, shelf.ShelfFault.TheVariants.Damaged}
+use Rattle.office_tables_shelf.specs.declared.shelf.ShelfFault.{ShelfFault}
 use Rattle.office_tables_shelf.specs.Places as place
 use Rattle.office_tables_decisions.specs.Reads.{Reports}
 use Rattle.office_tables_shelf.specs.Places.{DamagedAt, Place}
