@@ -1,12 +1,12 @@
 -- Records that are tried in turn.
 use Rattle.std.proofs.Common.{◌≡◌, ◌+◌, ◌++◌, ℕ, zero, suc, Bool, List, [], ◌∷◌, Option, Some, None, drop, refl, ap, ap₂, sym, subst, ◌∙◌, inl, inr, append_assoc}
-use Rattle.std.specs.Prelude.{◌⊎◌, IfOk, IsErrAnd, Result, Ok, Err}
+use Rattle.std.specs.Prelude.{◌⊎◌, Result, Ok, Err}
 use Rattle.cabinet_core.specs.{Register.Register, Step.line_at}
 use Rattle.cabinet_core.specs.declared.{record.Delivery.Delivery, record.UsedLine.UsedLine, command.RecordCommand.RecordCommand, refusal.CabinetRefusal.CabinetRefusal}
 use Rattle.cabinet_core.specs.declared.command.RecordCommand.TheVariants as asks
 use Rattle.cabinet_core.specs.declared.refusal.CabinetRefusal.TheVariants as cabinet
 use Rattle.office_tables_shelf.specs.{Change.changed_by, Content.Content, declared.rows.RowChange.RowChange, RegisterStands.RegisterStandsSound}
-use Rattle.office_tables_shelf.specs.declared.{shelf.ShelfFault.ShelfFault, shelf.ShelfFault.TheVariants.Damaged}
+use Rattle.office_tables_shelf.specs.declared.shelf.ShelfFault.{ShelfFault}
 use Rattle.office_tables_shelf.specs.Places as place
 use Rattle.office_tables_decisions.specs.Reads.{Reports}
 use Rattle.office_tables_shelf.specs.Places.{DamagedAt, Place}
@@ -70,13 +70,13 @@ other_received asked why differs = refl
 
 -- what is told of it
 pub tells_read : (honest : Type 0) (stored : Content) (pending : List RowChange) (c : RecordCommand) (why : CabinetRefusal) (refusal : Refusal)
-    (result : Result There ShelfFault) → refusal ≡ office.Cabinet why → IfOk result (λ it. honest → ReadsThere stored pending (place_told c why) it)
-    → (result ≡ Err Damaged → honest → DamagedAt stored (place_told c why))
+    (result : Result There ShelfFault) → refusal ≡ office.Cabinet why
+    → Reports honest result (ReadsThere stored pending (place_told c why)) (DamagedAt stored (place_told c why))
     → Reports honest result (TellsThere stored pending c refusal) (MeetsRecordDamage stored c)
-tells_read honest stored pending c why refusal (Ok it) is reads damage = λ h r stands.
+tells_read honest stored pending c why refusal (Ok it) is reads = λ h r stands.
     there_read stored pending (place_told c why) it r (reads h) stands ∙ ap (there_in r c) (sym is)
-tells_read honest stored pending c why refusal (Err fault) is reads damage =
-    λ damaged h. damage_there stored c why (damage (ap (λ (it : ShelfFault). Err it) damaged) h)
+tells_read honest stored pending c why refusal (Err fault) is damage =
+    λ damaged h. damage_there stored c why (damage damaged h)
 
 pub nothing_told : (r : Register) (c : RecordCommand) (refusal : Refusal) → ((why : CabinetRefusal) → refusal ≡ office.Cabinet why → ⊥)
     → there.Nothing ≡ there_in r c refusal
@@ -84,12 +84,6 @@ nothing_told r c (office.Cabinet why) never = absurd (never why refl)
 nothing_told r c refusal never = refl
 
 -- ---- damaged rows
-
--- a fault that is handed on
-pub handed_err : {A B E : Type 0} (result : Result A E) (found : Result B E) (why told : E) → found ≡ Err why → IsErrAnd result (λ it. it ≡ why)
-    → result ≡ Err told → found ≡ Err told
-handed_err (Ok x) found why told was is e = absurd is
-handed_err (Err it) found why told was is e = let same : it ≡ told = cc in was ∙ ap Err (sym is ∙ same)
 
 -- a damaged row that a record of an import meets is its intersection's, or one of the register
 pub cabinet_damage : (tables : Content) (c : RecordCommand) (about : Option ℕ) → MeetsCabinetDamage tables c about

@@ -1,7 +1,6 @@
 //! Records of the register that are tried in turn and not taken.
-ghost use Rattle.std.specs.Prelude.{◌≡◌, ◌⊎◌, ◌++◌, [], ◌∷◌, IfOk, OnOk};
-ghost use Rattle.office_tables_shelf.specs.Keeps.{KeepsShelf};
-ghost use Rattle.office_tables_decisions.specs.Reads.{Reports};
+ghost use Rattle.std.specs.Prelude.{◌≡◌, ◌≢◌, ◌⊎◌, ◌++◌, [], ◌∷◌, IfOk, OnOk};
+ghost use Rattle.office_tables_decisions.specs.Reads.{OnlyReads, Reports};
 ghost use Rattle.office_desk.specs.Checking.{Checks, ChecksRecord, MeetsCheckDamage, TellsThere};
 ghost use Rattle.office_desk.specs.Recording.{AreFound, HasDamagedAbout};
 ghost use Rattle.office_tables_decisions.specs.RegisterDamage.{MeetsRecordDamage};
@@ -39,8 +38,7 @@ fn there_of<S: Shelf>(
     ensures there { Reports (S.is_honest shelf.new) result
         (TellsThere (S.content shelf.old) pending.now command.now refusal)
         (MeetsRecordDamage (S.content shelf.old) command.now) }
-    ensures clean { S.is_clean shelf.new → S.is_clean shelf.old }
-    ensures kept { KeepsShelf S.Shelf shelf.old shelf.new }
+    ensures reads { OnlyReads S.Shelf ⊥ result shelf.old shelf.new }
 {
     match refusal {
         Refusal::Cabinet(why) => what_is_there(shelf, alloc, pending, command, why),
@@ -63,8 +61,7 @@ fn check_record<S: Shelf>(
         (λ checked. ChecksRecord (S.content shelf.old) pending command.now checked.0 checked.1)
         (HasDamagedAbout (S.content shelf.old) (about_of command.now)
         ⊎ MeetsRecordDamage (S.content shelf.old) command.now) }
-    ensures clean { S.is_clean shelf.new → S.is_clean shelf.old }
-    ensures kept { KeepsShelf S.Shelf shelf.old shelf.new }
+    ensures reads { OnlyReads S.Shelf (pending ≡ []) result shelf.old shelf.new }
 {
     let (taken, next) = take_record(shelf, alloc, found, pending, command)?;
     match taken {
@@ -94,8 +91,7 @@ pub(crate) fn check_records<S: Shelf>(
     ensures checks { Reports (S.is_honest shelf.new) result
         (λ checked. Checks (S.content shelf.old) records.now checked.items)
         (MeetsCheckDamage (S.content shelf.old) records.now) }
-    ensures clean { S.is_clean shelf.new → S.is_clean shelf.old }
-    ensures kept { KeepsShelf S.Shelf shelf.old shelf.new }
+    ensures reads { OnlyReads S.Shelf (records.now ≢ []) result shelf.old shelf.new }
 {
     let mut found = BTreeSet::new(alloc);
     let mut pending = Pending::new(alloc);

@@ -1,8 +1,8 @@
 //! What stands in the register where a record is refused.
-ghost use Rattle.std.specs.Prelude.{◌≡◌, IfOk, Err};
-ghost use Rattle.office_tables_shelf.specs.Keeps.{KeepsShelf};
+ghost use Rattle.std.specs.Prelude.{◌≡◌, IfOk, []};
 ghost use Rattle.office_tables_shelf.specs.Places as place;
 ghost use Rattle.office_tables_shelf.specs.Places.{DamagedAt, found_at, place_of};
+ghost use Rattle.office_tables_decisions.specs.Reads.{OnlyReads, Reports};
 ghost use Rattle.office_desk.specs.Checking.{ReadsThere, place_told, told_there};
 
 use cabinet_core::{
@@ -95,12 +95,10 @@ pub(crate) fn what_is_there<S: Shelf>(
     command: &RecordCommand,
     why: CabinetRefusal,
 ) -> Result<There, ShelfFault>
-    ensures reads { IfOk result (λ there. S.is_honest shelf.new →
-        ReadsThere (S.content shelf.old) pending.now (place_told command.now why) there) }
-    ensures damaged { result ≡ Err ShelfFault.Damaged → S.is_honest shelf.new →
-        DamagedAt (S.content shelf.old) (place_told command.now why) }
-    ensures clean { S.is_clean shelf.new → S.is_clean shelf.old }
-    ensures kept { KeepsShelf S.Shelf shelf.old shelf.new }
+    ensures there { Reports (S.is_honest shelf.new) result
+        (ReadsThere (S.content shelf.old) pending.now (place_told command.now why))
+        (DamagedAt (S.content shelf.old) (place_told command.now why)) }
+    ensures reads { OnlyReads S.Shelf (pending.now ≡ []) result shelf.old shelf.new }
 {
     let key = key_told(command, why);
     let found = record_at(shelf, alloc, pending, &key)?;

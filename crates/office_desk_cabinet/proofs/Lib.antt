@@ -12,6 +12,5 @@ pub mod ListedRecords
 pub mod InOrder
 pub mod ShowingLemmas
 pub mod EmptyRegister
-pub mod Opened
 pub mod News
 pub mod Decided

@@ -1,7 +1,6 @@
 //! The commands of the register, decided.
 ghost use Rattle.std.specs.Prelude.{◌≡◌, []};
-ghost use Rattle.office_tables_shelf.specs.Keeps.{KeepsShelf};
-ghost use Rattle.office_desk_cabinet.specs.Open.{DatabaseStaysOpen};
+ghost use Rattle.office_tables_decisions.specs.Reads.{OnlyReads};
 ghost use Rattle.office_desk_cabinet.specs.Decides.{DecidesRecord};
 
 use crate::pending::Pending;
@@ -22,9 +21,7 @@ pub fn decide_record<S: Shelf>(
 ) -> Result<Registered, ShelfFault>
     ensures decides { DecidesRecord (S.is_honest shelf.new) (S.content shelf.old) pending.now
         command.now result }
-    ensures kept { KeepsShelf S.Shelf shelf.old shelf.new }
-    ensures open { DatabaseStaysOpen S.is_clean S.is_honest (pending.now ≡ [])
-        result shelf.old shelf.new }
+    ensures reads { OnlyReads S.Shelf (pending.now ≡ []) result shelf.old shelf.new }
 {
     match command {
         RecordCommand::Inspect { id, inspection } => {

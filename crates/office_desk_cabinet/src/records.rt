@@ -1,8 +1,7 @@
 //! Inspections and orders: their commands decided.
 ghost use Rattle.std.specs.Prelude.{◌≡◌, []};
 ghost use Rattle.cabinet_core.specs.declared.command.RecordCommand.{RecordCommand};
-ghost use Rattle.office_tables_shelf.specs.Keeps.{KeepsShelf};
-ghost use Rattle.office_desk_cabinet.specs.Open.{DatabaseStaysOpen};
+ghost use Rattle.office_tables_decisions.specs.Reads.{OnlyReads};
 ghost use Rattle.office_desk_cabinet.specs.Decides.{DecidesRecord};
 
 use crate::pending::Pending;
@@ -25,9 +24,7 @@ pub(crate) fn decide_inspect<S: Shelf>(
 ) -> Result<Registered, ShelfFault>
     ensures decides { DecidesRecord (S.is_honest shelf.new) (S.content shelf.old) pending.now
         (RecordCommand.Inspect id inspection.now) result }
-    ensures kept { KeepsShelf S.Shelf shelf.old shelf.new }
-    ensures open { DatabaseStaysOpen S.is_clean S.is_honest (pending.now ≡ [])
-        result shelf.old shelf.new }
+    ensures reads { OnlyReads S.Shelf (pending.now ≡ []) result shelf.old shelf.new }
 {
     let key = RegisterKey::Inspection(id, inspection.number);
     let found = record_at(shelf, alloc, pending, &key)?;
@@ -46,9 +43,7 @@ pub(crate) fn decide_open_order<S: Shelf>(
 ) -> Result<Registered, ShelfFault>
     ensures decides { DecidesRecord (S.is_honest shelf.new) (S.content shelf.old) pending.now
         (RecordCommand.OpenOrder id opening.now) result }
-    ensures kept { KeepsShelf S.Shelf shelf.old shelf.new }
-    ensures open { DatabaseStaysOpen S.is_clean S.is_honest (pending.now ≡ [])
-        result shelf.old shelf.new }
+    ensures reads { OnlyReads S.Shelf (pending.now ≡ []) result shelf.old shelf.new }
 {
     let key = RegisterKey::Order(id, opening.number);
     let found = record_at(shelf, alloc, pending, &key)?;
@@ -68,9 +63,7 @@ pub(crate) fn decide_close_order<S: Shelf>(
 ) -> Result<Registered, ShelfFault>
     ensures decides { DecidesRecord (S.is_honest shelf.new) (S.content shelf.old) pending.now
         (RecordCommand.CloseOrder id order closing.now) result }
-    ensures kept { KeepsShelf S.Shelf shelf.old shelf.new }
-    ensures open { DatabaseStaysOpen S.is_clean S.is_honest (pending.now ≡ [])
-        result shelf.old shelf.new }
+    ensures reads { OnlyReads S.Shelf (pending.now ≡ []) result shelf.old shelf.new }
 {
     let key = RegisterKey::Order(id, order);
     let found = record_at(shelf, alloc, pending, &key)?;

@@ -1,10 +1,10 @@
 //! What is asked of the register: the records of a cabinet, its open orders.
-ghost use Rattle.std.specs.Prelude.{◌≡◌, IfOk, filter, map};
+ghost use Rattle.std.specs.Prelude.{◌≡◌, IfOk, filter, map, ⊤};
 ghost use Rattle.cabinet_core.specs.Orders.{is_open, open_at};
 ghost use Rattle.cabinet_core.specs.Register.{Register};
 ghost use Rattle.cabinet_core.specs.declared.record.Order.{Order};
 ghost use Rattle.office_tables_shelf.specs.CabinetReads.{HasDamagedOrder};
-ghost use Rattle.office_tables_shelf.specs.Keeps.{AnswersShelf, KeepsShelf};
+ghost use Rattle.office_tables_decisions.specs.Reads.{OnlyReads, ReportsWhole};
 ghost use Rattle.office_desk_cabinet.specs.RegisterDamage.{HasDamagedCabinet};
 ghost use Rattle.office_desk_cabinet.specs.RegisterStands.{RegisterStandsSound};
 ghost use Rattle.office_desk_cabinet.specs.Registers.{ShowsCabinet};
@@ -21,14 +21,11 @@ pub fn cabinet_view<S: Shelf>(
     alloc: Global,
     id: InterId,
 ) -> Result<CabinetView, ShelfFault>
-    ensures shows { S.is_honest shelf.new → IfOk result (λ view. (r : Register) →
-        RegisterStandsSound (S.content shelf.old) r → ShowsCabinet r id view) }
-    ensures whole { IfOk result (λ _. S.is_honest shelf.new →
-        ¬ HasDamagedCabinet (S.content shelf.old) id) }
-    ensures damaged { result ≡ Err ShelfFault.Damaged → S.is_honest shelf.new →
-        HasDamagedCabinet (S.content shelf.old) id }
-    ensures kept { KeepsShelf S.Shelf shelf.old shelf.new }
-    ensures open { AnswersShelf S.Shelf result shelf.old shelf.new }
+    ensures shows { ReportsWhole (S.is_honest shelf.new) result
+        (λ view. (r : Register) →
+        RegisterStandsSound (S.content shelf.old) r → ShowsCabinet r id view)
+        (HasDamagedCabinet (S.content shelf.old) id) }
+    ensures reads { OnlyReads S.Shelf ⊤ result shelf.old shelf.new }
 {
     let inspections = shelf.inspections(alloc, id)?;
     let orders = shelf.orders(alloc, id)?;
@@ -61,14 +58,11 @@ pub fn open_orders<S: Shelf>(
     alloc: Global,
     id: InterId,
 ) -> Result<Vec<RecordNo>, ShelfFault>
-    ensures shows { S.is_honest shelf.new → IfOk result (λ numbers. (r : Register) →
-        RegisterStandsSound (S.content shelf.old) r → numbers.items ≡ open_at r id) }
-    ensures whole { IfOk result (λ _. S.is_honest shelf.new →
-        ¬ HasDamagedOrder (S.content shelf.old) id) }
-    ensures damaged { result ≡ Err ShelfFault.Damaged → S.is_honest shelf.new →
-        HasDamagedOrder (S.content shelf.old) id }
-    ensures kept { KeepsShelf S.Shelf shelf.old shelf.new }
-    ensures open { AnswersShelf S.Shelf result shelf.old shelf.new }
+    ensures shows { ReportsWhole (S.is_honest shelf.new) result
+        (λ numbers. (r : Register) →
+        RegisterStandsSound (S.content shelf.old) r → numbers.items ≡ open_at r id)
+        (HasDamagedOrder (S.content shelf.old) id) }
+    ensures reads { OnlyReads S.Shelf ⊤ result shelf.old shelf.new }
 {
     let orders = shelf.orders(alloc, id)?;
     let numbers = open_numbers(alloc, orders.as_slice())?;

@@ -1,9 +1,8 @@
 //! The record that stands under a key of the register once the pending rows are written.
 ghost use Rattle.std.specs.Prelude.{◌≡◌, IfOk, IfSome, []};
 ghost use Rattle.office_tables_shelf.specs.Change.{changed_by};
-ghost use Rattle.office_tables_shelf.specs.Keeps.{KeepsShelf};
 ghost use Rattle.office_tables_shelf.specs.Places.{DamagedAt, IsOfPlace, found_at, place_of};
-ghost use Rattle.office_desk_cabinet.specs.Open.{DatabaseStaysOpen};
+ghost use Rattle.office_tables_decisions.specs.Reads.{OnlyReads, Reports};
 ghost use Rattle.office_desk_cabinet.specs.Puts.{StandsAt};
 
 use crate::pending::Pending;
@@ -18,15 +17,12 @@ pub fn record_at<S: Shelf>(
     pending: &Pending,
     key: &RegisterKey<'_>,
 ) -> Result<Option<RegisterRecord>, ShelfFault>
-    ensures stands { IfOk result (λ there. S.is_honest shelf.new →
-        StandsAt (changed_by (S.content shelf.old) pending.now) (place_of key.now)
-        (found_at (place_of key.now) there)) }
+    ensures stands { Reports (S.is_honest shelf.new) result
+        (λ there. StandsAt (changed_by (S.content shelf.old) pending.now) (place_of key.now)
+        (found_at (place_of key.now) there))
+        (DamagedAt (S.content shelf.old) (place_of key.now)) }
     ensures within { IfOk result (λ there. IfSome there (IsOfPlace (place_of key.now))) }
-    ensures damaged { result ≡ Err ShelfFault.Damaged → S.is_honest shelf.new →
-        DamagedAt (S.content shelf.old) (place_of key.now) }
-    ensures kept { KeepsShelf S.Shelf shelf.old shelf.new }
-    ensures open { DatabaseStaysOpen S.is_clean S.is_honest (pending.now ≡ [])
-        result shelf.old shelf.new }
+    ensures reads { OnlyReads S.Shelf (pending.now ≡ []) result shelf.old shelf.new }
 {
     if let Some(put) = pending.record_at(key)? {
         return Ok(Some(put));

@@ -1,11 +1,10 @@
 //! The stock: parts used, deliveries received, and what is on hand.
-ghost use Rattle.std.specs.Prelude.{◌≡◌, IfOk, OnErr, []};
+ghost use Rattle.std.specs.Prelude.{◌≡◌, IfOk, OnErr, [], ⊤};
 ghost use Rattle.cabinet_core.specs.Register.{Register};
 ghost use Rattle.cabinet_core.specs.Stock.{stock_of};
 ghost use Rattle.cabinet_core.specs.declared.command.RecordCommand.{RecordCommand};
 ghost use Rattle.office_tables_shelf.specs.CabinetReads.{HasDamagedPart};
-ghost use Rattle.office_tables_shelf.specs.Keeps.{AnswersShelf, KeepsShelf};
-ghost use Rattle.office_desk_cabinet.specs.Open.{DatabaseStaysOpen};
+ghost use Rattle.office_tables_decisions.specs.Reads.{OnlyReads, ReportsWhole};
 ghost use Rattle.office_desk_cabinet.specs.RegisterStands.{RegisterStandsSound};
 ghost use Rattle.office_desk_cabinet.specs.Decides.{DecidesRecord};
 ghost use Rattle.office_desk_cabinet.specs.Stocking.{TellsStock, stock_row_of, stock_rows_of};
@@ -35,9 +34,7 @@ pub(crate) fn decide_use_part<S: Shelf>(
 ) -> Result<Registered, ShelfFault>
     ensures decides { DecidesRecord (S.is_honest shelf.new) (S.content shelf.old) pending.now
         (RecordCommand.UsePart id line.now) result }
-    ensures kept { KeepsShelf S.Shelf shelf.old shelf.new }
-    ensures open { DatabaseStaysOpen S.is_clean S.is_honest (pending.now ≡ [])
-        result shelf.old shelf.new }
+    ensures reads { OnlyReads S.Shelf (pending.now ≡ []) result shelf.old shelf.new }
 {
     let found = record_at(shelf, alloc, pending, &RegisterKey::Part(&line.part))?;
     let hand = RegisterRecord::hand(found);
@@ -102,9 +99,7 @@ pub(crate) fn decide_receive<S: Shelf>(
 ) -> Result<Registered, ShelfFault>
     ensures decides { DecidesRecord (S.is_honest shelf.new) (S.content shelf.old) pending.now
         (RecordCommand.Receive delivery.now) result }
-    ensures kept { KeepsShelf S.Shelf shelf.old shelf.new }
-    ensures open { DatabaseStaysOpen S.is_clean S.is_honest (pending.now ≡ [])
-        result shelf.old shelf.new }
+    ensures reads { OnlyReads S.Shelf (pending.now ≡ []) result shelf.old shelf.new }
 {
     let found = record_at(shelf, alloc, pending, &RegisterKey::Part(&delivery.part))?;
     let hand = RegisterRecord::hand(found);
@@ -117,14 +112,11 @@ pub(crate) fn decide_receive<S: Shelf>(
 /// The parts that were ever delivered, with how many are on hand of each, in the order of their
 /// codes.
 pub fn stock<S: Shelf>(shelf: &mut S, alloc: Global) -> Result<Vec<(PartCode, Hand)>, ShelfFault>
-    ensures shows { S.is_honest shelf.new → IfOk result (λ parts. (r : Register) →
-        RegisterStandsSound (S.content shelf.old) r → parts.items ≡ stock_of r) }
-    ensures whole { IfOk result (λ _. S.is_honest shelf.new →
-        ¬ HasDamagedPart (S.content shelf.old)) }
-    ensures damaged { result ≡ Err ShelfFault.Damaged → S.is_honest shelf.new →
-        HasDamagedPart (S.content shelf.old) }
-    ensures kept { KeepsShelf S.Shelf shelf.old shelf.new }
-    ensures open { AnswersShelf S.Shelf result shelf.old shelf.new }
+    ensures shows { ReportsWhole (S.is_honest shelf.new) result
+        (λ parts. (r : Register) →
+        RegisterStandsSound (S.content shelf.old) r → parts.items ≡ stock_of r)
+        (HasDamagedPart (S.content shelf.old)) }
+    ensures reads { OnlyReads S.Shelf ⊤ result shelf.old shelf.new }
 {
     let parts = shelf.parts(alloc)?;
     Ok(parts)

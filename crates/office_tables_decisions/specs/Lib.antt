@@ -1,5 +1,4 @@
 pub mod StandFor
-pub mod Open
 pub mod Reads
 pub mod Committed
 pub mod RecordBounds

@@ -26,7 +26,7 @@ returns-in_ok-there-in-Refused-clause-checks g c = λ honest office stands r reg
     let after = c.in_ok-taken.next in
     let why = c.in-Refused.refusal in
     let took = λ (honest : g.S.Shelf.is_honest c.take_record.new.shelf). (c.in_ok-taken.ensures.takes honest).step in
-    let first = c.there_of.ensures.kept.honest_before honest in
+    let first = c.there_of.ensures.reads.kept.honest_before honest in
     let told = (took first office stands r register).told in
     let stand = (took first office stands r register).stand in
     let same = c.take_record.ensures.reads.kept.same_content first in
@@ -40,5 +40,5 @@ returns-in_err-taken-clause-checks g c = handed_reports _ _ _ _ _ c.from_residua
 
 pub returns-in_err-there-in-Refused-clause-checks : goal.returns-in_err-there-in-Refused-clause-checks
 returns-in_err-there-in-Refused-clause-checks g c = handed_reports _ _ _ _ _ c.from_residual-in_err-there-in-Refused.ensures.1 (λ damaged honest.
-    let same = c.take_record.ensures.reads.kept.same_content (c.there_of.ensures.kept.honest_before honest) in
+    let same = c.take_record.ensures.reads.kept.same_content (c.there_of.ensures.reads.kept.honest_before honest) in
     inr (subst (λ (tables : Content). MeetsRecordDamage tables c.args.command.now) same (c.in_err-there-in-Refused.ensures.there damaged honest)))

@@ -1,4 +1,5 @@
-use Rattle.office_tables_shelf.specs.Shelf.{IsKept}
+use Rattle.std.proofs.Common.{◌≡◌, ◌≢◌, []}
+use Rattle.office_tables_decisions.proofs.ReadLemmas.{HasRead}
 use Rattle.office_desk.specs.Recording.{AreFound}
 use Rattle.office_desk.proofs.TriedRecords.{CheckedSoFar}
 use Rattle.office_desk.proofs.checking.check_records.Given as goal
@@ -10,6 +11,6 @@ invariant-loop-command g l =
     record {
       so_far : shelf.is_honest l.shelf → CheckedSoFar (shelf.content l.fn.shelf) l.records l.command-index l.pending l.checked.items;
       found : shelf.is_honest l.shelf → AreFound (shelf.content l.fn.shelf) l.found;
-      clean : shelf.is_clean l.shelf → shelf.is_clean l.fn.shelf;
-      kept : IsKept shelf.is_honest shelf.content shelf.written shelf.may_leave l.fn.shelf l.shelf;
+      fresh : l.command-index ≡ 0 → l.pending ≡ [];
+      reads : HasRead shelf (l.command-index ≢ 0) l.fn.shelf l.shelf;
     }

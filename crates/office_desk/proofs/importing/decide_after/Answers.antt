@@ -25,10 +25,10 @@ returns-in_err-is_found-clause-reads g c =
 
 pub returns-clause-decides : goal.returns-clause-decides
 returns-clause-decides g c =
-    let before = c.decide_record.ensures.kept.honest_before in (
+    let before = c.decide_record.ensures.reads.kept.honest_before in (
       λ honest. about_tells _ _ _ _ _ c.cabinet_of.ensures c.if-not-branch.false (c.in_ok-is_found.ensures.tells (before honest)),
       decides_stored (λ honest. c.is_found.ensures.reads.kept.same_content (before honest)) refl c.in_ok-told.ensures.decides,
     )
 
 pub returns-clause-found : goal.returns-clause-found
-returns-clause-found g c = λ honest. c.in_ok-is_found.ensures.found (c.decide_record.ensures.kept.honest_before honest)
+returns-clause-found g c = λ honest. c.in_ok-is_found.ensures.found (c.decide_record.ensures.reads.kept.honest_before honest)

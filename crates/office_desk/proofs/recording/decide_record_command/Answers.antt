@@ -18,7 +18,7 @@ returns-then-not-branch-clause-decides g c =
 
 pub returns-clause-decides : goal.returns-clause-decides
 returns-clause-decides g c =
-    let before = c.decide_record.ensures.kept.honest_before in
+    let before = c.decide_record.ensures.reads.kept.honest_before in
     record_decides _ (g.S.Shelf.content c.args.shelf.now) _ c.in_ok-told.told _
     (decides_stored (λ honest. c.is_known.ensures.reads.kept.same_content (before honest)) c.new-pending.ensures c.in_ok-told.ensures.decides)
     (λ honest. about_tells _ _ _ _ _ c.cabinet_of.ensures c.if-not-branch.false (c.in_ok-is_known.ensures.tells (before honest)))
@@ -29,7 +29,7 @@ returns-in_err-told-clause-decides g c =
     let tables = g.S.Shelf.content c.args.shelf.now in
     let asked = c.args.command.now in
     fault_decides _ _ _ _ _ _ c.in_err-told.was c.from_residual-in_err-told.ensures.1 (λ damaged honest.
-    let first = c.decide_record.ensures.kept.honest_before honest in
+    let first = c.decide_record.ensures.reads.kept.honest_before honest in
     let about = about_tells tables _ _ _ _ c.cabinet_of.ensures c.if-not-branch.false (c.in_ok-is_known.ensures.tells first) in
     meets_record tables asked (cabinet_of asked) about.told
     (rw (c.is_known.ensures.reads.kept.same_content first) at (rw damaged at (c.decide_record.ensures.decides.step honest))))

@@ -1,6 +1,6 @@
 use Rattle.std.proofs.Common.{◌∙◌, inl, inr, refl, sym}
 use Rattle.std.specs.FinMap.{get}
-use Rattle.office_tables_decisions.proofs.Decisions.{fault_decides, told_decides, unknown_decides}
+use Rattle.office_tables_decisions.proofs.Decisions.{handed_decides, told_decides, unknown_decides}
 use Rattle.office_desk_timing.proofs.WholeRows.{row_after}
 use Rattle.office_desk.proofs.Recorded.{cabinet_shows, gone_after, none_there}
 use Rattle.office_desk.proofs.register_showing.decide_cabinet.Goals as goal
@@ -19,16 +19,16 @@ returns-clause-decides g c =
     let view = c.in_ok-view.ensures in
     told_decides _ _ _ _ _ c.unchanged.ensures.reply (λ e. cc) (λ why e. absurd cc) c.unchanged.ensures.no_changes
     (λ honest.
-    let first = c.cabinet_view.ensures.kept.honest_before honest in
-    row_after _ c.args.id _ (known.tells first).whole (rw (c.is_known.ensures.reads.kept.same_content first) at (view.whole honest)))
+    let first = c.cabinet_view.ensures.reads.kept.honest_before honest in
+    row_after _ c.args.id _ (known.tells first).whole (rw (c.is_known.ensures.reads.kept.same_content first) at (view.shows honest).1))
     (λ honest office stands.
-    let first = c.cabinet_view.ensures.kept.honest_before honest in
+    let first = c.cabinet_view.ensures.reads.kept.honest_before honest in
     cabinet_shows _ office c.args.id _ stands (λ other at. sym c.if-not-branch.false ∙ (known.tells first).known other at)
-    (rw (c.is_known.ensures.reads.kept.same_content first) at (view.shows honest)))
+    (rw (c.is_known.ensures.reads.kept.same_content first) at (view.shows honest).0))
 
 pub returns-in_err-view-clause-decides : goal.returns-in_err-view-clause-decides
 returns-in_err-view-clause-decides g c =
-    fault_decides _ _ _ _ _ _ c.in_err-view.was c.from_residual-in_err-view.ensures.1 (λ damaged honest.
-    let first = c.cabinet_view.ensures.kept.honest_before honest in
+    handed_decides _ _ _ _ _ c.from_residual-in_err-view.ensures.1 (λ damaged honest.
+    let first = c.cabinet_view.ensures.reads.kept.honest_before honest in
     let known = sym c.if-not-branch.false ∙ (c.in_ok-is_known.ensures.tells first).told in
-    inr (sym known, rw (c.is_known.ensures.reads.kept.same_content first) at (c.cabinet_view.ensures.damaged damaged honest)))
+    inr (sym known, rw (c.is_known.ensures.reads.kept.same_content first) at (c.in_err-view.ensures.shows damaged honest)))

@@ -1,7 +1,7 @@
 use Rattle.std.proofs.Common.{◌∙◌, ℕ, List, ap, inl, inr, refl, sym}
 use Rattle.std.specs.FinMap.{get}
 use Rattle.office_machine.specs.declared.reply.Reply.TheVariants.{OpenOrders}
-use Rattle.office_tables_decisions.proofs.Decisions.{fault_decides, told_decides, unknown_decides}
+use Rattle.office_tables_decisions.proofs.Decisions.{handed_decides, told_decides, unknown_decides}
 use Rattle.office_desk_timing.proofs.WholeRows.{row_after}
 use Rattle.office_desk.proofs.Recorded.{gone_after, none_there, orders_show}
 use Rattle.office_desk.proofs.register_showing.decide_open_orders.Goals as goal
@@ -22,17 +22,17 @@ returns-clause-decides g c =
     (c.unchanged.ensures.reply ∙ ap (λ (numbers : List ℕ). OpenOrders numbers) c.new-numbers.ensures)
     (λ e. cc) (λ why e. absurd cc) c.unchanged.ensures.no_changes
     (λ honest.
-    let first = c.open_orders.ensures.kept.honest_before honest in
-    row_after _ c.args.id _ (known.tells first).whole (rw (c.is_known.ensures.reads.kept.same_content first) at (list.whole honest)))
+    let first = c.open_orders.ensures.reads.kept.honest_before honest in
+    row_after _ c.args.id _ (known.tells first).whole (rw (c.is_known.ensures.reads.kept.same_content first) at (list.shows honest).1))
     (λ honest office stands.
-    let first = c.open_orders.ensures.kept.honest_before honest in
+    let first = c.open_orders.ensures.reads.kept.honest_before honest in
     orders_show _ office c.args.id _ stands (λ other at. sym c.if-not-known.false ∙ (known.tells first).known other at)
-    (rw (c.is_known.ensures.reads.kept.same_content first) at (list.shows honest)))
+    (rw (c.is_known.ensures.reads.kept.same_content first) at (list.shows honest).0))
 
 pub returns-in_err-list-clause-decides : goal.returns-in_err-list-clause-decides
 returns-in_err-list-clause-decides g c =
-    fault_decides _ _ _ _ _ _ c.in_err-list.was c.from_residual-in_err-list.ensures.1
+    handed_decides _ _ _ _ _ c.from_residual-in_err-list.ensures.1
     (λ damaged honest.
-    let first = c.open_orders.ensures.kept.honest_before honest in
+    let first = c.open_orders.ensures.reads.kept.honest_before honest in
     let known = sym c.if-not-known.false ∙ (c.in_ok-known.ensures.tells first).told in
-    inr (sym known, rw (c.is_known.ensures.reads.kept.same_content first) at (c.open_orders.ensures.damaged damaged honest)))
+    inr (sym known, rw (c.is_known.ensures.reads.kept.same_content first) at (c.in_err-list.ensures.shows damaged honest)))

@@ -1,12 +1,14 @@
-use Rattle.std.proofs.Common.{◌∙◌, ⊎_elim, subst}
-use Rattle.office_tables_shelf.specs.CabinetReads.{HasDamagedOrder, HasDamagedUsed, ListsOrders, ListsUsed}
+use Rattle.std.proofs.Common.{◌∙◌, Err, ⊎_elim, ap, inr, subst}
+use Rattle.office_tables_shelf.specs.CabinetReads.{HasDamagedUsed, ListsOrders, ListsUsed}
+use Rattle.office_tables_shelf.specs.declared.shelf.ShelfFault.{ShelfFault}
 use Rattle.office_tables_shelf.proofs.ListedRows.{inspections_whole, lines_whole, orders_whole}
+use Rattle.office_tables_decisions.proofs.ReadLemmas.{handed_reports}
 use Rattle.office_desk_cabinet.proofs.InOrder.{inspections_in_order, lines_in_order, orders_in_order}
 use Rattle.office_desk_cabinet.proofs.ListedRecords.{inspections_listed, orders_listed, lines_listed}
 use Rattle.office_desk_cabinet.proofs.showing.cabinet_view.Goals as goal
 
 pub returns-clause-shows : goal.returns-clause-shows
-returns-clause-shows g c = λ honest r stands.
+returns-clause-shows g c = λ honest.
     let tables = g.S.Shelf.content c.args.shelf.now in
     let id = c.args.id in
     let second = c.used_lines.ensures.kept.honest_before honest in
@@ -17,24 +19,26 @@ returns-clause-shows g c = λ honest r stands.
     let orders = c.in_ok-orders.orders.items in
     let lines = c.in_ok-lines.lines.items in
     let has_inspections = c.in_ok-inspections.ensures.rows first in
+    let inspections_within = c.in_ok-inspections.ensures.within first in
     let has_orders = subst (λ t. ListsOrders t id orders) same_first (c.in_ok-orders.ensures.rows second) in
+    let orders_within = c.in_ok-orders.ensures.within second in
     let has_lines = subst (λ t. ListsUsed t id lines) same_second (c.in_ok-lines.ensures.rows honest) in
-    record {
-      inspections = c.new.ensures.same (inspections_in_order tables id inspections has_inspections (c.in_ok-inspections.ensures.within first))
-          ∙ inspections_listed tables r id inspections stands has_inspections;
-      orders = c.new-2.ensures.same (orders_in_order tables id orders has_orders (c.in_ok-orders.ensures.within second))
-          ∙ orders_listed tables r id orders stands has_orders;
-      lines = c.new-3.ensures.same (lines_in_order tables id lines has_lines (c.in_ok-lines.ensures.within honest))
-          ∙ lines_listed tables r id lines stands has_lines;
-    }
+    let lines_within = c.in_ok-lines.ensures.within honest in (
+      λ r stands. record {
+        inspections = c.new.ensures.same (inspections_in_order tables id inspections has_inspections inspections_within)
+            ∙ inspections_listed tables r id inspections stands has_inspections;
+        orders = c.new-2.ensures.same (orders_in_order tables id orders has_orders orders_within)
+            ∙ orders_listed tables r id orders stands has_orders;
+        lines = c.new-3.ensures.same (lines_in_order tables id lines has_lines lines_within)
+            ∙ lines_listed tables r id lines stands has_lines;
+      },
+      ⊎_elim (inspections_whole tables id inspections has_inspections inspections_within)
+          (⊎_elim (orders_whole tables id orders has_orders orders_within) (lines_whole tables id lines has_lines lines_within)),
+    )
 
-pub returns-clause-whole : goal.returns-clause-whole
-returns-clause-whole g c = λ honest.
-    let id = c.args.id in
+pub returns-in_err-lines-clause-shows : goal.returns-in_err-lines-clause-shows
+returns-in_err-lines-clause-shows g c = handed_reports _ _ _ _ _ c.from_residual-in_err-lines.ensures.1 (λ damaged honest.
     let second = c.used_lines.ensures.kept.honest_before honest in
-    let first = c.orders.ensures.kept.honest_before second in
-    let same_first = c.inspections.ensures.kept.same_content first in
-    let same_second = c.orders.ensures.kept.same_content second ∙ same_first in
-    ⊎_elim (inspections_whole _ id _ (c.in_ok-inspections.ensures.rows first) (c.in_ok-inspections.ensures.within first))
-    (⊎_elim (subst (λ t. ¬ HasDamagedOrder t id) same_first (orders_whole _ id _ (c.in_ok-orders.ensures.rows second) (c.in_ok-orders.ensures.within second)))
-    (subst (λ t. ¬ HasDamagedUsed t id) same_second (lines_whole _ id _ (c.in_ok-lines.ensures.rows honest) (c.in_ok-lines.ensures.within honest))))
+    let same_first = c.inspections.ensures.kept.same_content (c.orders.ensures.kept.honest_before second) in
+    inr (inr (subst (λ t. HasDamagedUsed t c.args.id) (c.orders.ensures.kept.same_content second ∙ same_first)
+    (c.in_err-lines.ensures.damaged (ap (λ (fault : ShelfFault). Err fault) damaged) honest))))

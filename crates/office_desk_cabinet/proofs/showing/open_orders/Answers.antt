@@ -4,13 +4,11 @@ use Rattle.office_desk_cabinet.proofs.{ListedRecords.orders_listed, ShowingLemma
 use Rattle.office_desk_cabinet.proofs.showing.open_orders.Goals as goal
 
 pub returns-clause-shows : goal.returns-clause-shows
-returns-clause-shows g c = λ honest r stands.
-    c.in_ok-numbers.ensures
-    ∙ ap open_among (c.as_slice.ensures.value
-    ∙ orders_listed (g.S.Shelf.content c.args.shelf.now) r c.args.id c.in_ok-orders.orders.items
-    stands (c.in_ok-orders.ensures.rows honest))
-
-pub returns-clause-whole : goal.returns-clause-whole
-returns-clause-whole g c = λ honest.
-    orders_whole (g.S.Shelf.content c.args.shelf.now) c.args.id c.in_ok-orders.orders.items
-    (c.in_ok-orders.ensures.rows honest) (c.in_ok-orders.ensures.within honest)
+returns-clause-shows g c = λ honest.
+    let tables = g.S.Shelf.content c.args.shelf.now in
+    let orders = c.in_ok-orders.orders.items in
+    let rows = c.in_ok-orders.ensures.rows honest in (
+      λ r stands. c.in_ok-numbers.ensures
+          ∙ ap open_among (c.as_slice.ensures.value ∙ orders_listed tables r c.args.id orders stands rows),
+      orders_whole tables c.args.id orders rows (c.in_ok-orders.ensures.within honest),
+    )

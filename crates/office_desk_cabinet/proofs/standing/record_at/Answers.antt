@@ -1,5 +1,6 @@
 use Rattle.office_tables_shelf.specs.Places.{place_of}
-use Rattle.office_desk_cabinet.proofs.{Opened.unread_stays, PendingLemmas.put_stands, PendingLemmas.some_put, PendingLemmas.still_stands}
+use Rattle.office_tables_decisions.proofs.ReadLemmas.{unread}
+use Rattle.office_desk_cabinet.proofs.PendingLemmas.{put_stands, some_put, still_stands}
 use Rattle.office_desk_cabinet.proofs.standing.record_at.Goals as goal
 
 pub returns-in-Some-clause-stands : goal.returns-in-Some-clause-stands
@@ -12,6 +13,6 @@ returns-clause-stands g c = λ honest.
     still_stands (place_of c.args.key.now) c.args.pending.now _ c.in_ok-put.ensures.put
     c.in_default.is _ _ (c.in_ok-before.ensures.row honest) c.in_ok-before.ensures.within
 
-pub returns-in-Some-clause-open : goal.returns-in-Some-clause-open
-returns-in-Some-clause-open g c = unread_stays _ _ _ _ _ (λ none told. absurd
+pub returns-in-Some-clause-reads : goal.returns-in-Some-clause-reads
+returns-in-Some-clause-reads g c = unread _ _ _ _ (λ none told. absurd
     (some_put (place_of c.args.key.now) c.args.pending.now _ c.in_ok-put.ensures.put _ c.in-Some.is c.in_ok-put.ensures.within none))

@@ -14,8 +14,8 @@ returns-clause-decides g c =
     let says = c.receive-decision.ensures in
     decided 0 _ _ _ (Receive asked) (there, hand) c.receive-decision.result c.received.result
     (λ honest.
-    let at_hand = c.record_at-2.ensures.kept.honest_before honest in
-    let first = c.record_at.ensures.kept.same_content at_hand in
+    let at_hand = c.record_at-2.ensures.reads.kept.honest_before honest in
+    let first = c.record_at.ensures.reads.kept.same_content at_hand in
     let came = subst (λ t. StandsAt (changed_by t pending) (Delivery asked.part asked.number) there) first
     (taken_stands _ (Delivery asked.part asked.number) _ _ c.delivery-there.ensures (c.in_ok-record_at.ensures.stands honest)) in
     let on = taken_stands _ (Part asked.part) _ _ c.hand-hand.ensures (c.in_ok-found.ensures.stands at_hand) in

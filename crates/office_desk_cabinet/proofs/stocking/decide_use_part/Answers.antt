@@ -16,10 +16,10 @@ returns-clause-decides g c =
     decided 0 _ _ _ (UsePart id asked) (there, order, c.hand-hand.result)
     c.use_part-decision.result c.registered.result
     (λ honest.
-    let at_line = c.record_at-3.ensures.kept.honest_before honest in
-    let at_hand = c.record_at-2.ensures.kept.honest_before at_line in
-    let first = c.record_at.ensures.kept.same_content at_hand in
-    let second = c.record_at-2.ensures.kept.same_content at_line ∙ first in
+    let at_line = c.record_at-3.ensures.reads.kept.honest_before honest in
+    let at_hand = c.record_at-2.ensures.reads.kept.honest_before at_line in
+    let first = c.record_at.ensures.reads.kept.same_content at_hand in
+    let second = c.record_at-2.ensures.reads.kept.same_content at_line ∙ first in
     let line = subst (λ t. StandsAt (changed_by t pending) (Line id asked.order asked.line) there) first
     (taken_stands _ (Line id asked.order asked.line) _ _ c.line-there.ensures (c.in_ok-record_at.ensures.stands at_line)) in
     let of = subst (λ t. StandsAt (changed_by t pending) (Order id asked.order) order) second
