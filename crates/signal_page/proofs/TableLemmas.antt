@@ -1,6 +1,6 @@
 -- Tables as they are written: opened, their rows, and their end.
-use Rattle.std.proofs.Common.{◌≡◌, ◌≤◌, ℕ, List, [], ◌∷◌, ◌++◌, length, append_assoc, append-nil, arith, refl}
-use Rattle.std.proofs.lemmas.{Bool.eq-eqb, Bool.ne_eqb, Grind.common_steps, Grind.flat_map-append, List.length-append}
+use Rattle.std.proofs.Common.{◌≡◌, ◌≤◌, ℕ, List, [], ◌∷◌, ◌++◌, length, append-nil, arith, refl}
+use Rattle.std.proofs.lemmas.{Bool.eq-eqb, Bool.ne_eqb, Grind.common_steps, List.length-append}
 use Rattle.signal_page.specs.declared.tables.Mark.TheVariants.{Removed, Added, Before, After}
 use Rattle.signal_page.specs.Nodes.{Shown, html}
 use Rattle.signal_page.specs.Tables.{Heading, TableLine, Row, Change, Broken, Warned, broken_row, line_nodes, lines_nodes, none_in, none_since, headings, rows_beginning, table_beginning, table_end, table_opening, table, plain_row, warned_row}

@@ -89,15 +89,11 @@ day_note None entries = []
 day_note (Some day) entries =
     overdue_note day (length (overdue_among (Some day) entries)) (length entries)
 
--- what stands between the header of the index and its tables
-unfoldable pub main_opening : List Shown
-main_opening = Own (codes "</header>\n<main>\n") ∷ []
-
 -- the index
 unfoldable pub index : Option ℕ → IndexShown → List Shown
 index day shown =
     page_head (Own (codes "Intersections") ∷ []) INDEX_BODY.now ++ day_note day shown.entries
-    ++ main_opening ++ intersections_part day shown.entries
+    ++ Own (codes "</header>\n<main>\n") ∷ [] ++ intersections_part day shown.entries
     ++ named_orders_part shown.orders ++ stock_part shown.stock ++ page_end
 
 -- The text is the index. Its intersections are those that were given, each as often as there, and

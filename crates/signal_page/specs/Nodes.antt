@@ -1,5 +1,5 @@
 -- What stands in a page, and the text that is printed of it.
-use Rattle.std.specs.Prelude.{◌≡◌, ◌==◌, ℕ, Bool, if◌then◌else◌, List, [], ◌∷◌, ◌++◌, filter, flat_map, map, codes, decimal, Option, Some, None}
+use Rattle.std.specs.Prelude.{◌≡◌, ◌==◌, ℕ, Bool, if◌then◌else◌, List, [], ◌++◌, filter, flat_map, map, codes, decimal, Option, Some, None}
 use Rattle.cabinet_core.specs.Day.{day_text}
 use Rattle.cabinet_core.specs.declared.record.UsedLine.{UsedLine}
 use Rattle.office_files.specs.Cells.{tenths, numbers_text, when_empty}

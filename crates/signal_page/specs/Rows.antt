@@ -114,11 +114,6 @@ warns_of s warning = is_scope_of s warning.subject
 abbrev pub warned_lines : ℕ → List Warning → Subject → List TableLine
 warned_lines columns warnings s = map (Warned columns) (filter (warns_of s) warnings)
 
--- the remarks on a subject: the rules that it breaks, and its warnings
-abbrev pub remark_lines : ℕ → PlanRemarks → Subject → List TableLine
-remark_lines columns remarks s =
-    broken_lines columns remarks.reasons s ++ warned_lines columns remarks.warnings s
-
 -- ---- the tables
 
 -- the name of the table of a kind
@@ -156,9 +151,12 @@ is_of_kind kind.Splits (row.Split n p split) = true
 is_of_kind kind.Patterns (row.Pattern n pattern) = true
 is_of_kind kind other = false
 
--- a row of a set, and below it the remarks on it
+-- a row of a set, and below it the remarks on it: the rules that it breaks, and its warnings
 abbrev pub row_lines : ℕ → Rows → PlanRemarks → Row → List TableLine
-row_lines columns set remarks r = row_line (cells_of set r) ∷ remark_lines columns remarks (subject_of r)
+row_lines columns set remarks r =
+    row_line (cells_of set r)
+    ∷ (broken_lines columns remarks.reasons (subject_of r)
+    ++ warned_lines columns remarks.warnings (subject_of r))
 
 -- the rows of a kind, in their order
 abbrev pub kind_lines : Kind → Rows → PlanRemarks → List Row → List TableLine

@@ -2,7 +2,7 @@
 
 ghost use Rattle.std.specs.Prelude.{◌≡◌, ◌++◌, ℕ, List, OnOk, IfOk, is_some, string_bytes};
 ghost use Rattle.signal_page.specs.Nodes.{IsHtml, html, shown_of};
-ghost use Rattle.signal_page.specs.Page.{AreChanges, AreDraftReasons, IsPage, IsPlanPage, cabinet_section, draft_body, draft_section, page_head, header, heading, link_if, links, open_draft, page, page_end, plan_page, plan_section, warnings_in};
+ghost use Rattle.signal_page.specs.Page.{IsPage, IsPlanPage, cabinet_section, draft_body, draft_section, page_head, header, heading, link_if, links, open_draft, page, page_end, plan_page, plan_section};
 ghost use Rattle.signal_page.specs.Rows.{remarks_by};
 ghost use Rattle.signal_page.specs.Words.{escaped, unescaped};
 
@@ -14,9 +14,9 @@ use crate::register::push_register;
 use crate::rows::Remarks;
 use crate::shown::IntersectionShown;
 use crate::style::STYLE;
-use signal_plans::{Difference, Warning, compare, warnings};
+use signal_plans::{Difference, compare, warnings};
 use signal_records::{NoMemory, TimingSet};
-use signal_rules::{Explained, reasons};
+use signal_rules::reasons;
 use std::alloc::{AllocError, Global};
 
 /// What stands above the title of a page.
@@ -228,40 +228,6 @@ fn push_cabinet_section(text: &mut String, shown: &IntersectionShown) -> Result<
     push_own(text, "</section>\n")
 }
 
-/// What the draft changes of the committed plan; nothing where there is none.
-fn changes_of(
-    alloc: Global,
-    committed: &TimingSet,
-    draft: &Option<TimingSet>,
-) -> Result<Vec<Difference>, NoMemory>
-    ensures { IfOk result (λ found. AreChanges committed.now draft.now found.items) }
-{
-    match draft {
-        None => Ok(Vec::new(alloc)),
-        Some(draft) => compare(alloc, committed, draft),
-    }
-}
-
-/// Why the draft breaks rules; nothing where there is none.
-fn draft_reasons(alloc: Global, draft: &Option<TimingSet>) -> Result<Vec<Explained>, NoMemory>
-    ensures { IfOk result (λ found. AreDraftReasons draft.now found.items) }
-{
-    match draft {
-        None => Ok(Vec::new(alloc)),
-        Some(draft) => reasons(alloc, draft),
-    }
-}
-
-/// What an engineer is warned of in a draft; nothing where there is none.
-fn draft_warnings(alloc: Global, draft: &Option<TimingSet>) -> Result<Vec<Warning>, NoMemory>
-    ensures { IfOk result (λ found. found.items ≡ warnings_in draft.now) }
-{
-    match draft {
-        None => Ok(Vec::new(alloc)),
-        Some(draft) => warnings(alloc, draft),
-    }
-}
-
 /// The page by the changes of the draft, and by the remarks on the committed plan and on the draft.
 fn whole_page(
     alloc: Global,
@@ -295,6 +261,7 @@ fn whole_page(
 /// below its row, and its warnings, and the register of its cabinet, open orders first. It is one
 /// HTML text, which needs nothing else, and has a link to `index.html` beside it where that is
 /// wanted.
+#[tactic(auto, using(crate::proofs::Restored::restored))]
 pub fn intersection_page(
     alloc: Global,
     linked: bool,
@@ -305,24 +272,26 @@ pub fn intersection_page(
     // A reader takes each name and text back as it was.
     ensures read { (words : List ℕ) → unescaped (escaped words) ≡ words }
 {
-    let differences = changes_of(alloc, &shown.committed, &shown.draft)?;
-    let reasons = draft_reasons(alloc, &shown.draft)?;
-    let drafted = draft_warnings(alloc, &shown.draft)?;
-    let runs = warnings(alloc, &shown.committed)?;
-    whole_page(
-        alloc,
-        linked,
-        shown,
-        &differences,
-        &Remarks {
+    let advice = warnings(alloc, &shown.committed)?;
+    let runs = Remarks {
+        reasons: &[],
+        warnings: &advice,
+    };
+    let Some(draft) = &shown.draft else {
+        let none = Remarks {
             reasons: &[],
-            warnings: &runs,
-        },
-        &Remarks {
-            reasons: &reasons,
-            warnings: &drafted,
-        },
-    )
+            warnings: &[],
+        };
+        return whole_page(alloc, linked, shown, &[], &runs, &none);
+    };
+    let differences = compare(alloc, &shown.committed, draft)?;
+    let broken = reasons(alloc, draft)?;
+    let advice = warnings(alloc, draft)?;
+    let drafted = Remarks {
+        reasons: &broken,
+        warnings: &advice,
+    };
+    whole_page(alloc, linked, shown, &differences, &runs, &drafted)
 }
 
 /// The page of a plan alone, by the remarks on it.

@@ -1,7 +1,7 @@
 //! The index page.
 
 ghost use Rattle.std.specs.Prelude.{◌≡◌, ◌++◌, IfOk, List, OnOk, length, map, string_bytes, ℕ};
-ghost use Rattle.signal_page.specs.Index.{IsIndex, day_note, entry_line, holder_node, index, intersections_part, main_opening, named_line, named_orders_part, overdue_note, stock_line, stock_part};
+ghost use Rattle.signal_page.specs.Index.{IsIndex, day_note, entry_line, holder_node, index, intersections_part, named_line, named_orders_part, overdue_note, stock_line, stock_part};
 ghost use Rattle.signal_page.specs.Nodes.{IsHtml, html, shown_by};
 ghost use Rattle.signal_page.specs.Overdue.{is_overdue, is_past_due, others_among, overdue_among, overdue_before};
 ghost use Rattle.signal_page.specs.Tables.{line_nodes, lines_nodes};
@@ -11,7 +11,7 @@ use crate::columns::{INTERSECTION_COLUMNS, NAMED_ORDER_COLUMNS, STOCK_COLUMNS};
 use crate::document::{end_page, push_head};
 use crate::facts::{date_of, due_day};
 use crate::index_shown::{IndexEntry, IndexShown};
-use crate::nodes::{Node, push_nodes};
+use crate::nodes::{Node, push_nodes, push_own};
 use crate::tables::{end_table, open_table, push_row};
 use cabinet_core::{Date, Day, Hand, PartCode, due};
 use office_files::state_word;
@@ -274,38 +274,21 @@ fn push_day_note(
     }
 }
 
-/// Appends what stands between the header of the index and its tables.
-#[tactic(auto, unfolding(crate::specs::Index::main_opening))]
-fn push_main_opening(text: &mut String) -> Result<(), AllocError>
-    ensures { OnOk result (string_bytes text.new ≡ string_bytes text.old ++ html main_opening) }
-{
-    text.push_str("</header>\n<main>\n")
-}
-
-/// Appends the index.
-#[tactic(auto, unfolding(crate::specs::Index::index))]
-fn push_index(text: &mut String, day: &Option<Day>, shown: &IndexShown) -> Result<(), AllocError>
-    ensures { OnOk result (string_bytes text.new
-        ≡ string_bytes text.old ++ html (index day.now shown.now)) }
-{
-    let entries = shown.entries.as_slice();
-    let orders = shown.orders.as_slice();
-    let stock = shown.stock.as_slice();
-    push_head(text, &[Node::Own("Intersections")], INDEX_BODY)?;
-    push_day_note(text, day, entries)?;
-    push_main_opening(text)?;
-    push_intersections(text, day, entries)?;
-    push_named_orders(text, orders)?;
-    push_stock(text, stock)?;
-    end_page(text)
-}
-
 /// The page by its definition.
 fn whole_index(alloc: Global, shown: &IndexShown, day: &Option<Day>) -> Result<Vec<u8>, NoMemory>
     ensures { IfOk result (λ text. IsHtml (index day.now shown.now) text.items) }
 {
+    let entries = shown.entries.as_slice();
+    let orders = shown.orders.as_slice();
+    let stock = shown.stock.as_slice();
     let mut text = String::new(alloc);
-    push_index(&mut text, day, shown)?;
+    push_head(&mut text, &[Node::Own("Intersections")], INDEX_BODY)?;
+    push_day_note(&mut text, day, entries)?;
+    push_own(&mut text, "</header>\n<main>\n")?;
+    push_intersections(&mut text, day, entries)?;
+    push_named_orders(&mut text, orders)?;
+    push_stock(&mut text, stock)?;
+    end_page(&mut text)?;
     Ok(text.into_bytes())
 }
 

@@ -3,7 +3,7 @@
 ghost use Rattle.std.specs.Prelude.{◌≡◌, ◌+◌, ◌++◌, OnOk, flat_map, string_bytes};
 ghost use Rattle.signal_diagram.specs.Diagram.{figure_text};
 ghost use Rattle.signal_page.specs.Nodes.{html};
-ghost use Rattle.signal_page.specs.Plan.{before_yellow, cut_note, cut_note_of, cut_words, is_cut, is_of_plan, picture_for, pictures, plan_part, plan_rows, reasons_note, warned_line, warnings_note, whole_figure, whole_warnings};
+ghost use Rattle.signal_page.specs.Plan.{before_yellow, cut_note, cut_note_of, cut_words, is_cut, picture_for, pictures, plan_part, plan_rows, reasons_note, warned_line, warnings_note, whole_figure, whole_warnings};
 ghost use Rattle.signal_page.specs.Rows.{remarks_by};
 
 use crate::nodes::{Node, push_nodes, push_own};
@@ -209,13 +209,6 @@ pub(crate) fn push_reasons_note(text: &mut String, reasons: &[Explained]) -> Res
     )
 }
 
-/// Whether a warning is of the plan as a whole.
-fn is_of_plan(warning: &Warning) -> bool
-    ensures { result ≡ is_of_plan warning.now }
-{
-    matches!(warning.subject, Scope::Plan)
-}
-
 /// Appends the line of a warning of the plan as a whole.
 #[tactic(auto, unfolding(crate::specs::Plan::warned_line))]
 fn push_warned_line(text: &mut String, warning: &Warning) -> Result<(), AllocError>
@@ -232,7 +225,7 @@ fn push_whole_warnings(text: &mut String, warnings: &[Warning]) -> Result<(), Al
         ≡ string_bytes text.old ++ html (whole_warnings warnings.now)) }
 {
     for warning in warnings {
-        if is_of_plan(warning) {
+        if matches!(warning.subject, Scope::Plan) {
             push_warned_line(text, warning)?;
         }
     }

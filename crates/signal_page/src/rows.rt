@@ -2,7 +2,7 @@
 
 ghost use Rattle.std.specs.Prelude.{◌≡◌, ◌++◌, [], ◌∷◌, OnOk, length, string_bytes};
 ghost use Rattle.signal_page.specs.Nodes.{html, shown_of, Head, Phases};
-ghost use Rattle.signal_page.specs.Rows.{breaks, broken_lines, cells_of, columns, flag_words, is_of_kind, is_same_subject, kind_lines, kind_table, mode_words, name_of, pattern_cells, ped_cells, phase_cells, plan_tables, remark_lines, remarks_by, row_lines, split_cells, warned_lines, warns_of};
+ghost use Rattle.signal_page.specs.Rows.{broken_lines, cells_of, columns, flag_words, is_of_kind, is_same_subject, kind_lines, kind_table, mode_words, name_of, pattern_cells, ped_cells, phase_cells, plan_tables, remarks_by, row_lines, split_cells, warned_lines, warns_of};
 ghost use Rattle.signal_page.specs.Tables.{cells_beside, headings_by, lines_nodes, row_of};
 
 use crate::columns::{PATTERN_COLUMNS, PHASE_COLUMNS, SEQUENCE_COLUMNS, SPLIT_COLUMNS};
@@ -287,13 +287,6 @@ fn is_same(a: &Subject, b: &Subject) -> bool
     }
 }
 
-/// Whether a subject breaks a rule.
-fn breaks(subject: &Subject, broken: &Explained) -> bool
-    ensures { result ≡ breaks subject.now broken.now }
-{
-    is_same(subject, &broken.violation.subject)
-}
-
 /// Appends the rules that a subject breaks, each in a row over so many columns.
 fn push_broken_rows(
     text: &mut String,
@@ -305,7 +298,7 @@ fn push_broken_rows(
         ++ html (lines_nodes (broken_lines columns reasons.now subject.now))) }
 {
     for broken in reasons {
-        if breaks(subject, broken) {
+        if is_same(subject, &broken.violation.subject) {
             push_broken_row(text, columns, broken)?;
         }
     }
@@ -340,20 +333,6 @@ fn push_warned_rows(
     Ok(())
 }
 
-/// Appends the remarks on a subject, each in a row over so many columns.
-fn push_remark_rows(
-    text: &mut String,
-    columns: usize,
-    remarks: &Remarks<'_>,
-    subject: &Subject,
-) -> Result<(), AllocError>
-    ensures { OnOk result (string_bytes text.new ≡ string_bytes text.old
-        ++ html (lines_nodes (remark_lines columns (remarks_by remarks.now) subject.now))) }
-{
-    push_broken_rows(text, columns, remarks.reasons, subject)?;
-    push_warned_rows(text, columns, remarks.warnings, subject)
-}
-
 /// Appends a row, and below it the remarks on it.
 #[tactic(auto, unfolding(crate::specs::Tables::plain_row))]
 fn push_row_and_remarks(
@@ -368,7 +347,9 @@ fn push_row_and_remarks(
         ++ html (lines_nodes (row_lines columns set.now (remarks_by remarks.now) row.now))) }
 {
     push_row_alone(alloc, text, "<tr>", set, row)?;
-    push_remark_rows(text, columns, remarks, &subject_of(row))
+    let subject = subject_of(row);
+    push_broken_rows(text, columns, remarks.reasons, &subject)?;
+    push_warned_rows(text, columns, remarks.warnings, &subject)
 }
 
 /// Appends the rows of a kind.

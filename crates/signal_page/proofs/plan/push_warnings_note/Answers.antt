@@ -7,4 +7,4 @@ pub returns : goal.returns
 unfolding warnings_note
 returns c =
     let whole = rw (c.in_ok-push_nodes.ensures) at c.push_whole_warnings.ensures in
-    rw (sym c.is_empty.ensures ∙ c.if-is_empty.false) (simp joined (simp joined at whole))
+    rw (sym c.is_empty.ensures ∙ c.if-is_empty.false) (simp joined at whole)
