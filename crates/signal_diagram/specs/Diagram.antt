@@ -45,7 +45,8 @@ opening Figure n width height = figure_opening n width height
 -- the picture of a pattern with these lanes, and these warnings below them
 abbrev pub drawing : Sizing → Rows → ℕ → Pattern → List RingLane → List Warning → List ℕ
 drawing sizing set n pattern lanes found =
-    opening sizing n (width_of (longest pattern.cycle lanes)) (height_of (length lanes) + foot_height found)
+    opening sizing n (width_of (longest pattern.cycle lanes))
+    (height_of (length lanes) + foot_height found)
     ++ head set n pattern ++ flat_map svg_of (shapes_of set pattern lanes)
     ++ foot (height_of (length lanes)) found ++ codes "</svg>\n"
 

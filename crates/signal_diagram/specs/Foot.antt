@@ -1,4 +1,4 @@
--- The words below the lanes of a sheet: a line for each warning of the pattern and of the rows of its split plan.
+-- The words below the lanes of a sheet: a line for each warning of the pattern and of the rows of its split.
 use Rattle.std.specs.Prelude.{ℕ, ◌+◌, ◌*◌, List, [], ◌∷◌, ◌++◌, length, codes, decimal}
 use Rattle.signal_records.specs.TimingSet.{Rows}
 use Rattle.signal_plans.specs.declared.warning.Warning.{Warning}
@@ -8,16 +8,19 @@ use Rattle.signal_diagram.specs.declared.document.Sizing.{Sizing}
 use Rattle.signal_diagram.specs.declared.document.Sizing.TheVariants.{Sheet, Figure}
 use Rattle.signal_diagram.specs.Svg.{words_end}
 
--- the warnings that a picture tells of a pattern: a page, where a figure stands, has them below its rows
+-- the warnings that a picture tells: on a sheet those of its pattern; a page, where a figure stands,
+-- has them below its rows
 abbrev pub told_below : Sizing → Rows → ℕ → List Warning
 told_below Sheet set n = warnings_of_pattern set n
 told_below Figure set n = []
 
--- the opening of a line of small words, from the left edge; the longest warning is no wider than the narrowest picture
+-- the opening of words at the left edge, in letters so small that the longest warning, of 135, fits
+-- a picture of the least width
 unfoldable pub small_words_at : ℕ → List ℕ
 small_words_at y = codes "<text x='12' y='" ++ decimal y ++ codes "' font-size='15'>"
 
--- `Warning: split 1 2: the mode calls the walk of a phase that has no crossing`, without a character of markup: a warning has letters, digits, blanks and `:`, `,` and `.` alone
+-- a warning in words, `Warning: split 1 2: the mode calls the walk of a phase that has no crossing`;
+-- it needs no escape: a warning has letters, digits, blanks, colons, commas and points alone
 abbrev pub line_below : ℕ → Warning → List ℕ
 line_below y warning = small_words_at y ++ (codes "Warning: " ++ warning_text warning) ++ words_end
 

@@ -4,7 +4,8 @@
 //! its phases in the order of the sequence, each as long as its split. `chart` says which phase
 //! each ring has from which second to which, `phases` and `shapes` what is drawn of it, in tenths
 //! of a second, and `svg` where each shape stands: a unit of the picture is a tenth of a second, so
-//! that all its coordinates are whole numbers.
+//! that all its coordinates are whole numbers. `head` has the words above the lanes, and `foot` the
+//! warnings below them.
 #![tactic(auto)]
 
 mod chart;
