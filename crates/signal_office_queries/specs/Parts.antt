@@ -23,7 +23,7 @@ state_in (seen.Reply (reply.State state)) = Ok state
 state_in (seen.Reply (reply.Refused why)) = Err (fault_of why)
 state_in other = Err told.Store
 
--- the committed plan that was seen, or the fault
+-- the committed plan that was seen, with its name and revision, or the fault
 abbrev pub timing_in : Seen → Result RunningTiming Fault
 timing_in (seen.Reply (reply.Timing timing)) = Ok timing
 timing_in (seen.Reply (reply.Refused why)) = Err (fault_of why)
@@ -74,7 +74,7 @@ abbrev pub cabinets_in : Seen → Result (List ListedCabinet) Fault
 cabinets_in (seen.Cabinets cabinets) = Ok cabinets
 cabinets_in other = Err told.Store
 
--- the first of what was seen, and the rest
+-- the first of what was seen, or a refusal where nothing was
 abbrev pub first_seen : List Seen → Seen
 first_seen [] = seen.Reply (reply.Refused refusal.Unavailable)
 first_seen (it ∷ rest) = it
