@@ -4,7 +4,7 @@ use Rattle.std.proofs.lemmas.List.{append_assoc}
 use Rattle.std.specs.Prelude.{Bool, true, false, cond, Vec}
 use Rattle.std.specs.{FinMap.entries, FinMap.get, List.AllByRecursion, Option.IsSome}
 use Rattle.cabinet_core.specs.{Orders.is_open, Register.records_at, declared.record.Order.Order}
-use Rattle.office_desk.specs.Damage.{MeetsDamage}
+use Rattle.office_desk.specs.Damage.{MeetsAfter, MeetsDamage}
 use Rattle.office_desk.proofs.IntersectionTable.{Entry}
 use Rattle.office_desk_timing.specs.Listing.{ListsEachIntersection, listed_in}
 use Rattle.office_machine.specs.{Orders.order_named, declared.orders.NamedOrder.NamedOrder}
@@ -18,10 +18,9 @@ use Rattle.office_tables_shelf.specs.{Cells.Cell, Content.Content, Damage.HasAny
 use Rattle.office_tables_shelf.proofs.ListedRows.{table_row}
 use Rattle.signal_office_faults.specs.declared.fault.Fault.{Fault}
 use Rattle.signal_office_faults.specs.declared.fault.Fault.TheVariants as told
-use Rattle.signal_office_queries.specs.Gathering.{AreWhole, SeesCabinet, listed_cabinet_of, filed_in}
+use Rattle.signal_office_queries.specs.Gathering.{AreWhole, SeesCabinet, filed_in}
 use Rattle.signal_office_queries.specs.NamedOrders.{AreOpenOf, named_from, named_in, named_on}
-use Rattle.signal_office_queries.specs.Seen.{Meets, OfOffice, cabinet_listed}
-use Rattle.signal_office_queries.specs.declared.seen.ListedCabinet.{ListedCabinet}
+use Rattle.signal_office_queries.specs.Seen.{Meets, OfOffice}
 use Rattle.signal_office_queries.specs.declared.seen.Query.TheVariants as query
 use Rattle.signal_office_queries.specs.declared.seen.Seen.{Seen}
 use Rattle.signal_office_queries.specs.declared.seen.Seen.TheVariants as seen
@@ -84,26 +83,25 @@ pub none_left : {A : Type 0} (xs : List A) → length xs ≡ 0 → xs ≡ []
 none_left [] empty = refl
 none_left (x ∷ xs) empty = absurd (omega arith)
 
--- what one more gives, before those that are left
-pub cabinets_more : (office : Office) (found new : List ListedCabinet) (listed : ListedIntersection) (rest : List ListedIntersection) (cabinet : CabinetShown) (all : List ListedCabinet)
-    → cabinet ≡ cabinet_shown office.register listed.id → new ≡ found ++ record { listed = listed; cabinet = cabinet } ∷ []
-    → found ++ map (listed_cabinet_of office) (listed ∷ rest) ≡ all → new ++ map (listed_cabinet_of office) rest ≡ all
-cabinets_more office found new listed rest cabinet all holds is before =
-    ap (λ (xs : List ListedCabinet). xs ++ map (listed_cabinet_of office) rest) is
-    ∙ append_assoc found (record { listed = listed; cabinet = cabinet } ∷ []) (map (listed_cabinet_of office) rest)
-    ∙ ap (λ (c : CabinetShown). found ++ record { listed = listed; cabinet = c } ∷ map (listed_cabinet_of office) rest) holds ∙ before
+module _ {A : Type 0} (of : ListedIntersection → A) where
+  -- what one more gives, before those that are left
+  pub gathered_more : (found new : List A) (listed : ListedIntersection) (rest : List ListedIntersection) (one : A) (all : List A)
+      → one ≡ of listed → new ≡ found ++ one ∷ [] → found ++ map of (listed ∷ rest) ≡ all → new ++ map of rest ≡ all
+  gathered_more found new listed rest one all gives is before =
+      ap (λ (xs : List A). xs ++ map of rest) is ∙ append_assoc found (one ∷ []) (map of rest)
+      ∙ ap (λ (x : A). found ++ x ∷ map of rest) gives ∙ before
 
--- those of all that are listed are those of the office
-pub each_cabinet : (office : Office) (es : List Entry) → map (listed_cabinet_of office) (map intersection_listed es) ≡ map (cabinet_listed office) es
-each_cabinet office [] = refl
-each_cabinet office (e ∷ es) = ap (λ rest. cabinet_listed office e ∷ rest) (each_cabinet office es)
+  -- what those of all that are listed give is what those of the office give
+  pub each_gathered : (es : List Entry) → map of (map intersection_listed es) ≡ map (λ e. of (intersection_listed e)) es
+  each_gathered [] = refl
+  each_gathered (e ∷ es) = ap (λ rest. of (intersection_listed e) ∷ rest) (each_gathered es)
 
 -- ---- each row that was read is a record
 
-each_row : (tables : Content) (rows : List (ℕ × IntersectionRow)) → AreWhole tables (map (listed_in tables) rows)
-    → AllByRecursion (λ (e : ℕ × IntersectionRow). ¬ MeetsDamage tables (command.Cabinet e.0)) rows
-each_row tables [] whole = tt
-each_row tables (e ∷ rows) whole = (whole.0, each_row tables rows whole.1)
+each_row : (Damage : ℕ → Type 0) (tables : Content) (rows : List (ℕ × IntersectionRow)) → AllByRecursion (λ (listed : ListedIntersection). ¬ Damage listed.id) (map (listed_in tables) rows)
+    → AllByRecursion (λ (e : ℕ × IntersectionRow). ¬ Damage e.0) rows
+each_row Damage tables [] whole = tt
+each_row Damage tables (e ∷ rows) whole = (whole.0, each_row Damage tables rows whole.1)
 
 some_stored : (o : Option (List Cell)) → IsSome o → (columns : List Cell) × (o ≡ Some columns)
 some_stored None there = absurd cc
@@ -112,19 +110,28 @@ some_stored (Some columns) there = (columns, refl)
 same_number : (a b : ℕ) → intersection_key a ≡ intersection_key b → a ≡ b
 same_number a b same = cc
 
--- a damaged row of a cabinet is of an intersection that is there
-there_at : (tables : Content) (id : ℕ) → MeetsDamage tables (command.Cabinet id) → (columns : List Cell) × (get tables.intersection (intersection_key id) ≡ Some columns)
+-- an intersection stands in the tables
+abbrev pub IsStored : Content → ℕ → Type 0
+IsStored tables id = (columns : List Cell) × (get tables.intersection (intersection_key id) ≡ Some columns)
+
+-- a damaged row is of an intersection that is there
+pub there_at : (tables : Content) (id : ℕ) {Later : Type 0} → MeetsAfter tables id Later → IsStored tables id
 there_at tables id (inl row) = (row.columns, row.stored)
-there_at tables id (inr cabinet) = some_stored (get tables.intersection (intersection_key id)) cabinet.0
+there_at tables id (inr after) = some_stored (get tables.intersection (intersection_key id)) after.0
+
+-- where those of all that are listed meet no damage, none does
+pub none_meets : (Damage : ℕ → Type 0) (tables : Content) (list : List ListedIntersection) → ((id : ℕ) → Damage id → IsStored tables id)
+    → ListsEachIntersection tables list → AllByRecursion (λ (listed : ListedIntersection). ¬ Damage listed.id) list → (id : ℕ) → ¬ Damage id
+none_meets Damage tables list there lists whole id damaged =
+    let stored = there id damaged in
+    let is = table_row (λ e. intersection_key e.0) (λ e. intersection_columns e.1)
+    (λ e. ¬ Damage e.0) tables.intersection lists.rows (intersection_key id)
+    stored.0 lists.lists (each_row Damage tables lists.rows (subst (AllByRecursion (λ (listed : ListedIntersection). ¬ Damage listed.id)) lists.found_is whole)) stored.1 in
+    is.1 (subst Damage (same_number id is.0.0 is.2) damaged)
 
 -- where those of all that are listed were read, none is damaged
 pub all_whole : (tables : Content) (list : List ListedIntersection) → ListsEachIntersection tables list → (¬ HasAnyDamagedIntersection tables) → AreWhole tables list
     → ¬ Meets tables query.Cabinets
 all_whole tables list lists sound whole (inl damaged) = sound damaged
 all_whole tables list lists sound whole (inr damaged) =
-    let id = damaged.0 in
-    let stored = there_at tables id damaged.1 in
-    let is = table_row (λ e. intersection_key e.0) (λ e. intersection_columns e.1)
-    (λ e. ¬ MeetsDamage tables (command.Cabinet e.0)) tables.intersection lists.rows (intersection_key id)
-    stored.0 lists.lists (each_row tables lists.rows (subst (AreWhole tables) lists.found_is whole)) stored.1 in
-    is.1 (subst (λ n. MeetsDamage tables (command.Cabinet n)) (same_number id is.0.0 is.2) damaged.1)
+    none_meets (λ id. MeetsDamage tables (command.Cabinet id)) tables list (λ id. there_at tables id) lists whole damaged.0 damaged.1

@@ -1,3 +1,4 @@
 pub mod SeenLemmas
 pub mod LookLemmas
 mod GatheringLemmas
+mod AdvisingLemmas

@@ -12,6 +12,7 @@ use Rattle.office_machine.specs.declared.reply.RunningTiming.{RunningTiming}
 use Rattle.signal_office_faults.specs.declared.fault.Fault.{Fault}
 use Rattle.signal_office_faults.specs.declared.fault.Fault.TheVariants as told
 use Rattle.signal_office_queries.specs.Refused.{fault_of}
+use Rattle.signal_office_queries.specs.declared.seen.AdvisedCabinet.{AdvisedCabinet}
 use Rattle.signal_office_queries.specs.declared.seen.ListedCabinet.{ListedCabinet}
 use Rattle.signal_office_queries.specs.declared.seen.Seen.{Seen}
 use Rattle.signal_office_queries.specs.declared.seen.Seen.TheVariants as seen
@@ -73,6 +74,11 @@ orders_seen other = Err told.Store
 abbrev pub cabinets_in : Seen → Result (List ListedCabinet) Fault
 cabinets_in (seen.Cabinets cabinets) = Ok cabinets
 cabinets_in other = Err told.Store
+
+-- the cabinets and numbers of warnings that were seen, or the fault
+abbrev pub advised_in : Seen → Result (List AdvisedCabinet) Fault
+advised_in (seen.AdvisedCabinets cabinets) = Ok cabinets
+advised_in other = Err told.Store
 
 -- the first of what was seen, or a refusal where nothing was
 abbrev pub first_seen : List Seen → Seen

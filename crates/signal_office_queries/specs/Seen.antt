@@ -8,7 +8,7 @@ use Rattle.office_desk.specs.Damage.{MeetsDamage}
 use Rattle.office_desk.specs.Named.{RefusesBy, numbers_of}
 use Rattle.office_desk.specs.StandFor.{StandForSound}
 use Rattle.office_machine.specs.Listed.{intersection_listed, intersections_of}
-use Rattle.office_machine.specs.Office.{Intersection, Office}
+use Rattle.office_machine.specs.Office.{Intersection, Office, side_at}
 use Rattle.office_machine.specs.Step.{answered, cabinet_shown, overdue_on}
 use Rattle.office_machine.specs.declared.command.Command.{Command}
 use Rattle.office_machine.specs.declared.command.Command.TheVariants as command
@@ -18,9 +18,11 @@ use Rattle.office_machine.specs.declared.reply.Reply.TheVariants as reply
 use Rattle.office_tables_shelf.specs.CabinetReads.{HasAnyDamagedOrder}
 use Rattle.office_tables_shelf.specs.Content.{Content}
 use Rattle.office_tables_shelf.specs.Damage.{HasAnyDamagedIntersection}
+use Rattle.signal_plans.specs.Warnings.{warnings_of}
 use Rattle.signal_office_faults.specs.declared.fault.Fault.{Fault}
 use Rattle.signal_office_faults.specs.declared.fault.Fault.TheVariants as told
 use Rattle.signal_office_queries.specs.NamedOrders.{named_in}
+use Rattle.signal_office_queries.specs.declared.seen.AdvisedCabinet.{AdvisedCabinet}
 use Rattle.signal_office_queries.specs.declared.seen.ListedCabinet.{ListedCabinet}
 use Rattle.signal_office_queries.specs.declared.seen.Query.{Query}
 use Rattle.signal_office_queries.specs.declared.seen.Query.TheVariants as query
@@ -30,6 +32,18 @@ use Rattle.signal_office_queries.specs.declared.seen.Seen.TheVariants as seen
 -- an intersection with all that the register of an office holds of it
 abbrev pub cabinet_listed : Office → ℕ × Intersection → ListedCabinet
 cabinet_listed office e = record { listed = intersection_listed e; cabinet = cabinet_shown office.register e.0 }
+
+-- how many warnings the committed plan of an intersection has
+abbrev pub warning_count : Office → ℕ → ℕ
+warning_count office id = length (warnings_of (side_at office id).committed)
+
+-- an intersection with all that the register of an office holds of it, and with the number of warnings of its committed plan
+abbrev pub cabinet_advised : Office → ℕ × Intersection → AdvisedCabinet
+cabinet_advised office e = record {
+  listed = intersection_listed e;
+  cabinet = cabinet_shown office.register e.0;
+  warnings = warning_count office e.0;
+}
 
 -- what an office shows where it is asked: its answer, a refusal too
 abbrev pub query_answer : Office → Query → Seen
@@ -43,6 +57,11 @@ query_answer office (query.Overdue day most) = seen.Reply (reply.Overdue (take m
 query_answer office query.Intersections = seen.Intersections (intersections_of office)
 query_answer office query.OpenOrders = seen.Orders (named_in office)
 query_answer office query.Cabinets = seen.Cabinets (map (cabinet_listed office) (entries office.intersections))
+query_answer office query.AdvisedCabinets = seen.AdvisedCabinets (map (cabinet_advised office) (entries office.intersections))
+
+-- a row of the cabinet of an intersection, or of its committed plan, is no record
+abbrev pub MeetsIndexed : Content → ℕ → Type 0
+MeetsIndexed tables id = MeetsDamage tables (command.Cabinet id) ⊎ MeetsDamage tables (command.Timing id)
 
 -- a row that the query reads is no record
 abbrev pub Meets : Content → Query → Type 0
@@ -56,6 +75,7 @@ Meets tables (query.Overdue day most) = MeetsDamage tables (command.Overdue day)
 Meets tables query.Intersections = HasAnyDamagedIntersection tables
 Meets tables query.OpenOrders = HasAnyDamagedIntersection tables ⊎ HasAnyDamagedOrder tables
 Meets tables query.Cabinets = HasAnyDamagedIntersection tables ⊎ ((id : ℕ) × MeetsDamage tables (command.Cabinet id))
+Meets tables query.AdvisedCabinets = HasAnyDamagedIntersection tables ⊎ ((id : ℕ) × MeetsIndexed tables id)
 
 -- one of some queries meets a damaged row
 abbrev pub MeetsAny : Content → List Query → Type 0
@@ -95,6 +115,7 @@ Passes tables (query.Overdue day most) it = IsShort it most → ¬ Meets tables 
 Passes tables query.Intersections it = ¬ Meets tables query.Intersections
 Passes tables query.OpenOrders it = ¬ Meets tables query.OpenOrders
 Passes tables query.Cabinets it = ¬ Meets tables query.Cabinets
+Passes tables query.AdvisedCabinets it = ¬ Meets tables query.AdvisedCabinets
 
 -- each query passes with its answer
 abbrev pub PassEach : Content → List Query → List Seen → Type 0

@@ -25,7 +25,7 @@ use std::alloc::Global;
 use std::collections::BTreeMap;
 
 /// All intersections, by their numbers.
-fn list_intersections<S: Shelf>(
+pub(crate) fn list_intersections<S: Shelf>(
     alloc: Global,
     office: &mut Office<S>,
 ) -> Result<Vec<ListedIntersection>, Fault>
@@ -124,7 +124,7 @@ fn filed_in(seen: Seen) -> Result<CabinetShown, Fault>
     }
 }
 
-fn read_cabinet<S: Shelf>(
+pub(crate) fn read_cabinet<S: Shelf>(
     alloc: Global,
     office: &mut Office<S>,
     id: InterId,

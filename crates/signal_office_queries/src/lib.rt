@@ -2,6 +2,7 @@
 //! and `parts` takes from that what a report or a command is made of, or the fault of a refusal.
 #![tactic(auto)]
 
+mod advising;
 mod asking;
 mod gathering;
 mod looking;
@@ -12,8 +13,8 @@ mod seen;
 pub use asking::ask;
 pub use looking::look;
 pub use parts::{
-    cabinet_in, cabinets_in, draft_in, first_seen, intersections_in, next_of, open_draft_in,
-    orders_seen, overdue_in, register_in, state_in, stock_in, timing_in,
+    advised_in, cabinet_in, cabinets_in, draft_in, first_seen, intersections_in, next_of,
+    open_draft_in, orders_seen, overdue_in, register_in, state_in, stock_in, timing_in,
 };
 pub use refused::fault_of;
-pub use seen::{ListedCabinet, Query, Seen};
+pub use seen::{AdvisedCabinet, ListedCabinet, Query, Seen};

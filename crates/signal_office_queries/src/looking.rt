@@ -8,6 +8,7 @@ ghost use Rattle.office_machine.specs.Step.{answered};
 ghost use Rattle.office_tables_shelf.specs.Keeps.{KeepsShelf};
 ghost use Rattle.signal_office_queries.specs.Seen.{Gives, IsAnswer, Looks, Sees, SeesAs, is_normal, seen_in};
 
+use crate::advising::see_advised;
 use crate::asking::ask;
 use crate::gathering::{see_cabinets, see_intersections, see_open_orders};
 use crate::refused::fault_of;
@@ -115,6 +116,7 @@ fn look_at<S: Shelf>(alloc: Global, office: &mut Office<S>, query: Query) -> Res
         Query::Intersections => see_intersections(alloc, office),
         Query::OpenOrders => see_open_orders(alloc, office),
         Query::Cabinets => see_cabinets(alloc, office),
+        Query::AdvisedCabinets => see_advised(alloc, office),
     }
 }
 

@@ -2,10 +2,10 @@
 
 ghost use Rattle.std.specs.Prelude.{◌≡◌};
 ghost use Rattle.std.specs.Vec.Iter.{into_iter_items};
-ghost use Rattle.signal_office_queries.specs.Parts.{cabinet_in, cabinets_in, draft_in, first_seen, intersections_in, open_draft_in, orders_seen, overdue_in, register_in, register_of, rest_of, state_in, stock_in, timing_in};
+ghost use Rattle.signal_office_queries.specs.Parts.{advised_in, cabinet_in, cabinets_in, draft_in, first_seen, intersections_in, open_draft_in, orders_seen, overdue_in, register_in, register_of, rest_of, state_in, stock_in, timing_in};
 
 use crate::refused::fault_of;
-use crate::seen::{ListedCabinet, Seen};
+use crate::seen::{AdvisedCabinet, ListedCabinet, Seen};
 use draft_core::refusal::DraftRefusal;
 use office_machine::intersections::ListedIntersection;
 use office_machine::orders::NamedOrder;
@@ -120,6 +120,16 @@ pub fn cabinets_in(seen: Seen) -> Result<Listing<ListedCabinet>, Fault>
 {
     match seen {
         Seen::Cabinets(cabinets) => Ok(cabinets),
+        _ => Err(Fault::Store),
+    }
+}
+
+/// What the register holds of each intersection, and how many warnings its committed plan has.
+pub fn advised_in(seen: Seen) -> Result<Listing<AdvisedCabinet>, Fault>
+    ensures { result ≡ advised_in seen }
+{
+    match seen {
+        Seen::AdvisedCabinets(cabinets) => Ok(cabinets),
         _ => Err(Fault::Store),
     }
 }

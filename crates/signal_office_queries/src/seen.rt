@@ -29,6 +29,8 @@ pub enum Query {
     OpenOrders,
     /// What the register holds of each intersection.
     Cabinets,
+    /// What the register holds of each intersection, and how many warnings its committed plan has.
+    AdvisedCabinets,
 }
 
 /// An intersection that is listed, with all that the register holds of it.
@@ -38,6 +40,15 @@ pub struct ListedCabinet {
     pub cabinet: CabinetShown,
 }
 
+/// An intersection that is listed, with all that the register holds of it, and with how many
+/// warnings its committed plan has.
+#[derive(Drop)]
+pub struct AdvisedCabinet {
+    pub listed: ListedIntersection,
+    pub cabinet: CabinetShown,
+    pub warnings: usize,
+}
+
 /// What a query sees. That an intersection is unknown, or has no draft, is what is seen of it.
 #[derive(Drop)]
 pub enum Seen {
@@ -45,4 +56,5 @@ pub enum Seen {
     Intersections(Listing<ListedIntersection>),
     Orders(Listing<NamedOrder>),
     Cabinets(Listing<ListedCabinet>),
+    AdvisedCabinets(Listing<AdvisedCabinet>),
 }

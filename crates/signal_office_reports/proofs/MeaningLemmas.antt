@@ -10,10 +10,10 @@ use Rattle.signal_page.specs.Overdue.{overdue_numbers, seen_by}
 use Rattle.signal_office_line.specs.declared.shows.Shown.TheVariants as shown
 use Rattle.signal_office_reports.specs.Indexing.{IsIndexOf, index_from, late_in}
 use Rattle.signal_office_reports.specs.Reports.{IsMade, IsShown, index_entry_of}
-use Rattle.signal_office_queries.specs.Seen.{cabinet_listed}
+use Rattle.signal_office_queries.specs.Seen.{cabinet_advised}
 use Rattle.signal_office_queries.specs.declared.seen.Seen.{Seen}
 
-all_seen : (office : Office) (es : List Entry) → map seen_by (map index_entry_of (map (cabinet_listed office) es)) ≡ map (inspected office.register) es
+all_seen : (office : Office) (es : List Entry) → map seen_by (map index_entry_of (map (cabinet_advised office) es)) ≡ map (inspected office.register) es
 all_seen office [] = refl
 all_seen office (e ∷ es) = ap (λ rest. inspected office.register e ∷ rest) (all_seen office es)
 

@@ -8,12 +8,12 @@ use Rattle.office_machine.specs.Step.{overdue_on}
 use Rattle.signal_page.specs.Index.{IsIndex}
 use Rattle.signal_page.specs.Overdue.{number_of_entry, overdue_among}
 use Rattle.signal_office_reports.specs.Reports.{index_shown}
-use Rattle.signal_office_queries.specs.Seen.{cabinet_listed}
+use Rattle.signal_office_queries.specs.Seen.{cabinet_advised}
 use Rattle.signal_page.specs.declared.index_shown.IndexShown.{IndexShown}
 
--- what the index of an office shows: its intersections by their numbers, their open orders, and the stock
+-- what the index of an office shows: its intersections by their numbers, each with the number of warnings of its committed plan, their open orders, and the stock
 abbrev pub index_from : Office → IndexShown
-index_from office = index_shown (map (cabinet_listed office) (entries office.intersections)) (stock_of office.register)
+index_from office = index_shown (map (cabinet_advised office) (entries office.intersections)) (stock_of office.register)
 
 -- the numbers of the intersections that are overdue on the day, if one is given
 abbrev pub late_in : Office → Option ℕ → List ℕ

@@ -28,8 +28,9 @@ use Rattle.signal_office_line.specs.declared.shows.Shown.{Shown}
 use Rattle.signal_office_line.specs.declared.shows.Shown.TheVariants as shown
 use Rattle.signal_office_line.specs.declared.shows.View.{View}
 use Rattle.signal_office_line.specs.declared.shows.View.TheVariants as view
-use Rattle.signal_office_queries.specs.Parts.{◌>>=◌, IsTextOf, cabinet_in, cabinets_in, draft_in, first_seen, intersections_in, open_draft_in, orders_seen, overdue_in, register_in, rest_of, state_in, stock_in, timing_in}
+use Rattle.signal_office_queries.specs.Parts.{◌>>=◌, IsTextOf, advised_in, cabinet_in, cabinets_in, draft_in, first_seen, intersections_in, open_draft_in, orders_seen, overdue_in, register_in, rest_of, state_in, stock_in, timing_in}
 use Rattle.signal_office_queries.specs.Seen.{IsMadeOfAnswers}
+use Rattle.signal_office_queries.specs.declared.seen.AdvisedCabinet.{AdvisedCabinet}
 use Rattle.signal_office_queries.specs.declared.seen.ListedCabinet.{ListedCabinet}
 use Rattle.signal_office_queries.specs.declared.seen.Query.{Query}
 use Rattle.signal_office_queries.specs.declared.seen.Query.TheVariants as query
@@ -64,7 +65,7 @@ queries_of (shown.Cabinet id) = query.State id ∷ query.Cabinet id ∷ []
 queries_of (shown.Export id it) = export_queries id it
 queries_of (shown.Diagram id pattern) = query.Timing id ∷ []
 queries_of (shown.Page id linked) = query.State id ∷ query.Timing id ∷ query.OpenDraft id ∷ query.Cabinet id ∷ []
-queries_of (shown.Index day) = query.Cabinets ∷ query.Stock ∷ []
+queries_of (shown.Index day) = query.AdvisedCabinets ∷ query.Stock ∷ []
 
 -- ---- what is shown
 
@@ -92,27 +93,27 @@ abbrev pub page_in : List Seen → Result IntersectionShown Fault
 page_in found =
     page_of (first_seen found) (first_seen (rest_of found)) (first_seen (rest_of (rest_of found))) (first_seen (rest_of (rest_of (rest_of found))))
 
--- what the index shows: of each intersection, the open orders of all, and the stock
-abbrev pub index_entry_of : ListedCabinet → IndexEntry
-index_entry_of it = index_entry it.listed it.cabinet
+-- what the index shows of an intersection: how many warnings its committed plan has, too
+abbrev pub index_entry_of : AdvisedCabinet → IndexEntry
+index_entry_of it = index_entry it.listed it.cabinet it.warnings
 
 -- the open orders of a listed cabinet with its name
-abbrev pub named_of : ListedCabinet → List NamedOrder
+abbrev pub named_of : AdvisedCabinet → List NamedOrder
 named_of it = named_orders it.listed.name it.cabinet
 
 -- what the index shows of cabinets and a stock
-abbrev pub index_shown : List ListedCabinet → List (List ℕ × ℕ) → IndexShown
+abbrev pub index_shown : List AdvisedCabinet → List (List ℕ × ℕ) → IndexShown
 index_shown cabinets stock = record { entries = map index_entry_of cabinets; orders = flat_map named_of cabinets; stock = stock }
 
--- the cabinets and the stock that were seen
-abbrev pub index_of : (cabinets stock : Seen) → Result (List ListedCabinet × List (List ℕ × ℕ)) Fault
+-- the cabinets with the warnings of their plans, and the stock, that were seen
+abbrev pub index_of : (cabinets stock : Seen) → Result (List AdvisedCabinet × List (List ℕ × ℕ)) Fault
 index_of cabinets stock = do
-  all ← cabinets_in cabinets
+  all ← advised_in cabinets
   parts ← stock_in stock
   Ok (all, parts)
 
--- the cabinets and the stock among what was seen
-abbrev pub index_in : List Seen → Result (List ListedCabinet × List (List ℕ × ℕ)) Fault
+-- the cabinets with the warnings of their plans, and the stock, among what was seen
+abbrev pub index_in : List Seen → Result (List AdvisedCabinet × List (List ℕ × ℕ)) Fault
 index_in found = index_of (first_seen found) (first_seen (rest_of found))
 
 -- what was used of all parts, or of one, at all intersections: each line of each order once, by the numbers of these, of their orders, and of the lines

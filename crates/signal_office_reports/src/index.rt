@@ -10,22 +10,24 @@ use office_machine::orders::{NamedOrder, add_named_orders};
 use office_machine::reply::Stock;
 use signal_office_faults::Fault;
 use signal_office_line::Shown;
-use signal_office_queries::{ListedCabinet, Seen, cabinets_in, first_seen, next_of, stock_in};
+use signal_office_queries::{
+    AdvisedCabinet, ListedCabinet, Seen, advised_in, cabinets_in, first_seen, next_of, stock_in,
+};
 use signal_page::{IndexEntry, IndexShown, add_entry, index_page};
 use signal_records::{Listing, NoMemory};
 use std::alloc::Global;
 
-fn entries_in(alloc: Global, cabinets: &[ListedCabinet]) -> Result<Vec<IndexEntry>, NoMemory>
+fn entries_in(alloc: Global, cabinets: &[AdvisedCabinet]) -> Result<Vec<IndexEntry>, NoMemory>
     ensures { IfOk result (λ entries. entries.items ≡ map index_entry_of cabinets.now) }
 {
     let mut entries = Vec::new(alloc);
     for it in cabinets {
-        add_entry(&mut entries, &it.listed, &it.cabinet)?;
+        add_entry(&mut entries, &it.listed, &it.cabinet, it.warnings)?;
     }
     Ok(entries)
 }
 
-fn orders_in(alloc: Global, cabinets: &[ListedCabinet]) -> Result<Vec<NamedOrder>, NoMemory>
+fn orders_in(alloc: Global, cabinets: &[AdvisedCabinet]) -> Result<Vec<NamedOrder>, NoMemory>
     ensures { IfOk result (λ orders. orders.items ≡ flat_map named_of cabinets.now) }
 {
     let mut orders = Vec::new(alloc);
@@ -37,7 +39,7 @@ fn orders_in(alloc: Global, cabinets: &[ListedCabinet]) -> Result<Vec<NamedOrder
 
 fn index_shown(
     alloc: Global,
-    cabinets: &[ListedCabinet],
+    cabinets: &[AdvisedCabinet],
     stock: Stock,
 ) -> Result<IndexShown, NoMemory>
     ensures { IfOk result (λ shown. shown ≡ index_shown cabinets.now stock) }
@@ -51,16 +53,16 @@ fn index_shown(
     })
 }
 
-/// The cabinets that an index shows, and the stock.
-fn index_of(cabinets: Seen, stock: Seen) -> Result<(Listing<ListedCabinet>, Stock), Fault>
+/// The cabinets that an index shows, with the warnings of their plans, and the stock.
+fn index_of(cabinets: Seen, stock: Seen) -> Result<(Listing<AdvisedCabinet>, Stock), Fault>
     ensures { result ≡ index_of cabinets stock }
 {
-    let cabinets = cabinets_in(cabinets)?;
+    let cabinets = advised_in(cabinets)?;
     let stock = stock_in(stock)?;
     Ok((cabinets, stock))
 }
 
-fn index_in(seen: Vec<Seen>) -> Result<(Listing<ListedCabinet>, Stock), Fault>
+fn index_in(seen: Vec<Seen>) -> Result<(Listing<AdvisedCabinet>, Stock), Fault>
     ensures { result ≡ index_in seen.items }
 {
     let mut seen = seen.into_iter();

@@ -47,6 +47,6 @@ pub(crate) fn queries_of(alloc: Global, shown: &Shown) -> Result<Vec<Query>, NoM
             Query::OpenDraft { id },
             Query::Cabinet { id },
         ]?),
-        Shown::Index { .. } => Ok(vec![in alloc; Query::Cabinets, Query::Stock]?),
+        Shown::Index { .. } => Ok(vec![in alloc; Query::AdvisedCabinets, Query::Stock]?),
     }
 }

@@ -1,8 +1,8 @@
 use Rattle.std.proofs.Common.{◌≡◌, ◌∙◌, ◌++◌, [], ap, append-nil, arith, map, subst, sym}
 use Rattle.std.specs.Vec.Iter.{into_iter_items}
-use Rattle.signal_office_queries.proofs.GatheringLemmas.{cabinets_more, none_left}
+use Rattle.signal_office_queries.proofs.GatheringLemmas.{gathered_more, none_left}
 use Rattle.signal_office_queries.proofs.SeenLemmas.{◌then◌, handed, still_held, unseen_so}
-use Rattle.signal_office_queries.specs.Gathering.{AreWhole, SeesCabinets, listed_cabinet_of}
+use Rattle.signal_office_queries.specs.Gathering.{AreWhole, SeesCabinets, listed_cabinet_of, with_cabinet}
 use Rattle.signal_office_queries.specs.Seen.{Gives}
 use Rattle.signal_office_queries.proofs.gathering.cabinets_of.Goals as goal
 
@@ -13,7 +13,7 @@ loop-listed-preserved g c =
     record {
       sees = λ clean tables held office stands.
           let one = c.in_ok-cabinet.ensures.sees clean tables (still_held g.S.Shelf _ _ tables so_far.kept held) in
-          cabinets_more office c.loop-listed.found.items _ c.in-Some.listed (into_iter_items c.next.new.self) c.in_ok-cabinet.cabinet _ (one.0 office stands) c.in_ok-add_cabinet.ensures
+          gathered_more (listed_cabinet_of office) c.loop-listed.found.items _ c.in-Some.listed (into_iter_items c.next.new.self) _ _ (ap (with_cabinet c.in-Some.listed) (one.0 office stands)) c.in_ok-add_cabinet.ensures
           (ap (λ rest. c.loop-listed.found.items ++ map (listed_cabinet_of office) rest) (sym c.in-Some.ensures.steps.0) ∙ so_far.sees (back clean) tables held office stands);
       whole = λ clean tables held rest.
           let one = c.in_ok-cabinet.ensures.sees clean tables (still_held g.S.Shelf _ _ tables so_far.kept held) in

@@ -1,6 +1,6 @@
 use Rattle.std.proofs.Common.{◌∙◌, ap, inl, inr, map}
 use Rattle.std.specs.FinMap.{entries}
-use Rattle.signal_office_queries.proofs.GatheringLemmas.{all_whole, each_cabinet}
+use Rattle.signal_office_queries.proofs.GatheringLemmas.{all_whole, each_gathered}
 use Rattle.signal_office_queries.proofs.SeenLemmas.{◌then◌, handed, still_held, unseen_so}
 use Rattle.signal_office_queries.specs.Gathering.{listed_cabinet_of}
 use Rattle.signal_office_queries.specs.Seen.{Sees}
@@ -12,7 +12,7 @@ pub returns-clause-sees : goal.returns-clause-sees
 returns-clause-sees g c = λ clean tables held.
     let list = c.in_ok-list.ensures.sees (c.cabinets_of.ensures.clean clean) tables held in
     let found = c.in_ok-found.ensures.sees clean tables (still_held g.S.Shelf _ _ tables c.list_intersections.ensures.kept held) in (
-      λ office stands. ap (λ all. seen.Cabinets all) (c.new.ensures ∙ found.0 office stands ∙ ap (map (listed_cabinet_of office)) (list.0 office stands) ∙ each_cabinet office (entries office.intersections)),
+      λ office stands. ap (λ all. seen.Cabinets all) (c.new.ensures ∙ found.0 office stands ∙ ap (map (listed_cabinet_of office)) (list.0 office stands) ∙ each_gathered (listed_cabinet_of office) (entries office.intersections)),
       all_whole tables c.in_ok-list.list.items list.1.1 list.1.0 found.1,
     )
 

@@ -30,5 +30,8 @@ returns-in-Intersections-clause-sees g c = λ clean tables held. subst (λ (q : 
 pub returns-in-OpenOrders-clause-sees : goal.returns-in-OpenOrders-clause-sees
 returns-in-OpenOrders-clause-sees g c = λ clean tables held. subst (λ (q : Query). Sees tables q c.see_open_orders.result) (sym c.in-OpenOrders.is) (c.see_open_orders.ensures.sees clean tables held)
 
+pub returns-in-AdvisedCabinets-clause-sees : goal.returns-in-AdvisedCabinets-clause-sees
+returns-in-AdvisedCabinets-clause-sees g c = λ clean tables held. subst (λ (q : Query). Sees tables q c.see_advised.result) (sym c.in-AdvisedCabinets.is) (c.see_advised.ensures.sees clean tables held)
+
 pub returns-in-Cabinets-clause-sees : goal.returns-in-Cabinets-clause-sees
 returns-in-Cabinets-clause-sees g c = λ clean tables held. subst (λ (q : Query). Sees tables q c.see_cabinets.result) (sym c.in-Cabinets.is) (c.see_cabinets.ensures.sees clean tables held)
