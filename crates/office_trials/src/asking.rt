@@ -28,20 +28,30 @@ pub(crate) fn same(rt: &Bench<impl Abort>, what: &str, wanted: &[u8], came: &[u8
     assert!(rt; wanted == came, "{what}: wanted {wants}, came {seen}");
 }
 
-/// The bytes of requests.
-pub(crate) fn bytes_of(rt: &Bench<impl Abort>, requests: &[&str]) -> String {
+/// The bytes of messages: lines between such words, each with its content behind a bar.
+fn bytes_of_messages(rt: &Bench<impl Abort>, lines: &[&str], before: &str, behind: &str) -> String {
     let mut bytes = String::new(rt.1);
-    for request in requests {
-        let (method, rest) = request.split_once(' ').unwrap_or((request, ""));
-        let (path, body) = rest.split_once(' ').unwrap_or((rest, ""));
-        let length = body.len();
-        write!(
+    for message in lines {
+        let (line, content) = message.split_once('|').unwrap_or((message, ""));
+        let size = content.len();
+        let made = write!(
             bytes,
-            "{method} {path} HTTP/1.1\r\nContent-Length: {length}\r\n\r\n{body}"
-        )
-        .expect(rt, "memory");
+            "{before}{line}{behind}\r\nContent-Length: {size}\r\n\r\n{content}"
+        );
+        made.expect(rt, "memory");
     }
     bytes
+}
+
+/// The bytes of requests.
+pub(crate) fn bytes_of(rt: &Bench<impl Abort>, requests: &[&str]) -> String {
+    bytes_of_messages(rt, requests, "", " HTTP/1.1")
+}
+
+/// The bytes of answers.
+pub(crate) fn bytes_of_answers(rt: &Bench<impl Abort>, answers: &[&str]) -> String {
+    let kind = "\r\nContent-Type: application/json";
+    bytes_of_messages(rt, answers, "HTTP/1.1 ", kind)
 }
 
 /// The bytes that an office answers to requests of one stream.
@@ -56,7 +66,7 @@ pub(crate) fn answers_to<S: Shelf>(
 }
 
 /// Requests whose answers show all that an office with intersection 12 holds.
-pub(crate) static QUERIES: [&str; 7] = [
+static QUERIES: [&str; 7] = [
     "GET /intersections/12",
     "GET /intersections/12/timing",
     "GET /intersections/12/draft",
@@ -71,54 +81,49 @@ pub(crate) fn state_of<S: Shelf>(rt: &Bench<impl Abort>, office: &mut Office<S>)
     answers_to(rt, office, &QUERIES)
 }
 
-/// Requests between semicolons. Intersection 12 is added and shown, and a plan of eleven rows is
-/// committed. A draft is abandoned, records are imported and come again after a
-/// closing, the stock is filled, and one record of each other kind is taken. Four changed rows
-/// among others are committed; at last a row is removed, put back as it is committed, twice, and
-/// removed.
+/// Requests between semicolons, each content behind a bar. Intersection 12 is added and shown, and
+/// a plan of eleven rows committed; a draft is abandoned, records are imported and come again after
+/// a closing, the stock is filled, and one record of each other kind is taken. Four changed rows
+/// are committed; at last a row is removed, put back as it is committed, twice, and removed.
 fn requests_text() -> &'static str {
-    "POST /intersections {\"id\":12,\"interval\":365,\"name\":\"Main St\"};GET /intersections/12;\
-    POST /intersections/12/begin {\"clerk\":\"Ana\"};\
-    POST /intersections/12/edit-csv {\"clerk\":\"Ana\",\"csv\":\"\
-    phase,2,1,8,20,40,40,15,6,7,12,490,60,0,0\\nphase,4,1,8,20,40,40,15,8\\n\
+    "POST /intersections|{\"id\":12,\"interval\":365,\"name\":\"Main St\"};GET /intersections/12;\
+    POST /intersections/12/begin|{\"clerk\":\"Ana\"};\
+    POST /intersections/12/edit-csv|{\"clerk\":\"Ana\",\
+    \"csv\":\"phase,2,1,8,20,40,40,15,6,7,12,490,60,0,0\\nphase,4,1,8,20,40,40,15,8\\n\
     phase,6,2,8,20,40,40,15,2\\nphase,8,2,8,20,40,40,15,4\\nseq,1,1,2 4\\nseq,1,2,6 8\\n\
     split,1,2,35,2,1\\nsplit,1,4,25,2,0\\nsplit,1,6,35,2,1\\nsplit,1,8,25,2,0\\n\
-    pattern,1,60,0,1,1\\n\"};\
-    POST /intersections/12/verify {\"clerk\":\"Ana\"};\
-    POST /intersections/12/check {\"clerk\":\"Ana\"};\
-    POST /intersections/12/commit {\"clerk\":\"Ana\"};\
-    POST /intersections/12/begin {\"clerk\":\"Ana\"};\
-    POST /intersections/12/edit-csv {\"clerk\":\"Ana\",\"csv\":\"\
-    split,1,6,34,2,1\\nsplit,1,8,26,2,0\\n\"};\
-    POST /intersections/12/abandon {\"clerk\":\"Bo\"};\
-    POST /import {\"csv\":\"delivery,RELAY,1,2026-05-01,10\\ninspection,12,1,2026-05-01,Ana,Fan\\n\
+    pattern,1,60,0,1,1\\n\"};POST /intersections/12/verify|{\"clerk\":\"Ana\"};\
+    POST /intersections/12/check|{\"clerk\":\"Ana\"};\
+    POST /intersections/12/commit|{\"clerk\":\"Ana\"};\
+    POST /intersections/12/begin|{\"clerk\":\"Ana\"};\
+    POST /intersections/12/edit-csv|{\"clerk\":\"Ana\",\"csv\":\"split,1,6,34,2,1\\n\
+    split,1,8,26,2,0\\n\"};POST /intersections/12/abandon|{\"clerk\":\"Bo\"};\
+    POST /import|{\"csv\":\"delivery,RELAY,1,2026-05-01,10\\ninspection,12,1,2026-05-01,Ana,Fan\\n\
     order,12,1,2026-05-01,Ana,Relay\\norder,12,2,2026-05-01,Ana,\\\"Door, north\\\"\\n\
-    use,12,1,1,RELAY,2\\n\"};\
-    POST /intersections/12/orders/1/close {\"clerk\":\"Bo\",\"day\":\"2026-05-03\"};\
-    POST /import {\"csv\":\"delivery,RELAY,1,2026-05-01,10\\norder,12,1,2026-05-01,Ana,Relay\\n\"};\
-    POST /deliveries {\"count\":999999991,\"day\":\"2026-05-01\",\"number\":2,\"part\":\"RELAY\"};\
-    POST /deliveries {\"count\":999999990,\"day\":\"2026-05-01\",\"number\":2,\"part\":\"RELAY\"};\
-    POST /deliveries {\"count\":1,\"day\":\"2026-05-01\",\"number\":3,\"part\":\"RELAY\"};\
-    POST /intersections/12/inspections {\"clerk\":\"Ana\",\"day\":\"2026-05-02\",\"number\":2,\
-    \"text\":\"Fan\"};\
-    POST /intersections/12/orders {\"clerk\":\"Ana\",\"day\":\"2026-05-02\",\"number\":3,\
-    \"text\":\"Relay\"};\
-    POST /intersections/12/orders/3/parts {\"count\":2,\"line\":1,\"part\":\"RELAY\"};\
-    POST /intersections/12/begin {\"clerk\":\"Ana\"};\
-    POST /intersections/12/edit-csv {\"clerk\":\"Ana\",\"csv\":\"seq,1,1,2 4\\n\
-    split,1,2,46,2,1\\nsplit,1,4,14,2,0\\nsplit,1,6,46,2,1\\nsplit,1,8,14,2,0\\n\
-    pattern,1,60,0,1,1\\n\"};\
-    POST /intersections/12/verify {\"clerk\":\"Ana\"};\
-    POST /intersections/12/check {\"clerk\":\"Ana\"};\
-    POST /intersections/12/commit {\"clerk\":\"Ana\"};\
-    POST /intersections/12/begin {\"clerk\":\"Ana\"};\
-    POST /intersections/12/edit-csv {\"clerk\":\"Ana\",\"csv\":\"remove,pattern,1\\n\"};\
-    POST /intersections/12/edit-csv {\"clerk\":\"Ana\",\"csv\":\"pattern,1,60,0,1,1\\n\"};\
-    POST /intersections/12/edit-csv {\"clerk\":\"Ana\",\"csv\":\"pattern,1,60,0,1,1\\n\"};\
-    POST /intersections/12/edit-csv {\"clerk\":\"Ana\",\"csv\":\"remove,pattern,1\\n\"};\
-    POST /intersections/12/verify {\"clerk\":\"Ana\"};\
-    POST /intersections/12/check {\"clerk\":\"Ana\"};\
-    POST /intersections/12/commit {\"clerk\":\"Ana\"}"
+    use,12,1,1,RELAY,2\\n\"};POST /intersections/12/orders/1/close|{\"clerk\":\"Bo\",\
+    \"day\":\"2026-05-03\"};POST /import|{\"csv\":\"delivery,RELAY,1,2026-05-01,10\\n\
+    order,12,1,2026-05-01,Ana,Relay\\n\"};\
+    POST /deliveries|{\"count\":999999991,\"day\":\"2026-05-01\",\"number\":2,\"part\":\"RELAY\"};\
+    POST /deliveries|{\"count\":999999990,\"day\":\"2026-05-01\",\"number\":2,\"part\":\"RELAY\"};\
+    POST /deliveries|{\"count\":1,\"day\":\"2026-05-01\",\"number\":3,\"part\":\"RELAY\"};\
+    POST /intersections/12/inspections|{\"clerk\":\"Ana\",\"day\":\"2026-05-02\",\
+    \"number\":2,\"text\":\"Fan\"};POST /intersections/12/orders|{\"clerk\":\"Ana\",\
+    \"day\":\"2026-05-02\",\"number\":3,\"text\":\"Relay\"};\
+    POST /intersections/12/orders/3/parts|{\"count\":2,\"line\":1,\"part\":\"RELAY\"};\
+    POST /intersections/12/begin|{\"clerk\":\"Ana\"};\
+    POST /intersections/12/edit-csv|{\"clerk\":\"Ana\",\"csv\":\"seq,1,1,2 4\\nsplit,1,2,46,2,1\\n\
+    split,1,4,14,2,0\\nsplit,1,6,46,2,1\\nsplit,1,8,14,2,0\\npattern,1,60,0,1,1\\n\"};\
+    POST /intersections/12/verify|{\"clerk\":\"Ana\"};\
+    POST /intersections/12/check|{\"clerk\":\"Ana\"};\
+    POST /intersections/12/commit|{\"clerk\":\"Ana\"};\
+    POST /intersections/12/begin|{\"clerk\":\"Ana\"};\
+    POST /intersections/12/edit-csv|{\"clerk\":\"Ana\",\"csv\":\"remove,pattern,1\\n\"};\
+    POST /intersections/12/edit-csv|{\"clerk\":\"Ana\",\"csv\":\"pattern,1,60,0,1,1\\n\"};\
+    POST /intersections/12/edit-csv|{\"clerk\":\"Ana\",\"csv\":\"pattern,1,60,0,1,1\\n\"};\
+    POST /intersections/12/edit-csv|{\"clerk\":\"Ana\",\"csv\":\"remove,pattern,1\\n\"};\
+    POST /intersections/12/verify|{\"clerk\":\"Ana\"};\
+    POST /intersections/12/check|{\"clerk\":\"Ana\"};\
+    POST /intersections/12/commit|{\"clerk\":\"Ana\"}"
 }
 
 /// Requests with their answers, and what is shown before each and after the last.
@@ -160,8 +165,7 @@ pub(crate) fn script_of(rt: &Bench<impl Abort>, count: usize) -> Script {
 const UNAVAILABLE: &[u8] = b"HTTP/1.1 503 Service Unavailable\r\nContent-Type: application/json\r\n\
     Content-Length: 35\r\n\r\n{\"error\":\"Unavailable\",\"number\":90}";
 
-/// Makes the requests of a script one by one from one of them on, until one is answered as
-/// unavailable, and tells which that is.
+/// Makes the requests of a script from one on, and tells which first is answered as unavailable.
 pub(crate) fn play<S: Shelf>(
     rt: &Bench<impl Abort>,
     office: &mut Office<S>,
@@ -179,8 +183,7 @@ pub(crate) fn play<S: Shelf>(
     script.requests.len()
 }
 
-/// How many requests of a script have their answers in these bytes, before one that is not answered
-/// or is unavailable.
+/// How many answers of a script are in these bytes, before one that is missing or unavailable.
 pub(crate) fn count_answered(rt: &Bench<impl Abort>, script: &Script, answers: &[u8]) -> usize {
     let mut rest = answers;
     for (n, answer) in script.answers.iter().enumerate() {

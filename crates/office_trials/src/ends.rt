@@ -29,7 +29,9 @@ pub(crate) const ANY: Room = (usize::MAX, true);
 /// A reader, which sees how many bytes the writer took.
 #[derive(Drop)]
 struct Feed<'a> {
-    stream: Stream<'a>,
+    bytes: &'a [u8],
+    most: usize,
+    after: After<'a>,
     taken: &'a Cell<usize>,
     calls: u64,
 }
@@ -37,17 +39,14 @@ struct Feed<'a> {
 impl Read for Feed<'_> {
     fn read(&mut self, buf: &mut [u8]) -> io::Result<usize> {
         self.calls = self.calls.saturating_add(1);
-        let (mut bytes, most, after) = self.stream;
-        if bytes.is_empty() {
-            if self.taken.get() < after.1 {
+        if self.bytes.is_empty() {
+            if self.taken.get() < self.after.1 {
                 return Err(io::Error::from(ErrorKind::Interrupted));
             }
-            bytes = after.0;
+            self.bytes = self.after.0;
         }
-        let mut part = bytes.get(..most).unwrap_or(bytes);
-        let n = part.read(buf)?;
-        self.stream = (bytes.get(n..).unwrap_or(b""), most, after);
-        Ok(n)
+        let n = buf.len().min(self.most);
+        self.bytes.read(&mut buf[..n])
     }
 }
 
@@ -87,8 +86,11 @@ pub(crate) fn serve_ends<S: Shelf>(
     limit: u32,
 ) -> ((&'static str, u32), Vec<u8>) {
     let taken = Cell::new(0);
+    let (bytes, most, after) = stream;
     let mut source = FromRead::new(Feed {
-        stream,
+        bytes,
+        most,
+        after,
         taken: &taken,
         calls: 0,
     });
@@ -104,13 +106,9 @@ pub(crate) fn serve_ends<S: Shelf>(
         Err(ServeFault::Write { requests }) => ("write", requests),
         Err(ServeFault::NoMemory) => ("memory", 0),
     };
-    assert!(rt;
-        source.reader.calls == source.counts.calls,
-        "the calls of a reader"
-    );
-    assert!(rt;
-        sink.writer.calls == sink.counts.calls,
-        "the calls of a writer"
-    );
+    let is_right = source.reader.calls == source.counts.calls;
+    assert!(rt; is_right, "the calls of a reader");
+    let is_right = sink.writer.calls == sink.counts.calls;
+    assert!(rt; is_right, "the calls of a writer");
     (ended, sink.writer.bytes)
 }

@@ -6,7 +6,7 @@ ghost use Rattle.sqlite.specs.Files.{file_state};
 ghost use Rattle.sqlite.specs.Held.{state};
 ghost use Rattle.office_tables.specs.Arranged.{IsArrangedIfClean};
 
-use crate::asking::{Bench, QUERIES, Script, answers_to, copy, count_answered, same, script_of};
+use crate::asking::{Bench, Script, answers_to, copy, count_answered, same, script_of, state_of};
 use crate::worked::play_all;
 use office_desk::office::Office;
 use office_tables::open::{Left, OpenFault};
@@ -22,9 +22,10 @@ type Pair = Files<Fuse<Memory>>;
 /// A file with these bytes, which stay after a crash, that stops after so many calls.
 fn file(rt: &Bench<impl Abort>, bytes: &[u8], calls: u64) -> Fuse<Memory> {
     let mut file = Memory::new(rt.1);
-    let is_written = file.may_be_used() && file.write_at(0, bytes).is_ok();
-    let is_kept = is_written && file.may_be_used() && file.sync().is_ok();
-    assert!(rt; is_kept, "a file in memory");
+    assert!(rt; file.may_be_used(), "a file in memory");
+    assert!(rt; file.write_at(0, bytes).is_ok(), "a file in memory");
+    assert!(rt; file.may_be_used(), "a file in memory");
+    assert!(rt; file.sync().is_ok(), "a file in memory");
     Fuse::new(file, calls)
 }
 
@@ -37,16 +38,17 @@ fn files_of(rt: &Bench<impl Abort>, log: &[u8], db: &[u8], is_log: bool, calls: 
 }
 
 /// The files after a crash, which loses all that was not synced.
-fn crash<D: Crash>(left: Files<D>) -> Files<D> {
-    let Files { mut log, mut db } = left;
-    log.crash();
-    db.crash();
-    Files { log, db }
+fn crash<D: Crash>(mut left: Files<D>) -> Files<D> {
+    left.log.crash();
+    left.db.crash();
+    left
 }
 
 /// What is done over files.
 #[derive(Clone, Copy)]
 pub(crate) enum Work<'a> {
+    /// An office shows all that it holds.
+    Show,
     /// An office serves these requests as one stream.
     Serve(&'a [&'a str]),
     /// An office makes the script in each way, by reads of so many bytes at most.
@@ -62,8 +64,7 @@ const OLD: &[u8] = b"version 1";
 
 const MIGRATED: &[u8] = b"migrated";
 
-/// What makes tables of version 1 of those of a new office: a phase, and the draft of it that a
-/// clerk holds.
+/// What makes tables of version 1 of a new office's: a phase, and the draft of it of a clerk.
 const AGE: &str = "UPDATE office_version SET version = 1;
 INSERT INTO intersection VALUES (12, 'Main St', 365, 1, 1, 'Ana');
 INSERT INTO timing VALUES (12, 1, 2, 0, 'phase,2,1,8,20,40,40,15,,7,12,490,60,0');
@@ -80,10 +81,22 @@ fn with_old_tables<S: Alter + Drop>(rt: &Bench<impl Abort>, conn: Connection<S>)
 /// Serves a stream or makes a script by an office, and gives what it shows.
 fn shown_by<S: Shelf>(rt: &Bench<impl Abort>, office: &mut Office<S>, work: Work<'_>) -> Vec<u8> {
     match work {
+        Work::Show => state_of(rt, office),
         Work::Serve(requests) => answers_to(rt, office, requests),
         Work::Script(script, most) => play_all(rt, office, script, most),
         _ => Vec::new(rt.1),
     }
+}
+
+/// What is shown by an office over a shelf, and its database.
+fn show_all<S: Alter + Drop>(
+    rt: &Bench<impl Abort>,
+    shelf: SqlShelf<S>,
+    work: Work<'_>,
+) -> (Vec<u8>, Connection<S>) {
+    let mut office = Office::new(shelf);
+    let shown = shown_by(rt, &mut office, work);
+    (shown, office.into_shelf().into_conn())
 }
 
 /// What is shown by the office over the tables of a database.
@@ -96,9 +109,8 @@ fn show_over<S: Alter + Drop>(
 {
     match SqlShelf::open_arranged(rt.1, conn) {
         Ok(shelf) => {
-            let mut office = Office::new(shelf);
-            let shown = shown_by(rt, &mut office, work);
-            (shown, Ok(office.into_shelf().into_conn()))
+            let (shown, conn) = show_all(rt, shelf, work);
+            (shown, Ok(conn))
         }
         Err((fault, left)) => {
             let is_old = matches!(fault, OpenFault::Version);
@@ -141,8 +153,18 @@ fn database<D: Disk + Drop>(
     }
 }
 
-/// Does work over files, and closes them. Gives what was shown, whether they were closed, and the
-/// files as they were left.
+/// Closes a database. Tells whether that was done, and gives its files.
+fn close<D: Disk + Drop>(left: Left<FileStore<D>>) -> (bool, Files<D>) {
+    match left {
+        Ok(conn) => match conn.close_files() {
+            Ok(files) => (true, files),
+            Err((_error, store)) => (false, store.close()),
+        },
+        Err(store) => (false, store.close()),
+    }
+}
+
+/// Does work over files, and closes them. Gives what was shown, whether they closed, and the files.
 fn over_files<D: Disk + Drop>(
     rt: &Bench<impl Abort>,
     files: Files<D>,
@@ -152,13 +174,9 @@ fn over_files<D: Disk + Drop>(
         Ok(conn) => conn,
         Err(files) => return (Vec::new(rt.1), false, files),
     };
-    match work_over(rt, conn, work) {
-        (shown, Ok(conn)) => match conn.close_files() {
-            Ok(files) => (shown, true, files),
-            Err((_error, store)) => (shown, false, store.close()),
-        },
-        (shown, Err(store)) => (shown, false, store.close()),
-    }
+    let (shown, left) = work_over(rt, conn, work);
+    let (is_closed, files) = close(left);
+    (shown, is_closed, files)
 }
 
 /// What work over files of these bytes shows, and the bytes of the closed file then.
@@ -171,7 +189,7 @@ pub(crate) fn after(rt: &Bench<impl Abort>, start: &[u8], work: Work<'_>) -> (Ve
 
 /// The files hold what they did before the step that was stopped, or after it.
 fn are_whole(rt: &Bench<impl Abort>, files: Pair, script: &Script, done: usize) {
-    let (seen, ..) = over_files(rt, files, Work::Serve(&QUERIES));
+    let (seen, ..) = over_files(rt, files, Work::Show);
     let before = script.states.get(done).expect(rt, "a state");
     let after = script.states.get(done.saturating_add(1)).unwrap_or(before);
     if seen.as_slice() != before.as_slice() {
@@ -179,9 +197,8 @@ fn are_whole(rt: &Bench<impl Abort>, files: Pair, script: &Script, done: usize) 
     }
 }
 
-/// Stops the log or the tables at each of their calls in turn, until all work and the closing are
-/// done before it. The files are opened again with all that was written, and with what was synced.
-/// The tables begin with these bytes.
+/// Stops the log or the tables, which begin with these bytes, at each call in turn, until all work
+/// is done before it. The files are opened again with all that was written, and what was synced.
 fn stop_each(rt: &Bench<impl Abort>, start: &[u8], work: Work<'_>, script: &Script, is_log: bool) {
     let mut stopped = 0u64;
     for calls in 0..10_000u64 {
@@ -199,18 +216,22 @@ fn stop_each(rt: &Bench<impl Abort>, start: &[u8], work: Work<'_>, script: &Scri
     assert!(rt; stopped > 0 && stopped < 10_000, "{stopped} stops");
 }
 
+/// Stops the log and then the tables while requests are served, so many, from these tables.
+fn stop_stream(rt: &Bench<impl Abort>, start: &[u8], count: usize) {
+    let script = script_of(rt, count);
+    let work = Work::Serve(&script.requests);
+    stop_each(rt, start, work, &script, true);
+    stop_each(rt, start, work, &script, false);
+}
+
 /// Stops a stream that adds and shows an intersection and begins a transaction, from files that are
 /// empty; and from new tables one that commits a plan too, abandons a draft, and imports records.
 #[test]
 fn streams_are_stopped(host: HostRuntime) {
     let rt = (&host, host.alloc());
+    stop_stream(&rt, b"", 3);
     let (_, new) = after(&rt, b"", Work::Serve(&[]));
-    for (count, start) in [(3, b"".as_slice()), (11, new.as_slice())] {
-        let script = script_of(&rt, count);
-        for is_log in [true, false] {
-            stop_each(&rt, start, Work::Serve(&script.requests), &script, is_log);
-        }
-    }
+    stop_stream(&rt, &new, 11);
 }
 
 #[test]
@@ -218,14 +239,13 @@ fn a_migration_is_stopped(host: HostRuntime) {
     let rt = (&host, host.alloc());
     let (_, old) = after(&rt, b"", Work::Age);
     let (_, migrated) = after(&rt, &old, Work::Migrate);
-    let (seen, _) = after(&rt, &migrated, Work::Serve(&QUERIES));
+    let (seen, _) = after(&rt, &migrated, Work::Show);
     let mut script = script_of(&rt, 0);
-    script
-        .answers
-        .push(copy(&rt, MIGRATED))
-        .expect(&rt, "memory");
-    script.states = vec![in rt.1; copy(&rt, OLD), seen].expect(&rt, "memory");
-    for is_log in [true, false] {
-        stop_each(&rt, &old, Work::Migrate, &script, is_log);
-    }
+    let answers = &mut script.answers;
+    answers.push(copy(&rt, MIGRATED)).expect(&rt, "memory");
+    script.states = Vec::new(rt.1);
+    script.states.push(copy(&rt, OLD)).expect(&rt, "memory");
+    script.states.push(seen).expect(&rt, "memory");
+    stop_each(&rt, &old, Work::Migrate, &script, true);
+    stop_each(&rt, &old, Work::Migrate, &script, false);
 }

@@ -1,7 +1,6 @@
-//! Trials of an office by calls: what no row of the program shows. Commands as one list, and whole
-//! streams, over maps and over a database; a shelf that refuses each of its calls; ends of a stream
-//! that fail, wait or never stop, and connections; files that stop at each of their calls; how many
-//! rows a step writes; and the public calls that the program does not make.
+//! Trials by calls of what no row of the program shows: commands as a list, and streams, over maps
+//! and a database; a shelf, ends of a stream, and files that fail at each call; connections; how
+//! many rows a step writes; and the public calls that the program does not make.
 #![tactic(auto)]
 
 #[cfg(test)]

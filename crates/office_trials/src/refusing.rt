@@ -17,8 +17,7 @@ use std::process::Abort;
 /// What a call of a shelf gives.
 type Found<T> = Result<T, ShelfFault>;
 
-/// Tables in memory that refuse the call before which so many come. They have the calls that a plan
-/// makes which is committed.
+/// Tables in memory that refuse one call, with the calls that a plan makes which is committed.
 #[derive(Drop)]
 struct Refusing {
     inner: MapShelf,
@@ -112,8 +111,7 @@ impl Shelf for Refusing {
     ghost honest_is_clean = { λ _ honest. honest };
 }
 
-/// Commits a plan by an office over tables that refuse a call. Tells which request was answered as
-/// unavailable, and gives the tables as they were left.
+/// Commits a plan over tables that refuse a call. Gives which request was refused, and the tables.
 fn play_refusing(rt: &Bench<impl Abort>, script: &Script, left: u32) -> (usize, MapShelf) {
     let inner = MapShelf::new(rt.1);
     let mut office = Office::new(Refusing { inner, left });

@@ -1,7 +1,7 @@
 //! Streams of bytes by `serve`: worked ones over maps and over a database, and ends that fail, are
 //! full, wait or never stop, and connections.
 
-use crate::asking::{Bench, bytes_of, in_maps, requests, same};
+use crate::asking::{Bench, bytes_of, bytes_of_answers, in_maps, requests, same};
 use crate::ends::{ANY, END, FAILURE, serve_ends};
 use office_desk::office::Office;
 use office_http::{FromListener, serve_each, serve_on};
@@ -14,14 +14,14 @@ use std::process::Abort;
 
 /// What must be answered to the first requests, of 93, 53 and 76 bytes: 89, 184 and 126 bytes.
 static ANSWERS: [&str; 7] = [
-    r#"200 OK {"result":"added"}"#,
-    "200 OK {\"id\":12,\"interval\":365,\"name\":\"Main St\",\"owner\":null,\"revision\":0,\
+    r#"200 OK|{"result":"added"}"#,
+    "200 OK|{\"id\":12,\"interval\":365,\"name\":\"Main St\",\"owner\":null,\"revision\":0,\
     \"rows\":0,\"state\":\"normal\",\"verify\":\"notDone\"}",
-    r#"200 OK {"revision":0,"state":"transaction","verify":"notDone"}"#,
-    r#"200 OK {"revision":0,"state":"transaction","verify":"notDone"}"#,
-    r#"200 OK {"revision":0,"state":"verify","verify":"notDone"}"#,
-    r#"200 OK {"revision":0,"state":"done","verify":"doneWithNoError"}"#,
-    r#"200 OK {"revision":1,"state":"normal","verify":"notDone"}"#,
+    r#"200 OK|{"revision":0,"state":"transaction","verify":"notDone"}"#,
+    r#"200 OK|{"revision":0,"state":"transaction","verify":"notDone"}"#,
+    r#"200 OK|{"revision":0,"state":"verify","verify":"notDone"}"#,
+    r#"200 OK|{"revision":0,"state":"done","verify":"doneWithNoError"}"#,
+    r#"200 OK|{"revision":1,"state":"normal","verify":"notDone"}"#,
 ];
 
 /// Two equal lengths, and behind them a request that would add an intersection.
@@ -31,28 +31,11 @@ const TWO_LENGTHS: &[u8] =
     {\"id\":12,\"interval\":365,\"name\":\"Main St\"}";
 
 /// The one answer to them, and the answer where there is no such intersection.
-static REFUSED: [&str; 1] = [r#"400 Bad Request {"error":"Length","number":3}"#];
+static REFUSED: [&str; 1] = [r#"400 Bad Request|{"error":"Length","number":3}"#];
 
-static UNKNOWN: [&str; 1] = [r#"404 Not Found {"error":"UnknownIntersection","number":10}"#];
+static UNKNOWN: [&str; 1] = [r#"404 Not Found|{"error":"UnknownIntersection","number":10}"#];
 
-/// The bytes of answers, with their heads.
-fn bytes_of_answers(rt: &Bench<impl Abort>, answers: &[&str]) -> String {
-    let mut bytes = String::new(rt.1);
-    for answer in answers {
-        let (status, rest) = answer.split_once(" {").unwrap_or((answer, ""));
-        let length = rest.len().saturating_add(1);
-        write!(
-            bytes,
-            "HTTP/1.1 {status}\r\nContent-Type: application/json\r\n\
-            Content-Length: {length}\r\n\r\n{{{rest}"
-        )
-        .expect(rt, "memory");
-    }
-    bytes
-}
-
-/// Serves a stream that ends in so many requests, by reads of so many bytes at most. Its answers
-/// must be these.
+/// Serves a stream that ends in so many requests, by such reads. Its answers must be these.
 fn serve_as<S: Shelf>(
     rt: &Bench<impl Abort>,
     office: &mut Office<S>,
@@ -99,7 +82,7 @@ fn ends_fail_and_wait(host: HostRuntime) {
     let bytes = bytes.as_bytes();
     let answers = bytes_of_answers(&rt, &ANSWERS[..3]);
     let (first, others) = bytes.split_at_checked(93).expect(&rt, "a request");
-    for (end, after, room, limit, wanted, count) in [
+    for &(end, after, room, limit, wanted, count) in &[
         (0, FAILURE, ANY, 9, ("read", 0), 0),
         (93, FAILURE, ANY, 9, ("read", 1), 89),
         (100, FAILURE, ANY, 9, ("read", 1), 89),
@@ -138,8 +121,9 @@ fn serve_two<S: Shelf>(rt: &Bench<impl Abort>, listener: TcpListener, office: &m
 /// A connection gets two answers.
 fn gets(rt: &Bench<impl Abort>, connection: Option<TcpStream>, answers: [&str; 2]) {
     let connection = connection.expect(rt, "a connection");
-    let came = io::read_to_string(rt.1, connection).ok();
-    let came = came.expect(rt, "answers");
+    let came = io::read_to_string(rt.1, connection)
+        .ok()
+        .expect(rt, "answers");
     let wanted = bytes_of_answers(rt, &answers);
     same(rt, "a connection", wanted.as_bytes(), came.as_bytes());
 }
@@ -153,12 +137,13 @@ fn two_connections_are_served(host: HostRuntime) {
     one_list_of_requests();
     let bytes = bytes_of(&rt, &requests(&rt, 2));
     let address = SocketAddr::from((Ipv4Addr::LOCALHOST, 0));
-    let listener = TcpListener::bind(&host, address).ok();
-    let listener = listener.expect(&rt, "a listener");
+    let listener = TcpListener::bind(&host, address)
+        .ok()
+        .expect(&rt, "a listener");
     let first = send(&host, &listener, bytes.as_bytes()).ok();
     let second = send(&host, &listener, bytes.as_bytes()).ok();
     serve_two(&rt, listener, &mut in_maps(&rt));
-    let again = r#"200 OK {"result":"same"}"#;
+    let again = r#"200 OK|{"result":"same"}"#;
     gets(&rt, first, [ANSWERS[0], ANSWERS[1]]);
     gets(&rt, second, [again, ANSWERS[1]]);
 }

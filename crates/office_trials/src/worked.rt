@@ -22,7 +22,7 @@ const LISTED: usize = 19;
 /// come one by one, and by each of these. Plans of eleven rows, of two that are abandoned, and then
 /// of six of which four are changed; in the last draft a row is removed, put back as it is
 /// committed, twice, and removed. That no draft row is left of an intersection counts once.
-const WRITES: [u64; 14] = [11_15, 0, 4, 0, 0, 4_01, 0, 1, 1, 0, 1, 0, 0, 1_01];
+static WRITES: [u64; 14] = [11_15, 0, 4, 0, 0, 4_01, 0, 1, 1, 0, 1, 0, 0, 1_01];
 
 /// A command, made of its record if it is one of the register.
 fn of_record(command: Command) -> Command {
@@ -84,8 +84,7 @@ fn run_counted<S: Shelf>(rt: &Bench<impl Abort>, office: &mut Office<S>, script:
     }
 }
 
-/// Makes the script by an office with new tables, by reads of so many bytes at most, and gives what
-/// is shown then.
+/// Makes the script by an office with new tables, by such reads, and gives what is shown then.
 pub(crate) fn play_all<S: Shelf>(
     rt: &Bench<impl Abort>,
     office: &mut Office<S>,
