@@ -13,9 +13,7 @@ ghost use Rattle.office_tables_sql.specs.Version.{AreToday};
 use crate::listing::{draft_rows, timing_rows};
 use crate::open::OpenFault;
 use crate::rewritten::{Migrated, draft_changes, timing_changes};
-use crate::version::{
-    FIND, FIRST_VERSION, VERSION, is_version, renew_version, stored_version,
-};
+use crate::version::{FIND, FIRST_VERSION, VERSION, is_version, renew_version, stored_version};
 use office_tables_shelf::rows::RowChange;
 use office_tables_sql::change::change_rows;
 use office_tables_statements::schema::is_office;
