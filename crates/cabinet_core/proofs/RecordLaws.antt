@@ -4,9 +4,9 @@ use Rattle.std.specs.FinMap.{FinMap, get, insert, get-insert}
 use Rattle.cabinet_core.specs.Cabinet.{added, close_line, record_of, with_closing}
 use Rattle.cabinet_core.specs.declared.{command.RecordCommand.RecordCommand, record.Closing.Closing}
 use Rattle.cabinet_core.specs.declared.command.RecordCommand.TheVariants.{OpenOrder, UsePart, CloseOrder, Receive}
-use Rattle.cabinet_core.specs.{declared.record.Order.Order, Orders.is_open_order, Orders.is_open_at, Register.Register, Register.LineKey, Register.DeliveryKey, Register.record_cmp, Register.line_cmp, Register.delivery_cmp, Runs.AreAccepted, Sound.IsSoundRegister, Step.line_at, Step.with_closed, Step.with_record, Stock.brought, Stock.taken}
-use Rattle.cabinet_core.specs.Runs.{open_with, open_by, received, spent, received_by, spent_by}
-use Rattle.cabinet_core.specs.Stock.{delivered, used, pieces, hand_of}
+use Rattle.cabinet_core.specs.{declared.record.Order.Order, Orders.is_open_order, Orders.is_open_at, Register.Register, Register.LineKey, Register.DeliveryKey, Register.record_cmp, Register.line_cmp, Register.delivery_cmp, Runs.AreAccepted, Sound.IsSoundRegister, Step.line_at, Step.with_closed, Step.with_record, Stock.pieces_brought, Stock.pieces_taken}
+use Rattle.cabinet_core.specs.Runs.{open_with, open_by, pieces_received, pieces_spent, received_by, spent_by}
+use Rattle.cabinet_core.specs.Stock.{pieces_delivered, pieces_used, pieces, hand_of}
 use Rattle.cabinet_core.proofs.{EntrySums.sum_insert, RecordKept.closed_leaves, Sound.usable, Sound.receivable}
 use Rattle.cabinet_core.proofs.KeyOrders.{record_total, line_total, delivery_total, record_ties}
 
@@ -47,19 +47,19 @@ closed_still : (count : Register → ℕ) (r : Register) → ((orders : FinMap r
     → (id order : ℕ) (closing : Closing) → count (with_record r (CloseOrder id order closing)) ≡ count r + 0
 closed_still count r still id order closing = closed_leaves count r still id order closing (get r.orders (id, order)) ∙ nothing_more (count r)
 
-delivered_step : (r : Register) (code : List ℕ) (command : RecordCommand) → line_at r command ≡ added → delivered (with_record r command) code ≡ delivered r code + received code command
-delivered_step r code (CloseOrder id order closing) line = closed_still (λ x. delivered x code) r (λ _. refl) id order closing
+delivered_step : (r : Register) (code : List ℕ) (command : RecordCommand) → line_at r command ≡ added → pieces_delivered (with_record r command) code ≡ pieces_delivered r code + pieces_received code command
+delivered_step r code (CloseOrder id order closing) line = closed_still (λ x. pieces_delivered x code) r (λ _. refl) id order closing
 delivered_step r code (Receive delivery) line =
     let key : DeliveryKey = (delivery.part, delivery.number) in
-    sum_insert delivery_cmp delivery_total r.deliveries key delivery (receivable (get r.deliveries key) (hand_of r delivery.part) delivery line).new (brought code)
-delivered_step r code _ line = nothing_more (delivered r code)
+    sum_insert delivery_cmp delivery_total r.deliveries key delivery (receivable (get r.deliveries key) (hand_of r delivery.part) delivery line).new (pieces_brought code)
+delivered_step r code _ line = nothing_more (pieces_delivered r code)
 
-used_step : (r : Register) (code : List ℕ) (command : RecordCommand) → line_at r command ≡ added → used (with_record r command) code ≡ used r code + spent code command
+used_step : (r : Register) (code : List ℕ) (command : RecordCommand) → line_at r command ≡ added → pieces_used (with_record r command) code ≡ pieces_used r code + pieces_spent code command
 used_step r code (UsePart id used_line) line =
     let key : LineKey = (id, (used_line.order, used_line.line)) in
-    sum_insert line_cmp line_total r.lines key used_line (usable (get r.lines key) (get r.orders (id, used_line.order)) (hand_of r used_line.part) used_line line).new (taken code)
-used_step r code (CloseOrder id order closing) line = closed_still (λ x. used x code) r (λ _. refl) id order closing
-used_step r code _ line = nothing_more (used r code)
+    sum_insert line_cmp line_total r.lines key used_line (usable (get r.lines key) (get r.orders (id, used_line.order)) (hand_of r used_line.part) used_line line).new (pieces_taken code)
+used_step r code (CloseOrder id order closing) line = closed_still (λ x. pieces_used x code) r (λ _. refl) id order closing
+used_step r code _ line = nothing_more (pieces_used r code)
 
 -- what each command that was accepted adds to a count, all of them add
 counted_law : (count : Register → ℕ) (one : RecordCommand → ℕ) (all : List RecordCommand → ℕ) → 0 ≡ all []
@@ -71,12 +71,12 @@ counted_law count one all none more step (c ∷ cs) r last run =
     omega (arith, counted_law count one all none more step cs (with_record r c) last run.1, step r c run.0, more c cs)
 
 -- the deliveries grow by what was received
-pub delivered_law : (code : List ℕ) (commands : List RecordCommand) (r last : Register) → AreAccepted r commands last → delivered last code ≡ delivered r code + received_by code commands
-delivered_law code = counted_law (λ x. delivered x code) (received code) (received_by code) refl (λ c cs. refl) (λ x c. delivered_step x code c)
+pub delivered_law : (code : List ℕ) (commands : List RecordCommand) (r last : Register) → AreAccepted r commands last → pieces_delivered last code ≡ pieces_delivered r code + received_by code commands
+delivered_law code = counted_law (λ x. pieces_delivered x code) (pieces_received code) (received_by code) refl (λ c cs. refl) (λ x c. delivered_step x code c)
 
 -- the used lines grow by what was taken
-pub used_law : (code : List ℕ) (commands : List RecordCommand) (r last : Register) → AreAccepted r commands last → used last code ≡ used r code + spent_by code commands
-used_law code = counted_law (λ x. used x code) (spent code) (spent_by code) refl (λ c cs. refl) (λ x c. used_step x code c)
+pub used_law : (code : List ℕ) (commands : List RecordCommand) (r last : Register) → AreAccepted r commands last → pieces_used last code ≡ pieces_used r code + spent_by code commands
+used_law code = counted_law (λ x. pieces_used x code) (pieces_spent code) (spent_by code) refl (λ c cs. refl) (λ x c. used_step x code c)
 
 -- what is on hand and what was taken is what was on hand and what was received
 pub stock_law : (code : List ℕ) (commands : List RecordCommand) (r last : Register) → AreAccepted r commands last → IsSoundRegister r → IsSoundRegister last → pieces last code + spent_by code commands ≡ pieces r code + received_by code commands

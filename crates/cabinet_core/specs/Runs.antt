@@ -30,27 +30,27 @@ open_by id n before (command ∷ commands) = open_by id n (open_with id n before
 -- ---- stock
 
 -- the pieces of a part that a command brings into stock
-abbrev pub received : List ℕ → RecordCommand → ℕ
-received code (Receive delivery) = if bytes_eq delivery.part code then delivery.count else 0
-received code (Inspect id inspection) = 0
-received code (OpenOrder id opening) = 0
-received code (UsePart id line) = 0
-received code (CloseOrder id order closing) = 0
+abbrev pub pieces_received : List ℕ → RecordCommand → ℕ
+pieces_received code (Receive delivery) = if bytes_eq delivery.part code then delivery.count else 0
+pieces_received code (Inspect id inspection) = 0
+pieces_received code (OpenOrder id opening) = 0
+pieces_received code (UsePart id line) = 0
+pieces_received code (CloseOrder id order closing) = 0
 
 -- the pieces of a part that a command takes from stock
-abbrev pub spent : List ℕ → RecordCommand → ℕ
-spent code (UsePart id line) = if bytes_eq line.part code then line.count else 0
-spent code (Inspect id inspection) = 0
-spent code (OpenOrder id opening) = 0
-spent code (CloseOrder id order closing) = 0
-spent code (Receive delivery) = 0
+abbrev pub pieces_spent : List ℕ → RecordCommand → ℕ
+pieces_spent code (UsePart id line) = if bytes_eq line.part code then line.count else 0
+pieces_spent code (Inspect id inspection) = 0
+pieces_spent code (OpenOrder id opening) = 0
+pieces_spent code (CloseOrder id order closing) = 0
+pieces_spent code (Receive delivery) = 0
 
 -- how many pieces of a part commands bring as deliveries
 abbrev pub received_by : List ℕ → List RecordCommand → ℕ
 received_by code [] = 0
-received_by code (command ∷ commands) = received code command + received_by code commands
+received_by code (command ∷ commands) = pieces_received code command + received_by code commands
 
 -- how many pieces of a part commands use for orders
 abbrev pub spent_by : List ℕ → List RecordCommand → ℕ
 spent_by code [] = 0
-spent_by code (command ∷ commands) = spent code command + spent_by code commands
+spent_by code (command ∷ commands) = pieces_spent code command + spent_by code commands

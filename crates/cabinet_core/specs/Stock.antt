@@ -11,20 +11,20 @@ use Rattle.cabinet_core.specs.declared.record.UsedLine.{UsedLine}
 use Rattle.cabinet_core.specs.declared.record.Delivery.{Delivery}
 
 -- the pieces of a part that a delivery brought
-abbrev pub brought : List ℕ → DeliveryKey × Delivery → ℕ
-brought code e = if bytes_eq e.1.part code then e.1.count else 0
+abbrev pub pieces_brought : List ℕ → DeliveryKey × Delivery → ℕ
+pieces_brought code e = if bytes_eq e.1.part code then e.1.count else 0
 
 -- the pieces of a part that a line used
-abbrev pub taken : List ℕ → LineKey × UsedLine → ℕ
-taken code e = if bytes_eq e.1.part code then e.1.count else 0
+abbrev pub pieces_taken : List ℕ → LineKey × UsedLine → ℕ
+pieces_taken code e = if bytes_eq e.1.part code then e.1.count else 0
 
 -- the pieces of a part that all deliveries brought
-abbrev pub delivered : Register → List ℕ → ℕ
-delivered r code = sum_by (brought code) (entries r.deliveries)
+abbrev pub pieces_delivered : Register → List ℕ → ℕ
+pieces_delivered r code = sum_by (pieces_brought code) (entries r.deliveries)
 
 -- the pieces of a part that all lines used, over all orders of all intersections
-abbrev pub used : Register → List ℕ → ℕ
-used r code = sum_by (taken code) (entries r.lines)
+abbrev pub pieces_used : Register → List ℕ → ℕ
+pieces_used r code = sum_by (pieces_taken code) (entries r.lines)
 
 -- there was a delivery of the part
 abbrev pub was_delivered : Register → List ℕ → Bool
@@ -32,7 +32,7 @@ was_delivered r code = list_any (λ e. bytes_eq e.1.part code) (entries r.delive
 
 -- the pieces on hand: the deliveries less the used lines
 abbrev pub pieces : Register → List ℕ → ℕ
-pieces r code = delivered r code - used r code
+pieces r code = pieces_delivered r code - pieces_used r code
 
 -- how many of a part are on hand; nothing of a part that was never delivered
 abbrev pub hand_of : Register → List ℕ → Option ℕ
@@ -48,5 +48,5 @@ stock_of r = entries (stock_by_code r)
 
 -- no more was used than was delivered, and what is on hand is at most 999,999,999
 pub record IsStocked (r : Register) (code : List ℕ) : Type 0 where
-  pub covered : used r code ≤ delivered r code
-  pub bounded : delivered r code ≤ used r code + MOST_ON_HAND
+  pub covered : pieces_used r code ≤ pieces_delivered r code
+  pub bounded : pieces_delivered r code ≤ pieces_used r code + MOST_ON_HAND

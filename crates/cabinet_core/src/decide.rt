@@ -71,7 +71,7 @@ fn is_opened_so(there: &Order, asked: &Opening) -> bool
         && there.text == asked.text
 }
 
-fn opened(asked: &Opening) -> Result<Order, AllocError>
+fn new_order(asked: &Opening) -> Result<Order, AllocError>
     ensures { IfOk result (λ order. order ≡ record_of asked.now) }
 {
     Ok(Order {
@@ -100,7 +100,7 @@ pub fn open_order(
         Some(there) if is_opened_so(there, asked) => Ok(Recorded::Same),
         Some(_) => Err(CabinetRefusal::OrderDiffers),
         None => {
-            let order = CabinetChange::PutOrder(opened(asked)?);
+            let order = CabinetChange::PutOrder(new_order(asked)?);
             Ok(Recorded::Added(vec![in alloc; order]?))
         }
     }

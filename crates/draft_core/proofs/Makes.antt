@@ -4,11 +4,11 @@ use Rattle.std.specs.{Option.option_map, FinMap.get}
 use Rattle.signal_records.specs.{declared.key.Key.Key, declared.record.Change.Change, TimingSet.after_changes, declared.state.Stage.Stage, declared.state.Stage.TheVariants.Transaction, declared.state.Verdict.Verdict}
 use Rattle.signal_records.specs.declared.state.Holding.TheVariants.{Begun, Kept, Dropped}
 use Rattle.signal_records.specs.declared.state.Verdict.TheVariants.{NotDone as NotJudged}
-use Rattle.draft_core.specs.{declared.timing.Timing.Timing, declared.timing.Reach.Reach, declared.timing.Move.Move, declared.timing.TimingChange.TimingChange, Transaction.TimingSide, Transaction.Draft, Transaction.holder_of, Transaction.verdict_of, Transaction.with_draft, DraftRows.RowsByKey, DraftRows.RowStands, DraftRows.Stands, DraftRows.row_at, DraftRows.overlaid, Moves.Makes, Moves.move_to, Moves.next_holder, Moves.row_after, Writes.settling, Writes.dropping, Drafting.DraftsChanges, Drafting.KeepsOnlyChange}
+use Rattle.draft_core.specs.{declared.timing.Timing.Timing, declared.timing.Reach.Reach, declared.timing.Move.Move, declared.timing.TimingChange.TimingChange, Transaction.TimingSide, Transaction.Draft, Transaction.holder_of, Transaction.verdict_of, Transaction.with_draft, DraftRows.RowsByKey, DraftRows.RowStands, DraftRows.Stands, DraftRows.row_at, DraftRows.overlaid_row, Moves.Makes, Moves.move_to, Moves.next_holder, Moves.row_after, Writes.commit_rows, Writes.abandon_rows, Drafting.DraftsChanges, Drafting.KeepsOnlyChange}
 use Rattle.draft_core.specs.declared.timing.Reach.TheVariants as reach
 use Rattle.draft_core.proofs.OnlyChanges.{kept_differs, kept_makes, no_committed}
 use Rattle.draft_core.proofs.Overlaid.{get-after_changes, draft_row}
-use Rattle.draft_core.proofs.Written.{committed_after-settling, row_after-settling, committed_after-dropping, row_after-dropping}
+use Rattle.draft_core.proofs.Written.{committed_after-commit_rows, row_after-commit_rows, committed_after-abandon_rows, row_after-abandon_rows}
 
 module _ {reach : Reach} {timing : Timing} {rows : RowsByKey} {side : TimingSide}
     (stands : Stands reach timing rows side) where
@@ -43,7 +43,7 @@ module _ {reach : Reach} {timing : Timing} {rows : RowsByKey} {side : TimingSide
         same_verdict = refl;
         same_holder = refl;
         committed = λ key. refl;
-        draft = λ key. sym (ap (overlaid (get side.committed key)) (subst
+        draft = λ key. sym (ap (overlaid_row (get side.committed key)) (subst
             (λ d. RowStands (get side.committed key) (rows key) d key) no_draft
             (stands.draft key)));
         only_changes = λ only. only;
@@ -53,7 +53,7 @@ module _ {reach : Reach} {timing : Timing} {rows : RowsByKey} {side : TimingSide
   module _ (read : (key : Key) → row_at timing.delta key ≡ rows key) where
     pub commit_makes : (draft : Draft) (clerk : List ℕ) (move : Move) (revision : ℕ)
         → side.draft ≡ Some draft
-        → move ≡ move_to revision Dropped NotJudged (settling timing.committed timing.delta)
+        → move ≡ move_to revision Dropped NotJudged (commit_rows timing.committed timing.delta)
         → Makes rows side clerk move
         (record { revision = revision; committed = draft.set; draft = None })
     commit_makes draft clerk move revision held is =
@@ -64,16 +64,16 @@ module _ {reach : Reach} {timing : Timing} {rows : RowsByKey} {side : TimingSide
           same_verdict = refl;
           same_holder = refl;
           committed = λ key. draft_row stands draft held key
-              ∙ ap (overlaid (get side.committed key)) (sym (read key))
-              ∙ sym (committed_after-settling timing.committed timing.delta key _);
-          draft = λ key. row_after-settling timing.committed timing.delta key _
+              ∙ ap (overlaid_row (get side.committed key)) (sym (read key))
+              ∙ sym (committed_after-commit_rows timing.committed timing.delta key _);
+          draft = λ key. row_after-commit_rows timing.committed timing.delta key _
               (λ e. sym (read key) ∙ e);
-          only_changes = λ only key same. row_after-settling timing.committed timing.delta key _
+          only_changes = λ only key same. row_after-commit_rows timing.committed timing.delta key _
               (λ e. sym (read key) ∙ e);
         })
 
     pub abandon_makes : (clerk : List ℕ) (move : Move)
-        → move ≡ move_to timing.revision Dropped NotJudged (dropping timing.delta)
+        → move ≡ move_to timing.revision Dropped NotJudged (abandon_rows timing.delta)
         → Makes rows side clerk move (record side { draft = None })
     abandon_makes clerk move is =
         let next : TimingSide = record side { draft = None } in
@@ -82,9 +82,9 @@ module _ {reach : Reach} {timing : Timing} {rows : RowsByKey} {side : TimingSide
           same_state = refl;
           same_verdict = refl;
           same_holder = refl;
-          committed = λ key. sym (committed_after-dropping timing.delta key _);
-          draft = λ key. row_after-dropping timing.delta key _ (λ e. sym (read key) ∙ e);
-          only_changes = λ only key same. row_after-dropping timing.delta key _
+          committed = λ key. sym (committed_after-abandon_rows timing.delta key _);
+          draft = λ key. row_after-abandon_rows timing.delta key _ (λ e. sym (read key) ∙ e);
+          only_changes = λ only key same. row_after-abandon_rows timing.delta key _
               (λ e. sym (read key) ∙ e);
         })
 
@@ -113,7 +113,7 @@ edit_makes {timing = timing} {rows = rows} {side = side} stands draft clerk move
       same_holder = ap (λ d. next_holder (Kept Transaction) clerk (option_map holder_of d)) held;
       committed = λ key. sym (no_committed written drafts.no_timing key (get side.committed key));
       draft = λ key. get-after_changes changes draft.set key
-          ∙ ap (λ o. overlaid o (row_at changes key)) (draft_row stands draft held key)
+          ∙ ap (λ o. overlaid_row o (row_at changes key)) (draft_row stands draft held key)
           ∙ kept_makes (get side.committed key) (rows key) (row_at changes key)
           (row_after written key (rows key)) (keeps key);
       only_changes = λ only key. kept_differs (get side.committed key) (rows key)

@@ -3,7 +3,7 @@ use Rattle.std.proofs.Common.{◌≡◌, ◌⊎◌, ℕ, true, false, cond, List
 use Rattle.std.proofs.lemmas.Bool.{cases_Bool}
 use Rattle.std.specs.{Cmp.tied_itself, FinMap.get, List.AllByRecursion, List.Sorted.IsStrictlySortedBy, Ordering.eq_by_cmp, Ordering.is_eq, declared.cmp.Ordering.TheVariants.Less}
 use Rattle.signal_records.specs.{Key.key_cmp, KeyOrder.key_total, TimingSet.Rows, declared.key.Key.Key, declared.record.Row.Row, declared.record.Change.Change, declared.record.Change.TheVariants.Put, ChangedRows.changed_key, declared.state.Holding.Holding, declared.state.Verdict.Verdict}
-use Rattle.draft_core.specs.{declared.step.Step.Step, declared.timing.Move.Move, declared.timing.Reach.Reach, Drafting.AreAmong, Moves.move_to, declared.timing.Timing.Timing, DraftRows.Said, DraftRows.silent, DraftRows.said_by, DraftRows.later_of, DraftRows.overlaid, DraftRows.row_at, Drafting.is_said, Moves.committed_by, Moves.said_after, News.AddsOnlyNew, News.AreInOrder, News.AreNewAt, News.IsNewAt, Steps.StepWrites, Steps.asked_changes, Steps.reach_of, Writes.settled_by, Writes.settling}
+use Rattle.draft_core.specs.{declared.step.Step.Step, declared.timing.Move.Move, declared.timing.Reach.Reach, Drafting.AreAmong, Moves.move_to, declared.timing.Timing.Timing, DraftRows.Said, DraftRows.silent, DraftRows.said_by, DraftRows.later_of, DraftRows.overlaid_row, DraftRows.row_at, Drafting.is_said, Moves.committed_by, Moves.said_after, News.AddsOnlyNew, News.AreInOrder, News.AreNewAt, News.IsNewAt, Steps.StepWrites, Steps.asked_changes, Steps.reach_of, Writes.settled_by, Writes.commit_rows}
 use Rattle.draft_core.specs.declared.timing.Reach.TheVariants as reach
 use Rattle.draft_core.proofs.{OnlyChanges.same_key, Pushed.later_of-silent}
 use Rattle.draft_core.proofs.Written.{committing, settled_commits, settled_either}
@@ -65,7 +65,7 @@ module _ (set : Rows) (change : Change) (changes : List Change) (key : Key)
           ∙ unsaid (changed_key change) changes above))
       go (inr miss) =
           settled_commits set change key committed
-          ∙ ap (λ b. overlaid committed (cond b (said_by change) silent)) miss
+          ∙ ap (λ b. overlaid_row committed (cond b (said_by change) silent)) miss
           ∙ start (λ none. named (sym (later_of-silent (row_at changes key))
           ∙ ap (λ b. later_of (row_at changes key) (cond b (said_by change) silent)) (sym miss)
           ∙ none))
@@ -83,10 +83,10 @@ committing_new set (change ∷ changes) order key committed said start = (
       (later_start set change changes key committed start order.0),
 )
 
-pub settling_new : (set : Rows) (changes : List Change) → AreInOrder changes → (key : Key)
-    (said : Said) → AreNewAt (settling set changes) key (get set key) said
-settling_new set [] order key said = tt
-settling_new set (change ∷ changes) order key said =
+pub commit_rows_new : (set : Rows) (changes : List Change) → AreInOrder changes → (key : Key)
+    (said : Said) → AreNewAt (commit_rows set changes) key (get set key) said
+commit_rows_new set [] order key said = tt
+commit_rows_new set (change ∷ changes) order key said =
     (tt, committing_new set (change ∷ changes) order key (get set key) silent (λ named. refl))
 
 -- ---- a move that drafts no row, and one without rows

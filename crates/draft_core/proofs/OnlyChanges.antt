@@ -9,7 +9,7 @@ use Rattle.signal_records.specs.declared.record.Change.TheVariants.{Put, Remove}
 use Rattle.draft_core.specs.declared.timing.TimingChange.{TimingChange}
 use Rattle.draft_core.specs.declared.timing.TimingChange.TheVariants.{CommittedNew, Committed, DraftGone}
 use Rattle.draft_core.specs.{DraftRows.Said, DraftRows.silent, DraftRows.leaves, Within.AreChangesWithin, Moves.committed_after, Moves.drafted_in, Moves.row_after, Moves.timing_writes}
-use Rattle.draft_core.specs.DraftRows.{removes, said_by, said_at, later_of, overlaid, row_at, SaysOtherwise}
+use Rattle.draft_core.specs.DraftRows.{removes, said_by, said_at, later_of, overlaid_row, row_at, SaysOtherwise}
 use Rattle.draft_core.specs.Drafting.{AreAmong, DraftsChanges, KeepsIfDiffers, KeepsOnlyChange, SaysCommitted, drafted_as, is_said}
 use Rattle.signal_records.specs.ChangedRows.{changed_key, left_by}
 use Rattle.draft_core.proofs.Pushed.{AreNewAt-push, drafted_in-push, drafted_is, drafted_new, drafted_says, drafted_writes, draft_writes-push, row_after-push, row_at-push, timing_writes-push}
@@ -86,10 +86,10 @@ false_from_not true e = absurd (let f : false ≡ true = e in cc)
 
 -- ---- one key and one change
 
-overlaid-said_by : (committed : Option Row) (change : Change)
-    → overlaid committed (said_by change) ≡ left_by change
-overlaid-said_by committed (Put row) = refl
-overlaid-said_by committed (Remove key) = refl
+overlaid_row-said_by : (committed : Option Row) (change : Change)
+    → overlaid_row committed (said_by change) ≡ left_by change
+overlaid_row-said_by committed (Put row) = refl
+overlaid_row-said_by committed (Remove key) = refl
 
 said_over : (change : Change) (said : Said) → later_of (said_by change) said ≡ said_by change
 said_over (Put row) said = refl
@@ -144,15 +144,15 @@ module _ (committed : Rows) (delta done : List Change) (written : List TimingCha
 
   said_same : SaysCommitted committed change → (key : Key)
       → eq_by_cmp key_cmp key (changed_key change) ≡ true
-      → overlaid (get committed key) (said_by change) ≡ get committed key
+      → overlaid_row (get committed key) (said_by change) ≡ get committed key
   said_same says key here =
-      overlaid-said_by (get committed key) change ∙ sym says ∙ sym (own_row key here)
+      overlaid_row-said_by (get committed key) change ∙ sym says ∙ sym (own_row key here)
 
   said_other : (SaysCommitted committed change → ⊥) → (key : Key)
       → eq_by_cmp key_cmp key (changed_key change) ≡ true
-      → overlaid (get committed key) (said_by change) ≡ get committed key → ⊥
+      → overlaid_row (get committed key) (said_by change) ≡ get committed key → ⊥
   said_other differs key here same =
-      differs (sym (own_row key here) ∙ sym same ∙ overlaid-said_by (get committed key) change)
+      differs (sym (own_row key here) ∙ sym same ∙ overlaid_row-said_by (get committed key) change)
 
   longer : (kept : Change) → Contains (drafted_in written) kept
       → Contains (done ++ change ∷ []) kept
@@ -319,20 +319,20 @@ no_committed (_ ∷ written) none key committed =
 -- the draft rows that are kept make the draft that the changes make
 pub kept_makes : (committed : Option Row) (before named after : Said)
     → KeepsOnlyChange committed before named after
-    → overlaid (overlaid committed before) named ≡ overlaid committed after
-kept_makes committed before silent after same = sym (ap (overlaid committed) same)
-kept_makes committed before _ after (inl kept) = sym (ap (overlaid committed) kept.1)
+    → overlaid_row (overlaid_row committed before) named ≡ overlaid_row committed after
+kept_makes committed before silent after same = sym (ap (overlaid_row committed) same)
+kept_makes committed before _ after (inl kept) = sym (ap (overlaid_row committed) kept.1)
 kept_makes committed before _ after (inr kept) =
-    kept.0 ∙ sym (ap (overlaid committed) kept.1)
+    kept.0 ∙ sym (ap (overlaid_row committed) kept.1)
 
 -- and are changes of the committed set, where those before were
 pub kept_differs : (committed : Option Row) (before named after : Said)
     → KeepsOnlyChange committed before named after
     → SaysOtherwise committed before → SaysOtherwise committed after
 kept_differs committed before silent after kept only = λ same.
-    kept ∙ only (sym (ap (overlaid committed) kept) ∙ same)
+    kept ∙ only (sym (ap (overlaid_row committed) kept) ∙ same)
 kept_differs committed before _ after (inl kept) only = λ same.
-    absurd (kept.0 (sym (ap (overlaid committed) kept.1) ∙ same))
+    absurd (kept.0 (sym (ap (overlaid_row committed) kept.1) ∙ same))
 kept_differs committed before _ after (inr kept) only = λ same. kept.1
 
 -- what is kept is within its limits where the changes are

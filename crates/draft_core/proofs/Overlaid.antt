@@ -8,39 +8,39 @@ use Rattle.signal_records.specs.{Key.key_cmp, KeyOrder.key_total, KeyOrder.key_e
 use Rattle.signal_records.specs.TimingSet.{Rows, after_change, after_changes}
 use Rattle.signal_rules.specs.{declared.violation.Violation.Violation, Difference.DiffersAtMost, Violations.violations_of}
 use Rattle.draft_core.specs.{declared.timing.Timing.Timing, declared.timing.Reach.Reach, Transaction.TimingSide, Transaction.Draft}
-use Rattle.draft_core.specs.DraftRows.{Said, silent, leaves, removes, RowsByKey, RowStands, Stands, said_by, said_at, later_of, row_at, overlaid}
+use Rattle.draft_core.specs.DraftRows.{Said, silent, leaves, removes, RowsByKey, RowStands, Stands, said_by, said_at, later_of, row_at, overlaid_row}
 use Rattle.draft_core.specs.declared.timing.Reach.TheVariants as reach
 use Rattle.signal_records.specs.ChangedRows.{changed_key}
 
 over : (b : Bool) (said : Said) (committed : Option Row) → cond b
-    (overlaid committed said) committed ≡ overlaid committed (cond b said silent)
+    (overlaid_row committed said) committed ≡ overlaid_row committed (cond b said silent)
 over true said committed = refl
 over false said committed = refl
 
-get-after_change : (set : Rows) (change : Change) (key : Key) → get (after_change set change) key ≡ overlaid (get set key) (said_at change key)
+get-after_change : (set : Rows) (change : Change) (key : Key) → get (after_change set change) key ≡ overlaid_row (get set key) (said_at change key)
 get-after_change set (Put row) key = get-insert key_total set (key_of row) row key
     ∙ over (is_eq (key_cmp key (key_of row))) (leaves row) (get set key)
 get-after_change set (Remove k) key = get-remove key_total set k key
     ∙ over (is_eq (key_cmp key k)) removes (get set key)
 
-pub overlaid-overlaid : (committed : Option Row) (late early : Said)
-    → overlaid (overlaid committed early) late ≡ overlaid committed (later_of late early)
-overlaid-overlaid committed silent early = refl
-overlaid-overlaid committed _ early = refl
+pub overlaid_row-overlaid_row : (committed : Option Row) (late early : Said)
+    → overlaid_row (overlaid_row committed early) late ≡ overlaid_row committed (later_of late early)
+overlaid_row-overlaid_row committed silent early = refl
+overlaid_row-overlaid_row committed _ early = refl
 
 -- what changes leave of a set, key by key
-pub get-after_changes : (changes : List Change) (set : Rows) (key : Key) → get (after_changes set changes) key ≡ overlaid (get set key) (row_at changes key)
+pub get-after_changes : (changes : List Change) (set : Rows) (key : Key) → get (after_changes set changes) key ≡ overlaid_row (get set key) (row_at changes key)
 get-after_changes [] set key = refl
 get-after_changes (change ∷ changes) set key =
     get-after_changes changes (after_change set change) key
-    ∙ ap (λ o. overlaid o (row_at changes key)) (get-after_change set change key)
-    ∙ overlaid-overlaid (get set key) (row_at changes key) (said_at change key)
+    ∙ ap (λ o. overlaid_row o (row_at changes key)) (get-after_change set change key)
+    ∙ overlaid_row-overlaid_row (get set key) (row_at changes key) (said_at change key)
 
 -- the draft's row at a key
 pub draft_row : {reach : Reach} {timing : Timing} {rows : RowsByKey} {side : TimingSide}
     → Stands reach timing rows side
     → (draft : Draft) → side.draft ≡ Some draft → (key : Key)
-    → get draft.set key ≡ overlaid (get side.committed key) (rows key)
+    → get draft.set key ≡ overlaid_row (get side.committed key) (rows key)
 draft_row {rows = rows} {side = side} stands draft held key =
     subst (λ d. RowStands (get side.committed key) (rows key) d key) held (stands.draft key)
 
@@ -51,8 +51,8 @@ module _ {timing : Timing} {rows : RowsByKey} {side : TimingSide}
   pub draft_is : after_changes timing.committed timing.delta ≡ draft.set
   draft_is = same_map key_total key_exact _ _ (λ key.
       get-after_changes timing.delta timing.committed key
-      ∙ ap (λ set. overlaid (get set key) (row_at timing.delta key)) stands.read.1
-      ∙ ap (overlaid (get side.committed key)) (stands.read.0 key)
+      ∙ ap (λ set. overlaid_row (get set key) (row_at timing.delta key)) stands.read.1
+      ∙ ap (overlaid_row (get side.committed key)) (stands.read.0 key)
       ∙ sym (draft_row stands draft held key))
 
   -- what is found in the committed set with the draft rows is the draft's, where the committed set
@@ -85,4 +85,4 @@ unnamed (change ∷ changes) key h =
 
 -- a set differs from what changes make of it at most at the keys that they name
 pub differs_at_changed : (changes : List Change) (set : Rows) → DiffersAtMost set (after_changes set changes) (map changed_key changes)
-differs_at_changed changes set = λ key absent. get-after_changes changes set key ∙ ap (overlaid (get set key)) (unnamed changes key absent)
+differs_at_changed changes set = λ key absent. get-after_changes changes set key ∙ ap (overlaid_row (get set key)) (unnamed changes key absent)

@@ -3,11 +3,11 @@ use Rattle.std.proofs.Common.{◌≡◌, ◌≤◌, List, [], ◌∷◌, map, le
 use Rattle.std.specs.{FinMap.get, List.AllByRecursion}
 use Rattle.signal_records.specs.{Row.key_of, TimingSet.Rows, declared.key.Key.Key, declared.record.Row.Row, declared.record.Change.Change}
 use Rattle.signal_records.specs.declared.record.Change.TheVariants.{Put, Remove}
-use Rattle.draft_core.specs.DraftRows.{Said, silent, said_at, row_at, overlaid}
+use Rattle.draft_core.specs.DraftRows.{Said, silent, said_at, row_at, overlaid_row}
 use Rattle.draft_core.specs.Moves.{committed_after, committed_by, drafted_in, row_after, said_after, timing_write, timing_writes}
-use Rattle.draft_core.specs.{Moves.draft_write, Moves.draft_writes, News.AddsNone, Writes.settling, Writes.dropping, Writes.put_over, Writes.settled_by, declared.timing.TimingChange.TimingChange}
+use Rattle.draft_core.specs.{Moves.draft_write, Moves.draft_writes, News.AddsNone, Writes.commit_rows, Writes.abandon_rows, Writes.put_over, Writes.settled_by, declared.timing.TimingChange.TimingChange}
 use Rattle.draft_core.specs.declared.timing.TimingChange.TheVariants.{CommittedNew, Committed}
-use Rattle.draft_core.proofs.Overlaid.{overlaid-overlaid}
+use Rattle.draft_core.proofs.Overlaid.{overlaid_row-overlaid_row}
 
 -- ---- a draft row as a change of the committed set
 
@@ -24,11 +24,11 @@ settled_either P set (Put row) kept added =
     ] refl
 
 pub settled_commits : (set : Rows) (change : Change) (key : Key) (committed : Option Row)
-    → committed_by (settled_by set change) key committed ≡ overlaid committed (said_at change key)
+    → committed_by (settled_by set change) key committed ≡ overlaid_row committed (said_at change key)
 settled_commits set change key committed =
-    settled_either (λ one. committed_by one key committed ≡ overlaid committed (said_at change key))
+    settled_either (λ one. committed_by one key committed ≡ overlaid_row committed (said_at change key))
     set change refl
-    (λ row is none. ap (λ (c : Change). overlaid committed (said_at c key)) (sym is))
+    (λ row is none. ap (λ (c : Change). overlaid_row committed (said_at c key)) (sym is))
 
 settled_says : (set : Rows) (change : Change) (key : Key) (said : Said)
     → said_after (settled_by set change) key said ≡ said
@@ -55,12 +55,12 @@ committing set = map (settled_by set)
 committed_after-committing : (set : Rows) (changes : List Change) (key : Key)
     (committed : Option Row)
     → committed_after (committing set changes) key committed
-    ≡ overlaid committed (row_at changes key)
+    ≡ overlaid_row committed (row_at changes key)
 committed_after-committing set [] key committed = refl
 committed_after-committing set (change ∷ changes) key committed =
     committed_after-committing set changes key (committed_by (settled_by set change) key committed)
-    ∙ ap (λ c. overlaid c (row_at changes key)) (settled_commits set change key committed)
-    ∙ overlaid-overlaid committed (row_at changes key) (said_at change key)
+    ∙ ap (λ c. overlaid_row c (row_at changes key)) (settled_commits set change key committed)
+    ∙ overlaid_row-overlaid_row committed (row_at changes key) (said_at change key)
 
 row_after-committing : (set : Rows) (changes : List Change) (key : Key) (said : Said)
     → row_after (committing set changes) key said ≡ said
@@ -69,37 +69,37 @@ row_after-committing set (change ∷ changes) key said =
     row_after-committing set changes key (said_after (settled_by set change) key said)
     ∙ settled_says set change key said
 
-pub committed_after-settling : (set : Rows) (changes : List Change) (key : Key)
+pub committed_after-commit_rows : (set : Rows) (changes : List Change) (key : Key)
     (committed : Option Row)
-    → committed_after (settling set changes) key committed
-    ≡ overlaid committed (row_at changes key)
-committed_after-settling set [] key committed = refl
-committed_after-settling set (change ∷ changes) key committed =
+    → committed_after (commit_rows set changes) key committed
+    ≡ overlaid_row committed (row_at changes key)
+committed_after-commit_rows set [] key committed = refl
+committed_after-commit_rows set (change ∷ changes) key committed =
     committed_after-committing set (change ∷ changes) key committed
 
 -- none is left, where none stands but those that the changes tell of
-pub row_after-settling : (set : Rows) (changes : List Change) (key : Key) (said : Said)
+pub row_after-commit_rows : (set : Rows) (changes : List Change) (key : Key) (said : Said)
     → (row_at changes key ≡ silent → said ≡ silent)
-    → row_after (settling set changes) key said ≡ silent
-row_after-settling set [] key said h = h refl
-row_after-settling set (change ∷ changes) key said h =
+    → row_after (commit_rows set changes) key said ≡ silent
+row_after-commit_rows set [] key said h = h refl
+row_after-commit_rows set (change ∷ changes) key said h =
     row_after-committing set (change ∷ changes) key silent
 
 -- ---- an abandoned draft leaves the committed rows, and no draft row
 
-pub committed_after-dropping : (changes : List Change) (key : Key) (committed : Option Row) → committed_after (dropping changes) key committed ≡ committed
-committed_after-dropping [] key committed = refl
-committed_after-dropping (change ∷ changes) key committed = refl
+pub committed_after-abandon_rows : (changes : List Change) (key : Key) (committed : Option Row) → committed_after (abandon_rows changes) key committed ≡ committed
+committed_after-abandon_rows [] key committed = refl
+committed_after-abandon_rows (change ∷ changes) key committed = refl
 
-pub row_after-dropping : (changes : List Change) (key : Key) (said : Said)
-    → (row_at changes key ≡ silent → said ≡ silent) → row_after (dropping changes) key said ≡ silent
-row_after-dropping [] key said h = h refl
-row_after-dropping (change ∷ changes) key said h = refl
+pub row_after-abandon_rows : (changes : List Change) (key : Key) (said : Said)
+    → (row_at changes key ≡ silent → said ≡ silent) → row_after (abandon_rows changes) key said ≡ silent
+row_after-abandon_rows [] key said h = h refl
+row_after-abandon_rows (change ∷ changes) key said h = refl
 
 -- it adds none
-pub dropping_adds : (changes : List Change) → AllByRecursion AddsNone (dropping changes)
-dropping_adds [] = tt
-dropping_adds (change ∷ changes) = (tt, tt)
+pub abandon_rows_adds : (changes : List Change) → AllByRecursion AddsNone (abandon_rows changes)
+abandon_rows_adds [] = tt
+abandon_rows_adds (change ∷ changes) = (tt, tt)
 
 -- ---- which draft rows are written, and how many rows
 
@@ -109,14 +109,14 @@ drafted_in-committing set [] = refl
 drafted_in-committing set (change ∷ changes) =
     settled_drafts set change (committing set changes) ∙ drafted_in-committing set changes
 
-pub drafted_in-settling : (set : Rows) (changes : List Change)
-    → drafted_in (settling set changes) ≡ []
-drafted_in-settling set [] = refl
-drafted_in-settling set (change ∷ changes) = drafted_in-committing set (change ∷ changes)
+pub drafted_in-commit_rows : (set : Rows) (changes : List Change)
+    → drafted_in (commit_rows set changes) ≡ []
+drafted_in-commit_rows set [] = refl
+drafted_in-commit_rows set (change ∷ changes) = drafted_in-committing set (change ∷ changes)
 
-pub drafted_in-dropping : (changes : List Change) → drafted_in (dropping changes) ≡ []
-drafted_in-dropping [] = refl
-drafted_in-dropping (change ∷ changes) = refl
+pub drafted_in-abandon_rows : (changes : List Change) → drafted_in (abandon_rows changes) ≡ []
+drafted_in-abandon_rows [] = refl
+drafted_in-abandon_rows (change ∷ changes) = refl
 
 committing_writes : (set : Rows) (changes : List Change)
     → (timing_writes (committing set changes) ≡ length changes)
@@ -127,14 +127,14 @@ committing_writes set (change ∷ changes) =
     let one = settled_writes set change in
     (omega (arith, rest.0, one.0), omega (arith, rest.1, one.1))
 
-pub settling_writes : (set : Rows) (changes : List Change)
-    → (timing_writes (settling set changes) ≤ length changes)
-    × (draft_writes (settling set changes) ≤ length changes)
-settling_writes set [] = (omega arith, omega arith)
-settling_writes set (change ∷ changes) =
+pub commit_rows_writes : (set : Rows) (changes : List Change)
+    → (timing_writes (commit_rows set changes) ≤ length changes)
+    × (draft_writes (commit_rows set changes) ≤ length changes)
+commit_rows_writes set [] = (omega arith, omega arith)
+commit_rows_writes set (change ∷ changes) =
     let all = committing_writes set (change ∷ changes) in
     (omega (arith, all.0), omega (arith, all.1))
 
-pub dropping_writes : (changes : List Change) → (timing_writes (dropping changes) ≤ 0) × (draft_writes (dropping changes) ≤ length changes)
-dropping_writes [] = (omega arith, omega arith)
-dropping_writes (change ∷ changes) = (omega arith, omega arith)
+pub abandon_rows_writes : (changes : List Change) → (timing_writes (abandon_rows changes) ≤ 0) × (draft_writes (abandon_rows changes) ≤ length changes)
+abandon_rows_writes [] = (omega arith, omega arith)
+abandon_rows_writes (change ∷ changes) = (omega arith, omega arith)

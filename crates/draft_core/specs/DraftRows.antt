@@ -42,15 +42,15 @@ row_at [] key = silent
 row_at (change ∷ changes) key = later_of (row_at changes key) (said_at change key)
 
 -- what stands at a key once a draft row is laid over what is committed there
-abbrev pub overlaid : Option Row → Said → Option Row
-overlaid committed silent = committed
-overlaid committed (leaves row) = Some row
-overlaid committed removes = None
+abbrev pub overlaid_row : Option Row → Said → Option Row
+overlaid_row committed silent = committed
+overlaid_row committed (leaves row) = Some row
+overlaid_row committed removes = None
 
 -- THE FORM OF A DRAFT. A draft row overlays the committed row of its key; no draft row stands where nobody owns a draft.
 abbrev pub RowStands : Option Row → Said → Option Draft → Key → Type 0
 RowStands committed said None key = said ≡ silent
-RowStands committed said (Some draft) key = get draft.set key ≡ overlaid committed said
+RowStands committed said (Some draft) key = get draft.set key ≡ overlaid_row committed said
 
 -- the draft rows of an intersection: what they say of each key
 abbrev pub RowsByKey : Type 0
@@ -74,7 +74,7 @@ pub record Stands (reach : Reach) (timing : Timing) (rows : RowsByKey)
 
 -- a draft row, where one stands, says otherwise than what is committed at its key
 abbrev pub SaysOtherwise : Option Row → Said → Type 0
-SaysOtherwise committed said = overlaid committed said ≡ committed → said ≡ silent
+SaysOtherwise committed said = overlaid_row committed said ≡ committed → said ≡ silent
 
 -- each draft row is a change of the committed set
 abbrev pub HaveOnlyChanges : Rows → RowsByKey → Type 0

@@ -11,7 +11,7 @@ use Rattle.signal_records.specs.declared.record.Row.{Row}
 use Rattle.signal_records.specs.declared.record.Change.{Change}
 use Rattle.draft_core.specs.declared.timing.TimingChange.{TimingChange}
 use Rattle.draft_core.specs.declared.timing.TimingChange.TheVariants.{DraftedNew, Drafted}
-use Rattle.draft_core.specs.DraftRows.{Said, silent, leaves, removes, overlaid, row_at}
+use Rattle.draft_core.specs.DraftRows.{Said, silent, leaves, removes, overlaid_row, row_at}
 use Rattle.signal_records.specs.ChangedRows.{changed_key, left_by}
 use Rattle.draft_core.specs.Moves.{drafted_in, draft_writes, row_after, timing_writes}
 use Rattle.draft_core.specs.News.{AreNew}
@@ -33,8 +33,8 @@ AreNamed changes keys = (key : Key) → contains key_cmp keys key ≡ is_said (r
 -- what was said of a key is stored where it changes the committed row; where not, nothing is stored
 abbrev pub KeepsIfDiffers : Option Row → Said → Said → Type 0
 KeepsIfDiffers committed said kept =
-    ((overlaid committed said ≢ committed) × (kept ≡ said))
-    ⊎ ((overlaid committed said ≡ committed) × (kept ≡ silent))
+    ((overlaid_row committed said ≢ committed) × (kept ≡ said))
+    ⊎ ((overlaid_row committed said ≡ committed) × (kept ≡ silent))
 
 -- ONLY WHAT CHANGES IS KEPT. What the draft rows say of a key, where they said something before and
 -- changes then say something: as before where the changes say nothing.

@@ -20,15 +20,15 @@ use Rattle.draft_core.specs.declared.timing.TimingChange.{TimingChange}
 use Rattle.draft_core.specs.declared.timing.TimingChange.TheVariants.{CommittedNew, Committed, DraftedNew, Drafted, DraftGone, DraftDropped}
 use Rattle.draft_core.specs.declared.refusal.DraftRefusal.{DraftRefusal}
 use Rattle.draft_core.specs.declared.refusal.DraftRefusal.TheVariants.{NoMemory}
-use Rattle.draft_core.specs.DraftRows.{HaveOnlyChanges, Said, silent, RowsByKey, RowStands, later_of, overlaid, said_at}
+use Rattle.draft_core.specs.DraftRows.{HaveOnlyChanges, Said, silent, RowsByKey, RowStands, later_of, overlaid_row, said_at}
 use Rattle.draft_core.specs.Transaction.{TimingSide, holder_of, in_stage, state_of, verdict_of}
 
 -- ---- what a list of changes makes of the rows
 
 -- the committed row at a key after one change
 abbrev pub committed_by : TimingChange → Key → Option Row → Option Row
-committed_by (CommittedNew row) key committed = overlaid committed (said_at (Put row) key)
-committed_by (Committed change) key committed = overlaid committed (said_at change key)
+committed_by (CommittedNew row) key committed = overlaid_row committed (said_at (Put row) key)
+committed_by (Committed change) key committed = overlaid_row committed (said_at change key)
 committed_by (DraftedNew change) key committed = committed
 committed_by (Drafted change) key committed = committed
 committed_by (DraftGone gone) key committed = committed

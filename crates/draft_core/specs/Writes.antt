@@ -10,9 +10,9 @@ use Rattle.draft_core.specs.declared.timing.TimingChange.{TimingChange}
 use Rattle.draft_core.specs.declared.timing.TimingChange.TheVariants.{CommittedNew, Committed, DraftDropped}
 
 -- the change that drops the draft rows, where there are any
-abbrev pub dropping : List Change → List TimingChange
-dropping [] = []
-dropping (change ∷ changes) = DraftDropped ∷ []
+abbrev pub abandon_rows : List Change → List TimingChange
+abandon_rows [] = []
+abandon_rows (change ∷ changes) = DraftDropped ∷ []
 
 -- a row that is put where another may be committed; it is new where none is
 abbrev pub put_over : Option Row → Row → TimingChange
@@ -25,5 +25,5 @@ settled_by committed (Put row) = put_over (get committed (key_of row)) row
 settled_by committed (Remove key) = Committed (Remove key)
 
 -- a commit: the draft rows go, and each is made a change of the committed set
-abbrev pub settling : Rows → List Change → List TimingChange
-settling committed changes = dropping changes ++ map (settled_by committed) changes
+abbrev pub commit_rows : Rows → List Change → List TimingChange
+commit_rows committed changes = abandon_rows changes ++ map (settled_by committed) changes

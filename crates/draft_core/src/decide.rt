@@ -10,7 +10,7 @@ ghost use Rattle.draft_core.specs.Moves as moves;
 ghost use Rattle.draft_core.specs.Moves.{Follows};
 ghost use Rattle.draft_core.specs.Steps.{IsUnsettled, StepWrites, Takes};
 
-use crate::drafting::drafting;
+use crate::drafting::draft_changes;
 use crate::holding::{refused_by, state_after};
 use crate::judging::verdict_on;
 use crate::overlaying::violations_after;
@@ -19,7 +19,7 @@ use crate::revision::Revision;
 use crate::state::{Holding, Stage, Verdict};
 use crate::step::Step;
 use crate::timing::{Move, Reach, Timing, TimingChanges};
-use crate::writes::{dropping, settling};
+use crate::writes::{abandon_rows, commit_rows};
 use signal_records::{Change, Words};
 use signal_rules::Violation;
 use std::alloc::Global;
@@ -77,7 +77,7 @@ pub fn edit(
     if let Some(refusal) = refused_by(&timing.holder, Stage::Transaction, wrong, clerk) {
         return Err(refusal);
     }
-    let changes = drafting(alloc, timing, changes)?;
+    let changes = draft_changes(alloc, timing, changes)?;
     let editing = Holding::Kept(Stage::Transaction);
     Ok(moves_to(timing.revision, editing, Verdict::NotDone, changes))
 }
@@ -122,7 +122,7 @@ pub fn commit(alloc: Global, timing: &Timing, clerk: &Words<40>) -> Result<Move,
     if let Some(refusal) = refused_by(&timing.holder, Stage::Done, wrong, clerk) {
         return Err(refusal);
     }
-    settled(alloc, timing)
+    commit_draft(alloc, timing)
 }
 
 /// The next revision, or why a draft with these violations is not committed: the violations come
@@ -137,7 +137,7 @@ fn next_revision(revision: Revision, found: &[Violation]) -> Result<Revision, Dr
 }
 
 /// Commits a draft that its owner may commit.
-fn settled(alloc: Global, timing: &Timing) -> Result<Move, DraftRefusal>
+fn commit_draft(alloc: Global, timing: &Timing) -> Result<Move, DraftRefusal>
     ensures line { (rows : RowsByKey) (side : TimingSide) (draft : Draft) (clerk : List ℕ) →
         Stands Reach.Plan timing.now rows side → side.draft ≡ Some draft →
         violations_of side.committed ≡ [] → Follows rows side clerk result
@@ -147,7 +147,7 @@ fn settled(alloc: Global, timing: &Timing) -> Result<Move, DraftRefusal>
 {
     let found = violations_after(alloc, &timing.committed, timing.delta.as_slice())?;
     let revision = next_revision(timing.revision, found.as_slice())?;
-    let changes = settling(alloc, &timing.committed, timing.delta.as_slice())?;
+    let changes = commit_rows(alloc, &timing.committed, timing.delta.as_slice())?;
     Ok(moves_to(revision, Holding::Dropped, Verdict::NotDone, changes))
 }
 
@@ -174,6 +174,6 @@ pub fn abandon(alloc: Global, timing: &Timing, _clerk: &Words<40>) -> Result<Mov
     if timing.holder.is_none() {
         return Err(DraftRefusal::NotTransaction);
     }
-    let changes = dropping(alloc, timing.delta.as_slice())?;
+    let changes = abandon_rows(alloc, timing.delta.as_slice())?;
     Ok(moves_to(timing.revision, Holding::Dropped, Verdict::NotDone, changes))
 }

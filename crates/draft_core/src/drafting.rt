@@ -48,7 +48,7 @@ fn drafted_row(change: &Change, is_new: bool) -> Result<TimingChange, NoMemory>
 /// Each change that leaves another row than the committed one is kept as a draft row. Where it
 /// leaves the committed one, the draft row of its key goes, if one is there by then. Changes are
 /// judged in their order, each against the committed set alone, so the last one of a key decides.
-pub(crate) fn drafting(
+pub(crate) fn draft_changes(
     alloc: Global,
     timing: &Timing,
     changes: &[Change],

@@ -8,8 +8,8 @@ use signal_records::{Change, NoMemory, TimingSet};
 use std::alloc::Global;
 
 /// The draft rows go, where there are any.
-fn dropped(alloc: Global, changes: &[Change]) -> Result<Vec<TimingChange>, NoMemory>
-    ensures { IfOk result (λ made. made.items ≡ writes.dropping changes.now) }
+fn drop_rows(alloc: Global, changes: &[Change]) -> Result<Vec<TimingChange>, NoMemory>
+    ensures { IfOk result (λ made. made.items ≡ writes.abandon_rows changes.now) }
 {
     let mut made = Vec::new(alloc);
     if !changes.is_empty() {
@@ -19,10 +19,10 @@ fn dropped(alloc: Global, changes: &[Change]) -> Result<Vec<TimingChange>, NoMem
 }
 
 /// The draft rows go, where there are any.
-pub(crate) fn dropping(alloc: Global, changes: &[Change]) -> Result<TimingChanges, NoMemory>
-    ensures { IfOk result (λ made. made ≡ writes.dropping changes.now) }
+pub(crate) fn abandon_rows(alloc: Global, changes: &[Change]) -> Result<TimingChanges, NoMemory>
+    ensures { IfOk result (λ made. made ≡ writes.abandon_rows changes.now) }
 {
-    Ok(TimingChanges::new(dropped(alloc, changes)?))
+    Ok(TimingChanges::new(drop_rows(alloc, changes)?))
 }
 
 /// A draft row as a change of the committed set. A row that it puts is new where none is committed
@@ -40,14 +40,14 @@ fn settled_by(committed: &TimingSet, change: &Change) -> Result<TimingChange, No
 }
 
 /// The draft rows go, and each is made a change of the committed set.
-pub(crate) fn settling(
+pub(crate) fn commit_rows(
     alloc: Global,
     committed: &TimingSet,
     changes: &[Change],
 ) -> Result<TimingChanges, NoMemory>
-    ensures { IfOk result (λ made. made ≡ writes.settling committed.now changes.now) }
+    ensures { IfOk result (λ made. made ≡ writes.commit_rows committed.now changes.now) }
 {
-    let mut made = dropped(alloc, changes)?;
+    let mut made = drop_rows(alloc, changes)?;
     for change in changes {
         made.push(settled_by(committed, change)?)?;
     }

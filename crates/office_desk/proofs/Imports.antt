@@ -11,7 +11,7 @@ use Rattle.office_tables_decisions.specs.{Reads.OnlyReads, RegisterDamage.KeepsD
 use Rattle.office_desk_cabinet.proofs.{KeptDamage.kept_after, KeptDamage.meets_still, KeptDamage.nothing_kept, News.news_after, News.tells_new}
 use Rattle.office_desk.specs.Importing.{ImportsAny, LeavesAnyTiming, TakesInTurn, TakesLine, TakesWhole, goes_on, register_with, taken_by}
 use Rattle.office_desk.specs.{Answers.AnswersAny, Changes.most_import_writes, Damage.MeetsCabinetDamage, Damage.MeetsImportDamage, Deciding.IsDecision, Recording.TellsAbout, StandFor.StandForSound, Named.number_of, Blaming.AreTaken, Blaming.IsFirstRefused, Blaming.IsTakenAfter, declared.importing.Taken.Taken}
-use Rattle.office_machine.specs.Step.{answered, cabinet_of, import_by, import_from, imported, is_known}
+use Rattle.office_machine.specs.Step.{answered, cabinet_of, import_by, import_from, import_step, is_known}
 use Rattle.office_machine.specs.{Office.Office, Refusal.line_of}
 use Rattle.office_machine.specs.declared.{refusal.Refusal.Refusal, refusal.Refusal.TheVariants.ImportRow}
 use Rattle.office_machine.specs.declared.reply.Reply.TheVariants.{Imported, Refused}
@@ -92,7 +92,7 @@ import_done stored all rest at added same pending none imports leaves office sta
     let next : Office = record office { register = done.register } in
     record {
       next = next;
-      step = inr (ap (imported office) (done.goes ∙ ap (import_from at added same next) none));
+      step = inr (ap (import_step office) (done.goes ∙ ap (import_from at added same next) none));
       stand = stands_after stored pending office done.register stands (leaves stored) done.stand;
     }
 
@@ -218,7 +218,7 @@ module _ (stored : Content) (all : List RecordCommand) (index added same : ℕ) 
       → answered office (command.Import all) ≡ (Refused (ImportRow (index + 1) cause), office)
   refused_all why cause office is number stands =
       let r = (so_far.imports office stands).register in
-      ap (imported office) (goes_as office stands ∙ ap (λ (t : Taken). goes_on (index + 1) t (if_new all index added same c office r) (if_old all index added same c office r)) is)
+      ap (import_step office) (goes_as office stands ∙ ap (λ (t : Taken). goes_on (index + 1) t (if_new all index added same c office r) (if_old all index added same c office r)) is)
       ∙ (λ k. (Refused (ImportRow (index + 1) (sym number k)), office))
 
 -- ---- the decision

@@ -14,7 +14,7 @@ use Rattle.office_desk_cabinet.specs.{Decides.DecidesRecord, declared.registered
 use Rattle.office_desk_cabinet.specs.declared.registered.Registered.TheVariants.{Added, Same, Refused}
 use Rattle.office_desk.specs.Named.{RefusesBy, number_of, numbers_about, numbers_of}
 use Rattle.office_desk.specs.{Answers.Answers, Changes.IsRefused, Damage.MeetsAfter, Damage.MeetsCabinetDamage, Deciding.IsDecision, Recording.HasDamagedAbout, Recording.IsKnownIn, Recording.TellsAbout, Recording.TellsIntersection, StandFor.StandForSound, StandFor.row_of}
-use Rattle.office_machine.specs.Step.{answered, cabinet_of, cabinet_shown, is_known, known, recorded, recorded_at, refusal_of_record, shown, told}
+use Rattle.office_machine.specs.Step.{answered, cabinet_of, cabinet_shown, is_known, step_if_known, record_step, recorded_at, refusal_of_record, shown, reply_of}
 use Rattle.office_machine.specs.Office.{Office, Intersection}
 use Rattle.office_machine.specs.declared.{reply.CabinetShown.CabinetShown, refusal.Refusal.Refusal, reply.Reply.Reply}
 use Rattle.office_machine.specs.declared.command.Command.TheVariants as command
@@ -37,7 +37,7 @@ at_known : (office : Office) (about : Option ℕ) (answer : Reply × Office) →
 at_known office None answer there = refl
 at_known office (Some id) answer there = go (get office.intersections id) there
   where
-    go : (o : Option Intersection) → true ≡ is_some o → known office o answer ≡ answer
+    go : (o : Option Intersection) → true ≡ is_some o → step_if_known office o answer ≡ answer
     go None e = absurd (let f : true ≡ false = e in cc)
     go (Some i) e = refl
 
@@ -45,7 +45,7 @@ pub at_unknown : (office : Office) (about : Option ℕ) (answer : Reply × Offic
 at_unknown office None answer gone = absurd (let f : false ≡ true = gone in cc)
 at_unknown office (Some id) answer gone = go (get office.intersections id) gone
   where
-    go : (o : Option Intersection) → false ≡ is_some o → known office o answer ≡ (reply.Refused refusal.UnknownIntersection, office)
+    go : (o : Option Intersection) → false ≡ is_some o → step_if_known office o answer ≡ (reply.Refused refusal.UnknownIntersection, office)
     go None e = refl
     go (Some i) e = absurd (let f : false ≡ true = e in cc)
 
@@ -80,14 +80,14 @@ stands_after tables changes office next stands leaves register = record {
 
 pub record_answers : (tables : Content) (office : Office) (c : RecordCommand) (done : Registered) (said : Reply) (changes : List RowChange)
     → StandForSound tables office → IsKnownIn tables (cabinet_of c) true → ((r : Register) → RegisterStandsSound tables r → RegistersFrom tables c done r) → LeavesTiming tables (rows_told done)
-    → said ≡ told (line_told done) → changes ≡ rows_told done → Answers office (command.Record c) said (changed_by tables changes)
+    → said ≡ reply_of (line_told done) → changes ≡ rows_told done → Answers office (command.Record c) said (changed_by tables changes)
 record_answers tables office c done said changes stands there registers leaves is rows =
     let from = registers office.register (register_of tables office stands) in
     let next : Office = record office { register = after_record office.register c } in
-    let same : said ≡ (recorded office c).0 = is ∙ ap told from.line in
+    let same : said ≡ (record_step office c).0 = is ∙ ap reply_of from.line in
     record {
       next = next;
-      step = inr (at_known office (cabinet_of c) (recorded office c) (there office stands) ∙ (λ k. (sym same k, next)));
+      step = inr (at_known office (cabinet_of c) (record_step office c) (there office stands) ∙ (λ k. (sym same k, next)));
       stand = subst (λ list. StandForSound (changed_by tables list) next) (sym rows) (stands_after tables (rows_told done) office (after_record office.register c) stands leaves from.stand);
     }
 
@@ -128,12 +128,12 @@ never_damaged : (why : CabinetRefusal) → reply.Refused (refusal_of_record why)
 never_damaged cabinet.NoMemory e = cc
 never_damaged why e = cc
 
-told_undamaged : (done : Registered) → told (line_told done) ≢ reply.Refused refusal.Damaged
+told_undamaged : (done : Registered) → reply_of (line_told done) ≢ reply.Refused refusal.Damaged
 told_undamaged (Added rows) e = cc
 told_undamaged Same e = cc
 told_undamaged (Refused why) e = never_damaged why e
 
-refused_writes_none : (done : Registered) → IsRefused (told (line_told done)) → rows_told done ≡ []
+refused_writes_none : (done : Registered) → IsRefused (reply_of (line_told done)) → rows_told done ≡ []
 refused_writes_none (Added rows) refused = absurd refused
 refused_writes_none _ refused = refl
 
@@ -157,7 +157,7 @@ refused_named c why said is named =
     subst (λ (w : Refusal). IsOneOf (numbers_of (command.Record c)) (number_of w)) (sym is)
     (about_more (cabinet_of c) _ _ (among_map (λ refused. number_of (refusal_of_record refused)) (refusals_of c) why named))
 
-told_named : (c : RecordCommand) (done : Registered) → IsNamed c (line_told done) → RefusesBy (numbers_of (command.Record c)) (told (line_told done))
+told_named : (c : RecordCommand) (done : Registered) → IsNamed c (line_told done) → RefusesBy (numbers_of (command.Record c)) (reply_of (line_told done))
 told_named c (Added rows) named = λ why e. absurd (let f : reply.Added ≡ reply.Refused why = e in cc)
 told_named c Same named = λ why e. absurd (let f : reply.Same ≡ reply.Refused why = e in cc)
 told_named c (Refused why) named = refuses_so (numbers_of (command.Record c)) (refusal_of_record why)
@@ -183,7 +183,7 @@ decides_stored {honest = honest} {stored = stored} {before = before} {c = c} {do
 -- of a command on an intersection that is there
 pub record_decides : (is_honest : Type 0) (tables : Content) (c : RecordCommand) (done : Registered) (decided : Decided)
     → DecidesRecord is_honest tables [] c (Ok done) → (is_honest → TellsIntersection tables (cabinet_of c) true)
-    → decided.reply ≡ told (line_told done) → decided.changes.items ≡ rows_told done → IsDecision is_honest tables (command.Record c) decided
+    → decided.reply ≡ reply_of (line_told done) → decided.changes.items ≡ rows_told done → IsDecision is_honest tables (command.Record c) decided
 record_decides is_honest tables c done decided decides about is rows = record {
   step = λ honest office stands. record_answers tables office c done decided.reply decided.changes.items stands (about honest).known (decides.step honest) (decides.leaves tables) is rows;
   writes = λ honest. record_writes tables c decided.changes.items (λ table. subst (λ list. writes_in table list ≤ most_record_writes c table) (sym rows) (decides.writes table));

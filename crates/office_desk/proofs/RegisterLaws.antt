@@ -4,7 +4,7 @@ use Rattle.std.specs.FinMap.{get}
 use Rattle.cabinet_core.specs.{Cabinet.Line, Orders.open_at, Register.Register, Runs.AreAccepted, Step.line_at, Step.with_record}
 use Rattle.cabinet_core.specs.declared.command.RecordCommand.{RecordCommand}
 use Rattle.cabinet_core.proofs.RecordLaws.{open_law, stock_law}
-use Rattle.office_machine.specs.RegisterRuns.{accepted_of, accepted, new_by, new_among, RegisterRuns, ShowsAccepted, ShowAccepted}
+use Rattle.office_machine.specs.RegisterRuns.{accepted_of, records_accepted, new_by, new_among, RegisterRuns, ShowsAccepted, ShowAccepted}
 use Rattle.office_machine.specs.Step.{Step, Run, answered, shown}
 use Rattle.office_machine.specs.Office.{Office, Intersection, IsSound}
 use Rattle.office_desk.proofs.Walks.{HoldsOfEach, HoldsOfRecords, records_so, step_so}
@@ -60,10 +60,10 @@ step_after office next command reply = step_so office (After office) (each_after
 -- ---- runs
 
 -- the records that a run accepts are those that make its last register
-pub runs_accepted : (commands : List Command) (replies : List Reply) (first last : Office) (run : Run first commands replies last) → AreAccepted first.register (accepted first commands replies last run) last.register
+pub runs_accepted : (commands : List Command) (replies : List Reply) (first last : Office) (run : Run first commands replies last) → AreAccepted first.register (records_accepted first commands replies last run) last.register
 runs_accepted [] [] first last run = ap (λ (o : Office). o.register) run
 runs_accepted (command ∷ commands) (reply ∷ replies) first last run =
-    step_after first run.0 command reply run.1 (accepted run.0 commands replies last run.2) last.register (runs_accepted commands replies run.0 last run.2)
+    step_after first run.0 command reply run.1 (records_accepted run.0 commands replies last run.2) last.register (runs_accepted commands replies run.0 last run.2)
 runs_accepted _ _ first last run = absurd run
 
 -- ---- replies
@@ -108,7 +108,7 @@ pub runs_register : (commands : List Command) (replies : List Reply) (first last
 runs_register commands replies first last run first_sound last_sound =
     let taken = runs_accepted commands replies first last run in
     record {
-      orders = λ id n. open_law id n (accepted first commands replies last run) first.register last.register taken;
-      stock = λ code. stock_law code (accepted first commands replies last run) first.register last.register taken first_sound.register last_sound.register;
+      orders = λ id n. open_law id n (records_accepted first commands replies last run) first.register last.register taken;
+      stock = λ code. stock_law code (records_accepted first commands replies last run) first.register last.register taken first_sound.register last_sound.register;
       shown = replies_show commands replies first first last [] run refl (sound_tidy first.register first_sound.register);
     }

@@ -4,7 +4,7 @@ use Rattle.std.specs.{Prelude.is_some, Cmp.nat_cmp_total, FinMap.get, FinMap.get
 use Rattle.cabinet_core.specs.{Cabinet.added as added_line, Cabinet.same as same_line, Step.line_at}
 use Rattle.cabinet_core.specs.declared.command.RecordCommand.{RecordCommand}
 use Rattle.cabinet_core.proofs.RecordKept.{same_after, same_kept}
-use Rattle.office_machine.specs.Step.{Step, Run, with_intersection, new_intersection, cabinet_of, is_known, with_recorded, import_by, import_from, imported}
+use Rattle.office_machine.specs.Step.{Step, Run, with_intersection, new_intersection, cabinet_of, is_known, with_recorded, import_by, import_from, import_step}
 use Rattle.office_machine.specs.{Office.Office, Office.Intersection, Repeats.IsRepeat, Repeats.AreRepeats, Repeats.Repeats}
 use Rattle.office_machine.specs.declared.{command.Command.Command, refusal.Refusal.Refusal, refusal.Refusal.TheVariants.Unavailable, reply.Reply.Reply}
 use Rattle.office_machine.specs.declared.reply.Reply.TheVariants.{Imported, Refused}
@@ -105,7 +105,7 @@ accepted_there : (office next : Office) (records : List RecordCommand) (added sa
 accepted_there office next records added same reply (inl left) told_so = absurd (let f : Refused Unavailable ≡ Imported added same = sym left.0 ∙ told_so in cc)
 accepted_there office next records added same reply (inr is) told_so = go (import_from 1 0 0 office records) refl is
   where
-    go : (done : Result (ℕ × ℕ × Office) Refusal) → import_from 1 0 0 office records ≡ done → imported office done ≡ (reply, next) → AreThere next records
+    go : (done : Result (ℕ × ℕ × Office) Refusal) → import_from 1 0 0 office records ≡ done → import_step office done ≡ (reply, next) → AreThere next records
     go (Ok done) made e = subst (λ (p : Reply × Office). AreThere p.1 records) e (import_brings records office done made).1
     go (Err why) made e = absurd (let f : Refused why ≡ Imported added same = ap (λ (p : Reply × Office). p.0) e ∙ told_so in cc)
 
@@ -113,7 +113,7 @@ accepted_there office next records added same reply (inr is) told_so = go (impor
 sent_again : (office next : Office) (records : List RecordCommand) (reply : Reply) → Step office (command.Import records) reply next → AreThere office records → IsRepeat office records reply next
 sent_again office next records reply (inl left) there = (inr left.0, left.1)
 sent_again office next records reply (inr is) there =
-    let all : ◌≡◌ {A = Reply × Office} (reply, next) (Imported 0 (0 + length records), office) = sym is ∙ ap (imported office) (import_again records 1 0 0 office there) in
+    let all : ◌≡◌ {A = Reply × Office} (reply, next) (Imported 0 (0 + length records), office) = sym is ∙ ap (import_step office) (import_again records 1 0 0 office there) in
     let count : 0 + length records ≡ length records = omega arith in
     (inl (ap (λ (p : Reply × Office). p.0) all ∙ ap (Imported 0) count), ap (λ (p : Reply × Office). p.1) all)
 

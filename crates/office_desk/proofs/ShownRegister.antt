@@ -4,7 +4,7 @@ use Rattle.std.specs.FinMap as finite
 use Rattle.std.specs.FinMap.{get, entries, entries_sorted, get-entries}
 use Rattle.std.specs.{FinMap.Entries.is_sorted, FinMap.Entries.below_all, FinMap.Entries.where_key, List.AllByRecursion, Prelude.IfSome}
 use Rattle.std.specs.Ordering.{eq_by_cmp, is_eq}
-use Rattle.cabinet_core.specs.{Cabinet.added, Cabinet.on_hand, Cabinet.close_line, Cabinet.with_closing, Cabinet.record_of, Orders.is_open, Orders.is_open_at, Orders.is_open_order, Orders.open_at, Runs.AreAccepted, Runs.open_by, Runs.received_by, Runs.spent_by, Stock.IsStocked, Stock.delivered, Stock.hand_of, Stock.pieces, Stock.stock_by_code, Stock.stock_of, Stock.used, Register.RecordKey, Register.Register, Register.record_cmp, Sound.IsOrderAt, Sound.IsSoundRegister, Step.line_at, Step.with_closed, Step.with_record}
+use Rattle.cabinet_core.specs.{Cabinet.added, Cabinet.on_hand, Cabinet.close_line, Cabinet.with_closing, Cabinet.record_of, Orders.is_open, Orders.is_open_at, Orders.is_open_order, Orders.open_at, Runs.AreAccepted, Runs.open_by, Runs.received_by, Runs.spent_by, Stock.IsStocked, Stock.pieces_delivered, Stock.hand_of, Stock.pieces, Stock.stock_by_code, Stock.stock_of, Stock.pieces_used, Register.RecordKey, Register.Register, Register.record_cmp, Sound.IsOrderAt, Sound.IsSoundRegister, Step.line_at, Step.with_closed, Step.with_record}
 use Rattle.cabinet_core.specs.declared.command.RecordCommand.TheVariants.{Inspect, OpenOrder, UsePart, CloseOrder, Receive}
 use Rattle.cabinet_core.specs.declared.{command.RecordCommand.RecordCommand, record.Closing.Closing, record.Order.Order}
 use Rattle.cabinet_core.proofs.{EntryLemmas.entries_stand, EntryLemmas.tied, KeyOrders.record_exact, KeyOrders.record_total, KeyOrders.record_ties, Puts.all_put, Puts.if_more, RecordLaws.open_law, RecordLaws.delivered_law, RecordLaws.used_law, StockList.stock_has, Sound.usable, Sound.receivable, StockLemmas.line_stocked, StockLemmas.delivery_stocked, StockLemmas.hand_adds}
@@ -137,5 +137,5 @@ pub stock_shown : (first now : Register) (so_far : List RecordCommand) → AreAc
     → (code : List ℕ) → pieces_in (stock_of now) code + spent_by code so_far ≡ pieces first code + received_by code so_far
 stock_shown first now so_far run tidy still code =
     ap (λ (o : Option ℕ). on_hand o + spent_by code so_far) (sym (get-entries (stock_by_code now) code) ∙ stock_has now code)
-    ∙ on_balance (on_hand (hand_of now code)) (delivered now code) (used now code) (delivered first code) (used first code) (received_by code so_far) (spent_by code so_far)
+    ∙ on_balance (on_hand (hand_of now code)) (pieces_delivered now code) (pieces_used now code) (pieces_delivered first code) (pieces_used first code) (received_by code so_far) (spent_by code so_far)
     (hand_adds now code (still.stock code)) (delivered_law code so_far first now run) (used_law code so_far first now run) (tidy.stock code).covered

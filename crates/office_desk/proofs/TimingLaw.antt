@@ -7,7 +7,7 @@ use Rattle.draft_core.specs.declared.refusal.DraftRefusal.{DraftRefusal}
 use Rattle.draft_core.specs.declared.refusal.DraftRefusal.TheVariants.{NotNormal, NotTransaction}
 use Rattle.signal_records.specs.declared.state.Stage.{Stage}
 use Rattle.draft_core.proofs.Sound.{owned_inverts, committed_inverts}
-use Rattle.office_machine.specs.{Office.Office, Office.Intersection, Office.side_of, Office.side_at, Step.Step, Step.Run, Step.moved_to, Step.with_intersection, Step.new_intersection, Timing.is_commit_of, Timing.is_moved, Timing.set_of_draft, Timing.running, declared.command.Command.Command, declared.reply.Reply.Reply}
+use Rattle.office_machine.specs.{Office.Office, Office.Intersection, Office.side_of, Office.side_at, Step.Step, Step.Run, Step.moved_to, Step.with_intersection, Step.new_intersection, Timing.is_commit_of, Timing.is_moved, Timing.set_of_draft, Timing.running_plan, declared.command.Command.Command, declared.reply.Reply.Reply}
 use Rattle.office_machine.specs.declared.command.Command.TheVariants as command
 use Rattle.office_desk_timing.proofs.Stands.{same_id, other_id, side_after}
 use Rattle.office_desk.proofs.Walks.{HoldsOfEach, records_so, step_so}
@@ -134,7 +134,7 @@ step_after q office next command reply =
 -- ---- runs
 
 pub runs_timing : (q : ℕ) (before : Rows) (commands : List Command) (replies : List Reply) (first last : Office) (run : Run first commands replies last)
-    → (side_at first q).committed ≡ before → (side_at last q).committed ≡ running q before first commands replies last run
+    → (side_at first q).committed ≡ before → (side_at last q).committed ≡ running_plan q before first commands replies last run
 runs_timing q before [] [] first last run is = ap (λ (o : Office). (side_at o q).committed) run ∙ is
 runs_timing q before (command ∷ commands) (reply ∷ replies) first last run is =
     runs_timing q (cond (is_commit_of q command && is_moved reply) (set_of_draft (side_at first q).draft before) before) commands replies run.0 last run.2

@@ -8,7 +8,7 @@ use Rattle.cabinet_core.specs.declared.command.RecordCommand.{RecordCommand}
 use Rattle.draft_core.specs.{Transaction.Draft, Transaction.TimingSide, Transaction.table_line, declared.refusal.DraftRefusal.DraftRefusal}
 use Rattle.draft_core.specs.declared.step.Step.{Step as DraftStep}
 use Rattle.draft_core.specs.declared.step.Step.TheVariants as step
-use Rattle.office_machine.specs.Step.{Step, answered, added, new_intersection, with_intersection, transacted, moved, moved_to, shown, state_shown, timing_shown, draft_shown, told, recorded, recorded_at, known, cabinet_of, is_known, with_recorded, import_by, import_from, imported, cabinet_shown}
+use Rattle.office_machine.specs.Step.{Step, answered, add_step, new_intersection, with_intersection, transacted, moved, moved_to, shown, state_shown, timing_shown, draft_shown, reply_of, record_step, recorded_at, step_if_known, cabinet_of, is_known, with_recorded, import_by, import_from, import_step, cabinet_shown}
 use Rattle.office_machine.specs.{Office.Office, Office.Intersection, RegisterRuns.accepted_of, RegisterRuns.is_accepted, RegisterRuns.records_asked}
 use Rattle.office_machine.specs.Timing.{is_moved}
 use Rattle.office_machine.specs.declared.{command.Command.Command, refusal.Refusal.Refusal, reply.Reply.Reply}
@@ -65,7 +65,7 @@ module _ (office : Office) (Holds : Command → Reply → Office → Type 0)
 
   add_so : (id interval : ℕ) (name : List ℕ) (there : Option Intersection)
       → get office.intersections id ≡ there
-      → Has (command.AddIntersection id interval name) (added office id interval name there)
+      → Has (command.AddIntersection id interval name) (add_step office id interval name there)
   add_so id interval name None is = each.adds id interval name is
   add_so id interval name (Some i) is = quiet (command.AddIntersection id interval name) _
       (same_unmoved (bytes_eq i.name name && (i.interval == interval))) refl
@@ -96,7 +96,7 @@ module _ (office : Office) (Holds : Command → Reply → Office → Type 0)
 
   line_so : (c : RecordCommand) (line : Line) → line_at office.register c ≡ line
       → Has (command.Record c) (
-        told line,
+        reply_of line,
         record office {
           register = after_line line (with_record office.register c) office.register;
         },
@@ -106,22 +106,22 @@ module _ (office : Office) (Holds : Command → Reply → Office → Type 0)
   line_so c (refused_line why) is = each.stays (command.Record c) _ refl refl
 
   record_so : (c : RecordCommand)
-      → Has (command.Record c) (recorded_at office (cabinet_of c) (recorded office c))
+      → Has (command.Record c) (recorded_at office (cabinet_of c) (record_step office c))
   record_so c = at (cabinet_of c)
     where
       there : (o : Option Intersection)
-          → Has (command.Record c) (known office o (recorded office c))
+          → Has (command.Record c) (step_if_known office o (record_step office c))
       there None = each.stays (command.Record c) _ refl refl
       there (Some i) = line_so c (line_at office.register c) refl
 
       at : (about : Option ℕ)
-          → Has (command.Record c) (recorded_at office about (recorded office c))
+          → Has (command.Record c) (recorded_at office about (record_step office c))
       at None = line_so c (line_at office.register c) refl
       at (Some id) = there (get office.intersections id)
 
   import_so : (records : List RecordCommand) (done : Result (ℕ × ℕ × Office) Refusal)
       → import_from 1 0 0 office records ≡ done
-      → Has (command.Import records) (imported office done)
+      → Has (command.Import records) (import_step office done)
   import_so records (Ok done) is = each.imports records done is
   import_so records (Err why) is = each.stays (command.Import records) _ refl refl
 

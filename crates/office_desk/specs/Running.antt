@@ -10,7 +10,7 @@ use Rattle.office_desk.specs.Named.{IsNamedFor}
 use Rattle.office_desk.specs.Blaming.{BlamesRightly}
 use Rattle.office_machine.specs.Office.{Office, IsSound, side_at}
 use Rattle.office_machine.specs.Step.{AreSound, Run}
-use Rattle.office_machine.specs.Timing.{running}
+use Rattle.office_machine.specs.Timing.{running_plan}
 use Rattle.office_machine.specs.RegisterRuns.{RegisterRuns}
 use Rattle.office_machine.specs.Repeats.{Repeats}
 use Rattle.office_machine.specs.declared.command.Command.{Command}
@@ -98,7 +98,7 @@ pub record RunsTo (office : Office) (commands : List Command) (replies : List Re
   pub sound : AreSound office commands replies last run
   pub stand : StandForSound tables last
   pub street : (id : ℕ) → StreetLaws (side_at last id).committed
-  pub running : (id : ℕ) → (side_at last id).committed ≡ running id (side_at office id).committed office commands replies last run
+  pub running : (id : ℕ) → (side_at last id).committed ≡ running_plan id (side_at office id).committed office commands replies last run
   pub register : RegisterRuns office commands replies last run
   pub repeats : Repeats office commands replies last run
 

@@ -18,7 +18,7 @@ use office_tables_shelf::shelf::{Shelf, ShelfFault};
 use std::alloc::Global;
 
 /// A fault of the shelf as a refusal.
-pub(crate) fn refused(fault: ShelfFault) -> Refusal
+pub(crate) fn shelf_refusal(fault: ShelfFault) -> Refusal
     ensures { result ≡ refusal_of fault }
 {
     match fault {

@@ -9,7 +9,7 @@ ghost use Rattle.office_desk.specs.Recording.{AreFound};
 ghost use Rattle.office_machine.specs.Step.{cabinet_of as about_of};
 
 use crate::found::is_found;
-use crate::recording::{cabinet_of, refused};
+use crate::recording::{cabinet_of, register_refusal};
 use cabinet_core::RecordCommand;
 use office_desk_cabinet::{Pending, Registered, decide_record};
 use office_machine::command::Command;
@@ -72,7 +72,7 @@ fn take_decided(decided: Option<Registered>, pending: Pending) -> Result<(Taken,
             Ok((Taken::Added, next))
         }
         Registered::Same => Ok((Taken::Same, pending)),
-        Registered::Refused(refusal) => Ok((Taken::Refused(refused(refusal)), pending)),
+        Registered::Refused(refusal) => Ok((Taken::Refused(register_refusal(refusal)), pending)),
     }
 }
 

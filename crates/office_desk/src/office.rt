@@ -21,7 +21,7 @@ ghost use Rattle.office_machine.specs.Listed.{intersections_of};
 ghost use Rattle.office_machine.specs.Step.{overdue_on};
 
 use crate::checking::{Checked, check_records};
-use crate::deciding::{refused, try_decide};
+use crate::deciding::{shelf_refusal, try_decide};
 use cabinet_core::{Day, Order, OverdueRow, RecordCommand};
 use office_desk_timing::list_intersections;
 use office_machine::command::Command;
@@ -93,7 +93,7 @@ impl<S: Shelf> Office<S> {
     {
         match try_decide(&mut self.shelf, alloc, command) {
             Ok(decided) => return decided,
-            Err(fault) => return Decided::refused(alloc, refused(fault)),
+            Err(fault) => return Decided::from_refusal(alloc, shelf_refusal(fault)),
         }
     }
 
@@ -176,7 +176,7 @@ impl<S: Shelf> Office<S> {
     {
         match check_records(&mut self.shelf, alloc, records) {
             Ok(checked) => return Ok(checked),
-            Err(fault) => return Err(refused(fault)),
+            Err(fault) => return Err(shelf_refusal(fault)),
         }
     }
 
@@ -205,7 +205,7 @@ impl<S: Shelf> Office<S> {
     {
         match self.shelf.overdue_rows(alloc, day, most) {
             Ok(found) => return Ok(found),
-            Err(fault) => return Err(refused(fault)),
+            Err(fault) => return Err(shelf_refusal(fault)),
         }
     }
 
@@ -230,7 +230,7 @@ impl<S: Shelf> Office<S> {
     {
         match list_intersections(&mut self.shelf, alloc) {
             Ok(found) => return Ok(found),
-            Err(fault) => return Err(refused(fault)),
+            Err(fault) => return Err(shelf_refusal(fault)),
         }
     }
 
@@ -253,7 +253,7 @@ impl<S: Shelf> Office<S> {
     {
         match self.shelf.open_orders(alloc) {
             Ok(found) => return Ok(found),
-            Err(fault) => return Err(refused(fault)),
+            Err(fault) => return Err(shelf_refusal(fault)),
         }
     }
 }

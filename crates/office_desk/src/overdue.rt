@@ -25,5 +25,5 @@ pub(crate) fn decide_overdue<S: Shelf>(
 {
     let late = shelf.overdue_rows(alloc, day, ALL)?;
     let found = OverdueList::new(late);
-    Ok(Decided::unchanged(alloc, Reply::Overdue(found)))
+    Ok(Decided::from_reply(alloc, Reply::Overdue(found)))
 }

@@ -4,7 +4,7 @@ ghost use Rattle.office_tables_decisions.specs.Reads.{OnlyReads, Reports};
 ghost use Rattle.office_desk_cabinet.specs.Registers.{line_told, rows_told};
 ghost use Rattle.office_desk.specs.Deciding.{Decides};
 ghost use Rattle.office_desk.specs.Recording.{HasDamagedAbout, TellsIntersection};
-ghost use Rattle.office_machine.specs.Step.{cabinet_of as about_of, refusal_of_record, told as reply_of};
+ghost use Rattle.office_machine.specs.Step.{cabinet_of as about_of, refusal_of_record, reply_of};
 
 use cabinet_core::{CabinetRefusal, RecordCommand};
 use office_desk_cabinet::{Pending, Registered, decide_record};
@@ -51,7 +51,7 @@ pub(crate) fn is_known<S: Shelf>(
 }
 
 /// A refusal of the register as one of the office.
-pub(crate) fn refused(refusal: CabinetRefusal) -> Refusal
+pub(crate) fn register_refusal(refusal: CabinetRefusal) -> Refusal
     ensures { result ≡ refusal_of_record refusal }
 {
     match refusal {
@@ -70,8 +70,8 @@ fn answer(alloc: Global, told: Registered) -> Decided
             reply: Reply::Added,
             changes,
         },
-        Registered::Same => Decided::unchanged(alloc, Reply::Same),
-        Registered::Refused(refusal) => Decided::refused(alloc, refused(refusal)),
+        Registered::Same => Decided::from_reply(alloc, Reply::Same),
+        Registered::Refused(refusal) => Decided::from_refusal(alloc, register_refusal(refusal)),
     }
 }
 
@@ -86,7 +86,7 @@ pub(crate) fn decide_record_command<S: Shelf>(
     ensures reads { OnlyReads S.Shelf ⊤ result shelf.old shelf.new }
 {
     if !is_known(shelf, alloc, cabinet_of(command))? {
-        return Ok(Decided::refused(alloc, Refusal::UnknownIntersection));
+        return Ok(Decided::from_refusal(alloc, Refusal::UnknownIntersection));
     }
     let pending = Pending::new(alloc);
     let told = decide_record(shelf, alloc, &pending, command)?;

@@ -24,11 +24,11 @@ pub(crate) fn decide_cabinet<S: Shelf>(
     ensures reads { OnlyReads S.Shelf ⊤ result shelf.old shelf.new }
 {
     if !is_known(shelf, alloc, Some(id))? {
-        return Ok(Decided::refused(alloc, Refusal::UnknownIntersection));
+        return Ok(Decided::from_refusal(alloc, Refusal::UnknownIntersection));
     }
     let view = cabinet_view(shelf, alloc, id)?;
     let shown = Reply::Cabinet(CabinetShown { id, view });
-    Ok(Decided::unchanged(alloc, shown))
+    Ok(Decided::from_reply(alloc, shown))
 }
 
 /// Decides OpenOrders.
@@ -43,11 +43,11 @@ pub(crate) fn decide_open_orders<S: Shelf>(
 {
     let known = is_known(shelf, alloc, Some(id))?;
     if !known {
-        return Ok(Decided::refused(alloc, Refusal::UnknownIntersection));
+        return Ok(Decided::from_refusal(alloc, Refusal::UnknownIntersection));
     }
     let list = open_orders(shelf, alloc, id)?;
     let numbers = OrderNumbers::new(list);
-    Ok(Decided::unchanged(alloc, Reply::OpenOrders(numbers)))
+    Ok(Decided::from_reply(alloc, Reply::OpenOrders(numbers)))
 }
 
 /// Decides Stock.
@@ -57,5 +57,5 @@ pub(crate) fn decide_stock<S: Shelf>(shelf: &mut S, alloc: Global) -> Result<Dec
 {
     let list = stock(shelf, alloc)?;
     let parts = Stock::new(list);
-    Ok(Decided::unchanged(alloc, Reply::Stock(parts)))
+    Ok(Decided::from_reply(alloc, Reply::Stock(parts)))
 }

@@ -6,7 +6,7 @@ ghost use Rattle.office_desk_cabinet.specs.Decides.{DecidesRecord};
 
 use crate::pending::Pending;
 use crate::registered::Registered;
-use crate::rows::registered;
+use crate::rows::report_record;
 use crate::standing::record_at;
 use cabinet_core::{Closing, Inspection, Opening, RecordCommand, close_order, inspect, open_order};
 use office_tables_shelf::register::{RegisterKey, RegisterRecord};
@@ -30,7 +30,7 @@ pub(crate) fn decide_inspect<S: Shelf>(
     let found = record_at(shelf, alloc, pending, &key)?;
     let there = RegisterRecord::inspection(found);
     let decision = inspect(alloc, &there, inspection);
-    registered(alloc, id, decision)
+    report_record(alloc, id, decision)
 }
 
 /// Decides whether an order is opened.
@@ -49,7 +49,7 @@ pub(crate) fn decide_open_order<S: Shelf>(
     let found = record_at(shelf, alloc, pending, &key)?;
     let there = RegisterRecord::order(found);
     let decision = open_order(alloc, &there, opening);
-    registered(alloc, id, decision)
+    report_record(alloc, id, decision)
 }
 
 /// Decides whether an order is closed.
@@ -69,5 +69,5 @@ pub(crate) fn decide_close_order<S: Shelf>(
     let found = record_at(shelf, alloc, pending, &key)?;
     let there = RegisterRecord::order(found);
     let decision = close_order(alloc, &there, closing);
-    registered(alloc, id, decision)
+    report_record(alloc, id, decision)
 }

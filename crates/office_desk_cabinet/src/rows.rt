@@ -48,7 +48,7 @@ fn row_changes(
 }
 
 /// What is reported of a decision on the register of an intersection. Want of memory is a fault.
-pub(crate) fn registered(
+pub(crate) fn report_record(
     alloc: Global,
     id: InterId,
     decision: Result<Recorded, CabinetRefusal>,

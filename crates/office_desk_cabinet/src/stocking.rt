@@ -12,7 +12,7 @@ ghost use Rattle.office_desk_cabinet.specs.Telling.{WantsMemory};
 
 use crate::pending::Pending;
 use crate::registered::Registered;
-use crate::rows::registered;
+use crate::rows::report_record;
 use crate::standing::record_at;
 use cabinet_core::{
     CabinetChange, CabinetRefusal, Delivery, Hand, PartCode, RecordCommand, Recorded, UsedLine,
@@ -43,7 +43,7 @@ pub(crate) fn decide_use_part<S: Shelf>(
     let key = RegisterKey::Order(id, line.order);
     let order = RegisterRecord::order(record_at(shelf, alloc, pending, &key)?);
     let decision = use_part(alloc, &there, &order, hand, line);
-    registered(alloc, id, decision)
+    report_record(alloc, id, decision)
 }
 
 /// A change of a part or a delivery as a row; the others are of an intersection.
@@ -71,7 +71,7 @@ fn stock_rows(alloc: Global, changes: Vec<CabinetChange>) -> Result<Vec<RowChang
 }
 
 /// What is reported of a decision on a delivery. Want of memory is a fault.
-fn received(
+fn report_delivery(
     alloc: Global,
     decision: Result<Recorded, CabinetRefusal>,
 ) -> Result<Registered, ShelfFault>
@@ -106,7 +106,7 @@ pub(crate) fn decide_receive<S: Shelf>(
     let key = RegisterKey::Delivery(&delivery.part, delivery.number);
     let there = RegisterRecord::delivery(record_at(shelf, alloc, pending, &key)?);
     let decision = receive(alloc, &there, hand, delivery);
-    received(alloc, decision)
+    report_delivery(alloc, decision)
 }
 
 /// The parts that were ever delivered, with how many are on hand of each, in the order of their

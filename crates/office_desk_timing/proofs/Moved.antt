@@ -6,7 +6,7 @@ use Rattle.std.specs.{Option.option_map, Ordering.eq_by_cmp}
 use Rattle.signal_records.specs.{Key.key_cmp, Key.kind_of, Key.first_of, Key.second_of, Row.key_of}
 use Rattle.signal_records.specs.declared.{key.Key.Key, record.Row.Row, record.Change.Change}
 use Rattle.signal_records.specs.declared.record.Change.TheVariants.{Put, Remove}
-use Rattle.draft_core.specs.DraftRows.{RowsByKey, Said, silent, leaves, removes, later_of, overlaid, said_at, said_by}
+use Rattle.draft_core.specs.DraftRows.{RowsByKey, Said, silent, leaves, removes, later_of, overlaid_row, said_at, said_by}
 use Rattle.signal_records.specs.ChangedRows.{changed_key, left_by}
 use Rattle.draft_core.specs.Moves.{Makes, committed_after, committed_by, drafted_in, next_holder, row_after, said_after}
 use Rattle.draft_core.specs.{Transaction.TimingSide, Within.AreChangesWithin}
@@ -142,11 +142,11 @@ pub record HoldsAt (tables : Content) (id : ℕ) (key : Key) (c : Option Row) (s
   pub timing : get tables.timing (timing_key id key) ≡ option_map timing_columns c
   pub draft : get tables.draft (timing_key id key) ≡ said_columns said
 
-put_committed : (b : Bool) (row : Row) (c : Option Row) → cond b (Some (timing_columns row)) (option_map timing_columns c) ≡ option_map timing_columns (overlaid c (cond b (leaves row) silent))
+put_committed : (b : Bool) (row : Row) (c : Option Row) → cond b (Some (timing_columns row)) (option_map timing_columns c) ≡ option_map timing_columns (overlaid_row c (cond b (leaves row) silent))
 put_committed true row c = refl
 put_committed false row c = refl
 
-gone_committed : (b : Bool) (c : Option Row) → cond b None (option_map timing_columns c) ≡ option_map timing_columns (overlaid c (cond b removes silent))
+gone_committed : (b : Bool) (c : Option Row) → cond b None (option_map timing_columns c) ≡ option_map timing_columns (overlaid_row c (cond b removes silent))
 gone_committed true c = refl
 gone_committed false c = refl
 
@@ -160,7 +160,7 @@ gone_draft true said = refl
 gone_draft false said = refl
 
 module _ (id : ℕ) (tables : Content) (key : Key) (c : Option Row) (said : Said) (h : HoldsAt tables id key c said) where
-  row_put : (row : Row) → get (insert tables.timing (timing_key id (key_of row)) (timing_columns row)) (timing_key id key) ≡ option_map timing_columns (overlaid c (said_at (Put row) key))
+  row_put : (row : Row) → get (insert tables.timing (timing_key id (key_of row)) (timing_columns row)) (timing_key id key) ≡ option_map timing_columns (overlaid_row c (said_at (Put row) key))
   row_put row = get-put tables.timing id (key_of row) (timing_columns row) key
       ∙ ap (cond (eq_by_cmp key_cmp key (key_of row)) (Some (timing_columns row))) h.timing ∙ put_committed (eq_by_cmp key_cmp key (key_of row)) row c
 

@@ -9,7 +9,7 @@ use Rattle.office_desk_timing.specs.Adding.{AddsRow, AreLimited}
 use Rattle.office_tables_decisions.specs.{Answers.Answers, Changes.most_writes, Deciding.IsDecision, Named.RefusesBy}
 use Rattle.office_tables_decisions.specs.StandFor.{StandFor, StandForSound, row_of}
 use Rattle.office_machine.specs.Office.{Office, IsSoundIntersection, no_timing, side_of, side_at}
-use Rattle.office_machine.specs.Step.{added, new_intersection, with_intersection}
+use Rattle.office_machine.specs.Step.{add_step, new_intersection, with_intersection}
 use Rattle.office_machine.specs.declared.{command.Command.TheVariants.AddIntersection, reply.Reply.Reply}
 use Rattle.office_tables_decisions.specs.declared.decided.Decided.{Decided}
 use Rattle.office_machine.specs.declared.refusal.Refusal.TheVariants as refusal
@@ -56,7 +56,7 @@ new_answers tables office id interval name stands reads limited =
     let gone = none_found tables office id stands reads in
     record {
       next = with_intersection office id i;
-      step = inr (ap (added office id interval name) gone);
+      step = inr (ap (add_step office id interval name) gone);
       stand = record {
         stand = new_stands tables office id interval name stands.stand gone;
         sound = sound_with office id i limited.number stands.sound (new_is_sound id interval name limited);
@@ -91,5 +91,5 @@ add_decides is_honest tables id interval name (Some row) decided reads adds =
     told_decides is_honest tables (AddIntersection id interval name) _ decided adds.0 (never_damaged (bytes_eq row.name name && (row.interval == interval))) (differs_named (bytes_eq row.name name && (row.interval == interval))) adds.1 (λ honest. (reads honest).1)
     (λ honest office stands.
     let at = there tables office id row stands (reads honest).0 in
-    ap (added office id interval name) at.1
+    ap (add_step office id interval name) at.1
     ∙ ap (λ (r : IntersectionRow). (answer_at interval name r, office)) (sym at.2))

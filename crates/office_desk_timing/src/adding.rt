@@ -16,7 +16,7 @@ use signal_records::{InterId, Interval, NoMemory, Words};
 use std::alloc::Global;
 
 /// The answer for an intersection of which this row was read.
-fn added(
+fn answer_add(
     alloc: Global,
     id: InterId,
     interval: Interval,
@@ -35,9 +35,9 @@ fn added(
         } else {
             Reply::Refused(Refusal::IntersectionDiffers)
         };
-        return Ok(Decided::unchanged(alloc, reply));
+        return Ok(Decided::from_reply(alloc, reply));
     }
-    let mut decided = Decided::unchanged(alloc, Reply::Added);
+    let mut decided = Decided::from_reply(alloc, Reply::Added);
     let row = IntersectionRow {
         name: name.clone()?,
         interval,
@@ -61,6 +61,6 @@ pub fn decide_add<S: Shelf>(
     ensures reads { OnlyReads S.Shelf ⊤ result shelf.old shelf.new }
 {
     let row = intersection_row(shelf, alloc, id)?;
-    let decided = added(alloc, id, interval, name, &row)?;
+    let decided = answer_add(alloc, id, interval, name, &row)?;
     Ok(decided)
 }

@@ -47,7 +47,7 @@ fn row_changes(
 }
 
 /// The answer to a move.
-fn moved(
+fn answer_move(
     alloc: Global,
     id: InterId,
     clerk: &Words<40>,
@@ -86,7 +86,7 @@ fn moved(
 }
 
 /// A refusal of the transaction as one of the office.
-fn refused(refusal: DraftRefusal) -> Refusal
+fn draft_refusal(refusal: DraftRefusal) -> Refusal
     ensures { result ≡ refusal_of_draft refusal }
 {
     match refusal {
@@ -109,10 +109,10 @@ pub(crate) fn answer(
     ensures wants { OnErr result (WantsMemory decision) }
 {
     match decision {
-        Ok(step) => Ok(moved(alloc, id, clerk, found, step)?),
+        Ok(step) => Ok(answer_move(alloc, id, clerk, found, step)?),
         Err(DraftRefusal::NoMemory) => return Err(ShelfFault::NoMemory),
         Err(refusal) => {
-            return Ok(Decided::unchanged(alloc, Reply::Refused(refused(refusal))));
+            return Ok(Decided::from_reply(alloc, Reply::Refused(draft_refusal(refusal))));
         }
     }
 }

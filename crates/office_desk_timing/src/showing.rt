@@ -37,7 +37,7 @@ fn state_of(holder: &Option<Holder>) -> DbState
 }
 
 /// What State shows of an intersection of which this row was read.
-fn shown(id: InterId, row: IntersectionRow, rows: usize, verify: Verdict) -> Reply
+fn state_reply(id: InterId, row: IntersectionRow, rows: usize, verify: Verdict) -> Reply
     ensures { result ≡ Reply.State (row_shown id row rows verify) }
 {
     let state = state_of(&row.holder);
@@ -91,11 +91,11 @@ pub fn decide_state<S: Shelf>(
     ensures reads { OnlyReads S.Shelf ⊤ result shelf.old shelf.new }
 {
     let Some(row) = intersection_row(shelf, alloc, id)? else {
-        return Ok(Decided::refused(alloc, Refusal::UnknownIntersection));
+        return Ok(Decided::from_refusal(alloc, Refusal::UnknownIntersection));
     };
     let rows = shelf.committed_count(alloc, id)?;
     let verify = verdict_at(shelf, alloc, id, &row)?;
-    Ok(Decided::unchanged(alloc, shown(id, row, rows, verify)))
+    Ok(Decided::from_reply(alloc, state_reply(id, row, rows, verify)))
 }
 
 /// Decides Timing.
@@ -109,7 +109,7 @@ pub fn decide_timing<S: Shelf>(
     ensures reads { OnlyReads S.Shelf ⊤ result shelf.old shelf.new }
 {
     let Some(row) = intersection_row(shelf, alloc, id)? else {
-        return Ok(Decided::refused(alloc, Refusal::UnknownIntersection));
+        return Ok(Decided::from_refusal(alloc, Refusal::UnknownIntersection));
     };
     let rows = committed_set(shelf, alloc, id)?;
     let timing = RunningTiming {
@@ -117,7 +117,7 @@ pub fn decide_timing<S: Shelf>(
         revision: row.revision,
         rows,
     };
-    Ok(Decided::unchanged(alloc, Reply::Timing(timing)))
+    Ok(Decided::from_reply(alloc, Reply::Timing(timing)))
 }
 
 /// What Draft shows of an intersection that was found.
@@ -156,7 +156,7 @@ pub fn decide_draft<S: Shelf>(
     ensures reads { OnlyReads S.Shelf ⊤ result shelf.old shelf.new }
 {
     let Some(found) = find(shelf, alloc, id, Reach::Plan)? else {
-        return Ok(Decided::refused(alloc, Refusal::UnknownIntersection));
+        return Ok(Decided::from_refusal(alloc, Refusal::UnknownIntersection));
     };
-    Ok(Decided::unchanged(alloc, draft_of(alloc, found)?))
+    Ok(Decided::from_reply(alloc, draft_of(alloc, found)?))
 }

@@ -27,7 +27,7 @@ pub fn transact<S: Shelf>(
 {
     let _name = clerk.as_str();
     let Some(found) = find(shelf, alloc, id, step.reach())? else {
-        return Ok(Decided::refused(alloc, Refusal::UnknownIntersection));
+        return Ok(Decided::from_refusal(alloc, Refusal::UnknownIntersection));
     };
     let decision = step.decide(alloc, &found.timing, clerk);
     answer(alloc, id, clerk, found, decision)

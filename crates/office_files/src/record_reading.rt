@@ -73,7 +73,7 @@ fn used_part(alloc: Global, fields: &[&[u8]]) -> Result<RecordCommand, RowFault>
 }
 
 #[tactic(auto, unfolding(crate::specs::RecordReading::close_at))]
-fn closing(alloc: Global, fields: &[&[u8]]) -> Result<RecordCommand, RowFault>
+fn order_closing(alloc: Global, fields: &[&[u8]]) -> Result<RecordCommand, RowFault>
     requires { length fields.now ≡ 5 }
     ensures { Gives result (close_at (texts fields.now)) }
 {
@@ -135,7 +135,7 @@ pub(crate) fn read_record(alloc: Global, fields: &[&[u8]]) -> Result<RecordComma
         if fields.len() != 5 {
             return Err(RowFault::Count);
         }
-        closing(alloc, fields)
+        order_closing(alloc, fields)
     } else if *kind == b"delivery".as_slice() {
         if fields.len() != 5 {
             return Err(RowFault::Count);

@@ -5,7 +5,7 @@ use Rattle.std.specs.Prelude.{Result, Ok, Err, OnOk, OnErr, IfErr, is_err, ⊤}
 use Rattle.office_machine.specs.Office.{Office}
 use Rattle.office_tables_shelf.specs.Content.{Content}
 use Rattle.office_http.specs.Laws.{Serves}
-use Rattle.office_http.specs.Listening.{GrewBy, AsksConnection, Connected, EndsListening, Listening, Listens, ServesAsMany, ServesConnection, ServesEach, Turns, connected, connection_limit, more_accepted, one_accepted}
+use Rattle.office_http.specs.Listening.{GrewBy, AsksConnection, Connected, EndsListening, Listening, Listens, ServesAsMany, ServesConnection, ServesEach, Turns, connection_between, connection_limit, more_accepted, one_accepted}
 use Rattle.office_http.specs.Protocol.{office_protocol}
 use Rattle.office_http.specs.declared.listening.ListenCounts.{ListenCounts}
 use Rattle.office_http.specs.declared.listening.ServeStop.{ServeStop}
@@ -52,7 +52,7 @@ asks_connection told old new sink sink' fresh asks reads = record {
 pub one_connection : {Shelf : Type 0} (storage : Storage Shelf Office Content) (first : Shelf) (held : Content) (before : Office) (last : Shelf) (kept : Content) (after : Office) (start end : Ends) (outcome : Result Served ServeFault)
     → Did office_protocol (Serves storage (storage.may_leave first) (moment_of storage first held before) last kept after) connection_limit start end outcome
     → TellsFault start end outcome → AsksConnection start end
-    → start.source.counts ≡ no_calls → start.sink.counts ≡ no_calls → outcome ≢ Err NoMemory → ServesConnection storage first held before last kept after (connected start end)
+    → start.source.counts ≡ no_calls → start.sink.counts ≡ no_calls → outcome ≢ Err NoMemory → ServesConnection storage first held before last kept after (connection_between start end)
 one_connection storage first held before last kept after start end outcome did fault asks source_is_fresh sink_is_fresh has_memory = record {
   outcome = outcome;
   source_is_fresh = source_is_fresh;
@@ -102,12 +102,12 @@ turns-same old told new served before counts turns counted gave got_back = recor
 pub turns-next : (old told mid new : Listening) (served : List Connected) (before counts : ListenCounts) (start end : Ends) → Turns old told served before → new.counts ≡ counts
     → GrewBy told.given mid.given (start ∷ []) → GrewBy told.returned mid.returned []
     → GrewBy mid.given new.given [] → GrewBy mid.returned new.returned (end ∷ [])
-    → Turns old new (served ++ connected start end ∷ []) counts
+    → Turns old new (served ++ connection_between start end ∷ []) counts
 turns-next old told mid new served before counts start end turns counted gave back_none gave_none got_back = record {
   counted = counted;
-  gave = subst (GrewBy old.given new.given) (sym (map-append (λ (c : Connected). c.start) served (connected start end ∷ [])))
+  gave = subst (GrewBy old.given new.given) (sym (map-append (λ (c : Connected). c.start) served (connection_between start end ∷ [])))
       (adds-none old.given mid.given new.given _ (adds-on old.given told.given mid.given (map (λ (c : Connected). c.start) served) (start ∷ []) turns.gave gave) gave_none);
-  got_back = subst (GrewBy old.returned new.returned) (sym (map-append (λ (c : Connected). c.end) served (connected start end ∷ [])))
+  got_back = subst (GrewBy old.returned new.returned) (sym (map-append (λ (c : Connected). c.end) served (connection_between start end ∷ [])))
       (adds-on old.returned mid.returned new.returned _ (end ∷ []) (adds-none old.returned told.returned mid.returned (map (λ (c : Connected). c.end) served) turns.got_back back_none) got_back);
 }
 
@@ -115,9 +115,9 @@ turns-next old told mid new served before counts start end turns counted gave ba
 pub turns-untouched : (old told mid new : Listening) (served : List Connected) (before counts : ListenCounts) (start end : Ends) → Turns old told served before → new.counts ≡ counts
     → GrewBy told.given mid.given (start ∷ []) → GrewBy told.returned mid.returned []
     → GrewBy mid.given new.given [] → GrewBy mid.returned new.returned (end ∷ []) → end ≡ start
-    → Turns old new (served ++ connected start start ∷ []) counts
+    → Turns old new (served ++ connection_between start start ∷ []) counts
 turns-untouched old told mid new served before counts start end turns counted gave back_none gave_none got_back same =
-    subst (λ e. Turns old new (served ++ connected start e ∷ []) counts) same
+    subst (λ e. Turns old new (served ++ connection_between start e ∷ []) counts) same
     (turns-next old told mid new served before counts start end turns counted gave back_none gave_none got_back)
 
 -- ---- the connections one after another

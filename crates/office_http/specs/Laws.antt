@@ -5,7 +5,7 @@ use Rattle.office_machine.specs.Office.{Office, side_at}
 use Rattle.office_machine.specs.RegisterRuns.{RegisterRuns}
 use Rattle.office_machine.specs.Repeats.{Repeats}
 use Rattle.office_machine.specs.Step.{AreSound, Run}
-use Rattle.office_machine.specs.Timing.{running}
+use Rattle.office_machine.specs.Timing.{running_plan}
 use Rattle.office_machine.specs.declared.command.Command.{Command}
 use Rattle.office_machine.specs.declared.refusal.Refusal.TheVariants.{Unavailable}
 use Rattle.office_machine.specs.declared.reply.Reply.{Reply}
@@ -77,7 +77,7 @@ pub record KeepsLaws
   pub sound : AreSound before (asked_in requests) replies after run
   pub street : (id : ℕ) → StreetLaws (side_at after id).committed
   pub running : (id : ℕ)
-      → (side_at after id).committed ≡ running id (side_at before id).committed before
+      → (side_at after id).committed ≡ running_plan id (side_at before id).committed before
       (asked_in requests) replies after run
   pub register : RegisterRuns before (asked_in requests) replies after run
   pub repeats : Repeats before (asked_in requests) replies after run

@@ -7,7 +7,7 @@ use Rattle.office_http.specs.declared.listening.ListenCounts.{ListenCounts}
 use Rattle.office_http.specs.declared.listening.ServeStop.{ServeStop}
 use Rattle.office_http.specs.declared.listening.ServeStop.TheVariants as stop
 use Rattle.office_http_framing.specs.Asks.{OnlyAsks}
-use Rattle.office_http_framing.specs.Ends.{no_calls, raised}
+use Rattle.office_http_framing.specs.Ends.{no_calls, raised_count}
 use Rattle.office_http_framing.specs.Limits.{longest_request}
 use Rattle.office_http_framing.specs.Serve.{Did, Ends, TellsFault}
 use Rattle.office_http_framing.specs.Stops.{KeepsState, Storage, moment_of}
@@ -22,16 +22,16 @@ connection_limit = 10000
 
 -- the counts after a call that gave a connection; at its largest value a count stays
 abbrev pub one_accepted : ListenCounts → ListenCounts
-one_accepted c = record { accepted = raised c.accepted; failures = c.failures }
+one_accepted c = record { accepted = raised_count c.accepted; failures = c.failures }
 
 -- the counts after a call that failed
 abbrev pub one_failed : ListenCounts → ListenCounts
-one_failed c = record { accepted = c.accepted; failures = raised c.failures }
+one_failed c = record { accepted = c.accepted; failures = raised_count c.failures }
 
 -- the counts after a call with this outcome
-abbrev pub listened : {C E : Type 0} → Result C E → ListenCounts → ListenCounts
-listened (Ok connection) c = one_accepted c
-listened (Err e) c = one_failed c
+abbrev pub listen_counts_after : {C E : Type 0} → Result C E → ListenCounts → ListenCounts
+listen_counts_after (Ok connection) c = one_accepted c
+listen_counts_after (Err e) c = one_failed c
 
 -- the counts before the first call
 abbrev pub no_listening : ListenCounts
@@ -66,8 +66,8 @@ pub record Connected : Type 0 where
   pub end : Ends
 
 -- a connection that was given so, and given back so
-abbrev pub connected : Ends → Ends → Connected
-connected start end = record { start = start; end = end }
+abbrev pub connection_between : Ends → Ends → Connected
+connection_between start end = record { start = start; end = end }
 
 -- the listener gave these connections and got them back, and counted so many calls
 pub record Turns
@@ -87,7 +87,7 @@ EndsListening count old new served (Err stop.Accept) =
     × Turns old new served (one_failed (more_accepted (length served) old.counts))
 EndsListening count old new served (Err stop.NoMemory) =
     (length served < count) × (same : Ends)
-    × Turns old new (served ++ connected same same ∷ [])
+    × Turns old new (served ++ connection_between same same ∷ [])
     (more_accepted (suc (length served)) old.counts)
 
 -- as many connections were served as were asked for, or no more where the serving ended before

@@ -63,7 +63,7 @@ impl FromListener {
 /// The two ends of a connection, of which no read and no write waits longer than `LONGEST_WAIT`. It
 /// sends each answer at once, however short it is; where the system refuses that, answers may be
 /// held back for a moment, and no more.
-fn opened(
+fn open_ends(
     stream: TcpStream,
     listener: RawFd,
 ) -> io::Result<Connection<ConnectionReader, ToWrite<WaitsOnce<TcpStream>>>>
@@ -93,7 +93,7 @@ impl Listen for FromListener {
         &mut self,
     ) -> io::Result<Connection<ConnectionReader, ToWrite<WaitsOnce<TcpStream>>>> {
         let outcome = match self.listener.accept() {
-            Ok((stream, _)) => opened(stream, self.listener.as_raw_fd()),
+            Ok((stream, _)) => open_ends(stream, self.listener.as_raw_fd()),
             Err(error) => Err(error),
         };
         self.counts.count(&outcome);

@@ -12,8 +12,8 @@ ghost use Rattle.office_http.specs.Listening.{
   EndsListening,
   Listens,
   ServesConnection,
-  connected,
-  listened,
+  connection_between,
+  listen_counts_after,
 };
 
 use crate::service::serve;
@@ -38,7 +38,7 @@ pub struct ListenCounts {
 impl ListenCounts {
     /// Counts one more call.
     pub fn count<C>(&mut self, outcome: &io::Result<C>)
-        ensures { self.new ≡ listened outcome.now self.old }
+        ensures { self.new ≡ listen_counts_after outcome.now self.old }
     {
         match outcome {
             Ok(_) => self.accepted = self.accepted.saturating_add(1),
@@ -59,7 +59,7 @@ pub trait Listen {
     ghost use Rattle.std.specs.Prelude.{[], ◌∷◌, MatchResult};
     ghost use Rattle.office_http_framing.specs.Ends.{no_calls};
     ghost use Rattle.office_http_framing.specs.Serve.{ends_of};
-    ghost use Rattle.office_http.specs.Listening.{GrewBy, Listening, listened};
+    ghost use Rattle.office_http.specs.Listening.{GrewBy, Listening, listen_counts_after};
 
     type Reader: Source;
 
@@ -70,7 +70,8 @@ pub trait Listen {
 
     /// Waits for the next connection, of which nothing was read or written yet.
     fn accept(&mut self) -> io::Result<Connection<Self::Reader, Self::Writer>>
-        ensures counts { (told self.new).counts ≡ listened result (told self.old).counts }
+        ensures counts { (told self.new).counts
+            ≡ listen_counts_after result (told self.old).counts }
         ensures given { MatchResult result
             (λ c. GrewBy (told self.old).given (told self.new).given
             (ends_of (Self.Reader.told c.reader) (Self.Writer.told c.writer) ∷ []))
@@ -118,7 +119,8 @@ fn serve_connection<S: Shelf, R: Source, W: Sink>(
         S.is_clean office.new →
         (before : OfficeState) (tables : Content) → KeepsState storage office.old tables before →
         OnOk result ((after : OfficeState) × (kept : Content)
-        × ServesConnection storage office.old tables before office.new kept after (connected
+        × ServesConnection storage office.old tables before office.new kept after
+        (connection_between
         (ends_of (R.told connection.old.reader) (W.told connection.old.writer))
         (ends_of (R.told connection.new.reader) (W.told connection.new.writer)))) }
     // Where its buffer was refused, nothing was touched.

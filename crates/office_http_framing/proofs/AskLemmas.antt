@@ -3,7 +3,7 @@ use Rattle.std.proofs.Common.{◌≡◌, ℕ, zero, suc, ◌<◌, List, [], ◌�
 use Rattle.std.proofs.lemmas.Bool.Decides.{nat_tests}
 use Rattle.std.specs.Prelude.{nat_lt, if◌then◌else◌}
 use Rattle.std.specs.Io.KnownBytes.{Consumes}
-use Rattle.office_http_framing.specs.{Asks.Asks, Asks.IsAwaited, Asks.OnlyAsks, Asks.GivesWayBetween, Ends.NoneStops, Ends.Told, Ends.raised, Front.PlainRequest, Front.BeginsWithRequest, Front.IsIncomplete, Stream.left_after, Stream.BeginsWith}
+use Rattle.office_http_framing.specs.{Asks.Asks, Asks.IsAwaited, Asks.OnlyAsks, Asks.GivesWayBetween, Ends.NoneStops, Ends.Told, Ends.raised_count, Front.PlainRequest, Front.BeginsWithRequest, Front.IsIncomplete, Stream.left_after, Stream.BeginsWith}
 use Rattle.office_http_framing.specs.declared.ends.Counts.{Counts}
 use Rattle.office_http_framing.proofs.StreamLemmas.{BeginsWith-append, BeginsWith-next}
 
@@ -27,7 +27,7 @@ pub asks-start : {Source : Type 0} (told : Source → Told) (limit : ℕ) (first
 asks-start told limit first = record { calls = 0; given = []; requests = []; asks = (refl, refl); begins = (refl, refl) }
 
 pub begins-between : (limit left : ℕ) (given held : List ℕ) (requests : List PlainRequest) (old new : Counts) → BeginsWith limit given requests held left
-    → new.next_reads ≡ (if nat_lt 0 (length held) then old.next_reads else raised old.next_reads) → GivesWayBetween limit given old new
+    → new.next_reads ≡ (if nat_lt 0 (length held) then old.next_reads else raised_count old.next_reads) → GivesWayBetween limit given old new
 begins-between limit left given [] requests old new begins counts = inr (requests, left, begins)
 begins-between limit left given (x ∷ xs) requests old new begins counts = inl (grind (arith, nat_tests, counts))
 
@@ -48,8 +48,8 @@ module _ {Source : Type 0} (told : Source → Told) (limit left : ℕ) (held : L
 
   -- one call more, while a request is awaited
   pub asks-more : (next : Source) (piece held' : List ℕ) → 0 < left → IsIncomplete held → NoneStops (told first).counts (told source).counts → Consumes (told source).bytes (told next).bytes piece
-      → (told next).counts.calls ≡ raised (told source).counts.calls
-      → (told next).counts.next_reads ≡ (if nat_lt 0 (length held) then (told source).counts.next_reads else raised (told source).counts.next_reads) → held' ≡ held ++ piece → AsksSoFar told limit left held' first next
+      → (told next).counts.calls ≡ raised_count (told source).counts.calls
+      → (told next).counts.next_reads ≡ (if nat_lt 0 (length held) then (told source).counts.next_reads else raised_count (told source).counts.next_reads) → held' ≡ held ++ piece → AsksSoFar told limit left held' first next
   asks-more next piece held' some incomplete none_stops reads counts next_reads same_held =
       subst (λ h. AsksSoFar told limit left h first next) (sym same_held)
       (record {

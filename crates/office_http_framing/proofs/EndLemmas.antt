@@ -3,7 +3,7 @@ use Rattle.std.proofs.Common.{◌≡◌, ◌∙◌, ℕ, ◌≤◌, ap, cond, in
 use Rattle.std.specs.Prelude.{◌==◌, ◌⊎◌, Result, Ok, Err, true, false}
 use Rattle.std.specs.Result.{is_err}
 use Rattle.std.proofs.lemmas.Bool.{cases_lt, Decides.nat_tests}
-use Rattle.office_http_framing.specs.{declared.ends.Counts.Counts, Ends.count_limit, Ends.raised, Ends.Rose, Ends.Grows}
+use Rattle.office_http_framing.specs.{declared.ends.Counts.Counts, Ends.count_limit, Ends.raised_count, Ends.Rose, Ends.Grows}
 use Rattle.office_http_framing.specs.Ends.{NoneStops, OneFails, OneIsEmpty, StopsAtOnce}
 
 pub Grows-refl : (c : Counts) → Grows c c
@@ -21,10 +21,10 @@ NoneStops-trans x y = record { failures = y.failures ∙ x.failures; empties = y
 
 -- and then one that does
 pub then-fails : {a b c : Counts} → NoneStops a b → OneFails b c → OneFails a c
-then-fails x y = record { failures = y.failures ∙ ap raised x.failures; empties = y.empties ∙ x.empties }
+then-fails x y = record { failures = y.failures ∙ ap raised_count x.failures; empties = y.empties ∙ x.empties }
 
 pub then-is-empty : {a b c : Counts} → NoneStops a b → OneIsEmpty b c → OneIsEmpty a c
-then-is-empty x y = record { failures = y.failures ∙ x.failures; empties = y.empties ∙ ap raised x.empties }
+then-is-empty x y = record { failures = y.failures ∙ x.failures; empties = y.empties ∙ ap raised_count x.empties }
 
 pub then-stops : {a b c : Counts} → NoneStops a b → OneFails b c ⊎ OneIsEmpty b c → OneFails a c ⊎ OneIsEmpty a c
 then-stops x y = elim y [ inl fails ↦ inl (then-fails x fails) | inr empty ↦ inr (then-is-empty x empty) ]
@@ -44,7 +44,7 @@ Rose-after a b c grows (inl below) = inl (omega arith)
 Rose-after a b c grows (inr full) = inr full
 
 -- a call that answered 0 bytes is seen
-pub Rose-empty : (old new n : ℕ) → n ≡ 0 → new ≡ cond (n == 0) (raised old) old → Rose old new
+pub Rose-empty : (old new n : ℕ) → n ≡ 0 → new ≡ cond (n == 0) (raised_count old) old → Rose old new
 Rose-empty old new n zero is = elim (cases_lt old count_limit) [
   | inl below ↦ inl (grind (arith, nat_tests))
   | inr full ↦ inr (grind (arith, nat_tests))

@@ -4,7 +4,7 @@ use Rattle.std.specs.Prelude.{Option, Some, None, Result, Ok, Err, MatchResult, 
 use Rattle.std.specs.{Result.is_err, List.concat, Io.KnownBytes.Appends, Io.KnownBytes.Consumes, Io.KnownBytes.Keeps}
 use Rattle.std.proofs.KnownBytes.{Consumes-nil, Consumes-trans, Appends-nil, Appends-trans}
 use Rattle.std.proofs.lemmas.List.{append-nil, length-append, take-append-le, take_all}
-use Rattle.office_http_framing.specs.{declared.engine.Served.Served, declared.engine.ServeFault.ServeFault, Ends.AppendsPart, Ends.NoneStops, Ends.Told, Ends.raised, Front.PlainRequest, Front.BeginsWithRequest, Front.IsIncomplete, Protocol.Protocol, Stream.left_after, Stream.unfinished, Stream.AreRequests, Stream.BeginsWith}
+use Rattle.office_http_framing.specs.{declared.engine.Served.Served, declared.engine.ServeFault.ServeFault, Ends.AppendsPart, Ends.NoneStops, Ends.Told, Ends.raised_count, Front.PlainRequest, Front.BeginsWithRequest, Front.IsIncomplete, Protocol.Protocol, Stream.left_after, Stream.unfinished, Stream.AreRequests, Stream.BeginsWith}
 use Rattle.office_http_framing.specs.Asks.{Asks, OwesNoAnswer}
 use Rattle.office_http_framing.specs.Serve.{BreaksOff, Did, Ends, EndsBy, Runs, SinkTook, ends_of, told_requests}
 use Rattle.office_http_framing.specs.declared.engine.ServeFault.TheVariants as stop
@@ -95,8 +95,8 @@ owes-none-now limit left requests answers old new given held as_many begins some
 module _ (runs : Runs) (limit count left : ℕ) (held : List ℕ) (start now : Ends) (so_far : Progress runs limit count left held start now) where
   -- the source was called while a request was awaited, and gave these bytes
   pub Progress-more : (source' : Told) (piece held' : List ℕ) → 0 < left → IsIncomplete held → NoneStops start.source.counts now.source.counts
-      → Consumes now.source.bytes source'.bytes piece → source'.counts.calls ≡ raised now.source.counts.calls
-      → source'.counts.next_reads ≡ (if nat_lt 0 (length held) then now.source.counts.next_reads else raised now.source.counts.next_reads)
+      → Consumes now.source.bytes source'.bytes piece → source'.counts.calls ≡ raised_count now.source.counts.calls
+      → source'.counts.next_reads ≡ (if nat_lt 0 (length held) then now.source.counts.next_reads else raised_count now.source.counts.next_reads)
       → held' ≡ held ++ piece → Progress runs limit count left held' start (ends_of source' now.sink)
   Progress-more source' piece held' some incomplete none_stops reads counts next_reads same_held =
       subst (λ h. Progress runs limit count left h start (ends_of source' now.sink)) (sym same_held)

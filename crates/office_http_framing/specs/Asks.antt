@@ -2,7 +2,7 @@
 use Rattle.std.specs.Prelude.{◌≡◌, ℕ, zero, suc, ◌≤◌, ◌⊎◌, List, [], ◌++◌, length, take, Option}
 use Rattle.std.specs.List.{concat}
 use Rattle.std.specs.Io.KnownBytes.{Appends, Consumes}
-use Rattle.office_http_framing.specs.Ends.{NoneStops, Told, raised}
+use Rattle.office_http_framing.specs.Ends.{NoneStops, Told, raised_count}
 use Rattle.office_http_framing.specs.declared.ends.Counts.{Counts}
 use Rattle.office_http_framing.specs.Front.{PlainRequest}
 use Rattle.office_http_framing.specs.Stream.{unfinished, AreRequests, BeginsWith}
@@ -27,7 +27,7 @@ pub record OwesNoAnswer
 -- one call of the source, which counts it, gave these bytes; none where it failed or is at its end
 pub record OneRead {Source : Type 0} (told : Source → Told) (old new : Source) (piece : List ℕ) : Type 0 where
   pub reads : Consumes (told old).bytes (told new).bytes piece
-  pub calls : (told new).counts.calls ≡ raised (told old).counts.calls
+  pub calls : (told new).counts.calls ≡ raised_count (told old).counts.calls
 
 -- these bytes are whole requests, one after another, and no byte more
 abbrev pub IsBetween : ℕ → List ℕ → Type 0

@@ -8,8 +8,8 @@ abbrev pub count_limit : ℕ
 count_limit = 2 ^ 64 - 1
 
 -- a count after one more; at its largest value it stays
-abbrev pub raised : ℕ → ℕ
-raised n = if nat_lt n count_limit then n + 1 else n
+abbrev pub raised_count : ℕ → ℕ
+raised_count n = if nat_lt n count_limit then n + 1 else n
 
 -- the call failed
 abbrev pub is_failure : {E : Type 0} → Result ℕ E → Bool
@@ -22,21 +22,21 @@ is_empty (Ok n) = n == 0
 is_empty (Err e) = false
 
 -- the counts after a call with this outcome
-abbrev pub tallied : {E : Type 0} → Result ℕ E → Counts → Counts
-tallied outcome c = record {
-  calls = raised c.calls;
-  failures = if is_failure outcome then raised c.failures else c.failures;
-  empties = if is_empty outcome then raised c.empties else c.empties;
+abbrev pub call_counts_after : {E : Type 0} → Result ℕ E → Counts → Counts
+call_counts_after outcome c = record {
+  calls = raised_count c.calls;
+  failures = if is_failure outcome then raised_count c.failures else c.failures;
+  empties = if is_empty outcome then raised_count c.empties else c.empties;
   next_reads = c.next_reads;
 }
 
 -- the counts after a read of a request with this outcome; a read of a next request, of which no byte is buffered, is counted as such too
 abbrev pub tallied_at : {E : Type 0} → (is_begun : Bool) → Result ℕ E → Counts → Counts
 tallied_at is_begun outcome c = record {
-  calls = raised c.calls;
-  failures = if is_failure outcome then raised c.failures else c.failures;
-  empties = if is_empty outcome then raised c.empties else c.empties;
-  next_reads = if is_begun then c.next_reads else raised c.next_reads;
+  calls = raised_count c.calls;
+  failures = if is_failure outcome then raised_count c.failures else c.failures;
+  empties = if is_empty outcome then raised_count c.empties else c.empties;
+  next_reads = if is_begun then c.next_reads else raised_count c.next_reads;
 }
 
 -- the counts before the first call
@@ -65,13 +65,13 @@ pub record NoneStops (old new : Counts) : Type 0 where
 
 -- one call between these counts failed, and none moved no byte
 pub record OneFails (old new : Counts) : Type 0 where
-  pub failures : new.failures ≡ raised old.failures
+  pub failures : new.failures ≡ raised_count old.failures
   pub empties : new.empties ≡ old.empties
 
 -- one call between these counts moved no byte, and none failed
 pub record OneIsEmpty (old new : Counts) : Type 0 where
   pub failures : new.failures ≡ old.failures
-  pub empties : new.empties ≡ raised old.empties
+  pub empties : new.empties ≡ raised_count old.empties
 
 -- The calls of a write of all the bytes: none failed or took no byte; or, on an error, one alone,
 -- after which the sink was not called again.

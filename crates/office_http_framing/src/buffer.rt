@@ -72,7 +72,7 @@ impl Buffer {
         })
     }
 
-    pub(crate) fn held(&self) -> &[u8]
+    pub(crate) fn content(&self) -> &[u8]
         ensures bytes { result.now ≡ self.now }
         ensures bound { length self.now ≤ BUFFER_LEN }
     {

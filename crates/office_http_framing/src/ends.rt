@@ -20,7 +20,7 @@ pub struct Counts {
 }
 
 impl Counts {
-    ghost use Rattle.office_http_framing.specs.Ends.{tallied, tallied_at};
+    ghost use Rattle.office_http_framing.specs.Ends.{call_counts_after, tallied_at};
     ghost use Rattle.std.specs.Prelude.{false};
 
     /// Counts one more read of a next request.
@@ -33,7 +33,7 @@ impl Counts {
 
     /// Counts one more call.
     pub fn count(&mut self, outcome: &io::Result<usize>)
-        ensures { self.new ≡ tallied outcome.now self.old }
+        ensures { self.new ≡ call_counts_after outcome.now self.old }
     {
         self.calls = self.calls.saturating_add(1);
         match outcome {
@@ -47,7 +47,7 @@ impl Counts {
 /// Where the bytes of a stream come from, seen as those bytes and as the counts of its calls.
 pub trait Source {
     ghost use Rattle.std.specs.Prelude.{false};
-    ghost use Rattle.office_http_framing.specs.Ends.{Told, tallied, tallied_at};
+    ghost use Rattle.office_http_framing.specs.Ends.{Told, call_counts_after, tallied_at};
 
     // The bytes that reads will give from here on, where they are known, and the counts.
     ghost told: { Self → Told };
@@ -58,7 +58,7 @@ pub trait Source {
         requires { 0 < length buf.old }
         ensures bound { ReadsAtMost result buf.new }
         ensures bytes { ReadConsumes (told self.old).bytes (told self.new).bytes result buf.new }
-        ensures counts { (told self.new).counts ≡ tallied result (told self.old).counts };
+        ensures counts { (told self.new).counts ≡ call_counts_after result (told self.old).counts };
 
     /// Reads the first bytes of the next request, none of which is buffered: as `read`, but here a
     /// source may give way to another client, and answers 0 bytes then.
@@ -72,7 +72,7 @@ pub trait Source {
 
 /// Where the answers go, seen as the bytes that it took and as the counts of its calls.
 pub trait Sink {
-    ghost use Rattle.office_http_framing.specs.Ends.{Told, tallied};
+    ghost use Rattle.office_http_framing.specs.Ends.{Told, call_counts_after};
 
     // The bytes that the sink holds, where they are known, and the counts.
     ghost told: { Self → Told };
@@ -83,7 +83,7 @@ pub trait Sink {
         requires { 0 < length buf.now }
         ensures bound { WritesAtMost result buf.now }
         ensures bytes { WriteAppends (told self.old).bytes (told self.new).bytes result buf.now }
-        ensures counts { (told self.new).counts ≡ tallied result (told self.old).counts };
+        ensures counts { (told self.new).counts ≡ call_counts_after result (told self.old).counts };
 }
 
 /// A source of any reader.

@@ -125,7 +125,7 @@ pub fn serve<Tools, M: Machine<Tools>, R: Source, W: Sink>(
     let mut requests = 0;
     let mut left = max_requests;
     while left > 0 {
-        match next_request(buffer.held()) {
+        match next_request(buffer.content()) {
             Front::Whole { request, length } => {
                 let last = request.last;
                 requests += 1;

@@ -13,8 +13,8 @@ or_bad_row (Ok x) = Ok x
 or_bad_row (Err fault) = Err (ask_fault fault)
 
 -- a value of a body that is lent, as a definition sees it, or the fault
-abbrev pub lent : {A B : Type 0} → (A → B) → Result A AskFault → Result B AskFault
-lent see = result_map_both see (λ fault. fault)
+abbrev pub lent_value : {A B : Type 0} → (A → B) → Result A AskFault → Result B AskFault
+lent_value see = result_map_both see (λ fault. fault)
 
 -- the result is the wanted one, or says that there was no memory
 abbrev pub Gives : {A : Type 0} → Result A AskFault → Result A AskFault → Type 0

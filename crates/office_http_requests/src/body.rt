@@ -2,7 +2,7 @@
 ghost use Rattle.std.specs.Prelude.{◌≡◌, option_map, IfErr, IfOk, IsOk};
 ghost use Rattle.serde_json.specs.View.{view};
 ghost use Rattle.json.specs.Word.{is_space as space_byte};
-ghost use Rattle.office_http_requests.specs.FaultsInOrder.{Gives, WantsMemoryOnlyIf, lent};
+ghost use Rattle.office_http_requests.specs.FaultsInOrder.{Gives, WantsMemoryOnlyIf, lent_value};
 ghost use Rattle.office_http_requests.specs.Bodies.{number_in, text_in, ranged_in, words_in, day_in, part_in, body_of, data_of, opens_object as opens, IsBodyTold, MayBeObject};
 ghost use Rattle.cabinet_core.specs.Part.{IsPartCode};
 ghost use Rattle.signal_values.specs.Words.{AreWords};
@@ -48,7 +48,7 @@ fn object_of(read: Result<Value, Error>, bytes: &[u8]) -> Result<Value, AskFault
 }
 
 /// What is reported of a body of a request: none is no object.
-pub(crate) fn given(alloc: Global, bytes: &[u8]) -> Result<Value, AskFault>
+pub(crate) fn read_object(alloc: Global, bytes: &[u8]) -> Result<Value, AskFault>
     ensures gives { Gives (data_of result) (body_of bytes.now) }
     ensures memory { WantsMemoryOnlyIf result (MayBeObject bytes.now) }
 {
@@ -102,7 +102,7 @@ pub(crate) fn number<Of, const LOW: u32, const HIGH: u32>(
 /// The text under a key, where it is words of at most so many bytes. It takes no memory.
 #[tactic(auto, unfolding(crate::specs::Bodies::words_in))]
 pub(crate) fn words_text<const MAX: usize>(body: &Value, field: Field) -> Result<&str, AskFault>
-    ensures text { lent (λ text. text.now) result ≡ words_in MAX (view body.now) field }
+    ensures text { lent_value (λ text. text.now) result ≡ words_in MAX (view body.now) field }
     ensures words { IfOk result (λ text. AreWords MAX text.now) }
     ensures fault { IfErr result (λ fault. fault ≡ AskFault.Field field) }
 {
@@ -136,7 +136,7 @@ pub(crate) fn day(body: &Value) -> Result<Day, AskFault>
 /// The text under its key, where it is the code of a part. It takes no memory.
 #[tactic(auto, unfolding(crate::specs::Bodies::part_in))]
 fn part_text(body: &Value) -> Result<&str, AskFault>
-    ensures text { lent (λ text. text.now) result ≡ part_in (view body.now) }
+    ensures text { lent_value (λ text. text.now) result ≡ part_in (view body.now) }
     ensures code { IfOk result (λ text. IsPartCode text.now) }
     ensures fault { IfErr result (λ fault. fault ≡ AskFault.Field Field.Part) }
 {

@@ -58,7 +58,7 @@ fn told_of_body(alloc: Global, endpoint: Endpoint, bytes: &[u8]) -> Result<Value
     if !endpoint.takes_body() {
         return Err(AskFault::Json);
     }
-    body::given(alloc, bytes)
+    body::read_object(alloc, bytes)
 }
 
 /// What a request asks, or the first fault, by a table of routes that is made for it alone.

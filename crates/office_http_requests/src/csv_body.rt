@@ -1,7 +1,7 @@
 //! The CSV text of a body, and what its records spell.
 ghost use Rattle.std.specs.Prelude.{◌≡◌};
 ghost use Rattle.serde_json.specs.View.{view};
-ghost use Rattle.office_http_requests.specs.FaultsInOrder.{MayWant, WantsMemoryOnlyIf, lent};
+ghost use Rattle.office_http_requests.specs.FaultsInOrder.{MayWant, WantsMemoryOnlyIf, lent_value};
 ghost use Rattle.office_http_requests.specs.CsvBodies.{csv_in, csv_changes_in, csv_records_in, GivesList};
 
 use crate::body;
@@ -15,7 +15,7 @@ use std::alloc::Global;
 
 // The CSV text under its key.
 fn text(body: &Value) -> Result<&str, AskFault>
-    ensures { lent (λ csv. csv.now) result ≡ csv_in (view body.now) }
+    ensures { lent_value (λ csv. csv.now) result ≡ csv_in (view body.now) }
 {
     body::text(body, Field::Csv).ok_or(AskFault::Field(Field::Csv))
 }

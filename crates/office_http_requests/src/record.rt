@@ -51,7 +51,7 @@ pub(crate) fn opening(alloc: Global, body: &Value) -> Result<Opening, AskFault>
 
 /// A part that is used for an order.
 #[tactic(auto, unfolding(crate::specs::Recording::used_in))]
-pub(crate) fn used(alloc: Global, order: RecordNo, body: &Value) -> Result<UsedLine, AskFault>
+pub(crate) fn used_part(alloc: Global, order: RecordNo, body: &Value) -> Result<UsedLine, AskFault>
     ensures gives { Gives result (used_in order (view body.now)) }
     ensures memory { WantsMemoryOnlyIf result (IsOk (used_in order (view body.now))) }
 {
@@ -68,7 +68,7 @@ pub(crate) fn used(alloc: Global, order: RecordNo, body: &Value) -> Result<UsedL
 
 /// What closes an order.
 #[tactic(auto, unfolding(crate::specs::Recording::closing_in))]
-pub(crate) fn closing(alloc: Global, body: &Value) -> Result<Closing, AskFault>
+pub(crate) fn order_closing(alloc: Global, body: &Value) -> Result<Closing, AskFault>
     ensures gives { Gives result (closing_in (view body.now)) }
     ensures memory { WantsMemoryOnlyIf result (IsOk (closing_in (view body.now))) }
 {

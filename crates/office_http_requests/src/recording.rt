@@ -79,7 +79,7 @@ fn use_part(
     let id = path::id(path)?;
     let order = path::order(path)?;
     let body = body?;
-    let line = record::used(alloc, order, &body)?;
+    let line = record::used_part(alloc, order, &body)?;
     Ok(RecordCommand::UsePart { id, line })
 }
 
@@ -96,7 +96,7 @@ fn close_order(
     let id = path::id(path)?;
     let order = path::order(path)?;
     let body = body?;
-    let closing = record::closing(alloc, &body)?;
+    let closing = record::order_closing(alloc, &body)?;
     Ok(RecordCommand::CloseOrder { id, order, closing })
 }
 

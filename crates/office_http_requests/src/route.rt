@@ -199,13 +199,13 @@ impl Routes {
             return Err(AskFault::NoRoute);
         };
         match self.router.at(path) {
-            Ok(found) => Ok(copied(found.value)),
+            Ok(found) => Ok(copy_endpoint(found.value)),
             Err(_) => Err(AskFault::NoRoute),
         }
     }
 }
 
-fn copied(endpoint: &Endpoint) -> Endpoint
+fn copy_endpoint(endpoint: &Endpoint) -> Endpoint
     ensures { result ≡ endpoint.now }
 {
     *endpoint

@@ -12,7 +12,7 @@ ghost use Rattle.office_lives.specs.Life.{Life, Made, command_to_a_stop, in_orde
 
 use crate::ending::left_after;
 use crate::lives::{MOST, Outcome, served_once};
-use crate::stopping::stopped;
+use crate::stopping::stop_office;
 use office_http::{Sink, Source};
 use signal_office_faults::Fault;
 use signal_office_file::{FileLeft, done_in, open_file};
@@ -52,7 +52,7 @@ pub fn served_after_a_command<D: Crash + Drop, Done: Drop, T: OfficeTask<Done>, 
         return None;
     };
     let (office, done) = task.done_with(rt, alloc, office, out);
-    let files = stopped(office);
+    let files = stop_office(office);
     let (outcome, files) = served_once(alloc, files, reader, writer)?;
     Some(CutShort {
         done,

@@ -11,7 +11,7 @@ ghost use Rattle.office_lives.specs.Life.{IsNumbered, Made, in_order, unclosed};
 
 use crate::ending::left_after;
 use crate::lives::{MOST, Outcome, served_once};
-use crate::stopping::abandoned;
+use crate::stopping::abandon_files;
 use office_http::{Sink, Source};
 use signal_office_file::{FileLeft, answered_in};
 use sqlite::Options;
@@ -51,7 +51,7 @@ pub fn served_over<D: Crash + Drop, R: Source, W: Sink>(
         (ends_of (R.told reader.new) (W.told writer.new)) it.0) found last
         × KeepTables D.Disk it.1 last) }
 {
-    let files = abandoned(left)?;
+    let files = abandon_files(left)?;
     let (outcome, files) = served_once(alloc, files, reader, writer)?;
     Some((outcome, files))
 }

@@ -9,7 +9,7 @@ ghost use Rattle.signal_office_file.specs.Files.{HoldIn, KeepTables};
 ghost use Rattle.office_lives.specs.Life.{HoldFormerly, Life, Made, in_order, migrated, to_a_stop};
 
 use crate::ending::closed_after;
-use crate::stopping::stopped;
+use crate::stopping::stop_office;
 use office_http::{ServeFault, Served, Sink, Source};
 use signal_office_file::{answered_in, migrate_file, serve_file};
 use signal_office_in_file::Ended;
@@ -110,7 +110,7 @@ pub fn served_after_a_stop<D: Crash + Drop, R: Source, W: Sink>(
     let Ok((office, first)) = served else {
         return None;
     };
-    let files = stopped(office);
+    let files = stop_office(office);
     let (second, files) = served_once(alloc, files, second_reader, second_writer)?;
     Some(Twice {
         first,

@@ -21,7 +21,7 @@ use sqlite::{Alter, Connection, FileStore};
 use sqlite_disk::{Crash, Files};
 
 /// The files of a store as the next run finds them.
-fn crashed<D: Crash + Drop>(store: FileStore<D>) -> Files<D>
+fn crash_files<D: Crash + Drop>(store: FileStore<D>) -> Files<D>
     ensures clean { AreClean D.Disk result.log result.db → IsClean (view store) }
     // What an open finds in them is what a stop may leave.
     ensures found { AreClean D.Disk result.log result.db → IsTrue (view store).is_numbered →
@@ -40,7 +40,7 @@ fn cut_off<D: Crash + Drop>(conn: Connection<FileStore<D>>) -> Files<D>
     ensures found { AreClean D.Disk result.log result.db → (trees : Trees) →
         AreThoseOf (image_of D.Disk result) trees → ∥ (file_state conn).may_leave trees ∥₁ }
 {
-    crashed(conn.into_store())
+    crash_files(conn.into_store())
 }
 
 /// The connection of an office over tables in SQL.
@@ -52,7 +52,7 @@ fn conn_of<S: Alter + Drop>(office: Office<SqlShelf<S>>) -> Connection<S>
 }
 
 /// Stops an office, at whichever call its disk fell silent: the files as the next run finds them.
-pub(crate) fn stopped<D: Crash + Drop>(office: FileOffice<D>) -> Files<D>
+pub(crate) fn stop_office<D: Crash + Drop>(office: FileOffice<D>) -> Files<D>
     ensures clean { AreClean D.Disk result.log result.db →
         HasCleanDisk (file_state office.conn) }
     // What an open finds in them is what a stop may leave.
@@ -65,7 +65,7 @@ pub(crate) fn stopped<D: Crash + Drop>(office: FileOffice<D>) -> Files<D>
 }
 
 /// The files that could not be closed, as the next run finds them after the process ended.
-pub(crate) fn abandoned<D: Crash + Drop>(left: FileLeft<D>) -> Option<Files<D>>
+pub(crate) fn abandon_files<D: Crash + Drop>(left: FileLeft<D>) -> Option<Files<D>>
     ensures clean { IfSome result (λ files. AreClean D.Disk files.log files.db →
         IsCleanFile left) }
     ensures found { IfSome result (λ files. AreClean D.Disk files.log files.db →
@@ -75,6 +75,6 @@ pub(crate) fn abandoned<D: Crash + Drop>(left: FileLeft<D>) -> Option<Files<D>>
     let back = left.database()?;
     match back {
         Ok(conn) => Some(cut_off(conn)),
-        Err(store) => Some(crashed(store)),
+        Err(store) => Some(crash_files(store)),
     }
 }

@@ -14,14 +14,14 @@ pub record RefusalLine : Type 0 where
   pub status : ℕ
 
 -- number and name: the transaction and the register have tables of their own
-abbrev pub named : Refusal → ℕ × List ℕ
-named UnknownIntersection = (10, codes "UnknownIntersection")
-named IntersectionDiffers = (11, codes "IntersectionDiffers")
-named (Draft why) = draft_line why
-named (Cabinet why) = record_line why
-named (ImportRow at cause) = (30, codes "ImportRow")
-named Unavailable = (90, codes "Unavailable")
-named Damaged = (91, codes "Damaged")
+abbrev pub number_and_name : Refusal → ℕ × List ℕ
+number_and_name UnknownIntersection = (10, codes "UnknownIntersection")
+number_and_name IntersectionDiffers = (11, codes "IntersectionDiffers")
+number_and_name (Draft why) = draft_line why
+number_and_name (Cabinet why) = record_line why
+number_and_name (ImportRow at cause) = (30, codes "ImportRow")
+number_and_name Unavailable = (90, codes "Unavailable")
+number_and_name Damaged = (91, codes "Damaged")
 
 -- the status code: want of memory has that of Unavailable, wherever it is reported
 abbrev pub status_of : Refusal → ℕ
@@ -35,4 +35,4 @@ status_of why = 409
 
 -- a refusal's line of the table: its number, its name and the status code of an answer that shows it
 abbrev pub line_of : Refusal → RefusalLine
-line_of why = record { number = (named why).0; name = (named why).1; status = status_of why }
+line_of why = record { number = (number_and_name why).0; name = (number_and_name why).1; status = status_of why }

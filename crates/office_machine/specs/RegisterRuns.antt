@@ -48,11 +48,11 @@ abbrev pub accepted_of : Office → Command → Reply → List RecordCommand
 accepted_of office command reply = cond (is_accepted reply) (records_asked office command) []
 
 -- the records that were brought in over a run, in their order
-abbrev pub accepted : (first : Office) (commands : List Command) (replies : List Reply) (last : Office) → Run first commands replies last → List RecordCommand
-accepted first [] [] last run = []
-accepted first (command ∷ commands) (reply ∷ replies) last run = accepted_of first command reply ++ accepted run.0 commands replies last run.2
-accepted first [] (reply ∷ replies) last run = []
-accepted first (command ∷ commands) [] last run = []
+abbrev pub records_accepted : (first : Office) (commands : List Command) (replies : List Reply) (last : Office) → Run first commands replies last → List RecordCommand
+records_accepted first [] [] last run = []
+records_accepted first (command ∷ commands) (reply ∷ replies) last run = accepted_of first command reply ++ records_accepted run.0 commands replies last run.2
+records_accepted first [] (reply ∷ replies) last run = []
+records_accepted first (command ∷ commands) [] last run = []
 
 -- ---- what they make of the register
 
@@ -90,7 +90,7 @@ ShowAccepted first so_far now (command ∷ commands) [] last run = Unit {0}
 -- an order is open after it was opened, not open after it was closed, else as before; and what is on hand and what was used is what
 -- was on hand and what was received: at the end, and in each reply that shows it
 pub record RegisterRuns (first : Office) (commands : List Command) (replies : List Reply) (last : Office) (run : Run first commands replies last) : Type 0 where
-  pub orders : (id n : ℕ) → is_open_in last id n ≡ open_by id n (is_open_in first id n) (accepted first commands replies last run)
+  pub orders : (id n : ℕ) → is_open_in last id n ≡ open_by id n (is_open_in first id n) (records_accepted first commands replies last run)
   pub stock : (code : List ℕ) →
-      pieces last.register code + spent_by code (accepted first commands replies last run) ≡ pieces first.register code + received_by code (accepted first commands replies last run)
+      pieces last.register code + spent_by code (records_accepted first commands replies last run) ≡ pieces first.register code + received_by code (records_accepted first commands replies last run)
   pub shown : ShowAccepted first [] first commands replies last run

@@ -42,9 +42,9 @@ abbrev pub new_intersection : ℕ → List ℕ → Intersection
 new_intersection interval name = record { name = name; interval = interval; timing = no_timing }
 
 -- an intersection may be added once, and again with the same name and interval
-abbrev pub added : Office → ℕ → ℕ → List ℕ → Option Intersection → Reply × Office
-added office id interval name None = (Added, with_intersection office id (new_intersection interval name))
-added office id interval name (Some i) = (if bytes_eq i.name name && (i.interval == interval) then Same else Refused refusal.IntersectionDiffers, office)
+abbrev pub add_step : Office → ℕ → ℕ → List ℕ → Option Intersection → Reply × Office
+add_step office id interval name None = (Added, with_intersection office id (new_intersection interval name))
+add_step office id interval name (Some i) = (if bytes_eq i.name name && (i.interval == interval) then Same else Refused refusal.IntersectionDiffers, office)
 
 -- ---- the transaction
 
@@ -108,14 +108,14 @@ refusal_of_record cabinet.NoMemory = refusal.Unavailable
 refusal_of_record why = refusal.Cabinet why
 
 -- a line of the register's table as a reply
-abbrev pub told : Line → Reply
-told added_line = Added
-told same_line = Same
-told (refused_line why) = Refused (refusal_of_record why)
+abbrev pub reply_of : Line → Reply
+reply_of added_line = Added
+reply_of same_line = Same
+reply_of (refused_line why) = Refused (refusal_of_record why)
 
 -- a command of the register
-abbrev pub recorded : Office → RecordCommand → Reply × Office
-recorded office command = (told (line_at office.register command), record office { register = after_record office.register command })
+abbrev pub record_step : Office → RecordCommand → Reply × Office
+record_step office command = (reply_of (line_at office.register command), record office { register = after_record office.register command })
 
 -- the intersection whose cabinet a command is about; a delivery is about none
 abbrev pub cabinet_of : RecordCommand → Option ℕ
@@ -126,14 +126,14 @@ cabinet_of (register.CloseOrder id order closing) = Some id
 cabinet_of (register.Receive delivery) = None
 
 -- the intersection that a command is about has to be there
-abbrev pub known : Office → Option Intersection → Reply × Office → Reply × Office
-known office None answer = (Refused refusal.UnknownIntersection, office)
-known office (Some i) answer = answer
+abbrev pub step_if_known : Office → Option Intersection → Reply × Office → Reply × Office
+step_if_known office None answer = (Refused refusal.UnknownIntersection, office)
+step_if_known office (Some i) answer = answer
 
 -- what is answered to a command of the register about an intersection, or about none: an intersection has to be there
 abbrev pub recorded_at : Office → Option ℕ → Reply × Office → Reply × Office
 recorded_at office None answer = answer
-recorded_at office (Some id) answer = known office (get office.intersections id) answer
+recorded_at office (Some id) answer = step_if_known office (get office.intersections id) answer
 
 -- the intersection is there, or none is asked for
 abbrev pub is_known : Office → Option ℕ → Bool
@@ -162,9 +162,9 @@ import_from at added same office (c ∷ cs) =
     (import_from (at + 1) added (same + 1) office cs)
 
 -- all of the records, or none
-abbrev pub imported : Office → Result (ℕ × ℕ × Office) Refusal → Reply × Office
-imported office (Ok done) = (Imported done.0 done.1, done.2)
-imported office (Err why) = (Refused why, office)
+abbrev pub import_step : Office → Result (ℕ × ℕ × Office) Refusal → Reply × Office
+import_step office (Ok done) = (Imported done.0 done.1, done.2)
+import_step office (Err why) = (Refused why, office)
 
 -- ---- reports
 
@@ -191,7 +191,7 @@ overdue_on office day = overdue_list day (map (seen_of office.register) (entries
 
 -- the reply and the next office
 abbrev pub answered : Office → Command → Reply × Office
-answered office (command.AddIntersection id interval name) = added office id interval name (get office.intersections id)
+answered office (command.AddIntersection id interval name) = add_step office id interval name (get office.intersections id)
 answered office (command.Begin id clerk) = transacted office id (table_line step.Begin clerk) (get office.intersections id)
 answered office (command.Edit id clerk changes) = transacted office id (table_line (step.Edit changes) clerk) (get office.intersections id)
 answered office (command.Verify id clerk) = transacted office id (table_line step.Verify clerk) (get office.intersections id)
@@ -203,8 +203,8 @@ answered office (command.State id) = (shown (get office.intersections id) (λ i.
 answered office (command.Timing id) =
     (shown (get office.intersections id) (λ i. Running (timing_shown i)), office)
 answered office (command.Draft id) = (shown (get office.intersections id) (λ i. draft_shown i.timing.draft), office)
-answered office (command.Record c) = recorded_at office (cabinet_of c) (recorded office c)
-answered office (command.Import records) = imported office (import_from 1 0 0 office records)
+answered office (command.Record c) = recorded_at office (cabinet_of c) (record_step office c)
+answered office (command.Import records) = import_step office (import_from 1 0 0 office records)
 answered office (command.Cabinet id) = (shown (get office.intersections id) (λ i. Cabinet (cabinet_shown office.register id)), office)
 answered office (command.OpenOrders id) = (shown (get office.intersections id) (λ i. OpenOrders (open_at office.register id)), office)
 answered office command.Stock = (Stock (stock_of office.register), office)

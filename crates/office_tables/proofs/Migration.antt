@@ -22,7 +22,7 @@ use Rattle.office_tables_decisions.specs.StandFor.{IsTimingKey, HasTimingKeys, I
 use Rattle.office_tables_shelf.proofs.CellLemmas.{cells_total, cells_exact, is_under, find_entry, get_by, tied}
 use Rattle.office_tables_shelf.proofs.{ListLemmas.less, ListLemmas.parts, RowLemmas.same_left}
 use Rattle.office_tables.specs.Rewritten.{former_cells, AreKept, has_ped, is_row, timing_puts, draft_puts}
-use Rattle.office_tables.specs.Migration.{respelled, kept_key, kept_columns, IsSpelledAnew, IsMigrated, StandAnew}
+use Rattle.office_tables.specs.Migration.{respelled_count, kept_key, kept_columns, IsSpelledAnew, IsMigrated, StandAnew}
 use Rattle.office_tables.specs.declared.rewritten.Migrated.{Migrated}
 
 abbrev Kept : Type 0
@@ -42,7 +42,7 @@ puts_in rows (k ∷ ks) = puts_in (if has_ped k.1 then insert rows (kept_key k) 
 -- the changes put these rows, and are as many
 timing_put_all : (tables : Content) (ks : List Kept)
     → (changed_by tables (timing_puts ks) ≡ record tables { timing = puts_in tables.timing ks })
-    × (length (timing_puts ks) ≡ respelled ks)
+    × (length (timing_puts ks) ≡ respelled_count ks)
 timing_put_all tables [] = (refl, refl)
 timing_put_all tables ((id, Put r) ∷ ks) =
     let k : Kept = (id, Put r) in
@@ -57,7 +57,7 @@ timing_put_all tables ((id, Remove k) ∷ ks) = timing_put_all tables ks
 
 draft_put_all : (tables : Content) (ks : List Kept)
     → (changed_by tables (draft_puts ks) ≡ record tables { draft = puts_in tables.draft ks })
-    × (length (draft_puts ks) ≡ respelled ks)
+    × (length (draft_puts ks) ≡ respelled_count ks)
 draft_put_all tables [] = (refl, refl)
 draft_put_all tables (k ∷ ks) = elim (cases_Bool (has_ped k.1)) [
   | inl some ↦

@@ -38,14 +38,14 @@ abbrev pub TellsNoFormerOfEach : Result (Vec (ℕ × Change) Global) ShelfFault 
 TellsNoFormerOfEach result new sql rows = result ≡ Err fault.Damaged → IsHonest new → (t : Table) → ListsAll t sql → HasNoFormer (rows t)
 
 -- the columns that both show
-abbrev shown : List (List ℕ)
-shown = codes "inter" ∷ codes "kind" ∷ codes "a" ∷ codes "b" ∷ codes "body" ∷ []
+abbrev shown_columns : List (List ℕ)
+shown_columns = codes "inter" ∷ codes "kind" ∷ codes "a" ∷ codes "b" ∷ codes "body" ∷ []
 
 -- the query of all committed rows shows the whole table, by its keys
 pub lists_timing : ListsAll Timing TIMING.now
 unfolding understood everything
 lists_timing = record {
-  text = record { names = shown; is = refl; query = record { plain = (refl, refl); unlisted = refl } };
+  text = record { names = shown_columns; is = refl; query = record { plain = (refl, refl); unlisted = refl } };
   keys = refl;
   columns = refl;
 }
@@ -54,7 +54,7 @@ lists_timing = record {
 pub lists_draft : ListsAll Draft DRAFT.now
 unfolding understood everything
 lists_draft = record {
-  text = record { names = shown; is = refl; query = record { plain = (refl, refl); unlisted = refl } };
+  text = record { names = shown_columns; is = refl; query = record { plain = (refl, refl); unlisted = refl } };
   keys = refl;
   columns = refl;
 }

@@ -27,8 +27,8 @@ pub record IsSpelledAnew (old new : TableRows) (kept : List (ℕ × Change)) : T
   pub after : new ≡ rows_by kept_key kept_columns kept
 
 -- how many of them are spelled otherwise today
-abbrev pub respelled : List (ℕ × Change) → ℕ
-respelled kept = length (filter (λ k. has_ped k.1) kept)
+abbrev pub respelled_count : List (ℕ × Change) → ℕ
+respelled_count kept = length (filter (λ k. has_ped k.1) kept)
 
 -- the tables of version 1 were brought to today's version, and the rows that were written anew were counted
 pub record IsMigrated (old new : Content) (count : Migrated) : Type 0 where
@@ -38,8 +38,8 @@ pub record IsMigrated (old new : Content) (count : Migrated) : Type 0 where
   pub timing_puts : list_all (λ k. is_row k.1) timing ≡ true
   pub draft_rows : IsSpelledAnew old.draft new.draft draft
   pub others : new ≡ record old { timing = new.timing; draft = new.draft }
-  pub timing_count : count.timing ≡ respelled timing
-  pub draft_count : count.draft ≡ respelled draft
+  pub timing_count : count.timing ≡ respelled_count timing
+  pub draft_count : count.draft ≡ respelled_count draft
 
 -- today's rules find in the set what those of version 1 found
 abbrev pub IsJudgedAlike : Set → Type 0

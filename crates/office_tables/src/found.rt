@@ -16,7 +16,7 @@ ghost use Rattle.office_tables.specs.Opening.{IsAsFound, MayMake};
 ghost use Rattle.office_tables_sql.specs.Promises.{IsSettled};
 ghost use Rattle.office_tables_sql.specs.Version.{version_of};
 
-use crate::gather::{Moved, gathered, read_named};
+use crate::gather::{Moved, gather_eight, read_named};
 use crate::open::OpenFault;
 use crate::version::VERSION;
 use office_tables_statements::schema::are_of_office;
@@ -193,7 +193,7 @@ fn look<S: Store>(alloc: Global, store: &mut S, tables: &[Table]) -> Result<Look
         store.old store.new }
 {
     let version = read_named(alloc, store, tables, KEEPER)?;
-    let eight = gathered(alloc, store, tables)?;
+    let eight = gather_eight(alloc, store, tables)?;
     match refusal(tables, version.as_slice(), eight.as_slice()) {
         None => Ok(Ok(eight)),
         Some(why) => Ok(Err(why)),
@@ -216,7 +216,7 @@ fn store_of<S: Alter + Drop>(conn: Connection<S>) -> Result<S, S>
 
 /// The database, which was checked again, so that each tree is known to hold what its list
 /// of objects says. Where it is refused its store comes back.
-pub fn checked<S: Alter + Drop>(
+pub fn check_again<S: Alter + Drop>(
     alloc: Global,
     conn: Connection<S>,
 ) -> Result<Connection<S>, (SqlFault, S)>
@@ -242,7 +242,7 @@ fn fault_of(error: StoreError) -> SqlFault {
 
 /// The database, checked again, and the rows of its tables if they may be made anew, or why
 /// not. Where it is refused its store comes back.
-pub(crate) fn looked<S: Alter + Drop>(
+pub(crate) fn read_again<S: Alter + Drop>(
     alloc: Global,
     conn: Connection<S>,
 ) -> Result<(Looked, Connection<S>), (SqlFault, S)>

@@ -101,7 +101,7 @@ fn gather<S: Store>(
 }
 
 /// The rows of the eight tables.
-pub(crate) fn gathered<S: Store>(
+pub(crate) fn gather_eight<S: Store>(
     alloc: Global,
     store: &mut S,
     tables: &[SqlTable],

@@ -34,7 +34,10 @@ fn keep_version(tables: &[Table]) -> bool
 }
 
 /// The changes of both lists.
-fn joined(mut first: Vec<RowChange>, mut second: Vec<RowChange>) -> Result<Vec<RowChange>, NoMemory>
+fn join_changes(
+    mut first: Vec<RowChange>,
+    mut second: Vec<RowChange>,
+) -> Result<Vec<RowChange>, NoMemory>
     ensures { IfOk result (λ all. all.items ≡ first.items ++ second.items) }
 {
     first.append(&mut second)?;
@@ -108,7 +111,7 @@ fn spell_anew<S: Alter>(alloc: Global, conn: &mut Connection<S>) -> Result<Migra
     let kept = draft_rows(alloc, conn)?;
     let drafted = draft_changes(alloc, kept)?;
     let draft = drafted.as_slice().len();
-    let changes = joined(committed, drafted)?;
+    let changes = join_changes(committed, drafted)?;
     write_anew(alloc, conn, changes.as_slice())?;
     Ok(Migrated { timing, draft })
 }

@@ -12,7 +12,7 @@ ghost use Rattle.office_tables_sql.specs.Promises.{IsSettled, KeepsCommitted, Le
 ghost use Rattle.office_tables.specs.Arranged.{IsArrangedIfClean};
 ghost use Rattle.office_tables_sql.specs.Version.{Completes};
 
-use crate::found::{has_only_ours, looked};
+use crate::found::{has_only_ours, read_again};
 use crate::gather::Moved;
 use crate::refill::put_all;
 use crate::version::{is_today, put_version};
@@ -186,7 +186,7 @@ fn made_again<S: Alter + Drop>(
     ensures prepared { IfOk result (λ c. IsPrepared (state S.Store conn) (state S.Store c)) }
     ensures refused { IfErr result (λ e. IsRefused S.Store conn e.0 e.1) }
 {
-    let (told, mut conn) = match looked(alloc, conn) {
+    let (told, mut conn) = match read_again(alloc, conn) {
         Ok(found) => found,
         Err((fault, store)) => return Err((OpenFault::from(fault), Err(store))),
     };
@@ -204,7 +204,7 @@ fn made_again<S: Alter + Drop>(
 }
 
 /// The database, whose tables are the office's: as they are where today's version is stored.
-fn taken<S: Alter + Drop>(
+fn take_tables<S: Alter + Drop>(
     alloc: Global,
     mut conn: Connection<S>,
 ) -> Result<Connection<S>, Refused<S>>
@@ -222,7 +222,7 @@ fn taken<S: Alter + Drop>(
 
 /// The database with the tables of the office and today's version. They are made where there
 /// are none, some are missing, or no row is stored; those that are there keep their rows.
-pub fn prepared<S: Alter + Drop>(
+pub fn prepare_tables<S: Alter + Drop>(
     alloc: Global,
     conn: Connection<S>,
 ) -> Result<Connection<S>, Refused<S>>
@@ -236,7 +236,7 @@ pub fn prepared<S: Alter + Drop>(
         return Err((OpenFault::Store, Ok(conn)));
     }
     if is_office(conn.schema()) {
-        return taken(alloc, conn);
+        return take_tables(alloc, conn);
     }
     if has_only_ours(conn.schema()) {
         return made_again(alloc, conn);

@@ -11,9 +11,9 @@ ghost use Rattle.office_tables.specs.SqlShelf.{IsCurrent};
 ghost use Rattle.office_tables.specs.Opening.{HasOtherVersion, HasRowsAlone, StaysClean, IsOpened, IsRefused};
 ghost use Rattle.office_tables_statements.specs.Schema.{office_schema};
 
-use crate::found::{checked, has_only_ours};
+use crate::found::{check_again, has_only_ours};
 use crate::migrate::migrate;
-use crate::open::{Left, OpenFault, prepared};
+use crate::open::{Left, OpenFault, prepare_tables};
 use crate::rewritten::Migrated;
 use cabinet_core::{Day, Hand, Inspection, Order, PartCode, UsedLine};
 use office_tables_shelf::counts::WriteCounts;
@@ -49,7 +49,7 @@ impl<S: Alter> Model for SqlShelf<S> {
 
 /// Why tables were refused. What is left of their database is dropped, and as it is: code over any
 /// type can do nothing else with it.
-fn told<L: Drop>(refused: (OpenFault, L)) -> OpenFault
+fn open_fault<L: Drop>(refused: (OpenFault, L)) -> OpenFault
     ensures { result ≡ refused.0 }
 {
     let (fault, _) = refused;
@@ -79,7 +79,7 @@ impl<S: Alter> SqlShelf<S> {
     {
         match SqlShelf::open_returning(alloc, conn) {
             Ok(shelf) => Ok(shelf),
-            Err(refused) => Err(told(refused)),
+            Err(refused) => Err(open_fault(refused)),
         }
     }
 
@@ -103,7 +103,7 @@ impl<S: Alter> SqlShelf<S> {
         if !has_only_ours(conn.schema()) {
             return Err((OpenFault::Store, Ok(conn)));
         }
-        match checked(alloc, conn) {
+        match check_again(alloc, conn) {
             Ok(conn) => SqlShelf::open_arranged(alloc, conn),
             Err((fault, store)) => Err((OpenFault::from(fault), Err(store))),
         }
@@ -124,7 +124,7 @@ impl<S: Alter> SqlShelf<S> {
         ensures under_way { (state S.Store conn).in_transaction ≡ true →
             result ≡ Err (OpenFault.Store, Ok conn) }
     {
-        match prepared(alloc, conn) {
+        match prepare_tables(alloc, conn) {
             Ok(conn) => Ok(SqlShelf {
                 conn,
                 counts: WriteCounts::new(),

@@ -18,15 +18,15 @@ impl Decided {
     ghost use Rattle.office_tables_decisions.specs.Changes.{IsRefused};
 
     /// A refusal, for which nothing is to be written.
-    pub fn refused(alloc: Global, refusal: Refusal) -> Decided
+    pub fn from_refusal(alloc: Global, refusal: Refusal) -> Decided
         ensures reply { result.reply ≡ Reply.Refused refusal }
         ensures no_changes { result.changes.items ≡ [] }
     {
-        Decided::unchanged(alloc, Reply::Refused(refusal))
+        Decided::from_reply(alloc, Reply::Refused(refusal))
     }
 
     /// A reply for which nothing is to be written.
-    pub fn unchanged(alloc: Global, reply: Reply) -> Decided
+    pub fn from_reply(alloc: Global, reply: Reply) -> Decided
         ensures reply { result.reply ≡ reply }
         ensures no_changes { result.changes.items ≡ [] }
     {
@@ -44,7 +44,7 @@ impl Decided {
         ensures none { IsRefused reply → result.changes.items ≡ [] }
     {
         match reply {
-            Reply::Refused(refusal) => Decided::refused(alloc, refusal),
+            Reply::Refused(refusal) => Decided::from_refusal(alloc, refusal),
             reply => Decided {
                 reply,
                 changes: rows,

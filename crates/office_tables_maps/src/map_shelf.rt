@@ -64,7 +64,7 @@ impl MapShelf {
     {
         match self.spare.take() {
             Some(spare) => Ok(spare),
-            None => self.now.copied(),
+            None => self.now.copy_tables(),
         }
     }
 }
@@ -220,9 +220,9 @@ impl Shelf for MapShelf {
         ensures unchanged { OnErr result (self.new ≡ self.old) }
         ensures sound { IsFreeOfStore result }
     {
-        let next = self.same()?.made(changes)?;
+        let next = self.same()?.make_changes(changes)?;
         let old = mem::replace(&mut self.now, next);
-        self.spare = old.made(changes).ok();
+        self.spare = old.make_changes(changes).ok();
         self.counts.count_all(changes);
         Ok(())
     }

@@ -66,7 +66,7 @@ impl Maps {
     }
 
     /// A copy of the tables.
-    pub(crate) fn copied(&self) -> Result<Maps, NoMemory>
+    pub(crate) fn copy_tables(&self) -> Result<Maps, NoMemory>
         ensures { IfOk result (λ copy. copy ≡ self.now) }
     {
         let intersection = copied_intersections(&self.intersection)?;
@@ -155,7 +155,7 @@ impl Maps {
     }
 
     /// These tables with the changes made, in their order.
-    pub(crate) fn made(self, changes: &[RowChange]) -> Result<Maps, NoMemory>
+    pub(crate) fn make_changes(self, changes: &[RowChange]) -> Result<Maps, NoMemory>
         ensures { IfOk result (λ next. next ≡ changed_by self changes.now) }
     {
         let mut next = self;

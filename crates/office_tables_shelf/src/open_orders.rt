@@ -10,7 +10,7 @@ use std::alloc::Global;
 use std::collections::BTreeMap;
 
 /// Takes the orders that are kept of an intersection, none where there is none.
-fn taken(alloc: Global, orders: &mut BTreeMap<InterId, Vec<Order>>, id: InterId) -> Vec<Order>
+fn take_orders(alloc: Global, orders: &mut BTreeMap<InterId, Vec<Order>>, id: InterId) -> Vec<Order>
     ensures taken { result.items ≡ orders_in orders.old.entries id }
     ensures left { (n : ℕ) → orders_in orders.new.entries n ≡
         (if n == id then [] else orders_in orders.old.entries n) }
@@ -35,7 +35,7 @@ pub fn add_open(
     if order.closing.is_some() {
         return Ok(());
     }
-    let mut kept = taken(alloc, orders, id);
+    let mut kept = take_orders(alloc, orders, id);
     kept.push(order)?;
     orders.insert(id, kept)?;
     Ok(())

@@ -14,14 +14,14 @@ abbrev pub table_texts : SqlTexts
 table_texts = record { list = LIST.now; find = FIND.now; update = UPDATE.now; insert = INSERT.now }
 
 -- the columns that the queries show
-abbrev shown : List (List ℕ)
-shown = codes "part" ∷ codes "number" ∷ codes "day" ∷ codes "amount" ∷ []
+abbrev shown_columns : List (List ℕ)
+shown_columns = codes "part" ∷ codes "number" ∷ codes "day" ∷ codes "amount" ∷ []
 
 -- the query of a list shows the deliveries, by their keys
 pub lists_rows : IsListText Delivery None LIST.now
 unfolding understood everything
 lists_rows = record {
-  names = shown;
+  names = shown_columns;
   is = refl;
   query = record { plain = (refl, refl); unlisted = refl };
 }
@@ -31,7 +31,7 @@ pub means : AreTextsOf Delivery table_texts
 unfolding understood everything
 means = record {
   finds = record {
-    names = shown;
+    names = shown_columns;
     is = refl;
     query = record { plain = (refl, refl); unlisted = refl };
   };

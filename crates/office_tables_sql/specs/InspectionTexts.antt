@@ -18,14 +18,14 @@ abbrev pub walk_texts : SqlTexts
 walk_texts = record table_texts { list = WALK.now }
 
 -- the columns that the queries show
-abbrev shown : List (List ℕ)
-shown = codes "inter" ∷ codes "number" ∷ codes "day" ∷ codes "clerk" ∷ codes "body" ∷ []
+abbrev shown_columns : List (List ℕ)
+shown_columns = codes "inter" ∷ codes "number" ∷ codes "day" ∷ codes "clerk" ∷ codes "body" ∷ []
 
 -- the query of a list shows the inspections of one intersection, by their keys
 pub lists_rows : (id : ℕ) → IsListText Inspection (Some id) LIST.now
 unfolding understood everything
 lists_rows id = record {
-  names = shown;
+  names = shown_columns;
   is = refl;
   query = record { plain = (refl, refl); unlisted = refl };
 }
@@ -34,7 +34,7 @@ lists_rows id = record {
 pub walks : IsListText Inspection None WALK.now
 unfolding understood everything
 walks = record {
-  names = shown;
+  names = shown_columns;
   is = refl;
   query = record { plain = (refl, refl); unlisted = refl };
 }
@@ -44,7 +44,7 @@ pub means : AreTextsOf Inspection table_texts
 unfolding understood everything
 means = record {
   finds = record {
-    names = shown;
+    names = shown_columns;
     is = refl;
     query = record { plain = (refl, refl); unlisted = refl };
   };

@@ -15,14 +15,14 @@ abbrev pub table_texts : SqlTexts
 table_texts = record { list = LIST.now; find = FIND.now; update = UPDATE.now; insert = INSERT.now }
 
 -- the columns that the queries show
-abbrev shown : List (List ℕ)
-shown = codes "id" ∷ codes "name" ∷ codes "days" ∷ codes "revision" ∷ codes "state" ∷ codes "owner" ∷ []
+abbrev shown_columns : List (List ℕ)
+shown_columns = codes "id" ∷ codes "name" ∷ codes "days" ∷ codes "revision" ∷ codes "state" ∷ codes "owner" ∷ []
 
 -- the query of a list shows the intersections, by their keys
 pub lists_rows : IsListText Intersection None LIST.now
 unfolding understood everything
 lists_rows = record {
-  names = shown;
+  names = shown_columns;
   is = refl;
   query = record { plain = (refl, refl); unlisted = refl };
 }
@@ -32,7 +32,7 @@ pub means : AreTextsOf Intersection table_texts
 unfolding understood everything
 means = record {
   finds = record {
-    names = shown;
+    names = shown_columns;
     is = refl;
     query = record { plain = (refl, refl); unlisted = refl };
   };

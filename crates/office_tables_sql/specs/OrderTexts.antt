@@ -19,14 +19,14 @@ abbrev pub walk_texts : SqlTexts
 walk_texts = record table_texts { list = WALK.now }
 
 -- the columns that the queries show
-abbrev shown : List (List ℕ)
-shown = codes "inter" ∷ codes "number" ∷ codes "opened" ∷ codes "clerk" ∷ codes "body" ∷ codes "closed" ∷ codes "closer" ∷ []
+abbrev shown_columns : List (List ℕ)
+shown_columns = codes "inter" ∷ codes "number" ∷ codes "opened" ∷ codes "clerk" ∷ codes "body" ∷ codes "closed" ∷ codes "closer" ∷ []
 
 -- the query of a list shows the orders of one intersection, by their keys
 pub lists_rows : (id : ℕ) → IsListText WorkOrder (Some id) LIST.now
 unfolding understood everything
 lists_rows id = record {
-  names = shown;
+  names = shown_columns;
   is = refl;
   query = record { plain = (refl, refl); unlisted = refl };
 }
@@ -35,7 +35,7 @@ lists_rows id = record {
 pub walks : IsListText WorkOrder None WALK.now
 unfolding understood everything
 walks = record {
-  names = shown;
+  names = shown_columns;
   is = refl;
   query = record { plain = (refl, refl); unlisted = refl };
 }
@@ -45,7 +45,7 @@ pub means : AreTextsOf WorkOrder table_texts
 unfolding understood everything
 means = record {
   finds = record {
-    names = shown;
+    names = shown_columns;
     is = refl;
     query = record { plain = (refl, refl); unlisted = refl };
   };

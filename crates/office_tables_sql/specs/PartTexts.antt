@@ -13,14 +13,14 @@ abbrev pub table_texts : SqlTexts
 table_texts = record { list = LIST.now; find = FIND.now; update = UPDATE.now; insert = INSERT.now }
 
 -- the columns that the queries show
-abbrev shown : List (List ℕ)
-shown = codes "code" ∷ codes "hand" ∷ []
+abbrev shown_columns : List (List ℕ)
+shown_columns = codes "code" ∷ codes "hand" ∷ []
 
 -- the query of a list shows the parts, by their keys
 pub lists_rows : IsListText Part None LIST.now
 unfolding understood everything
 lists_rows = record {
-  names = shown;
+  names = shown_columns;
   is = refl;
   query = record { plain = (refl, refl); unlisted = refl };
 }
@@ -30,7 +30,7 @@ pub means : AreTextsOf Part table_texts
 unfolding understood everything
 means = record {
   finds = record {
-    names = shown;
+    names = shown_columns;
     is = refl;
     query = record { plain = (refl, refl); unlisted = refl };
   };

@@ -15,14 +15,14 @@ abbrev pub table_texts : SqlTexts
 table_texts = record { list = LIST.now; find = FIND.now; update = UPDATE.now; insert = INSERT.now }
 
 -- the columns that the queries show
-abbrev shown : List (List ℕ)
-shown = codes "inter" ∷ codes "kind" ∷ codes "a" ∷ codes "b" ∷ codes "body" ∷ []
+abbrev shown_columns : List (List ℕ)
+shown_columns = codes "inter" ∷ codes "kind" ∷ codes "a" ∷ codes "b" ∷ codes "body" ∷ []
 
 -- the query of a list shows the committed rows of one intersection, by their keys
 pub lists_rows : (id : ℕ) → IsListText Timing (Some id) LIST.now
 unfolding understood everything
 lists_rows id = record {
-  names = shown;
+  names = shown_columns;
   is = refl;
   query = record { plain = (refl, refl); unlisted = refl };
 }
@@ -32,7 +32,7 @@ pub means : AreTextsOf Timing table_texts
 unfolding understood everything
 means = record {
   finds = record {
-    names = shown;
+    names = shown_columns;
     is = refl;
     query = record { plain = (refl, refl); unlisted = refl };
   };

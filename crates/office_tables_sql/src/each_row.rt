@@ -39,14 +39,14 @@ impl<T: Drop> Gather<T> for Vec<T> {
 }
 
 /// Why the database refused.
-fn refused(error: Error) -> ShelfFault
+fn shelf_fault(error: Error) -> ShelfFault
     ensures { result ≢ ShelfFault.Damaged }
 {
     ShelfFault::from(SqlFault::from(error))
 }
 
 /// The text prepared, which commits nothing and shows that the connection is open.
-fn prepared<S: Alter>(conn: &mut Connection<S>, sql: &str) -> Result<Statement, SqlFault>
+fn prepare_list<S: Alter>(conn: &mut Connection<S>, sql: &str) -> Result<Statement, SqlFault>
     requires office { IsOffice (state S.Store conn.old) }
     requires query { IsQuery sql.now }
     ensures text { HasCleanDisk (state S.Store conn.new) → IfOk result (λ s. s.text ≡ sql.now) }
@@ -79,7 +79,7 @@ pub fn list<T: StoredRow<Of = InterId>, S: Alter>(
     ensures crash { Survives (state S.Store conn.old) (state S.Store conn.new) (λ _. ⊥) }
     ensures open { TellsOpen result (state S.Store conn.new) }
 {
-    gathered::<T, Vec<T>, S>(alloc, conn, id, params![id.get()], Vec::new(alloc))
+    gather_rows::<T, Vec<T>, S>(alloc, conn, id, params![id.get()], Vec::new(alloc))
 }
 
 /// All rows of a table, in the order of their keys.
@@ -101,12 +101,12 @@ pub fn list_all<T: StoredRow<Of = ()>, S: Alter>(
     ensures crash { Survives (state S.Store conn.old) (state S.Store conn.new) (λ _. ⊥) }
     ensures open { TellsOpen result (state S.Store conn.new) }
 {
-    gathered::<T, Vec<T>, S>(alloc, conn, (), params![], Vec::new(alloc))
+    gather_rows::<T, Vec<T>, S>(alloc, conn, (), params![], Vec::new(alloc))
 }
 
 /// The rows of a list, gathered in the order of their keys by one that has none yet. No row is
 /// kept after it is read.
-pub(crate) fn gathered<T: StoredRow, G: Gather<T>, S: Alter>(
+pub(crate) fn gather_rows<T: StoredRow, G: Gather<T>, S: Alter>(
     alloc: Global,
     conn: &mut Connection<S>,
     of: T::Of,
@@ -126,7 +126,7 @@ pub(crate) fn gathered<T: StoredRow, G: Gather<T>, S: Alter>(
     ensures crash { Survives (state S.Store conn.old) (state S.Store conn.new) (λ _. ⊥) }
     ensures open { TellsOpen result (state S.Store conn.new) }
 {
-    let statement = prepared(conn, T::texts().list)?;
+    let statement = prepare_list(conn, T::texts().list)?;
     gather_each::<T, G, S>(alloc, conn, &statement, of, params, begun)
 }
 
@@ -158,11 +158,11 @@ fn gather_each<T: StoredRow, G: Gather<T>, S: Alter>(
     let mut found = begun;
     let mut rows = match conn.query_prepared(statement, params) {
         Ok(rows) => rows,
-        Err(error) => return Err(refused(error)),
+        Err(error) => return Err(shelf_fault(error)),
     };
     'rows: for _ in 0..u64::MAX {
         if let Err(error) = rows.advance() {
-            return Err(refused(error));
+            return Err(shelf_fault(error));
         }
         let Some(row) = rows.get() else {
             return Ok(found);

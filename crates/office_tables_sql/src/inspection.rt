@@ -10,7 +10,7 @@ ghost use Rattle.office_tables_shelf.specs.Overdue.{last_day_in, ReadsLast};
 ghost use Rattle.office_tables_statements.specs.Stored.{content_now};
 ghost use Rattle.office_tables_statements.specs.Calls.{IsHonest, IsOffice, Keeps, TellsOpen};
 
-use crate::each_row::{Gather, gathered};
+use crate::each_row::{Gather, gather_rows};
 use crate::stored_row::{StoredRow, Texts};
 use cabinet_core::{Day, Inspection};
 use office_tables_shelf::overdue::add_day;
@@ -180,7 +180,7 @@ pub fn last_days<S: Alter>(
     ensures crash { Survives (state S.Store conn.old) (state S.Store conn.new) (λ _. ⊥) }
     ensures open { TellsOpen result (state S.Store conn.new) }
 {
-    gathered::<(InterId, Inspection), BTreeMap<InterId, Day>, S>(
+    gather_rows::<(InterId, Inspection), BTreeMap<InterId, Day>, S>(
         alloc,
         conn,
         (),

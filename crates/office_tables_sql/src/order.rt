@@ -16,7 +16,7 @@ ghost use Rattle.office_tables_statements.specs.Calls.{IsHonest, IsOffice, Keeps
 ghost use Rattle.office_tables_statements.specs.Stored.{cell_of, content_now};
 ghost use Rattle.office_tables_statements.specs.Tables.{value_of};
 
-use crate::each_row::{Gather, gathered};
+use crate::each_row::{Gather, gather_rows};
 use crate::stored_row::{StoredRow, Texts};
 use cabinet_core::{Closing, Order};
 use office_tables_shelf::open_orders::add_open;
@@ -194,7 +194,7 @@ pub fn open_orders<S: Alter>(
     ensures crash { Survives (state S.Store conn.old) (state S.Store conn.new) (λ _. ⊥) }
     ensures open { TellsOpen result (state S.Store conn.new) }
 {
-    gathered::<(InterId, Order), BTreeMap<InterId, Vec<Order>>, S>(
+    gather_rows::<(InterId, Order), BTreeMap<InterId, Vec<Order>>, S>(
         alloc,
         conn,
         (),

@@ -11,7 +11,7 @@ use Rattle.sqlite_value.specs.Keys.{plain}
 use Rattle.office_tables_shelf.specs.{Cells.Cell, Cells.cells_cmp, Cells.number, Content.Content, Shelf.is_of, Shelf.rows_of, declared.rows.Table.Table}
 use Rattle.office_tables_statements.specs.{Calls.AreOrdered, Calls.Reads, Layout.values_at, Layout.has_key}
 use Rattle.office_tables_statements.specs.Stored.{cells_at, rows_in, content_of, cells, cell_of}
-use Rattle.office_tables_statements.specs.Tables.{rows_at, layout_at, schema_at, key_shown, columns_shown, row_shown, width_of, filter_of, of_first, params_of, is_among, rows_among, listed_by, IsListText, IsNoRow, HasDamagedRow, places_of, key_given, IsKeyOf, IsUnder, IsFindText, counting, counted_by, IsCountText}
+use Rattle.office_tables_statements.specs.Tables.{rows_at, layout_at, schema_at, key_shown, columns_shown, row_shown, width_of, filter_of, of_first, params_of, is_among, rows_among, listed_by, IsListText, IsNoRow, HasDamagedRow, places_of, key_given, IsKeyOf, IsUnder, IsFindText, count_grouping, counted_by, IsCountText}
 use Rattle.office_tables_statements.specs.Schema.{office_schema}
 use Rattle.office_tables_statements.specs.Layout as layout
 use Rattle.office_tables_statements.proofs.StoredLemmas.{HaveKeys, same_order, sound_rowids, agree_ties, get_columns}
@@ -26,7 +26,7 @@ use Rattle.sqlite_sql.specs.{Aggregate.count, Group.IsSummary, Group.value_over}
 
 -- ---- one group, and how many it has
 
-values_are : (order : List Env) (values : Row) → AllZip (λ a v. value_over order a ≡ Some v) counting.aggregates values → values ≡ count (length order) ∷ []
+values_are : (order : List Env) (values : Row) → AllZip (λ a v. value_over order a ≡ Some v) count_grouping.aggregates values → values ≡ count (length order) ∷ []
 values_are order [] h = absurd h
 values_are order (v ∷ []) h =
     let many : Some (count (length order)) ≡ Some v = sym (ap (λ n. Some (count n)) (length-map order _)) ∙ h.0 in
@@ -34,7 +34,7 @@ values_are order (v ∷ []) h =
     ap (λ x. x ∷ []) is
 values_are order (v ∷ w ∷ vs) h = absurd h.1
 
-summary_is : (order : List Env) (rows : List Row) → AllZip (IsSummary counting) (order ∷ []) rows → rows ≡ (count (length order) ∷ []) ∷ []
+summary_is : (order : List Env) (rows : List Row) → AllZip (IsSummary count_grouping) (order ∷ []) rows → rows ≡ (count (length order) ∷ []) ∷ []
 summary_is order [] h = absurd h
 summary_is order (row ∷ []) h = let s = h.0 in ap (λ (r : Row). r ∷ []) (s.2 ∙ values_are order s.0 s.1)
 summary_is order (row ∷ x ∷ rows) h = absurd h.1
@@ -141,7 +141,7 @@ module _ (t : Table) (db : Database) (is : db.schema ≡ office_schema) (sound :
     count_shown low row at a =
         let g = a.grouped in
         let order = g.grouping.0 in
-        let rows_are = summary_is order g.rows (subst (λ groups. AllZip (IsSummary counting) groups g.rows) g.grouping.2 g.summaries) in
+        let rows_are = summary_is order g.rows (subst (λ groups. AllZip (IsSummary count_grouping) groups g.rows) g.grouping.2 g.summaries) in
         let one : a.kept ≡ ([], count (length order) ∷ []) ∷ [] = a.distinct ∙ ap (map (output (counted_by (layout_at t) (of_first t)))) (g.having ∙ ap (λ (rs : List Row). filter (λ env. list_all (holds env) []) (map (λ (r : Row). params ∷ r ∷ []) rs)) rows_are) in
         let alone = one_permutation ([], count (length order) ∷ []) a.ordered (subst (λ os. IsPermutation os a.ordered) one a.same) in
         (order, length_permutation _ order g.grouping.1 ∙ ap (λ (rs : List Row). length (matches (λ _. rs) (of_first t) (inner (layout_at t).tree end) (params ∷ []))) at, a.shown ∙ ap (map (λ (o : Output). o.1)) alone)

@@ -171,15 +171,15 @@ pub record IsListText (t : Table) (whose : Option ℕ) (sql : List ℕ) : Type 0
   pub query : IsQuery sql
 
 -- how many rows pass
-abbrev pub counting : Grouping
-counting = record { keys = []; collations = []; aggregates = record { op = CountRows; distinct = false; collation = Binary; argument = lit Null } ∷ []; having = [] }
+abbrev pub count_grouping : Grouping
+count_grouping = record { keys = []; collations = []; aggregates = record { op = CountRows; distinct = false; collation = Binary; argument = lit Null } ∷ []; having = [] }
 
 -- the query that counts a table's rows, by a filter
 abbrev pub counted_by : Layout → List Term → Query
 counted_by t filter = record {
   from = inner t.tree end;
   filter = filter;
-  group = Some counting;
+  group = Some count_grouping;
   project = col 1 0 ∷ [];
   distinct = false;
   collations = [];

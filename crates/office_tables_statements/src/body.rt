@@ -12,10 +12,10 @@ pub fn write_body(alloc: Global, row: &Row) -> Result<String, NoMemory>
     ensures { IfOk result (λ text. string_bytes text ≡ body_of row.now) }
 {
     let fields = write_row(alloc, row)?;
-    Ok(joined(alloc, fields.as_slice())?)
+    Ok(join_fields(alloc, fields.as_slice())?)
 }
 
-fn joined(alloc: Global, fields: &[String]) -> Result<String, NoMemory>
+fn join_fields(alloc: Global, fields: &[String]) -> Result<String, NoMemory>
     ensures { IfOk result (λ text.
         string_bytes text ≡ join_with_byte 44 (map string_bytes fields.now)) }
 {

@@ -5,7 +5,7 @@ ghost use Rattle.std.specs.List.{AllByRecursion};
 ghost use Rattle.sqlite_value.specs.declared.value.Value.TheVariants.{Int};
 ghost use Rattle.sqlite_value.specs.Keys.{plain};
 ghost use Rattle.sqlite_schema.specs.declared.code.Op.TheVariants.{Column as AColumn, Literal as ALiteral};
-ghost use Rattle.office_tables_statements.specs.Schema.{numbered, IsAlikeOne};
+ghost use Rattle.office_tables_statements.specs.Schema.{with_tree, IsAlikeOne};
 ghost use Rattle.office_tables_statements.specs.Wanted.{column_wanted, reference_wanted, ComparesAt, checks_wanted, key_of, primary_of, uniques_of, orders_of, table_wanted, index_wanted, indexes_wanted};
 
 use sqlite_items::Items;
@@ -219,8 +219,8 @@ fn is_plain(table: &Table) -> bool
 
 /// Whether this is the table, whatever its number.
 fn is_alike(table: &Table, want: &WantedTable<'_>) -> bool
-    ensures is { IsTrue result → table.now ≡ numbered (table_wanted want.now) table.now.tree }
-    ensures other { table.now ≡ numbered (table_wanted want.now) table.now.tree → IsTrue result }
+    ensures is { IsTrue result → table.now ≡ with_tree (table_wanted want.now) table.now.tree }
+    ensures other { table.now ≡ with_tree (table_wanted want.now) table.now.tree → IsTrue result }
 {
     table.name.as_slice() == want.name.as_bytes()
         && are_columns(table.columns.as_slice(), want.columns)

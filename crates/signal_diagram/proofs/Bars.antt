@@ -3,8 +3,8 @@ use Rattle.std.proofs.Common.{◌≡◌, ℕ, zero, suc, ◌+◌, ◌-◌, ◌�
 use Rattle.std.proofs.lemmas.Bool.{cond-true, cond-false, le-leb, le-ltb, lt-ltb, ltb-false}
 use Rattle.std.proofs.{lemmas.List.Elements.All-nil, lemmas.List.Elements.All-cons, lemmas.Bool.Decides.nat_tests}
 use Rattle.std.specs.Prelude.{All, cond, option_map, replicate, slice_get, ◌&&◌}
-use Rattle.signal_rules.specs.CutPoints.{timed}
-use Rattle.signal_rules.proofs.CutPoints.{length-timed}
+use Rattle.signal_rules.specs.CutPoints.{row_seconds}
+use Rattle.signal_rules.proofs.CutPoints.{length-row_seconds}
 use Rattle.signal_diagram.specs.declared.chart.Bar.{Bar}
 use Rattle.signal_diagram.specs.Chart.{bar_of, bars_from, Follow, end_of, phase_at_second}
 
@@ -53,15 +53,15 @@ lasts time (p ∷ ps) from = step (time p) refl (lasts time ps (from + time p)) 
 
 -- the last one ends after the seconds of all of them
 pub ends : (time : ℕ → ℕ) (row : List ℕ) (from : ℕ)
-    → end_of from (bars_from time from row) ≡ from + length (timed time row)
+    → end_of from (bars_from time from row) ≡ from + length (row_seconds time row)
 ends time [] from = omega arith
 ends time (p ∷ ps) from =
     step (time p) (ends time ps (from + time p))
-    ∙ ap (λ (k : ℕ). from + k) (sym (length-timed time p ps)) where
+    ∙ ap (λ (k : ℕ). from + k) (sym (length-row_seconds time p ps)) where
       step : (n : ℕ)
-          → end_of (from + n) (bars_from time (from + n) ps) ≡ from + n + length (timed time ps)
+          → end_of (from + n) (bars_from time (from + n) ps) ≡ from + n + length (row_seconds time ps)
           → end_of from (bar_of n from p ++ bars_from time (from + n) ps)
-          ≡ from + (n + length (timed time ps))
+          ≡ from + (n + length (row_seconds time ps))
       step zero h = let same : from + 0 ≡ from = omega arith in rw same ((rw same at h) ∙ omega arith)
       step (suc n) h = h ∙ omega arith
 
@@ -86,16 +86,16 @@ covered from t n =
 
 -- the phase at a second is that of the lane, which has its phases once a second
 at_second : (time : ℕ → ℕ) (row : List ℕ) (from t : ℕ)
-    → phase_at_second (bars_from time from row) (from + t) ≡ slice_get (timed time row) t
+    → phase_at_second (bars_from time from row) (from + t) ≡ slice_get (row_seconds time row) t
 at_second time [] from t = refl
 at_second time (p ∷ ps) from t =
     step (time p) (ltb t (time p)) refl (at_second time ps (from + time p) (t - time p))
-    ∙ sym (repeated (time p) t p (timed time ps)) where
+    ∙ sym (repeated (time p) t p (row_seconds time ps)) where
       step : (n : ℕ) (b : Bool) → ltb t n ≡ b
           → phase_at_second (bars_from time (from + n) ps) (from + n + (t - n))
-          ≡ slice_get (timed time ps) (t - n)
+          ≡ slice_get (row_seconds time ps) (t - n)
           → phase_at_second (bar_of n from p ++ bars_from time (from + n) ps) (from + t)
-          ≡ cond (ltb t n) (Some p) (slice_get (timed time ps) (t - n))
+          ≡ cond (ltb t n) (Some p) (slice_get (row_seconds time ps) (t - n))
       step zero b e h =
           let same : from + 0 + (t - 0) ≡ from + t = omega arith in
           (rw same at h) ∙ sym (cond-false (ltb t 0) _ _ (le-ltb t 0 (omega arith)))
@@ -109,7 +109,7 @@ at_second time (p ∷ ps) from t =
           ∙ (rw same at h) ∙ sym (cond-false (ltb t (suc n)) _ _ e)
 
 pub seconds : (time : ℕ → ℕ) (row : List ℕ) (t : ℕ)
-    → phase_at_second (bars_from time 0 row) t ≡ slice_get (timed time row) t
+    → phase_at_second (bars_from time 0 row) t ≡ slice_get (row_seconds time row) t
 seconds time row t =
     let same : t ≡ 0 + t = omega arith in
     ap (phase_at_second (bars_from time 0 row)) same ∙ at_second time row 0 t

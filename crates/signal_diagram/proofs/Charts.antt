@@ -3,7 +3,7 @@ use Rattle.std.proofs.Common.{◌≡◌, ℕ, eqb, List, [], ◌∷◌, map, len
 use Rattle.std.proofs.lemmas.List.{Elements.All-map, Folds.list_all-map}
 use Rattle.std.specs.List.{list_all}
 use Rattle.signal_records.specs.{declared.record.Pattern.Pattern, TimingSet.Rows}
-use Rattle.signal_rules.specs.{Lookup.pattern_at, SequenceRule.ring_row, PatternRules.used_rings, PatternRules.lanes_fill_cycle, CutPoints.timed, Starts.times, Starts.rings_fill}
+use Rattle.signal_rules.specs.{Lookup.pattern_at, SequenceRule.ring_row, PatternRules.used_rings, PatternRules.lanes_fill_cycle, CutPoints.row_seconds, Starts.times, Starts.rings_fill}
 use Rattle.signal_rules.proofs.Starts.{fill_by_rings}
 use Rattle.signal_diagram.specs.declared.document.Sizing.{Sizing}
 use Rattle.signal_diagram.specs.{Lane.RingLane, Chart.bars_from, Chart.lane_of, Chart.lanes_of, Chart.end_of, Chart.lanes_end, Chart.IsLane, Chart.IsChart, Diagram.picture_of, Diagram.DrawsChart}
@@ -32,9 +32,9 @@ end_together : (set : Rows) (pattern : Pattern) (rings : List ℕ)
 end_together set pattern rings =
     let time : ℕ → ℕ = times set pattern.split in
     let row : ℕ → List ℕ = ring_row set pattern.seq in
-    let whole : (ring : ℕ) → length (timed time (row ring)) ≡ end_of 0 (bars_from time 0 (row ring)) =
+    let whole : (ring : ℕ) → length (row_seconds time (row ring)) ≡ end_of 0 (bars_from time 0 (row ring)) =
     λ ring. omega (arith, ends time (row ring) 0) in
-    let each : list_all (λ ring. eqb (length (timed time (row ring))) pattern.cycle) rings
+    let each : list_all (λ ring. eqb (length (row_seconds time (row ring))) pattern.cycle) rings
     ≡ list_all (λ ring. eqb (end_of 0 (bars_from time 0 (row ring))) pattern.cycle) rings =
     λ i. list_all (λ ring. eqb (whole ring i) pattern.cycle) rings in
     each ∙ sym (list_all-map _ (lane_of set pattern) rings)

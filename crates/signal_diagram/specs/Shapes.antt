@@ -67,9 +67,9 @@ cut lane bar limit ped =
 
 -- the lead before the green, and the clearance after the walk, of a phase that has them; none of
 -- them goes past a limit
-abbrev pub walking : ℕ → Bool → Bar → ℕ → Option Ped → List Shape
-walking lane comes bar limit None = []
-walking lane comes bar limit (Some ped) =
+abbrev pub walk_intervals : ℕ → Bool → Bar → ℕ → Option Ped → List Shape
+walk_intervals lane comes bar limit None = []
+walk_intervals lane comes bar limit (Some ped) =
     interval lane Lead comes (10 * bar.from) (tenth_after bar limit ped.lead)
     ++ interval lane Walk comes (10 * bar.from) (tenth_after bar limit ped.walk)
     ++ interval lane Clearance comes (tenth_after bar limit ped.walk) (tenth_after bar limit (ped.walk + ped.clear))
@@ -82,7 +82,7 @@ intervals lane comes bar None = []
 intervals lane comes bar (Some phase) =
     let limit = yellow_from bar phase in
     interval lane Green true (green_from bar limit comes phase.ped) limit
-    ++ walking lane comes bar limit phase.ped ++ yellow_and_red lane bar phase
+    ++ walk_intervals lane comes bar limit phase.ped ++ yellow_and_red lane bar phase
 
 -- a phase with its intervals, its edge and its words, as its split row has it
 abbrev pub phase_shapes : Rows → Pattern → ℕ → Bar → List Shape

@@ -2,7 +2,7 @@
 
 ghost use Rattle.std.specs.Prelude.{◌≡◌, ◌++◌, ◌≤◌, OnOk, length};
 ghost use Rattle.std.specs.Option.{option_copied};
-ghost use Rattle.signal_diagram.specs.Shapes.{calls_walk, tenth_after, tenth_before, yellow_from, green_from, interval, yellow_and_red, cut, walking, intervals, phase_shapes, lane_shapes, lanes_shapes};
+ghost use Rattle.signal_diagram.specs.Shapes.{calls_walk, tenth_after, tenth_before, yellow_from, green_from, interval, yellow_and_red, cut, walk_intervals, intervals, phase_shapes, lane_shapes, lanes_shapes};
 
 use crate::chart::{Bar, Lane};
 use crate::shapes::{Band, Shape};
@@ -129,7 +129,7 @@ fn add_walking(
     ped: Option<Ped>,
 ) -> Result<(), AllocError>
     ensures { OnOk result (shapes.new.items
-        ≡ shapes.old.items ++ walking lane comes bar.now limit ped) }
+        ≡ shapes.old.items ++ walk_intervals lane comes bar.now limit ped) }
 {
     let Some(ped) = ped else {
         return Ok(());

@@ -1,9 +1,32 @@
--- The lines of records, and the text of those that would be refused.
-use Rattle.std.proofs.Common.{◌≡◌, ◌+◌, ◌++◌, ◌<◌, ℕ, List, [], ◌∷◌, length, take, get_or, ap, sym, ◌∙◌, arith, append_assoc, append-nil}
+-- Records that were tried, and the text of those that would be refused.
+use Rattle.std.proofs.Common.{◌≡◌, ◌⊎◌, ◌+◌, ◌++◌, ◌<◌, inl, inr, ℕ, Result, Ok, Err, List, [], ◌∷◌, length, take, get_or, ap, sym, ◌∙◌, arith, append_assoc, append-nil}
 use Rattle.std.proofs.lemmas.List.{length-take-le, take_more}
+use Rattle.cabinet_core.specs.declared.command.RecordCommand.{RecordCommand}
+use Rattle.office_desk.specs.Checking.{Checks, MeetsCheckDamage}
 use Rattle.office_desk.specs.declared.checking.Checked.{Checked}
+use Rattle.office_files.specs.Records.{commands_of}
+use Rattle.office_tables_shelf.specs.Content.{Content}
+use Rattle.signal_office_faults.specs.Done.{Printed}
+use Rattle.signal_office_faults.specs.declared.fault.Fault.{Fault}
+use Rattle.signal_office_faults.specs.declared.fault.Fault.TheVariants as fault
+use Rattle.signal_office_commands.specs.Checks.{ChecksFile, checks_told}
+use Rattle.signal_office_commands.specs.Plans.{TellsAs}
 use Rattle.signal_office_faults.specs.Hints.{line_of_record}
 use Rattle.signal_office_commands.specs.Texts.{checked_line, checked_lines}
+
+-- ---- a file
+
+module _ (csv lines : List ℕ) (tables : Content) (records : List RecordCommand) (spelled : commands_of csv ≡ Ok records) where
+  -- its records were tried
+  pub file_checked : (all : List Checked) (result : Result Printed Fault) → Checks tables records all → TellsAs (checks_told lines all) result → ChecksFile csv lines tables result
+  file_checked all (Ok it) checks is = (records, spelled, all, checks, is)
+  file_checked all (Err why) checks memory = inr (inl memory)
+
+  -- they were not
+  pub file_refused : (why : Fault) → (why ≡ fault.Store) ⊎ (why ≡ fault.Damaged) → (why ≡ fault.Damaged → MeetsCheckDamage tables records)
+      → ChecksFile csv lines tables (Err why)
+  file_refused why (inl store) meets = inr (inr (inl store))
+  file_refused why (inr damaged) meets = inr (inr (inr (damaged, records, spelled, meets damaged)))
 
 -- ---- the text
 

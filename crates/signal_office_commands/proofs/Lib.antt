@@ -1,5 +1,5 @@
 pub mod FaultLemmas
-pub mod HonestLemmas
+pub mod ChangingLemmas
 pub mod InTurnLemmas
 mod ReplacingLemmas
 mod RevisedLemmas

@@ -1,18 +1,19 @@
 -- The plan that a revision leaves, from what stood and what was done.
-use Rattle.std.proofs.Common.{◌≡◌, inl, inr, ℕ, Bool, true, false, ◌&&◌, not, List, [], ◌∷◌, Option, Some, None, Result, Ok, Err, refl, sym, ap, subst, ◌∙◌}
-use Rattle.std.specs.{FinMap.get, Prelude.IfOk, Prelude.is_none, Prelude.option_map}
+use Rattle.std.proofs.Common.{◌≡◌, ℕ, Bool, true, false, List, [], ◌∷◌, Option, Some, None, Result, Ok, Err, refl, sym, ap, ap₂, subst, ◌∙◌}
+use Rattle.std.specs.{FinMap.get, Prelude.IfOk, Prelude.option_map}
 use Rattle.draft_core.specs.Transaction.{Draft, TimingSide}
 use Rattle.office_desk.specs.{Running.MakesTables, StandFor.StandForSound}
 use Rattle.office_files.specs.Changes.{changes_of}
-use Rattle.office_machine.specs.{Office.Office, Office.Intersection, Step.draft_shown, Step.shown, Step.timing_shown, declared.reply.Reply.Reply}
+use Rattle.office_machine.specs.{Office.Office, Office.Intersection, Step.draft_shown, Step.shown, Step.timing_shown, declared.reply.OpenDraft.OpenDraft, declared.reply.Reply.Reply}
 use Rattle.office_machine.specs.declared.reply.Reply.TheVariants as reply
 use Rattle.office_tables_shelf.specs.{Content.Content, declared.shelf.Shelf.Ghosts}
 use Rattle.signal_office_commands.proofs.RevisingLemmas.{Edits, Stands, drafted_set, held_base, settled_set, stands_by}
-use Rattle.signal_office_commands.specs.InTurn.{Makes, RunsInTurn}
-use Rattle.signal_office_commands.specs.Replacing.{LeavesPlan, LeftPlan, TellsNoChange, base_at, draft_set, is_same, plan_left, plan_wanted}
-use Rattle.signal_office_commands.specs.Revising.{CommitsDraft, EndsRevision, RevisesSo, Wants, WouldBe, commands_due, committing, drafted, drafting, is_idle, outcome_of}
+use Rattle.signal_office_commands.specs.Changing.{ChangesShelf}
+use Rattle.signal_office_commands.specs.InTurn.{RunsInTurn}
+use Rattle.signal_office_commands.specs.Replacing.{LeavesPlan, LeftPlan, HasShownRows, TellsNoChange, base_at, draft_set, is_same, plan_left, plan_wanted}
+use Rattle.signal_office_commands.specs.Revising.{EndsAs, Revises, RevisesSo, WouldBe, commands_due, committing, drafted, is_idle, revised_by}
 use Rattle.signal_office_commands.specs.Standing.{AreWanted, ShowsStanding, base_from, base_of, standing_of, standing_seen}
-use Rattle.signal_office_commands.specs.declared.revising.{Outcome.Outcome, Outcome.TheVariants.Open, Outcome.TheVariants.Same, Outcome.TheVariants.Committed, Revised.Revised}
+use Rattle.signal_office_commands.specs.declared.revising.{Revised.Revised, Revised.TheVariants.Open, Revised.TheVariants.Same, Revised.TheVariants.Committed, Revision.Revision}
 use Rattle.signal_office_commands.specs.declared.standing.StandingPlan.{StandingPlan}
 use Rattle.signal_office_faults.specs.declared.fault.Fault.{Fault}
 use Rattle.signal_office_line.specs.declared.job.Edit.{Edit}
@@ -68,17 +69,17 @@ bound : {A B : Type 0} (first : Result A Fault) (rest : A → Result B Fault) (y
 bound (Ok x) rest y e = (x, refl, e)
 bound (Err why) rest y e = cc
 
-module _ (bytes : List ℕ) (id : ℕ) (clerk : List ℕ) (edit : Edit) (old new : Content) (asked : List Change) (spelled : changes_of bytes ≡ Ok asked) (standing : StandingPlan) (changes : List Change)
-    (before : Office) (stands : StandForSound old before) (i : Intersection) (there : get before.intersections id ≡ Some i)
+module _ (bytes : List ℕ) (edit : Edit) (old new : Content) (asked : List Change) (spelled : changes_of bytes ≡ Ok asked) (standing : StandingPlan) (changes : List Change)
+    (before : Office) (stands : StandForSound old before) (i : Intersection) (there : get before.intersections edit.id ≡ Some i)
     (was : standing.committed ≡ i.timing.committed) (base : base_of standing ≡ base_at i.timing)
     (is : after_changes (base_of standing) changes ≡ plan_wanted edit.replace (base_at i.timing) asked) where
   abbrev wanted : Rows
   wanted = plan_wanted edit.replace (base_at i.timing) asked
 
   -- the plan that is left is the one that is wanted
-  left_so : (outcome : Outcome) (tables : Content) → new ≡ tables → Stands tables id (λ side. plan_left outcome side ≡ Some wanted)
-      → TellsNoChange edit.commit i.timing.committed wanted (is_same outcome) → LeftPlan bytes id edit before new outcome
-  left_so outcome tables same after told = record {
+  left_so : (done : Revised) (tables : Content) → new ≡ tables → Stands tables edit.id (λ side. plan_left done side ≡ Some wanted) → HasShownRows done wanted
+      → TellsNoChange edit.commit i.timing.committed wanted (is_same done) → LeftPlan bytes edit before new done
+  left_so done tables same after shown told = record {
     asked = asked;
     spelled = spelled;
     was = i;
@@ -88,92 +89,78 @@ module _ (bytes : List ℕ) (id : ℕ) (clerk : List ℕ) (edit : Edit) (old new
     is = after.it;
     still = after.there;
     left = after.holds;
+    shown = shown;
     told = told;
   }
 
   made : (side : TimingSide) → Edits i.timing side changes → (draft : Draft) × (side.draft ≡ Some draft) × (draft.set ≡ wanted)
   made side edits = (edits.draft, edits.held, edits.set ∙ ap (λ set. after_changes set changes) (sym base) ∙ is)
 
-  -- the draft stays open
-  opened : (middle : Content) → new ≡ middle → Stands middle id (λ side. Edits i.timing side changes) → TellsNoChange edit.commit i.timing.committed wanted false
-      → LeftPlan bytes id edit before new Open
-  opened middle same after = left_so Open middle same (stands_by _ _ _ _ (λ side edits.
-      let m = made side edits in
-      ap (option_map (λ (d : Draft). d.set)) m.1 ∙ ap Some m.2) after)
+  module _ (draft : OpenDraft) (rows : draft.rows ≡ wanted) (middle : Content) (after : Stands middle edit.id (λ side. Edits i.timing side changes)) where
+    -- the draft stays open
+    opened : new ≡ middle → TellsNoChange edit.commit i.timing.committed wanted false → LeftPlan bytes edit before new (Open draft)
+    opened same told = left_so (Open draft) middle same (stands_by _ _ _ _ (λ side edits.
+        let m = made side edits in
+        ap (option_map (λ (d : Draft). d.set)) m.1 ∙ ap Some m.2) after) rows told
 
-  -- it is the committed set
-  unchanged : (middle : Content) → new ≡ middle → Stands middle id (λ side. Edits i.timing side changes) → i.timing.committed ≡ wanted
-      → TellsNoChange edit.commit i.timing.committed wanted true → LeftPlan bytes id edit before new Same
-  unchanged middle same after equal = left_so Same middle same (stands_by _ _ _ _ (λ side edits. ap Some (edits.committed ∙ equal)) after)
+    -- it is the committed set
+    unchanged : new ≡ middle → TellsNoChange edit.commit i.timing.committed wanted true → LeftPlan bytes edit before new Same
+    unchanged same told = left_so Same middle same (stands_by _ _ _ _ (λ side edits. ap Some (edits.committed ∙ equal_where edit.commit _ _ told)) after) tt told
 
-  -- it was committed
-  settled : (middle : Content) (last : Reply) → RunsInTurn reply.Same (committing true false id clerk) middle new (Ok last) → Stands middle id (λ side. Edits i.timing side changes)
-      → TellsNoChange edit.commit i.timing.committed wanted false → LeftPlan bytes id edit before new Committed
-  settled middle last runs after = left_so Committed new refl (stands_by _ _ _ _ (λ side set. ap Some set)
-      (settled_set middle new id clerk last wanted (stands_by _ _ _ _ (λ side edits. let m = made side edits in held_base side m.0 m.1 ∙ m.2) after) runs))
+    -- it was committed
+    settled : (last : Reply) → RunsInTurn reply.Same (committing true false edit.id edit.clerk) middle new (Ok last)
+        → TellsNoChange edit.commit i.timing.committed wanted false → LeftPlan bytes edit before new (Committed draft)
+    settled last runs told = left_so (Committed draft) new refl (stands_by _ _ _ _ (λ side set. ap Some set)
+        (settled_set middle new edit.id edit.clerk last wanted (stands_by _ _ _ _ (λ side edits. let m = made side edits in held_base side m.0 m.1 ∙ m.2) after) runs)) rows told
 
-  finished : (commit same wrote : Bool) (violations : List Violation) (last : Reply) (middle : Content) (outcome : Outcome)
-      → TellsNoChange edit.commit i.timing.committed wanted same → (same ≡ true → i.timing.committed ≡ wanted) → Stands middle id (λ side. Edits i.timing side changes)
-      → RunsInTurn reply.Same (commands_due violations (committing commit same id clerk)) middle new (Ok last)
-      → outcome_of same wrote (commands_due violations (committing commit same id clerk)) ≡ Ok outcome → LeftPlan bytes id edit before new outcome
-  finished true true wrote [] last middle outcome told equal after runs is =
-      let o : Same ≡ outcome = cc in subst (LeftPlan bytes id edit before new) o (unchanged middle runs.0 after (equal refl) told)
-  finished true true wrote (v ∷ vs) last middle outcome told equal after runs is =
-      let o : Same ≡ outcome = cc in subst (LeftPlan bytes id edit before new) o (unchanged middle runs.0 after (equal refl) told)
-  finished false true wrote [] last middle outcome told equal after runs is =
-      let o : Same ≡ outcome = cc in subst (LeftPlan bytes id edit before new) o (unchanged middle runs.0 after (equal refl) told)
-  finished false true wrote (v ∷ vs) last middle outcome told equal after runs is =
-      let o : Same ≡ outcome = cc in subst (LeftPlan bytes id edit before new) o (unchanged middle runs.0 after (equal refl) told)
-  finished false false wrote [] last middle outcome told equal after runs is =
-      let o : Open ≡ outcome = cc in subst (LeftPlan bytes id edit before new) o (opened middle runs.0 after told)
-  finished false false wrote (v ∷ vs) last middle outcome told equal after runs is =
-      let o : Open ≡ outcome = cc in subst (LeftPlan bytes id edit before new) o (opened middle runs.0 after told)
-  finished true false wrote (v ∷ vs) last middle outcome told equal after runs is =
-      let o : Open ≡ outcome = cc in subst (LeftPlan bytes id edit before new) o (opened middle runs.0 after told)
-  finished true false true [] last middle outcome told equal after runs is =
-      let o : Committed ≡ outcome = cc in subst (LeftPlan bytes id edit before new) o (settled middle last runs after told)
-  finished true false false [] last middle outcome told equal after runs is = absurd cc
+    finished : (commit same wrote : Bool) (violations : List Violation) (last : Reply) (done : Revised) → TellsNoChange edit.commit i.timing.committed wanted same
+        → RunsInTurn reply.Same (commands_due violations (committing commit same edit.id edit.clerk)) middle new (Ok last)
+        → Ok done ≡ revised_by same wrote (commands_due violations (committing commit same edit.id edit.clerk)) draft → LeftPlan bytes edit before new done
+    finished true true wrote [] last done told runs e = let o : Same ≡ done = cc in subst (LeftPlan bytes edit before new) o (unchanged runs.0 told)
+    finished true true wrote (v ∷ vs) last done told runs e = let o : Same ≡ done = cc in subst (LeftPlan bytes edit before new) o (unchanged runs.0 told)
+    finished false true wrote [] last done told runs e = let o : Same ≡ done = cc in subst (LeftPlan bytes edit before new) o (unchanged runs.0 told)
+    finished false true wrote (v ∷ vs) last done told runs e = let o : Same ≡ done = cc in subst (LeftPlan bytes edit before new) o (unchanged runs.0 told)
+    finished false false wrote [] last done told runs e = let o : Open draft ≡ done = cc in subst (LeftPlan bytes edit before new) o (opened runs.0 told)
+    finished false false wrote (v ∷ vs) last done told runs e = let o : Open draft ≡ done = cc in subst (LeftPlan bytes edit before new) o (opened runs.0 told)
+    finished true false wrote (v ∷ vs) last done told runs e = let o : Open draft ≡ done = cc in subst (LeftPlan bytes edit before new) o (opened runs.0 told)
+    finished true false true [] last done told runs e = let o : Committed draft ≡ done = cc in subst (LeftPlan bytes edit before new) o (settled last runs told)
+    finished true false false [] last done told runs e = absurd cc
 
-  here : Stands old id (λ side. side ≡ i.timing)
+  here : Stands old edit.id (λ side. side ≡ i.timing)
   here = record { office = before; stand = stands; it = i; there = there; holds = refl }
 
-  by_ends : (wrote : Bool) (done : Revised) (idle same : Bool) → (same && is_none standing.draft) ≡ idle → TellsNoChange edit.commit i.timing.committed wanted same
-      → EndsRevision idle same wrote (drafting id clerk changes) (committing edit.commit same id clerk) old new (Ok done) → LeftPlan bytes id edit before new done.outcome
-  by_ends wrote done true true e told (is_done, unmoved) =
-      let outcome : Same ≡ done.outcome = cc in
-      subst (LeftPlan bytes id edit before new) outcome
-      (left_so Same old unmoved (stands_by _ _ _ _ (λ side at. ap Some (ap (λ (t : TimingSide). t.committed) at ∙ equal_where edit.commit _ _ told)) here) told)
-  by_ends wrote done true false e told ends = absurd cc
-  by_ends wrote done false same e told (middle, found, makes, commits) = by_found found makes commits where
-    by_found : (found : Result (List Violation) Fault) → Makes drafted (drafting id clerk changes) old middle found
-        → CommitsDraft same wrote (committing edit.commit same id clerk) found middle new (Ok done) → LeftPlan bytes id edit before new done.outcome
-    by_found (Err why) makes commits = absurd (apart done why commits.1)
-    by_found (Ok violations) (last, runs, shown) (ended, more, result) =
-        let first = bound last drafted violations shown in
-        let second = bound ended _ done result in
-        let third = bound (outcome_of same wrote (commands_due violations (committing edit.commit same id clerk))) _ done second.2 in
-        let outcome : third.0 ≡ done.outcome = let is = third.2 in cc in
-        subst (LeftPlan bytes id edit before new) outcome (finished edit.commit same wrote violations second.0 middle third.0 told
-        (λ same_is. equal_where edit.commit _ _ (subst (TellsNoChange edit.commit i.timing.committed wanted) same_is told))
-        (drafted_set old middle id clerk changes first.0 i.timing here (subst (RunsInTurn reply.Same (drafting id clerk changes) old middle) first.1 runs))
-        (subst (RunsInTurn reply.Same (commands_due violations (committing edit.commit same id clerk)) middle new) second.1 more) third.1)
+  by_ends : (wrote : Bool) (done : Revised) (found : Option Revision) (same : Bool) → TellsNoChange edit.commit i.timing.committed wanted same
+      → Revises (is_idle same standing) same edit changes found → EndsAs wrote (Ok found) old new (Ok done) → LeftPlan bytes edit before new done
+  by_ends wrote done None true told idle (is_done, unmoved) =
+      let o : Same ≡ done = cc in
+      subst (LeftPlan bytes edit before new) o
+      (left_so Same old unmoved (stands_by _ _ _ _ (λ side at. ap Some (ap (λ (t : TimingSide). t.committed) at ∙ equal_where edit.commit _ _ told)) here) tt told)
+  by_ends wrote done None false told idle ends = absurd cc
+  by_ends wrote done (Some it) same told (busy, first, more, is_it) (middle, Err why, makes, commits) = absurd (apart done why commits.1)
+  by_ends wrote done (Some it) same told (busy, first, more, is_it) (middle, Ok draft, (last, runs, shown), (ended, ran, result)) =
+      let one = bound last drafted draft shown in
+      let two = bound ended (λ _. revised_by it.same wrote (commands_due draft.violations it.more.items) draft) done result in
+      let drafts = drafted_set old middle edit.id edit.clerk changes one.0 i.timing here
+      (subst (λ f. RunsInTurn reply.Same f old middle (Ok one.0)) first (subst (RunsInTurn reply.Same it.first.items old middle) one.1 runs)) in
+      finished draft (drafts.1 draft (sym one.2) ∙ ap (λ set. after_changes set changes) (sym base) ∙ is) middle drafts.0 edit.commit same wrote draft.violations two.0 done told
+      (subst (λ m. RunsInTurn reply.Same (commands_due draft.violations m) middle new (Ok two.0)) more (subst (RunsInTurn reply.Same (commands_due draft.violations it.more.items) middle new) two.1 ran))
+      (two.2 ∙ ap₂ (λ s m. revised_by s wrote (commands_due draft.violations m) draft) is_it more)
 
 -- the plan that is left is the one that was asked for
-leaves : (wrote : Bool) (bytes : List ℕ) (id : ℕ) (clerk : List ℕ) (edit : Edit) (old new : Content) (done : Revised) → RevisesSo wrote bytes id clerk edit old new (Ok done)
-    → LeavesPlan bytes id edit done.outcome old new
-leaves wrote bytes id clerk edit old new done (inl (it, ends)) before stands =
-    let on = standing_on old before id it.standing it.shows stands in
+leaves : (wrote : Bool) (bytes : List ℕ) (edit : Edit) (old new : Content) (done : Revised) → RevisesSo wrote bytes edit old new (Ok done) → LeavesPlan bytes edit done old new
+leaves wrote bytes edit old new done (Err why, comes, ends) before stands = absurd (apart done why ends.0)
+leaves wrote bytes edit old new done (Ok found, (asked, spelled, standing, shows, it), ends) before stands =
+    let on = standing_on old before edit.id standing shows stands in
     let committed = ap (λ (s : StandingPlan). s.committed) on.2 in
-    let base = same_base it.standing on.0.timing committed (ap (λ (s : StandingPlan). s.draft) on.2) in
-    let is = made_plan edit.replace (base_of it.standing) it.asked it.changes it.wanted ∙ ap (λ set. plan_wanted edit.replace set it.asked) base in
-    by_ends bytes id clerk edit old new it.asked it.spelled it.standing it.changes before stands on.0 on.1 committed base is wrote done (is_idle it.same it.standing) it.same refl
-    (tells edit.commit it.same it.standing it.changes _ _ committed is it.would_be) ends
-leaves wrote bytes id clerk edit old new done (inr (why, is, none, how)) before stands = absurd (apart done why is)
+    let base = same_base standing on.0.timing committed (ap (λ (s : StandingPlan). s.draft) on.2) in
+    let is = made_plan edit.replace (base_of standing) asked it.changes it.wanted ∙ ap (λ set. plan_wanted edit.replace set asked) base in
+    by_ends bytes edit old new asked spelled standing it.changes before stands on.0 on.1 committed base is wrote done found it.same
+    (tells edit.commit it.same standing it.changes _ _ committed is it.would_be) it.revises ends
 
-pub plan_left_by : {S : Type 0} (g : Ghosts S) (old new : S) (wrote : Bool) (bytes : List ℕ) (id : ℕ) (clerk : List ℕ) (edit : Edit) (result : Result Revised Fault)
-    → MakesTables g old new (λ before after. RevisesSo wrote bytes id clerk edit before after result)
-    → IfOk result (λ done. MakesTables g old new (λ before after. LeavesPlan bytes id edit done.outcome before after))
-plan_left_by g old new wrote bytes id clerk edit (Err why) makes = tt
-plan_left_by g old new wrote bytes id clerk edit (Ok done) makes = λ clean tables held.
-    let made = makes clean tables held in
-    (made.0, leaves wrote bytes id clerk edit tables made.0 done made.1, made.2)
+pub plan_left_by : {S : Type 0} {g : Ghosts S} {old new : S} {wrote : Bool} {After : Content → Content → Type 0} (bytes : List ℕ) (edit : Edit) (result : Result Revised Fault)
+    → ChangesShelf g old new (λ before after. RevisesSo wrote bytes edit before after result) After
+    → IfOk result (λ done. MakesTables g old new (λ before after. LeavesPlan bytes edit done before after))
+plan_left_by bytes edit (Err why) it = tt
+plan_left_by {wrote = wrote} bytes edit (Ok done) it = λ clean tables held.
+    let made = it.makes clean tables held in
+    (made.0, leaves wrote bytes edit tables made.0 done made.1, made.2)

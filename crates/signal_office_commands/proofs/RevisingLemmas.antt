@@ -9,18 +9,20 @@ use Rattle.draft_core.specs.declared.refusal.DraftRefusal.TheVariants.{NotDone, 
 use Rattle.office_desk.specs.StandFor.{StandForSound}
 use Rattle.signal_records.specs.declared.state.Stage.{Stage}
 use Rattle.signal_records.specs.declared.state.Stage.TheVariants.{Transaction, Verify, Done}
-use Rattle.office_machine.specs.{Office.Office, Office.Intersection, Step.Step, Step.answered, Step.transacted, Step.with_intersection, declared.command.Command.Command, declared.refusal.Refusal.Refusal, declared.reply.Reply.Reply}
+use Rattle.office_machine.specs.{Office.Office, Office.Intersection, Step.Step, Step.answered, Step.draft_shown, Step.shown, Step.transacted, Step.with_intersection, declared.command.Command.Command, declared.refusal.Refusal.Refusal, declared.reply.OpenDraft.OpenDraft, declared.reply.Reply.Reply}
 use Rattle.office_machine.specs.Step.{moved as moved_by, refusal_of_draft}
 use Rattle.office_machine.specs.declared.command.Command.TheVariants as command
 use Rattle.office_machine.specs.declared.reply.Reply.TheVariants as reply
 use Rattle.office_machine.specs.declared.refusal.Refusal.TheVariants as refusal
 use Rattle.office_tables_shelf.specs.Content.{Content}
 use Rattle.signal_office_commands.specs.InTurn.{Answered, RunsInTurn, passed}
-use Rattle.signal_office_commands.specs.Revising.{drafting, committing}
+use Rattle.signal_office_commands.specs.Revising.{committing, drafted, drafting}
 use Rattle.signal_office_commands.specs.{Replacing.base_at}
 use Rattle.signal_office_faults.specs.declared.fault.Fault.{Fault}
+use Rattle.signal_office_faults.specs.declared.fault.Fault.TheVariants as told
 use Rattle.signal_records.specs.TimingSet.{Rows, after_changes}
 use Rattle.signal_records.specs.declared.record.Change.{Change}
+use Rattle.signal_rules.specs.Violations.{violations_of}
 use Rattle.signal_rules.specs.declared.violation.Violation.{Violation}
 
 -- ---- lines of the transaction's table
@@ -142,6 +144,16 @@ looks : (office next : Office) (id : ℕ) (got : Reply) → Step office (command
 looks office next id got (inl h) = h.1
 looks office next id got (inr h) = sym (ap (λ (p : Reply × Office). p.1) h)
 
+-- a draft that is shown is the one that is held
+shown_rows : (office next : Office) (id : ℕ) (got : Reply) (i : Intersection) (held : Draft) (draft : OpenDraft) → get office.intersections id ≡ Some i → i.timing.draft ≡ Some held
+    → Step office (command.Draft id) got next → drafted got ≡ Ok draft → draft.rows ≡ held.set
+shown_rows office next id got i held draft there holds (inl h) is = let none : Err told.Store ≡ Ok draft = sym (ap drafted h.0) ∙ is in cc
+shown_rows office next id got i held draft there holds (inr h) is =
+    let shows : draft_shown (Some held) ≡ got = sym (ap draft_shown holds) ∙ sym (ap (λ found. shown found (λ (it : Intersection). draft_shown it.timing.draft)) there) ∙ ap (λ (p : Reply × Office). p.0) h in
+    let same : Ok (record { owner = held.owner; rows = held.set; violations = violations_of held.set }) ≡ Ok draft = ap drafted shows ∙ is in
+    let one : record { owner = held.owner; rows = held.set; violations = violations_of held.set } ≡ draft = cc in
+    sym (ap (λ (d : OpenDraft). d.rows) one)
+
 -- ---- runs
 
 -- the tables stand for a sound office that has the intersection, with such a timing side
@@ -193,9 +205,10 @@ edit_ends id clerk changes why e = cc
 commit_ends : (id : ℕ) (clerk : List ℕ) (why : Refusal) → passed (command.Commit id clerk) (reply.Refused why) ≢ Ok tt
 commit_ends id clerk why e = cc
 
--- the draft of a revision is what its changes make of what stood
+-- the draft of a revision is what its changes make of what stood, and so are the rows that are shown
 pub drafted_set : (old new : Content) (id : ℕ) (clerk : List ℕ) (changes : List Change) (last : Reply) (was : TimingSide)
-    → Stands old id (λ side. side ≡ was) → RunsInTurn reply.Same (drafting id clerk changes) old new (Ok last) → Stands new id (λ side. Edits was side changes)
+    → Stands old id (λ side. side ≡ was) → RunsInTurn reply.Same (drafting id clerk changes) old new (Ok last)
+    → Stands new id (λ side. Edits was side changes) × ((draft : OpenDraft) → drafted last ≡ Ok draft → draft.rows ≡ after_changes (base_at was) changes)
 drafted_set old new id clerk changes last was s runs =
     let r1 = taken reply.Same (command.Begin id clerk) (command.Check id clerk ∷ command.Reopen id clerk ∷ command.Edit id clerk changes ∷ command.Draft id ∷ []) old new last runs in
     let r2 = taken r1.given (command.Check id clerk) (command.Reopen id clerk ∷ command.Edit id clerk changes ∷ command.Draft id ∷ []) r1.middle new last r1.rest in
@@ -211,16 +224,19 @@ drafted_set old new id clerk changes last was s runs =
     (λ side next holds e. then_kept was side next holds (stage_keeps side next Done Transaction NotDone clerk e)) (λ side holds. holds) in
     let four = made id (command.Edit id clerk changes) (command.Draft id ∷ []) r3.middle new last r4 (table_line (step.Edit changes) clerk) (λ office. refl) (Keeps was) (λ side. Edits was side changes) three
     (λ side next holds e. after_kept was side next changes holds (edit_makes side next clerk changes e)) (edit_ends id clerk changes) in
-    let shown = r5.answered.step four.office four.stand in
-    let same = looks four.office shown.next id r5.given shown.step in
+    let shows = r5.answered.step four.office four.stand in
+    let same = looks four.office shows.next id r5.given shows.step in
     let rest : RunsInTurn r5.given [] r5.middle new (Ok last) = r5.rest in
-    record {
-      office = four.office;
-      stand = subst (λ tables. StandForSound tables four.office) (sym rest.0) (subst (StandForSound r5.middle) same shown.stand);
-      it = four.it;
-      there = four.there;
-      holds = four.holds;
-    }
+    let last_is : last ≡ r5.given = let e = rest.1 in cc in (
+      record {
+        office = four.office;
+        stand = subst (λ tables. StandForSound tables four.office) (sym rest.0) (subst (StandForSound r5.middle) same shows.stand);
+        it = four.it;
+        there = four.there;
+        holds = four.holds;
+      },
+      λ draft is. shown_rows four.office shows.next id r5.given four.it four.holds.draft draft four.there four.holds.held shows.step (sym (ap drafted last_is) ∙ is) ∙ four.holds.set,
+    )
 
 -- the committed set is what a commit was made of
 pub settled_set : (old new : Content) (id : ℕ) (clerk : List ℕ) (last : Reply) (set : Rows)

@@ -5,8 +5,7 @@ use Rattle.std.specs.Option.{option_map, option_map_or}
 use Rattle.cabinet_core.specs.declared.command.RecordCommand.{RecordCommand}
 use Rattle.cabinet_core.specs.declared.command.RecordCommand.TheVariants.{Inspect, OpenOrder, UsePart, CloseOrder, Receive}
 use Rattle.office_files.specs.Records.{commands_of}
-use Rattle.office_files.specs.declared.fault.CsvFault.{CsvFault}
-use Rattle.office_files.specs.declared.fault.CsvFault.TheVariants as file
+use Rattle.signal_office_queries.specs.Comparison.{IsUnread}
 use Rattle.signal_office_faults.specs.declared.fault.Fault.{Fault}
 use Rattle.signal_office_faults.specs.declared.fault.Fault.TheVariants as fault
 
@@ -26,19 +25,10 @@ is_late until c = option_map_or (nat_lt until) (record_day c) false
 abbrev pub first_late : (until : ℕ) → List RecordCommand → Option ℕ
 first_late until records = option_map (λ index. index + 1) (position (is_late until) records)
 
--- why the records of a file are not looked at: the first that spells nothing, or that memory was refused
-abbrev pub IsUnreadRecord : (csv : List ℕ) → Fault → Type 0
-IsUnreadRecord csv why =
-    (cause : CsvFault) × (why ≡ fault.Csv cause) × ((cause ≡ file.NoMemory) ⊎ (commands_of csv ≡ Err cause))
-
--- no record of the file is of a later day; or the first that is, is reported; or why they are not looked at
-abbrev pub AreUntil : (until : ℕ) → (csv : List ℕ) → Result ⊤ Fault → Type 0
-AreUntil until csv (Ok tt) = (records : List RecordCommand) × (commands_of csv ≡ Ok records) × (first_late until records ≡ None)
-AreUntil until csv (Err why) =
-    ((records : List RecordCommand) × (at : ℕ) × (commands_of csv ≡ Ok records) × (first_late until records ≡ Some at) × (why ≡ fault.Late at))
-    ⊎ IsUnreadRecord csv why
-
--- no record of the file is of a later day than one that is given, or the first that is, is reported; without a day nothing is looked at
-abbrev pub AreInTime : Option ℕ → (csv : List ℕ) → Result ⊤ Fault → Type 0
+-- No record of the file is of a later day than one that is given; or the first that is, is reported; or why they are not looked at. Without a day nothing is looked at.
+abbrev pub AreInTime : (until : Option ℕ) → (csv : List ℕ) → Result ⊤ Fault → Type 0
 AreInTime None csv result = result ≡ Ok tt
-AreInTime (Some until) csv result = AreUntil until csv result
+AreInTime (Some until) csv (Ok tt) = (records : List RecordCommand) × (commands_of csv ≡ Ok records) × (first_late until records ≡ None)
+AreInTime (Some until) csv (Err why) =
+    ((records : List RecordCommand) × (at : ℕ) × (commands_of csv ≡ Ok records) × (first_late until records ≡ Some at) × (why ≡ fault.Late at))
+    ⊎ IsUnread (commands_of csv) why

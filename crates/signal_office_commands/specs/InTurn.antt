@@ -1,5 +1,5 @@
 -- Commands that an office runs in turn, each over the tables that the one before it left, up to the first that is refused.
-use Rattle.std.specs.Prelude.{◌≡◌, ◌⊎◌, Bool, true, false, if◌then◌else◌, List, [], ◌∷◌, MatchResult, Result, Ok, Err}
+use Rattle.std.specs.Prelude.{◌≡◌, Bool, true, false, if◌then◌else◌, List, [], ◌∷◌, MatchResult, Result, Ok, Err}
 use Rattle.draft_core.specs.declared.refusal.DraftRefusal.TheVariants.{NotNormal, NotVerify, NotDone}
 use Rattle.office_desk.specs.Answers.{AnswersAny}
 use Rattle.office_desk.specs.Damage.{IsTurnedAway, MeetsDamage}
@@ -11,7 +11,6 @@ use Rattle.office_machine.specs.declared.reply.Reply.{Reply}
 use Rattle.office_machine.specs.declared.reply.Reply.TheVariants as reply
 use Rattle.office_tables_shelf.specs.Content.{Content}
 use Rattle.signal_office_faults.specs.declared.fault.Fault.{Fault}
-use Rattle.signal_office_faults.specs.declared.fault.Fault.TheVariants as told
 use Rattle.signal_office_queries.specs.Refused.{fault_of}
 use Rattle.signal_office_queries.specs.Parts.{◌>>=◌}
 
@@ -21,26 +20,11 @@ pub record Answered (old : Content) (asked : Command) (given : Reply) (new : Con
   pub damaged : given ≡ reply.Refused refusal.Damaged → MeetsDamage old asked
   pub turned_away : MeetsDamage old asked → IsTurnedAway asked given
 
--- a transaction is under way
-abbrev pub is_not_normal : Refusal → Bool
-is_not_normal (refusal.Draft NotNormal) = true
-is_not_normal why = false
-
--- the draft was not handed over
-abbrev pub is_not_verify : Refusal → Bool
-is_not_verify (refusal.Draft NotVerify) = true
-is_not_verify why = false
-
--- the draft was not checked
-abbrev pub is_not_done : Refusal → Bool
-is_not_done (refusal.Draft NotDone) = true
-is_not_done why = false
-
 -- the refusal says that a step of the transaction is not due: one is under way, or its draft was not handed over, or not checked
 abbrev pub is_not_due : Command → Refusal → Bool
-is_not_due (command.Begin id clerk) why = is_not_normal why
-is_not_due (command.Check id clerk) why = is_not_verify why
-is_not_due (command.Reopen id clerk) why = is_not_done why
+is_not_due (command.Begin id clerk) (refusal.Draft NotNormal) = true
+is_not_due (command.Check id clerk) (refusal.Draft NotVerify) = true
+is_not_due (command.Reopen id clerk) (refusal.Draft NotDone) = true
 is_not_due asked why = false
 
 -- a refusal ends a run of commands, but for one that says that the step is not due
@@ -59,11 +43,3 @@ RunsInTurn last (asked ∷ more) old new result =
 -- commands were run, and this is made of the last reply, or why they ended
 abbrev pub Makes : {A : Type 0} → (made : Reply → Result A Fault) → List Command → Content → Content → Result A Fault → Type 0
 Makes made commands old new result = (last : Result Reply Fault) × RunsInTurn reply.Same commands old new last × (result ≡ (last >>= made))
-
--- memory was refused before the first command, and nothing was changed
-abbrev pub IsWant : {A : Type 0} → Content → Content → Result A Fault → Type 0
-IsWant old new result = (result ≡ Err told.Memory) × (new ≡ old)
-
--- A CHANGE of one command: what is reported of its reply; out of memory is reported only where nothing was changed
-abbrev pub Changes : {A : Type 0} → (made : Reply → Result A Fault) → Command → Content → Content → Result A Fault → Type 0
-Changes made asked old new result = Makes made (asked ∷ []) old new result ⊎ IsWant old new result

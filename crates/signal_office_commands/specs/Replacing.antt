@@ -1,5 +1,5 @@
 -- The plan that a revision leaves.
-use Rattle.std.specs.Prelude.{◌≡◌, ℕ, Bool, true, false, List, Option, Some, option_map, Ok}
+use Rattle.std.specs.Prelude.{◌≡◌, ℕ, Bool, true, false, List, Option, Some, option_map, Ok, ⊤}
 use Rattle.std.specs.FinMap.{empty, get}
 use Rattle.draft_core.specs.Transaction.{Draft, TimingSide}
 use Rattle.office_files.specs.Changes.{changes_of}
@@ -8,8 +8,8 @@ use Rattle.office_machine.specs.Office.{Intersection, Office}
 use Rattle.office_tables_shelf.specs.Content.{Content}
 use Rattle.signal_office_commands.specs.Standing.{TellsSame, base_from}
 use Rattle.signal_office_line.specs.declared.job.Edit.{Edit}
-use Rattle.signal_office_commands.specs.declared.revising.Outcome.{Outcome}
-use Rattle.signal_office_commands.specs.declared.revising.Outcome.TheVariants.{Open, Same, Committed}
+use Rattle.signal_office_commands.specs.declared.revising.Revised.{Revised}
+use Rattle.signal_office_commands.specs.declared.revising.Revised.TheVariants.{Same, Open, Committed}
 use Rattle.signal_records.specs.TimingSet.{Rows, after_changes}
 use Rattle.signal_records.specs.declared.record.Change.{Change}
 
@@ -27,13 +27,18 @@ plan_wanted true base asked = after_changes empty asked
 plan_wanted false base asked = after_changes base asked
 
 -- the plan that is left: the draft that stays open, or the committed set
-abbrev pub plan_left : Outcome → TimingSide → Option Rows
-plan_left Open side = draft_set side
-plan_left Same side = Some side.committed
-plan_left Committed side = Some side.committed
+abbrev pub plan_left : Revised → TimingSide → Option Rows
+plan_left (Open draft) side = draft_set side
+plan_left other side = Some side.committed
+
+-- the draft that was shown has these rows
+abbrev pub HasShownRows : Revised → Rows → Type 0
+HasShownRows Same set = ⊤
+HasShownRows (Open draft) set = draft.rows ≡ set
+HasShownRows (Committed draft) set = draft.rows ≡ set
 
 -- the draft would be the committed set
-abbrev pub is_same : Outcome → Bool
+abbrev pub is_same : Revised → Bool
 is_same Same = true
 is_same other = false
 
@@ -43,18 +48,19 @@ TellsNoChange false committed wanted told = told ≡ false
 TellsNoChange true committed wanted told = TellsSame committed wanted told
 
 -- of one office: what its intersection had, and has after it
-pub record LeftPlan (bytes : List ℕ) (id : ℕ) (edit : Edit) (before : Office) (new : Content) (outcome : Outcome) : Type 0 where
+pub record LeftPlan (bytes : List ℕ) (edit : Edit) (before : Office) (new : Content) (done : Revised) : Type 0 where
   pub asked : List Change
   pub spelled : changes_of bytes ≡ Ok asked
   pub was : Intersection
-  pub there : get before.intersections id ≡ Some was
+  pub there : get before.intersections edit.id ≡ Some was
   pub after : Office
   pub stands : StandForSound new after
   pub is : Intersection
-  pub still : get after.intersections id ≡ Some is
-  pub left : plan_left outcome is.timing ≡ Some (plan_wanted edit.replace (base_at was.timing) asked)
-  pub told : TellsNoChange edit.commit was.timing.committed (plan_wanted edit.replace (base_at was.timing) asked) (is_same outcome)
+  pub still : get after.intersections edit.id ≡ Some is
+  pub left : plan_left done is.timing ≡ Some (plan_wanted edit.replace (base_at was.timing) asked)
+  pub shown : HasShownRows done (plan_wanted edit.replace (base_at was.timing) asked)
+  pub told : TellsNoChange edit.commit was.timing.committed (plan_wanted edit.replace (base_at was.timing) asked) (is_same done)
 
--- THE PLAN THAT IS LEFT is the one that the file asks for, whichever sound office the old tables stood for.
-abbrev pub LeavesPlan : List ℕ → ℕ → Edit → Outcome → Content → Content → Type 0
-LeavesPlan bytes id edit outcome old new = (before : Office) → StandForSound old before → LeftPlan bytes id edit before new outcome
+-- THE PLAN THAT IS LEFT is the one that the file asks for, and the draft that was shown has its rows, whichever sound office the old tables stood for.
+abbrev pub LeavesPlan : (bytes : List ℕ) → Edit → Revised → Content → Content → Type 0
+LeavesPlan bytes edit done old new = (before : Office) → StandForSound old before → LeftPlan bytes edit before new done

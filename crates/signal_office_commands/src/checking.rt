@@ -3,7 +3,10 @@
 ghost use Rattle.std.specs.Prelude.{◌≡◌, ◌⊎◌, IfOk, IfErr, Err};
 ghost use Rattle.office_desk.specs.Checking.{Checks, MeetsCheckDamage};
 ghost use Rattle.office_tables_shelf.specs.Keeps.{KeepsShelf};
-ghost use Rattle.signal_office_commands.specs.Checks.{ChecksFile, check_fault};
+ghost use Rattle.signal_office_commands.specs.Checks.{ChecksFile, check_fault, checks_told};
+ghost use Rattle.signal_office_commands.specs.Plans.{TellsAs};
+ghost use Rattle.signal_office_faults.specs.Done.{came_to};
+ghost use Rattle.signal_office_queries.specs.Asks.{OnlyLooks};
 
 use crate::check_text::checks_text;
 use crate::counts::counts_of;
@@ -13,16 +16,11 @@ use office_desk::office::Office;
 use office_files::read_records_csv;
 use office_machine::refusal::Refusal;
 use office_tables_shelf::shelf::Shelf;
-use signal_office_faults::Fault;
+use signal_office_faults::{Done, Fault};
 use std::alloc::Global;
 
-/// What is reported of the records of a file.
-#[derive(Drop)]
-pub struct Report {
-    pub text: Vec<u8>,
-    /// How many would be refused.
-    pub refused: usize,
-}
+/// The status where a record would be refused.
+const HAS_REFUSED: u8 = 1;
 
 /// The fault of a check that the office refused.
 fn fault_told(refusal: Refusal) -> Fault
@@ -54,27 +52,30 @@ fn checked<S: Shelf>(
     }
 }
 
+/// Tells each record that would be refused, and the counts. That any would be is told by the
+/// status.
+fn tell_checked(alloc: Global, lines: &[usize], all: &[Checked]) -> Result<Done, Fault>
+    ensures { TellsAs (checks_told lines.now all.now) (came_to result) }
+{
+    let counts = counts_of(all);
+    let text = checks_text(alloc, lines, all, counts)?;
+    let status = if counts.refused == 0 { 0 } else { HAS_REFUSED };
+    Ok(Done::ending(text, status))
+}
+
 /// Tries the records of a CSV file in turn, each after those before it that would be taken, and
 /// tells each that would be refused, with the line of the file on which it begins. Nothing is
 /// taken. The first record that spells nothing is reported.
-pub fn check_csv<S: Shelf>(
+pub fn check<S: Shelf>(
     alloc: Global,
     office: &mut Office<S>,
     csv: &[u8],
     lines: &[usize],
-) -> Result<Report, Fault>
-    // Nothing is changed.
-    ensures kept { KeepsShelf S.Shelf office.old office.new }
-    ensures clean { S.is_clean office.new → S.is_clean office.old }
-    ensures checks { S.is_honest office.new →
-        ChecksFile csv.now lines.now (S.content office.old) result }
+) -> Result<Done, Fault>
+    ensures { OnlyLooks S.Shelf office.old office.new (λ tables. S.is_honest office.new →
+        ChecksFile csv.now lines.now tables (came_to result)) }
 {
     let records = read_records_csv(alloc, csv)?;
     let all = checked(alloc, office, &records)?;
-    let counts = counts_of(&all);
-    let text = checks_text(alloc, lines, &all, counts)?;
-    Ok(Report {
-        text,
-        refused: counts.refused,
-    })
+    tell_checked(alloc, lines, &all)
 }

@@ -7,10 +7,10 @@ use office_desk::Checked;
 
 /// How many records would be new, are there, and would be refused.
 #[derive(Clone, Copy)]
-pub struct Counts {
-    pub added: usize,
-    pub same: usize,
-    pub refused: usize,
+pub(crate) struct Counts {
+    pub(crate) added: usize,
+    pub(crate) same: usize,
+    pub(crate) refused: usize,
 }
 
 /// How many records are of each kind.

@@ -2,7 +2,7 @@
 
 ghost use Rattle.std.specs.Prelude.{◌≡◌, ◌<◌, IfSome, length};
 ghost use Rattle.std.specs.List.{position};
-ghost use Rattle.signal_office_commands.specs.Days.{record_day, AreInTime, AreUntil, first_late, is_late};
+ghost use Rattle.signal_office_commands.specs.Days.{AreInTime, first_late, is_late, record_day};
 
 use cabinet_core::{Day, RecordCommand};
 use office_files::read_records_csv;
@@ -50,25 +50,18 @@ fn first_late(until: Day, records: &[RecordCommand]) -> Option<usize>
     }
 }
 
-/// Looks whether no record of a CSV file has a later day than one.
-fn check_until(alloc: Global, csv: &[u8], until: Day) -> Result<(), Fault>
-    ensures { AreUntil until csv.now result }
-{
-    let records = read_records_csv(alloc, csv)?;
-    match first_late(until, &records) {
-        Some(at) => Err(Fault::Late { at }),
-        None => Ok(()),
-    }
-}
-
 /// Looks whether no record of a CSV file has a later day than one that is given; without that
 /// nothing is looked at. The first that has is told by its number, and so is the first that spells
 /// nothing.
 pub fn check_days(alloc: Global, csv: &[u8], until: Option<Day>) -> Result<(), Fault>
     ensures { AreInTime until csv.now result }
 {
-    match until {
-        Some(until) => check_until(alloc, csv, until),
+    let Some(until) = until else {
+        return Ok(());
+    };
+    let records = read_records_csv(alloc, csv)?;
+    match first_late(until, &records) {
+        Some(at) => Err(Fault::Late { at }),
         None => Ok(()),
     }
 }

@@ -2,8 +2,8 @@
 //! draft that another clerk owns also that clerk.
 
 ghost use Rattle.std.specs.Prelude.{◌≡◌};
-ghost use Rattle.office_tables_shelf.specs.Keeps.{KeepsShelf};
 ghost use Rattle.signal_office_commands.specs.Explained.{IsEditExplained, IsEditRefused, IsFileExplained, IsOwnerTold, TellsOwner, TellsOwnerIn, with_hint};
+ghost use Rattle.signal_office_queries.specs.Asks.{OnlyLooks};
 ghost use Rattle.signal_office_queries.specs.Parts.{first_seen, state_in};
 ghost use Rattle.office_files.specs.declared.fault.CsvFault.TheVariants as file;
 ghost use Rattle.signal_office_faults.specs.declared.fault.Fault.TheVariants as fault;
@@ -15,6 +15,7 @@ use office_files::{BadRow, CsvFault};
 use office_machine::refusal::Refusal;
 use office_tables_shelf::shelf::Shelf;
 use signal_office_faults::{Fault, Hint, hint_of, line_of_record};
+use signal_office_line::Edit;
 use signal_office_queries::{Query, Seen, first_seen, look, state_in};
 use signal_records::{InterId, Words};
 use std::alloc::Global;
@@ -40,7 +41,7 @@ fn explained_row(alloc: Global, csv: &[u8], lines: &[usize], bad: BadRow) -> Fau
 }
 
 /// Why a plan's CSV file is not taken: of a bad record also its line, and what is wrong there.
-pub fn explained_file(alloc: Global, csv: &[u8], lines: &[usize], why: Fault) -> Fault
+pub(crate) fn explained_file(alloc: Global, csv: &[u8], lines: &[usize], why: Fault) -> Fault
     ensures { IsFileExplained csv.now lines.now why result }
 {
     match why {
@@ -80,9 +81,7 @@ fn owner_in(seen: Vec<Seen>) -> Fault
 
 /// Tells the clerk who owns the draft of an intersection.
 fn owner_told<S: Shelf>(alloc: Global, office: &mut Office<S>, id: InterId) -> Fault
-    ensures kept { KeepsShelf S.Shelf office.old office.new }
-    ensures clean { S.is_clean office.new → S.is_clean office.old }
-    ensures told { S.is_honest office.new → IsOwnerTold (S.content office.old) id result }
+    ensures { OnlyLooks S.Shelf office.old office.new (λ tables. IsOwnerTold tables id result) }
 {
     match look(alloc, office, &[Query::State { id }]) {
         Ok(seen) => owner_in(seen),
@@ -99,10 +98,8 @@ fn explained_edit<S: Shelf>(
     lines: &[usize],
     why: Fault,
 ) -> Fault
-    ensures kept { KeepsShelf S.Shelf office.old office.new }
-    ensures clean { S.is_clean office.new → S.is_clean office.old }
-    ensures told { S.is_honest office.new →
-        IsEditExplained csv.now lines.now id (S.content office.old) why result }
+    ensures { OnlyLooks S.Shelf office.old office.new
+        (λ tables. IsEditExplained csv.now lines.now id tables why result) }
 {
     match why {
         Fault::Refused(Refusal::Draft(DraftRefusal::NotOwner)) => owner_told(alloc, office, id),
@@ -111,22 +108,20 @@ fn explained_edit<S: Shelf>(
 }
 
 /// Why an edit is refused, with more where that is asked.
-pub fn refused_edit<S: Shelf>(
+pub(crate) fn refused_edit<S: Shelf>(
     alloc: Global,
     office: &mut Office<S>,
-    id: InterId,
+    edit: &Edit<'_>,
     csv: &[u8],
     lines: &[usize],
-    explain: bool,
     why: Fault,
 ) -> Fault
-    ensures kept { KeepsShelf S.Shelf office.old office.new }
-    ensures clean { S.is_clean office.new → S.is_clean office.old }
-    ensures told { S.is_honest office.new →
-        IsEditRefused explain csv.now lines.now id (S.content office.old) why result }
+    ensures { OnlyLooks S.Shelf office.old office.new
+        (λ tables. IsEditRefused edit.now.explain csv.now lines.now edit.now.id tables why
+        result) }
 {
-    if explain {
-        explained_edit(alloc, office, id, csv, lines, why)
+    if edit.explain {
+        explained_edit(alloc, office, edit.id, csv, lines, why)
     } else {
         why
     }

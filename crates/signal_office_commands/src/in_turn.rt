@@ -1,10 +1,8 @@
 //! Commands that an office runs in turn, up to the first that is refused.
 
-ghost use Rattle.std.specs.Prelude.{◌≡◌, [], ◌∷◌};
-ghost use Rattle.office_desk.specs.Answers.{StandsAfterStep};
-ghost use Rattle.office_desk.specs.Running.{MakesTables};
+ghost use Rattle.std.specs.Prelude.{◌≡◌};
+ghost use Rattle.signal_office_commands.specs.Changing.{AfterOneOf, ChangesShelf};
 ghost use Rattle.signal_office_commands.specs.InTurn.{RunsInTurn, is_not_due, passed};
-ghost use Rattle.signal_office_commands.specs.Stopping.{AfterOneOf, StopLeaves};
 
 use draft_core::refusal::DraftRefusal;
 use office_desk::office::Office;
@@ -51,11 +49,8 @@ pub(crate) fn run_in_turn<S: Shelf>(
     commands: &[Command],
     last: Reply,
 ) -> Result<Reply, Fault>
-    ensures clean { S.is_clean office.new → S.is_clean office.old }
-    ensures honest { S.is_honest office.new → S.is_honest office.old }
-    ensures runs { MakesTables S.Shelf office.old office.new
-        (λ old new. RunsInTurn last commands.now old new result) }
-    ensures stop { StopLeaves S.Shelf office.old office.new (AfterOneOf commands.now) }
+    ensures { ChangesShelf S.Shelf office.old office.new
+        (λ old new. RunsInTurn last commands.now old new result) (AfterOneOf commands.now) }
 {
     let Some((command, rest)) = commands.split_first() else {
         return Ok(last);
@@ -63,20 +58,4 @@ pub(crate) fn run_in_turn<S: Shelf>(
     let reply = office.run(alloc, command);
     passed(command, &reply)?;
     run_in_turn(alloc, office, rest, reply)
-}
-
-/// Runs one command.
-pub(crate) fn run_one<S: Shelf>(
-    alloc: Global,
-    office: &mut Office<S>,
-    command: Command,
-) -> Result<Reply, Fault>
-    ensures clean { S.is_clean office.new → S.is_clean office.old }
-    ensures honest { S.is_honest office.new → S.is_honest office.old }
-    ensures runs { MakesTables S.Shelf office.old office.new
-        (λ old new. RunsInTurn Reply.Same (command ∷ []) old new result) }
-    ensures stop { StopLeaves S.Shelf office.old office.new
-        (λ old found. StandsAfterStep old command found) }
-{
-    run_in_turn(alloc, office, &[command], Reply::Same)
 }

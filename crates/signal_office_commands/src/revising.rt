@@ -1,12 +1,13 @@
 //! A plan that is revised by a CSV file: its draft is edited, and committed where that is asked.
 
 ghost use Rattle.std.specs.Prelude.{◌≡◌, ◌==◌, not, IfOk};
-ghost use Rattle.office_desk.specs.Running.{MakesTables, TellsTables};
+ghost use Rattle.office_desk.specs.Running.{MakesTables};
 ghost use Rattle.office_tables_shelf.specs.Counts.{count_of};
-ghost use Rattle.office_tables_shelf.specs.Keeps.{KeepsShelf};
+ghost use Rattle.signal_office_commands.specs.Changing.{AfterOneOf, ChangesShelf};
+ghost use Rattle.signal_office_commands.specs.InTurn.{Makes};
 ghost use Rattle.signal_office_commands.specs.Replacing.{LeavesPlan};
-ghost use Rattle.signal_office_commands.specs.Revising.{ComesTo, Drafts, IsRevision, RevisesAs, RevisesSo, WouldBe, as_it_stands, commands_due, committing, drafted, drafting, outcome_of, wrote_timing};
-ghost use Rattle.signal_office_commands.specs.Stopping.{AfterEither, AfterRevising, StopLeaves};
+ghost use Rattle.signal_office_commands.specs.Revising.{AfterRevising, AfterRevision, ComesTo, Drafts, IsRevision, RevisesAs, RevisesSo, WouldBe, commands_due, committing, drafted, drafting, revised_by, wrote_timing};
+ghost use Rattle.signal_office_queries.specs.Asks.{OnlyLooks};
 
 use crate::in_turn::run_in_turn;
 use crate::standing::{StandingPlan, standing_in};
@@ -14,31 +15,24 @@ use draft_core::changes::Changes;
 use office_desk::office::Office;
 use office_files::read_timing_csv;
 use office_machine::command::Command;
-use office_machine::reply::{Reply, Violations};
+use office_machine::reply::{OpenDraft, Reply};
 use office_tables_shelf::rows::Table;
 use office_tables_shelf::shelf::Shelf;
 use signal_office_faults::Fault;
 use signal_office_line::Edit;
 use signal_records::{Change, InterId, NoMemory, Words};
+use signal_rules::Violation;
 use std::alloc::Global;
 
-/// What became of a draft.
-#[derive(Clone, Copy, PartialEq, Eq)]
-pub enum Outcome {
-    /// It stays open.
-    Open,
+/// What came of a plan that was revised, with the draft as the office showed it.
+#[derive(Drop)]
+pub enum Revised {
     /// It would be the committed set, so nothing was committed, nor begun.
     Same,
+    /// It stays open.
+    Open(OpenDraft),
     /// It is the committed set.
-    Committed,
-}
-
-/// What came of a plan that was revised.
-#[derive(Drop)]
-pub struct Revised {
-    /// The rules that the draft breaks.
-    pub violations: Violations,
-    pub outcome: Outcome,
+    Committed(OpenDraft),
 }
 
 /// The commands of an edit, made before the first is run.
@@ -113,15 +107,17 @@ fn would_be(
     standing.stays_with(alloc, changes)
 }
 
-/// The commands that change what stands; none where nothing is to be done.
+/// The commands that change what stands, by the changes of a file; none where nothing is to be
+/// done.
 fn revision_of(
     alloc: Global,
     edit: &Edit<'_>,
     standing: &StandingPlan,
-    changes: Changes,
+    asked: Vec<Change>,
 ) -> Result<Option<Revision>, NoMemory>
-    ensures { IfOk result (λ it. IsRevision edit.now standing.now changes it) }
+    ensures { IfOk result (λ it. IsRevision edit.now standing.now asked.items it) }
 {
+    let changes = standing.wanted(alloc, asked, edit.replace)?;
     let same = would_be(alloc, standing, changes.as_slice(), edit.commit)?;
     if standing.is_idle(same) {
         return Ok(None);
@@ -132,21 +128,21 @@ fn revision_of(
     Ok(Some(Revision { first, more, same }))
 }
 
-/// The rules that a shown draft breaks.
-fn drafted(reply: Reply) -> Result<Violations, Fault>
+/// The draft that was shown.
+fn drafted(reply: Reply) -> Result<OpenDraft, Fault>
     ensures { result ≡ drafted reply }
 {
     match reply {
-        Reply::Draft(draft) => Ok(draft.violations),
+        Reply::Draft(draft) => Ok(draft),
         _ => Err(Fault::Store),
     }
 }
 
 /// The commands that are run after those that showed the draft: none where it breaks a rule.
-fn commands_due<'a>(violations: &Violations, more: &'a [Command]) -> &'a [Command]
+fn commands_due<'a>(violations: &[Violation], more: &'a [Command]) -> &'a [Command]
     ensures { result.now ≡ commands_due violations.now more.now }
 {
-    match violations.as_slice() {
+    match violations {
         [] => more,
         _ => &[],
     }
@@ -154,15 +150,20 @@ fn commands_due<'a>(violations: &Violations, more: &'a [Command]) -> &'a [Comman
 
 /// What became of a draft, by the commands that were run to commit it, and whether they wrote rows
 /// of it. Where they wrote none it is not committed, whatever they were answered.
-fn outcome_of(same: bool, wrote: bool, committed: &[Command]) -> Result<Outcome, Fault>
-    ensures { result ≡ outcome_of same wrote committed.now }
+fn revised_by(
+    same: bool,
+    wrote: bool,
+    committed: &[Command],
+    draft: OpenDraft,
+) -> Result<Revised, Fault>
+    ensures { result ≡ revised_by same wrote committed.now draft }
 {
     if same {
-        Ok(Outcome::Same)
+        Ok(Revised::Same)
     } else if committed.is_empty() {
-        Ok(Outcome::Open)
+        Ok(Revised::Open(draft))
     } else if wrote {
-        Ok(Outcome::Committed)
+        Ok(Revised::Committed(draft))
     } else {
         Err(Fault::Store)
     }
@@ -175,15 +176,12 @@ fn revision_in<S: Shelf>(
     edit: &Edit<'_>,
     bytes: &[u8],
 ) -> Result<Option<Revision>, Fault>
-    ensures kept { KeepsShelf S.Shelf office.old office.new }
-    ensures clean { S.is_clean office.new → S.is_clean office.old }
-    ensures comes { TellsTables S.Shelf office.old office.new
+    ensures { OnlyLooks S.Shelf office.old office.new
         (λ tables. ComesTo bytes.now edit.now tables result) }
 {
     let asked = read_timing_csv(alloc, bytes)?;
     let standing = standing_in(alloc, office, edit.id)?;
-    let changes = standing.wanted(alloc, asked, edit.replace)?;
-    Ok(revision_of(alloc, edit, &standing, changes)?)
+    Ok(revision_of(alloc, edit, &standing, asked)?)
 }
 
 /// How many rows of the timing set were written so far.
@@ -200,42 +198,35 @@ fn has_risen(before: u64, after: u64) -> bool
     after != before
 }
 
+/// Changes the draft, and shows it.
+fn show_draft<S: Shelf>(
+    alloc: Global,
+    office: &mut Office<S>,
+    commands: &[Command],
+) -> Result<OpenDraft, Fault>
+    ensures { ChangesShelf S.Shelf office.old office.new
+        (λ old new. Makes drafted commands.now old new result) (AfterOneOf commands.now) }
+{
+    let reply = run_in_turn(alloc, office, commands, Reply::Same)?;
+    drafted(reply)
+}
+
 /// Changes the draft, and commits it where that is due.
 fn run_revision<S: Shelf>(
     alloc: Global,
     office: &mut Office<S>,
     revision: &Revision,
 ) -> Result<Revised, Fault>
-    ensures clean { S.is_clean office.new → S.is_clean office.old }
-    ensures honest { S.is_honest office.new → S.is_honest office.old }
-    ensures drafts { MakesTables S.Shelf office.old office.new (λ old new.
-        Drafts revision.now.same (wrote_timing (S.written office.old) (S.written office.new))
-        revision.now.first.items revision.now.more.items old new result) }
-    ensures stop { StopLeaves S.Shelf office.old office.new
-        (AfterEither revision.now.first.items revision.now.more.items) }
+    ensures { ChangesShelf S.Shelf office.old office.new (λ old new.
+        Drafts (wrote_timing (S.written office.old) (S.written office.new)) revision.now old new
+        result) (AfterRevision revision.now) }
 {
     let before = timing_writes(office);
-    let (first, more) = (revision.first.as_slice(), revision.more.as_slice());
-    let reply = run_in_turn(alloc, office, first, Reply::Same)?;
-    let violations = drafted(reply)?;
-    let due = commands_due(&violations, more);
+    let draft = show_draft(alloc, office, revision.first.as_slice())?;
+    let due = commands_due(draft.violations.as_slice(), revision.more.as_slice());
     run_in_turn(alloc, office, due, Reply::Same)?;
     let wrote = has_risen(before, timing_writes(office));
-    let outcome = outcome_of(revision.same, wrote, due)?;
-    Ok(Revised {
-        violations,
-        outcome,
-    })
-}
-
-/// What is reported of a plan that is as it stands.
-fn as_it_stands(alloc: Global) -> Revised
-    ensures { result ≡ as_it_stands }
-{
-    Revised {
-        violations: Violations::new(Vec::new(alloc)),
-        outcome: Outcome::Same,
-    }
+    revised_by(revision.same, wrote, due, draft)
 }
 
 /// Revises the plan of an intersection by the records of a CSV file, in a transaction of a clerk:
@@ -250,23 +241,19 @@ pub fn revise_plan<S: Shelf>(
     edit: &Edit<'_>,
     bytes: &[u8],
 ) -> Result<Revised, Fault>
-    ensures clean { S.is_clean office.new → S.is_clean office.old }
-    ensures honest { S.is_honest office.new → S.is_honest office.old }
     ensures revises { MakesTables S.Shelf office.old office.new
-        (λ old new. RevisesAs bytes.now edit.now.id edit.now.clerk edit.now old new result) }
+        (λ old new. RevisesAs bytes.now edit.now old new result) }
     // It is reported as committed only where rows of the timing set were written.
-    ensures writes { MakesTables S.Shelf office.old office.new (λ old new.
-        RevisesSo (wrote_timing (S.written office.old) (S.written office.new)) bytes.now
-        edit.now.id edit.now.clerk edit.now old new result) }
-    ensures stop { StopLeaves S.Shelf office.old office.new
-        (AfterRevising bytes.now edit.now.id edit.now.clerk edit.now) }
+    ensures writes { ChangesShelf S.Shelf office.old office.new (λ old new. RevisesSo
+        (wrote_timing (S.written office.old) (S.written office.new)) bytes.now edit.now old new
+        result) (AfterRevising bytes.now edit.now) }
     // The plan that is left is the one that was asked for.
     ensures plan { IfOk result (λ done. MakesTables S.Shelf office.old office.new
-        (λ old new. LeavesPlan bytes.now edit.now.id edit.now done.outcome old new)) }
+        (λ old new. LeavesPlan bytes.now edit.now done old new)) }
 {
     let found = revision_in(alloc, office, edit, bytes)?;
     match found {
         Some(revision) => run_revision(alloc, office, &revision),
-        None => Ok(as_it_stands(alloc)),
+        None => Ok(Revised::Same),
     }
 }

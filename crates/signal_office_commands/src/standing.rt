@@ -1,9 +1,8 @@
 //! What stands of an intersection's plan: the committed set, and the draft where a clerk holds one.
 
 ghost use Rattle.std.specs.Prelude.{◌≡◌, ◌==◌, IfOk, length};
-ghost use Rattle.office_desk.specs.Running.{TellsTables};
-ghost use Rattle.office_tables_shelf.specs.Keeps.{KeepsShelf};
 ghost use Rattle.signal_office_commands.specs.Standing.{StandsAs, standing_of, standing_seen};
+ghost use Rattle.signal_office_queries.specs.Asks.{OnlyLooks};
 
 use draft_core::changes::Changes;
 use office_desk::office::Office;
@@ -48,10 +47,7 @@ pub(crate) fn standing_in<S: Shelf>(
     office: &mut Office<S>,
     id: InterId,
 ) -> Result<StandingPlan, Fault>
-    ensures kept { KeepsShelf S.Shelf office.old office.new }
-    ensures clean { S.is_clean office.new → S.is_clean office.old }
-    ensures stands { TellsTables S.Shelf office.old office.new
-        (λ tables. StandsAs tables id result) }
+    ensures { OnlyLooks S.Shelf office.old office.new (λ tables. StandsAs tables id result) }
 {
     let seen = look(alloc, office, &[Query::Timing { id }, Query::Draft { id }])?;
     standing_seen(seen)

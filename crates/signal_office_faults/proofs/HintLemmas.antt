@@ -1,7 +1,7 @@
 -- The texts of hints are short.
 use Rattle.std.specs.Prelude.{◌≤◌, length, true, false}
-use Rattle.std.proofs.Common.{arith}
-use Rattle.signal_office_faults.specs.Hints.{field_words, field_values, hint_ending, hint_name, hint_values, widths}
+use Rattle.std.proofs.Common.{Bool, arith}
+use Rattle.signal_office_faults.specs.Hints.{field_words, field_values, hint_ending, hint_name, hint_values, widths_of}
 use Rattle.signal_office_faults.specs.declared.hints.Field.{Field}
 use Rattle.signal_office_faults.specs.declared.hints.Field.TheVariants as field
 use Rattle.signal_office_faults.specs.declared.hints.Hint.{Hint}
@@ -59,17 +59,16 @@ short_values field.Pattern = omega arith
 short_values field.Cycle = omega arith
 short_values field.Offset = omega arith
 
-pub short_widths : (of : RowKind) → length (widths of) ≤ 60
-short_widths kind.Phase = omega arith
-short_widths kind.Seq = omega arith
-short_widths kind.Split = omega arith
-short_widths kind.Pattern = omega arith
-short_widths kind.RemovePhase = omega arith
-short_widths kind.RemoveSeq = omega arith
-short_widths kind.RemoveSplit = omega arith
-short_widths kind.RemovePattern = omega arith
-short_widths kind.RemoveOther = omega arith
-short_widths kind.Other = omega arith
+short_widths : (removes : Bool) (of : RowKind) → length (widths_of removes of) ≤ 60
+short_widths false kind.Phase = omega arith
+short_widths false kind.Seq = omega arith
+short_widths false kind.Split = omega arith
+short_widths false kind.Pattern = omega arith
+short_widths true kind.Phase = omega arith
+short_widths true kind.Seq = omega arith
+short_widths true kind.Split = omega arith
+short_widths true kind.Pattern = omega arith
+short_widths removes kind.Other = omega arith
 
 pub short_hint_name : (it : Hint) → length (hint_name it) ≤ 24
 short_hint_name (hint.Kind removed) = omega arith
@@ -79,7 +78,7 @@ short_hint_name (hint.Field it is_numeral) = short_name it
 pub short_hint_values : (it : Hint) → length (hint_values it) ≤ 60
 short_hint_values (hint.Kind false) = omega arith
 short_hint_values (hint.Kind true) = omega arith
-short_hint_values (hint.Count found of) = short_widths of
+short_hint_values (hint.Count found of) = short_widths of.removes of.kind
 short_hint_values (hint.Field it is_numeral) = short_values it
 
 pub short_hint_ending : (it : Hint) → length (hint_ending it) ≤ 40

@@ -9,7 +9,10 @@ use Rattle.csv.specs.declared.parser.Action.TheVariants as act
 use Rattle.csv.specs.declared.parser.State.TheVariants as st
 use Rattle.office_files.specs.Csv.{csv_records, csv_text}
 use Rattle.office_files.proofs.WritingLemmas.{HasField, read_rows}
-use Rattle.signal_office_faults.specs.Padded.{kept_by, are_blank, record_width, removal_width, unpadded, unpadded_text, width_by}
+use Rattle.signal_office_faults.specs.Hints.{record_kind_of}
+use Rattle.signal_office_faults.specs.declared.kinds.RowKind.{RowKind}
+use Rattle.signal_office_faults.specs.declared.kinds.RowKind.TheVariants as row
+use Rattle.signal_office_faults.specs.Padded.{are_blank, kept_by, record_width, unpadded, unpadded_text, width_by, width_of}
 use Rattle.std.specs.Str.{bytes_eq}
 
 -- ---- a record that was read has a field
@@ -59,18 +62,6 @@ abbrev IsWide : Option ℕ → Type 0
 IsWide None = Unit {0}
 IsWide (Some width) = 1 ≤ width
 
-by_four : (a b c d : Bool) → IsWide (if a then Some 3 else if b then Some 4 else if c then Some 4 else if d then Some 3 else None)
-by_four true b c d = omega arith
-by_four false true c d = omega arith
-by_four false false true d = omega arith
-by_four false false false true = omega arith
-by_four false false false false = tt
-
-wide_removal : (rest : List (List ℕ)) → IsWide (removal_width rest)
-wide_removal [] = tt
-wide_removal (kind ∷ rest) =
-    by_four (bytes_eq kind (codes "phase")) (bytes_eq kind (codes "seq")) (bytes_eq kind (codes "split")) (bytes_eq kind (codes "pattern"))
-
 by_five : (a b c d e : Bool) → IsWide (if a then Some 6 else if b then Some 6 else if c then Some 6 else if d then Some 5 else if e then Some 5 else None)
 by_five true b c d e = omega arith
 by_five false true c d e = omega arith
@@ -79,25 +70,27 @@ by_five false false false true e = omega arith
 by_five false false false false true = omega arith
 by_five false false false false false = tt
 
-wide_record : (kind : List ℕ) → IsWide (record_width kind)
-wide_record kind =
+wide_record : (fields : List (List ℕ)) → IsWide (record_width fields)
+wide_record [] = tt
+wide_record (kind ∷ rest) =
     by_five (bytes_eq kind (codes "inspection")) (bytes_eq kind (codes "order")) (bytes_eq kind (codes "use")) (bytes_eq kind (codes "close"))
     (bytes_eq kind (codes "delivery"))
 
-by_kinds : (p a b c d e : Bool) (removal other : Option ℕ) → IsWide removal → IsWide other
-    → IsWide (if a then Some (if p then 9 else 15) else if b then Some 4 else if c then Some 6 else if d then Some 6 else if e then removal else other)
-by_kinds true true b c d e removal other f g = omega arith
-by_kinds false true b c d e removal other f g = omega arith
-by_kinds p false true c d e removal other f g = omega arith
-by_kinds p false false true d e removal other f g = omega arith
-by_kinds p false false false true e removal other f g = omega arith
-by_kinds p false false false false true removal other f g = f
-by_kinds p false false false false false removal other f g = g
+wide_phase : (blank : Bool) → 1 ≤ (if blank then 9 else 15)
+wide_phase true = omega arith
+wide_phase false = omega arith
 
-wide : (kind : List ℕ) (rest : List (List ℕ)) → IsWide (width_by kind rest)
-wide kind rest =
-    by_kinds (are_blank (drop 9 (kind ∷ rest))) (bytes_eq kind (codes "phase")) (bytes_eq kind (codes "seq")) (bytes_eq kind (codes "split"))
-    (bytes_eq kind (codes "pattern")) (bytes_eq kind (codes "remove")) (removal_width rest) (record_width kind) (wide_removal rest) (wide_record kind)
+wide : (removes : Bool) (of : RowKind) (fields : List (List ℕ)) → IsWide (width_by removes of fields)
+wide false row.Phase fields = wide_phase (are_blank (drop 9 fields))
+wide false row.Split fields = omega arith
+wide false row.Pattern fields = omega arith
+wide false row.Seq fields = omega arith
+wide true row.Seq fields = omega arith
+wide true row.Split fields = omega arith
+wide true row.Phase fields = omega arith
+wide true row.Pattern fields = omega arith
+wide true row.Other fields = tt
+wide false row.Other fields = wide_record fields
 
 taken : (b : Bool) (width : ℕ) (kind : List ℕ) (rest : List (List ℕ)) → 1 ≤ width → HasField (if b then take width (kind ∷ rest) else kind ∷ rest)
 taken true (suc n) kind rest h = omega arith
@@ -110,7 +103,9 @@ kept_full (Some width) kind rest h = taken (are_blank (drop width (kind ∷ rest
 
 unpadded_full : (row : List (List ℕ)) → HasField row → HasField (unpadded row)
 unpadded_full [] full = absurd (omega arith)
-unpadded_full (kind ∷ rest) full = kept_full (width_by kind rest) kind rest (wide kind rest)
+unpadded_full (name ∷ rest) full =
+    let it = record_kind_of (name ∷ rest) in
+    kept_full (width_of (name ∷ rest)) name rest (wide it.removes it.kind (name ∷ rest))
 
 all_full : (rows : List (List (List ℕ))) → All HasField rows → All HasField (map unpadded rows)
 all_full [] each = All-nil HasField

@@ -1,5 +1,5 @@
 -- What is wrong with a bad record of a plan, for who mends it: its line, the name of the field, and what it may be.
-use Rattle.std.specs.Prelude.{ℕ, ◌-◌, ◌==◌, Bool, true, false, if◌then◌else◌, List, [], ◌∷◌, ◌++◌, codes, decimal, length, get_or, slice_get, Option, Some, None}
+use Rattle.std.specs.Prelude.{ℕ, ◌-◌, ◌==◌, Bool, true, false, if◌then◌else◌, List, [], ◌∷◌, ◌++◌, codes, decimal, length, get_or, nat_lt, slice_get, Option, Some, None}
 use Rattle.std.specs.Option.{option_map}
 use Rattle.std.specs.Str.{bytes_eq}
 use Rattle.office_files.specs.Csv.{csv_records}
@@ -8,6 +8,7 @@ use Rattle.signal_office_faults.specs.declared.hints.Field.{Field}
 use Rattle.signal_office_faults.specs.declared.hints.Field.TheVariants as field
 use Rattle.signal_office_faults.specs.declared.hints.Hint.{Hint}
 use Rattle.signal_office_faults.specs.declared.hints.Hint.TheVariants as hint
+use Rattle.signal_office_faults.specs.declared.kinds.RecordKind.{RecordKind}
 use Rattle.signal_office_faults.specs.declared.kinds.RowKind.{RowKind}
 use Rattle.signal_office_faults.specs.declared.kinds.RowKind.TheVariants as kind
 use Rattle.signal_records.specs.declared.fault.RowFault.{RowFault}
@@ -15,21 +16,7 @@ use Rattle.signal_records.specs.declared.fault.RowFault.TheVariants as fault
 
 -- ---- kinds
 
--- the kind of a removal, by that of the key
-abbrev pub removed_by : List ℕ → RowKind
-removed_by key =
-    if bytes_eq key (codes "phase") then kind.RemovePhase
-    else if bytes_eq key (codes "seq") then kind.RemoveSeq
-    else if bytes_eq key (codes "split") then kind.RemoveSplit
-    else if bytes_eq key (codes "pattern") then kind.RemovePattern
-    else kind.RemoveOther
-
--- the kind of a record that removes something, by the fields behind `remove`
-abbrev pub removal_of : List (List ℕ) → RowKind
-removal_of [] = kind.RemoveOther
-removal_of (key ∷ rest) = removed_by key
-
--- the kind of a record that puts something
+-- the kind of a row, by its name
 abbrev pub row_kind : List ℕ → RowKind
 row_kind name =
     if bytes_eq name (codes "phase") then kind.Phase
@@ -38,22 +25,33 @@ row_kind name =
     else if bytes_eq name (codes "pattern") then kind.Pattern
     else kind.Other
 
--- the kind of any record, by its first fields
-abbrev pub row_kind_of : List (List ℕ) → RowKind
-row_kind_of [] = kind.Other
-row_kind_of (name ∷ rest) = if bytes_eq name (codes "remove") then removal_of rest else row_kind name
+-- the kind of a row or a key, by its fields, of which the first is its name
+abbrev pub kind_of_row : List (List ℕ) → RowKind
+kind_of_row [] = kind.Other
+kind_of_row (name ∷ rest) = row_kind name
+
+-- the kind of a record: `remove` stands before the key that it removes
+abbrev pub record_kind_of : List (List ℕ) → RecordKind
+record_kind_of [] = record { kind = kind.Other; removes = false }
+record_kind_of (name ∷ rest) =
+    if bytes_eq name (codes "remove") then record { kind = kind_of_row rest; removes = true }
+    else record { kind = row_kind name; removes = false }
 
 -- how many fields the records of a kind have
-abbrev pub widths : RowKind → List ℕ
-widths kind.Phase = codes "9 or 15"
-widths kind.Split = codes "6"
-widths kind.Pattern = codes "6"
-widths kind.Seq = codes "4"
-widths kind.RemoveSeq = codes "4"
-widths kind.RemoveSplit = codes "4"
-widths kind.RemovePhase = codes "3"
-widths kind.RemovePattern = codes "3"
-widths _ = codes "none"
+abbrev pub widths_of : (removes : Bool) → RowKind → List ℕ
+widths_of false kind.Phase = codes "9 or 15"
+widths_of false kind.Split = codes "6"
+widths_of false kind.Pattern = codes "6"
+widths_of false kind.Seq = codes "4"
+widths_of true kind.Seq = codes "4"
+widths_of true kind.Split = codes "4"
+widths_of true kind.Phase = codes "3"
+widths_of true kind.Pattern = codes "3"
+widths_of removes kind.Other = codes "none"
+
+-- how many fields a record has, by its kind
+abbrev pub widths : RecordKind → List ℕ
+widths it = widths_of it.removes it.kind
 
 -- ---- fields
 
@@ -109,68 +107,31 @@ field_values field.Mode = codes "2 to 7"
 field_values field.Pattern = codes "1 to 48"
 field_values field.Cycle = codes "1 to 255 seconds"
 
--- the field of a phase at a place, counted from 1; the kind is the first
-abbrev pub phase_field : ℕ → Option Field
-phase_field place =
-    if place == 2 then Some field.Phase
-    else if place == 3 then Some field.Ring
-    else if place == 4 then Some field.MinimumGreen
-    else if place == 5 then Some field.Passage
-    else if place == 6 then Some field.Maximum
-    else if place == 7 then Some field.Yellow
-    else if place == 8 then Some field.Red
-    else if place == 9 then Some field.Mates
-    else if place == 10 then Some field.Walk
-    else if place == 11 then Some field.Clearance
-    else if place == 12 then Some field.Width
-    else if place == 13 then Some field.Setback
-    else if place == 14 then Some field.Short
-    else if place == 15 then Some field.Lead
-    else None
+-- the fields of a row behind its kind, in their order; of a removal those of the key
+abbrev pub fields_of_row : (removes : Bool) → RowKind → List Field
+fields_of_row false kind.Phase =
+    field.Phase ∷ field.Ring ∷ field.MinimumGreen ∷ field.Passage ∷ field.Maximum ∷ field.Yellow ∷ field.Red ∷ field.Mates
+    ∷ field.Walk ∷ field.Clearance ∷ field.Width ∷ field.Setback ∷ field.Short ∷ field.Lead ∷ []
+fields_of_row false kind.Seq = field.Sequence ∷ field.Ring ∷ field.Phases ∷ []
+fields_of_row false kind.Split = field.Split ∷ field.Phase ∷ field.Time ∷ field.Mode ∷ field.Coordinated ∷ []
+fields_of_row false kind.Pattern = field.Pattern ∷ field.Cycle ∷ field.Offset ∷ field.Split ∷ field.Sequence ∷ []
+fields_of_row true kind.Phase = field.Phase ∷ []
+fields_of_row true kind.Seq = field.Sequence ∷ field.Ring ∷ []
+fields_of_row true kind.Split = field.Split ∷ field.Phase ∷ []
+fields_of_row true kind.Pattern = field.Pattern ∷ []
+fields_of_row removes kind.Other = []
 
--- the field of a sequence row at a place, counted from 1
-abbrev pub seq_field : ℕ → Option Field
-seq_field place =
-    if place == 2 then Some field.Sequence
-    else if place == 3 then Some field.Ring
-    else if place == 4 then Some field.Phases
-    else None
+-- the fields of a record behind its kind
+abbrev pub fields_behind : RecordKind → List Field
+fields_behind it = fields_of_row it.removes it.kind
 
--- the field of a split row at a place, counted from 1
-abbrev pub split_field : ℕ → Option Field
-split_field place =
-    if place == 2 then Some field.Split
-    else if place == 3 then Some field.Phase
-    else if place == 4 then Some field.Time
-    else if place == 5 then Some field.Mode
-    else if place == 6 then Some field.Coordinated
-    else None
+-- the place of the first of them, counted from 1
+abbrev pub first_field_place : RecordKind → ℕ
+first_field_place it = if it.removes then 3 else 2
 
--- the field of a pattern at a place, counted from 1
-abbrev pub pattern_field : ℕ → Option Field
-pattern_field place =
-    if place == 2 then Some field.Pattern
-    else if place == 3 then Some field.Cycle
-    else if place == 4 then Some field.Offset
-    else if place == 5 then Some field.Split
-    else if place == 6 then Some field.Sequence
-    else None
-
--- the field at a place of a removal; a key that is removed has its fields from the third on
-abbrev pub key_field : (first : Field) → (second : Option Field) → ℕ → Option Field
-key_field first second place = if place == 3 then Some first else if place == 4 then second else None
-
--- the field of a record of a kind at a place, counted from 1
-abbrev pub field_at : RowKind → ℕ → Option Field
-field_at kind.Phase place = phase_field place
-field_at kind.Seq place = seq_field place
-field_at kind.Split place = split_field place
-field_at kind.Pattern place = pattern_field place
-field_at kind.RemovePhase place = key_field field.Phase None place
-field_at kind.RemoveSeq place = key_field field.Sequence (Some field.Ring) place
-field_at kind.RemoveSplit place = key_field field.Split (Some field.Phase) place
-field_at kind.RemovePattern place = key_field field.Pattern None place
-field_at _ place = None
+-- the field of a record at a place, counted from 1
+abbrev pub field_at : RecordKind → ℕ → Option Field
+field_at it place = if nat_lt place (first_field_place it) then None else slice_get (fields_behind it) (place - first_field_place it)
 
 -- ---- hints
 
@@ -207,17 +168,12 @@ abbrev pub hint_text : Hint → List ℕ
 hint_text it = hint_name it ++ codes ": " ++ found_text (hint_found it) ++ hint_values it ++ hint_ending it
 
 -- the hint on a field of a record of a kind, at a place
-abbrev pub hint_at : RowKind → ℕ → (is_numeral : Bool) → Option Hint
+abbrev pub hint_at : RecordKind → ℕ → (is_numeral : Bool) → Option Hint
 hint_at of place is_numeral = option_map (λ it. hint.Field it is_numeral) (field_at of place)
 
--- a record that removes something of no kind
-abbrev pub is_removal : RowKind → Bool
-is_removal kind.RemoveOther = true
-is_removal _ = false
-
 -- the hint on a record, by its kind, the number of its fields and its fault
-abbrev pub hint_by : RowKind → (count : ℕ) → RowFault → Option Hint
-hint_by of count fault.Kind = Some (hint.Kind (is_removal of))
+abbrev pub hint_by : RecordKind → (count : ℕ) → RowFault → Option Hint
+hint_by of count fault.Kind = Some (hint.Kind of.removes)
 hint_by of count fault.Count = Some (hint.Count count of)
 hint_by of count (fault.Number place) = hint_at of place false
 hint_by of count (fault.Range place) = hint_at of place true
@@ -227,7 +183,7 @@ hint_by of count _ = None
 
 -- the hint on a record, by its fields and its fault
 abbrev pub hint_for : List (List ℕ) → RowFault → Option Hint
-hint_for fields why = hint_by (row_kind_of fields) (length fields) why
+hint_for fields why = hint_by (record_kind_of fields) (length fields) why
 
 -- ---- in a file
 

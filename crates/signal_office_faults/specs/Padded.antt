@@ -3,6 +3,9 @@ use Rattle.std.specs.Prelude.{ℕ, Bool, true, false, if◌then◌else◌, List,
 use Rattle.std.specs.List.{list_all}
 use Rattle.std.specs.Str.{bytes_eq}
 use Rattle.office_files.specs.Csv.{csv_records, csv_text}
+use Rattle.signal_office_faults.specs.Hints.{record_kind_of}
+use Rattle.signal_office_faults.specs.declared.kinds.RowKind.{RowKind}
+use Rattle.signal_office_faults.specs.declared.kinds.RowKind.TheVariants as row
 
 -- a field without anything
 abbrev pub is_blank : List ℕ → Bool
@@ -17,23 +20,9 @@ are_blank fields = list_all is_blank fields
 abbrev pub phase_width : List (List ℕ) → ℕ
 phase_width fields = if are_blank (drop 9 fields) then 9 else 15
 
--- how many fields the removal of a key has, by the kind of the key
-abbrev pub key_width : List ℕ → Option ℕ
-key_width kind =
-    if bytes_eq kind (codes "phase") then Some 3
-    else if bytes_eq kind (codes "seq") then Some 4
-    else if bytes_eq kind (codes "split") then Some 4
-    else if bytes_eq kind (codes "pattern") then Some 3
-    else None
-
--- how many fields a record has that removes something, by the fields behind `remove`
-abbrev pub removal_width : List (List ℕ) → Option ℕ
-removal_width [] = None
-removal_width (kind ∷ rest) = key_width kind
-
 -- how many fields a record of the register has, by its kind
-abbrev pub record_width : List ℕ → Option ℕ
-record_width kind =
+abbrev pub register_width : List ℕ → Option ℕ
+register_width kind =
     if bytes_eq kind (codes "inspection") then Some 6
     else if bytes_eq kind (codes "order") then Some 6
     else if bytes_eq kind (codes "use") then Some 6
@@ -41,20 +30,27 @@ record_width kind =
     else if bytes_eq kind (codes "delivery") then Some 5
     else None
 
--- how many fields a record has, by its kind, if that is one
-abbrev pub width_by : (kind : List ℕ) → (rest : List (List ℕ)) → Option ℕ
-width_by kind rest =
-    if bytes_eq kind (codes "phase") then Some (phase_width (kind ∷ rest))
-    else if bytes_eq kind (codes "seq") then Some 4
-    else if bytes_eq kind (codes "split") then Some 6
-    else if bytes_eq kind (codes "pattern") then Some 6
-    else if bytes_eq kind (codes "remove") then removal_width rest
-    else record_width kind
+-- how many fields a record that is none of a plan has, by its fields
+abbrev pub record_width : List (List ℕ) → Option ℕ
+record_width [] = None
+record_width (kind ∷ rest) = register_width kind
 
--- how many fields a record has, by its kind, which is its first field; nothing of an unknown kind
+-- how many fields a record has, by its kind
+abbrev pub width_by : (removes : Bool) → RowKind → List (List ℕ) → Option ℕ
+width_by false row.Phase fields = Some (phase_width fields)
+width_by false row.Split fields = Some 6
+width_by false row.Pattern fields = Some 6
+width_by false row.Seq fields = Some 4
+width_by true row.Seq fields = Some 4
+width_by true row.Split fields = Some 4
+width_by true row.Phase fields = Some 3
+width_by true row.Pattern fields = Some 3
+width_by true row.Other fields = None
+width_by false row.Other fields = record_width fields
+
+-- how many fields a record has, by its kind; nothing of an unknown kind
 abbrev pub width_of : List (List ℕ) → Option ℕ
-width_of [] = None
-width_of (kind ∷ rest) = width_by kind rest
+width_of fields = width_by (record_kind_of fields).removes (record_kind_of fields).kind fields
 
 -- a record with the fields that its kind has, where all that come after them are empty; else with all of its fields
 abbrev pub kept_by : Option ℕ → List (List ℕ) → List (List ℕ)

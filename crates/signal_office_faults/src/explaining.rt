@@ -5,7 +5,7 @@ ghost use Rattle.csv.specs.Records.{fields_of};
 ghost use Rattle.signal_office_faults.specs.Hints.{hint_for, hint_of, line_of_record};
 
 use crate::hints::{Hint, hint_by};
-use crate::kinds::row_kind_of;
+use crate::kinds::record_kind_of;
 use csv::ByteRecord;
 use office_files::{BadRow, fields_in, read_records};
 use signal_records::{NoMemory, RowFault};
@@ -29,7 +29,7 @@ fn hint_for(alloc: Global, record: &ByteRecord, fault: RowFault) -> Result<Optio
     ensures { IfOk result (λ hint. hint ≡ hint_for (fields_of record.now) fault) }
 {
     let fields = fields_in(alloc, record)?;
-    Ok(hint_by(row_kind_of(&fields), fields.len(), fault))
+    Ok(hint_by(record_kind_of(&fields), fields.len(), fault))
 }
 
 /// The hint on a bad record of a plan's CSV file; none where it is no record of that.

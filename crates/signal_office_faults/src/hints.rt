@@ -2,10 +2,13 @@
 //! be.
 
 ghost use Rattle.std.specs.Prelude.{◌≡◌, ◌≤◌, length};
-ghost use Rattle.signal_office_faults.specs.Hints.{field_at, field_words, field_values, hint_at, hint_by, hint_ending, hint_found, hint_name, hint_values, key_field, pattern_field, phase_field, seq_field, split_field, widths};
+ghost use Rattle.signal_office_faults.specs.Hints.{field_at, field_values, field_words, fields_behind, hint_at, hint_by, hint_ending, hint_found, hint_name, hint_values, widths};
 
-use crate::kinds::RowKind;
+use crate::kinds::{RecordKind, RowKind};
 use signal_records::RowFault;
+
+/// What a list of phases may be.
+const PHASE_LIST: &str = "phases 1 to 32, each once, one space between two";
 
 /// A field of the records of a plan.
 #[derive(Clone, Copy)]
@@ -36,65 +39,71 @@ pub enum Field {
 }
 
 impl Field {
-    /// Its name.
-    #[tactic(auto, using(crate::proofs::HintLemmas::short_name))]
-    pub fn name(self) -> &'static str
-        ensures value { result.now ≡ field_words self }
-        ensures short { length result.now ≤ 24 }
+    /// Its name, and what it may be: numbers with their unit, or phases.
+    fn about(self) -> (&'static str, &'static str)
+        ensures name { result.0.now ≡ field_words self }
+        ensures values { result.1.now ≡ field_values self }
     {
         match self {
-            Field::Phase => "phase",
-            Field::Ring => "ring",
-            Field::MinimumGreen => "minimum green",
-            Field::Passage => "passage",
-            Field::Maximum => "maximum 1",
-            Field::Yellow => "yellow",
-            Field::Red => "red",
-            Field::Mates => "mates",
-            Field::Walk => "walk",
-            Field::Clearance => "pedestrian clearance",
-            Field::Width => "width",
-            Field::Setback => "setback",
-            Field::Short => "short",
-            Field::Lead => "lead",
-            Field::Sequence => "sequence",
-            Field::Phases => "phases",
-            Field::Split => "split",
-            Field::Time => "time",
-            Field::Mode => "mode",
-            Field::Coordinated => "coordinated",
-            Field::Pattern => "pattern",
-            Field::Cycle => "cycle",
-            Field::Offset => "offset",
-        }
-    }
-
-    /// What it may be: numbers with their unit, or phases.
-    #[tactic(auto, using(crate::proofs::HintLemmas::short_values))]
-    pub fn values(self) -> &'static str
-        ensures value { result.now ≡ field_values self }
-        ensures short { length result.now ≤ 60 }
-    {
-        match self {
-            Field::Phase => "1 to 32",
-            Field::Ring => "1 to 8",
-            Field::MinimumGreen | Field::Maximum | Field::Walk | Field::Clearance => {
-                "0 to 255 seconds"
-            }
-            Field::Passage | Field::Yellow | Field::Red => "0 to 255 tenths of a second",
-            Field::Mates | Field::Phases => "phases 1 to 32, each once, one space between two",
-            Field::Width => "0 to 9999 tenths of a foot",
-            Field::Setback => "0 to 999 tenths of a foot",
-            Field::Short | Field::Coordinated => "0 or 1",
-            Field::Lead => "0 to 10 seconds",
-            Field::Sequence | Field::Split => "1 to 20",
-            Field::Time | Field::Offset => "0 to 255 seconds",
-            Field::Mode => "2 to 7",
-            Field::Pattern => "1 to 48",
-            Field::Cycle => "1 to 255 seconds",
+            Field::Phase => ("phase", "1 to 32"),
+            Field::Ring => ("ring", "1 to 8"),
+            Field::MinimumGreen => ("minimum green", "0 to 255 seconds"),
+            Field::Passage => ("passage", "0 to 255 tenths of a second"),
+            Field::Maximum => ("maximum 1", "0 to 255 seconds"),
+            Field::Yellow => ("yellow", "0 to 255 tenths of a second"),
+            Field::Red => ("red", "0 to 255 tenths of a second"),
+            Field::Mates => ("mates", PHASE_LIST),
+            Field::Walk => ("walk", "0 to 255 seconds"),
+            Field::Clearance => ("pedestrian clearance", "0 to 255 seconds"),
+            Field::Width => ("width", "0 to 9999 tenths of a foot"),
+            Field::Setback => ("setback", "0 to 999 tenths of a foot"),
+            Field::Short => ("short", "0 or 1"),
+            Field::Lead => ("lead", "0 to 10 seconds"),
+            Field::Sequence => ("sequence", "1 to 20"),
+            Field::Phases => ("phases", PHASE_LIST),
+            Field::Split => ("split", "1 to 20"),
+            Field::Time => ("time", "0 to 255 seconds"),
+            Field::Mode => ("mode", "2 to 7"),
+            Field::Coordinated => ("coordinated", "0 or 1"),
+            Field::Pattern => ("pattern", "1 to 48"),
+            Field::Cycle => ("cycle", "1 to 255 seconds"),
+            Field::Offset => ("offset", "0 to 255 seconds"),
         }
     }
 }
+
+const PHASE_FIELDS: &[Field] = &[
+    Field::Phase,
+    Field::Ring,
+    Field::MinimumGreen,
+    Field::Passage,
+    Field::Maximum,
+    Field::Yellow,
+    Field::Red,
+    Field::Mates,
+    Field::Walk,
+    Field::Clearance,
+    Field::Width,
+    Field::Setback,
+    Field::Short,
+    Field::Lead,
+];
+
+const SPLIT_FIELDS: &[Field] = &[
+    Field::Split,
+    Field::Phase,
+    Field::Time,
+    Field::Mode,
+    Field::Coordinated,
+];
+
+const PATTERN_FIELDS: &[Field] = &[
+    Field::Pattern,
+    Field::Cycle,
+    Field::Offset,
+    Field::Split,
+    Field::Sequence,
+];
 
 /// What a record that spells nothing is reported with.
 #[derive(Clone, Copy)]
@@ -102,7 +111,7 @@ pub enum Hint {
     /// Its kind, or that of the key that it removes, may be one of a few.
     Kind { removed: bool },
     /// It has so many fields, and its kind has others.
-    Count { found: usize, kind: RowKind },
+    Count { found: usize, kind: RecordKind },
     /// A field may be this, and is something else; or it is no number.
     Field { field: Field, is_numeral: bool },
 }
@@ -117,7 +126,7 @@ impl Hint {
         match self {
             Hint::Kind { .. } => "kind",
             Hint::Count { .. } => "fields",
-            Hint::Field { field, .. } => field.name(),
+            Hint::Field { field, .. } => field.about().0,
         }
     }
 
@@ -141,7 +150,7 @@ impl Hint {
             Hint::Kind { removed: false } => "phase, seq, split, pattern or remove; no header row",
             Hint::Kind { removed: true } => "phase, seq, split or pattern after remove",
             Hint::Count { kind, .. } => widths(kind),
-            Hint::Field { field, .. } => field.values(),
+            Hint::Field { field, .. } => field.about().1,
         }
     }
 
@@ -162,111 +171,51 @@ impl Hint {
 }
 
 /// How many fields the records of a kind have, as it is reported.
-fn widths(kind: RowKind) -> &'static str
-    ensures { result.now ≡ widths kind }
+fn widths(of: RecordKind) -> &'static str
+    ensures { result.now ≡ widths of }
 {
-    match kind {
-        RowKind::Phase => "9 or 15",
-        RowKind::Split | RowKind::Pattern => "6",
-        RowKind::Seq | RowKind::RemoveSeq | RowKind::RemoveSplit => "4",
-        RowKind::RemovePhase | RowKind::RemovePattern => "3",
-        RowKind::RemoveOther | RowKind::Other => "none",
+    match (of.removes, of.kind) {
+        (false, RowKind::Phase) => "9 or 15",
+        (false, RowKind::Split | RowKind::Pattern) => "6",
+        (false, RowKind::Seq) | (true, RowKind::Seq | RowKind::Split) => "4",
+        (true, RowKind::Phase | RowKind::Pattern) => "3",
+        (_, RowKind::Other) => "none",
     }
 }
 
-/// The field of a phase at a place.
-fn phase_field(place: u8) -> Option<Field>
-    ensures { result ≡ phase_field place }
+/// The fields of a record behind its kind, in their order; of a removal those of the key.
+fn fields_behind(of: RecordKind) -> &'static [Field]
+    ensures { result.now ≡ fields_behind of }
 {
-    match place {
-        2 => Some(Field::Phase),
-        3 => Some(Field::Ring),
-        4 => Some(Field::MinimumGreen),
-        5 => Some(Field::Passage),
-        6 => Some(Field::Maximum),
-        7 => Some(Field::Yellow),
-        8 => Some(Field::Red),
-        9 => Some(Field::Mates),
-        10 => Some(Field::Walk),
-        11 => Some(Field::Clearance),
-        12 => Some(Field::Width),
-        13 => Some(Field::Setback),
-        14 => Some(Field::Short),
-        15 => Some(Field::Lead),
-        _ => None,
+    match (of.removes, of.kind) {
+        (false, RowKind::Phase) => PHASE_FIELDS,
+        (false, RowKind::Seq) => &[Field::Sequence, Field::Ring, Field::Phases],
+        (false, RowKind::Split) => SPLIT_FIELDS,
+        (false, RowKind::Pattern) => PATTERN_FIELDS,
+        (true, RowKind::Phase) => &[Field::Phase],
+        (true, RowKind::Seq) => &[Field::Sequence, Field::Ring],
+        (true, RowKind::Split) => &[Field::Split, Field::Phase],
+        (true, RowKind::Pattern) => &[Field::Pattern],
+        (_, RowKind::Other) => &[],
     }
 }
 
-/// The field of a sequence's ring at a place.
-fn seq_field(place: u8) -> Option<Field>
-    ensures { result ≡ seq_field place }
+/// The field at a place of a record, counted from 1.
+fn field_at(of: RecordKind, place: u8) -> Option<Field>
+    ensures { result ≡ field_at of place }
 {
-    match place {
-        2 => Some(Field::Sequence),
-        3 => Some(Field::Ring),
-        4 => Some(Field::Phases),
-        _ => None,
+    let first = if of.removes { 3 } else { 2 };
+    if place < first {
+        return None;
     }
-}
-
-/// The field of a split's phase at a place.
-fn split_field(place: u8) -> Option<Field>
-    ensures { result ≡ split_field place }
-{
-    match place {
-        2 => Some(Field::Split),
-        3 => Some(Field::Phase),
-        4 => Some(Field::Time),
-        5 => Some(Field::Mode),
-        6 => Some(Field::Coordinated),
-        _ => None,
-    }
-}
-
-/// The field of a pattern at a place.
-fn pattern_field(place: u8) -> Option<Field>
-    ensures { result ≡ pattern_field place }
-{
-    match place {
-        2 => Some(Field::Pattern),
-        3 => Some(Field::Cycle),
-        4 => Some(Field::Offset),
-        5 => Some(Field::Split),
-        6 => Some(Field::Sequence),
-        _ => None,
-    }
-}
-
-/// The field at a place of a record of a kind; a removed key has its own fields one place further.
-fn field_at(kind: RowKind, place: u8) -> Option<Field>
-    ensures { result ≡ field_at kind place }
-{
-    match kind {
-        RowKind::Phase => phase_field(place),
-        RowKind::Seq => seq_field(place),
-        RowKind::Split => split_field(place),
-        RowKind::Pattern => pattern_field(place),
-        RowKind::RemovePhase => key_field(Field::Phase, None, place),
-        RowKind::RemoveSeq => key_field(Field::Sequence, Some(Field::Ring), place),
-        RowKind::RemoveSplit => key_field(Field::Split, Some(Field::Phase), place),
-        RowKind::RemovePattern => key_field(Field::Pattern, None, place),
-        RowKind::RemoveOther | RowKind::Other => None,
-    }
-}
-
-/// The field of a key that is removed at a place, by its fields.
-fn key_field(first: Field, second: Option<Field>, place: u8) -> Option<Field>
-    ensures { result ≡ key_field first second place }
-{
-    match place {
-        3 => Some(first),
-        4 => second,
-        _ => None,
+    match fields_behind(of).get((place - first) as usize) {
+        Some(field) => Some(*field),
+        None => None,
     }
 }
 
 /// The hint on a field at a place.
-fn hint_at(kind: RowKind, place: u8, is_numeral: bool) -> Option<Hint>
+fn hint_at(kind: RecordKind, place: u8, is_numeral: bool) -> Option<Hint>
     ensures { result ≡ hint_at kind place is_numeral }
 {
     match field_at(kind, place) {
@@ -277,12 +226,12 @@ fn hint_at(kind: RowKind, place: u8, is_numeral: bool) -> Option<Hint>
 
 /// The hint on a record by its kind, the number of its fields, and its fault. A record of a plan
 /// has no fault without a hint.
-pub(crate) fn hint_by(kind: RowKind, count: usize, fault: RowFault) -> Option<Hint>
+pub(crate) fn hint_by(kind: RecordKind, count: usize, fault: RowFault) -> Option<Hint>
     ensures { result ≡ hint_by kind count fault }
 {
     match fault {
         RowFault::Kind => Some(Hint::Kind {
-            removed: matches!(kind, RowKind::RemoveOther),
+            removed: kind.removes,
         }),
         RowFault::Count => Some(Hint::Count { found: count, kind }),
         RowFault::Number(place) => hint_at(kind, place, false),

@@ -1,4 +1,4 @@
-//! Files that the program reads and puts, and why it ends with a fault.
+//! Files that the program reads and puts, what it prints, and why it ends with a fault.
 //!
 //! CSV files come as spreadsheets leave them, with records that are padded with empty fields; their
 //! users look for the line of a record, for what is wrong with a bad one, and for the records of a
@@ -6,6 +6,7 @@
 //! there, and a folder into which files are put by their names, of the system or in memory.
 #![tactic(auto)]
 
+mod done;
 mod explaining;
 mod fault;
 mod files;
@@ -20,12 +21,13 @@ mod padded;
 mod system;
 mod width;
 
+pub use done::{Done, LINE_ROOM, print_done, print_text};
 pub use explaining::{hint_of, line_of_record};
 pub use fault::Fault;
 pub use files::{is_missing, read_file};
 pub use folder::Folder;
 pub use hints::{Field, Hint};
-pub use kinds::RowKind;
+pub use kinds::{RecordKind, RowKind};
 pub use line::line_of;
 pub use lines::record_lines;
 pub use memory::{KeptFile, MemoryFolder};

@@ -2,7 +2,9 @@
 
 ghost use Rattle.std.specs.Prelude.{◌≡◌, drop, take};
 ghost use Rattle.signal_records.specs.Reading.{texts};
-ghost use Rattle.signal_office_faults.specs.Padded.{are_blank, key_width, phase_width, record_width, removal_width, unpadded, width_of};
+ghost use Rattle.signal_office_faults.specs.Padded.{are_blank, phase_width, record_width, unpadded, width_of};
+
+use crate::kinds::{RowKind, record_kind_of};
 
 /// The fields up to a width; all, where there are no more.
 fn front<'f, 'a>(fields: &'f [&'a [u8]], width: usize) -> &'f [&'a [u8]]
@@ -43,47 +45,22 @@ fn phase_width(fields: &[&[u8]]) -> usize
     if are_blank_after(fields, 9) { 9 } else { 15 }
 }
 
-/// How many fields the removal of a key has, by the kind of the key.
-fn key_width(kind: &[u8]) -> Option<usize>
-    ensures { result ≡ key_width kind.now }
-{
-    if kind == b"phase".as_slice() {
-        Some(3)
-    } else if kind == b"seq".as_slice() {
-        Some(4)
-    } else if kind == b"split".as_slice() {
-        Some(4)
-    } else if kind == b"pattern".as_slice() {
-        Some(3)
-    } else {
-        None
-    }
-}
-
-/// How many fields the removal of a key has, by its fields after the first: the kind of the key,
-/// where there is one, stands before the others.
-fn removal_width(rest: &[&[u8]]) -> Option<usize>
-    ensures { result ≡ removal_width (texts rest.now) }
-{
-    match rest {
-        [] => None,
-        [kind, ..] => key_width(kind),
-    }
-}
-
 /// How many fields a record of the register has, by its kind.
-fn record_width(kind: &[u8]) -> Option<usize>
-    ensures { result ≡ record_width kind.now }
+fn record_width(fields: &[&[u8]]) -> Option<usize>
+    ensures { result ≡ record_width (texts fields.now) }
 {
-    if kind == b"inspection".as_slice() {
+    let [kind, ..] = fields else {
+        return None;
+    };
+    if *kind == b"inspection".as_slice() {
         Some(6)
-    } else if kind == b"order".as_slice() {
+    } else if *kind == b"order".as_slice() {
         Some(6)
-    } else if kind == b"use".as_slice() {
+    } else if *kind == b"use".as_slice() {
         Some(6)
-    } else if kind == b"close".as_slice() {
+    } else if *kind == b"close".as_slice() {
         Some(5)
-    } else if kind == b"delivery".as_slice() {
+    } else if *kind == b"delivery".as_slice() {
         Some(5)
     } else {
         None
@@ -94,21 +71,14 @@ fn record_width(kind: &[u8]) -> Option<usize>
 fn width_of(fields: &[&[u8]]) -> Option<usize>
     ensures { result ≡ width_of (texts fields.now) }
 {
-    let [kind, rest @ ..] = fields else {
-        return None;
-    };
-    if *kind == b"phase".as_slice() {
-        Some(phase_width(fields))
-    } else if *kind == b"seq".as_slice() {
-        Some(4)
-    } else if *kind == b"split".as_slice() {
-        Some(6)
-    } else if *kind == b"pattern".as_slice() {
-        Some(6)
-    } else if *kind == b"remove".as_slice() {
-        removal_width(rest)
-    } else {
-        record_width(kind)
+    let of = record_kind_of(fields);
+    match (of.removes, of.kind) {
+        (false, RowKind::Phase) => Some(phase_width(fields)),
+        (false, RowKind::Split | RowKind::Pattern) => Some(6),
+        (false, RowKind::Seq) | (true, RowKind::Seq | RowKind::Split) => Some(4),
+        (true, RowKind::Phase | RowKind::Pattern) => Some(3),
+        (true, RowKind::Other) => None,
+        (false, RowKind::Other) => record_width(fields),
     }
 }
 

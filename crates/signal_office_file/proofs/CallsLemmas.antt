@@ -1,7 +1,7 @@
 -- A list of noted calls with one more, and a call that was made, by what came of it.
-use Rattle.std.proofs.Common.{◌≡◌, ℕ, List, [], ◌∷◌, Ok, Err, ap, inl, inr, refl, subst, ◌∙◌}
+use Rattle.std.proofs.Common.{◌≡◌, ℕ, List, [], ◌∷◌, ap, inl, inr, subst, ◌∙◌}
 use Rattle.std.proofs.lemmas.List.{map-append}
-use Rattle.std.specs.Prelude.{◌++◌, Result}
+use Rattle.std.specs.Prelude.{◌++◌}
 use Rattle.signal_office_faults.specs.declared.fault.Fault.{Fault}
 use Rattle.signal_office_faults.specs.declared.fault.Fault.TheVariants as fault
 use Rattle.signal_office_in_file.specs.Calls.{FileCall, IsCalled, called, unmade}
@@ -15,23 +15,11 @@ use Rattle.signal_office_file.specs.declared.paths.Call.{Call}
 pub one_more : (old new : List Call) (call : Call) (it : FileCall) → new ≡ old ++ call ∷ [] → call_of call ≡ it → calls_of new ≡ calls_of old ++ it ∷ []
 one_more old new call it is said = ap calls_of is ∙ map-append call_of old (call ∷ []) ∙ ap (λ one. calls_of old ++ one ∷ []) said
 
-abbrev refused_as : {A T Left : Type 0} → Result A Fault → Ended T Left
-refused_as (Ok it) = unmade
-refused_as (Err why) = Unopened why
-
 -- files that were not opened: the call was made, or memory for it was refused
-pub unopened : {A T Left : Type 0} (old new : List FileCall) (call : FileCall) (why : Fault) → IsCalled old new call (◌≡◌ {A = Result A Fault} (Err why) (Err fault.Memory))
+pub unopened : {T Left : Type 0} (old new : List FileCall) (call : FileCall) (why : Fault) → IsCalled old new call (why ≡ fault.Memory)
     → IsCalled old new call (◌≡◌ {A = Ended T Left} (Unopened why) unmade)
 unopened old new call why (inl made) = inl made
-unopened old new call why (inr none) = inr (none.0, ap refused_as none.1)
-
-not_refused : {A : Type 0} (it : A) (why : Fault) → Ok it ≡ Err why → ⊥
-not_refused it why is = cc
-
--- files that were opened: the call was made
-pub opened : {A B : Type 0} (old new : List FileCall) (call : FileCall) (it : A) (why : Fault) → IsCalled old new call (Ok it ≡ Err why) → IsCalled old new call B
-opened old new call it why (inl made) = inl made
-opened old new call it why (inr none) = absurd (not_refused it why none.1)
+unopened old new call why (inr none) = inr (none.0, ap Unopened none.1)
 
 -- its kind by another name
 pub of_kind : {A : Type 0} (old new : List FileCall) (path : List ℕ) (wait : ℕ) (kind is : Kind) → kind ≡ is → IsCalled old new (called path wait kind) A

@@ -1,8 +1,9 @@
 -- What files that hold today's tables are found to hold.
-use Rattle.std.proofs.Common.{◌≡◌, inl, inr, IsTrue, sym, ap, subst, ◌∙◌}
+use Rattle.std.proofs.Common.{◌≡◌, inl, inr, IsTrue, Result, Ok, Err, sym, ap, subst, ◌∙◌}
 use Rattle.std.proofs.Math.Logic.{∥∥₁_elim}
-use Rattle.sqlite.specs.{Closing.HoldsAlone, Closing.IsCopied, Effect.Database, Files.file_state, Held.Held, Recovery.Image, State.HasCleanDisk, Tree.Trees}
+use Rattle.sqlite.specs.{Closing.HoldsAlone, Closing.IsCopied, Effect.Database, Files.file_state, Held.Held, Recovery.Image, State.HasCleanDisk, State.store_error, Tree.Trees}
 use Rattle.sqlite.specs.declared.FileStore.{FileStore}
+use Rattle.sqlite.specs.declared.error.Error.{Error}
 use Rattle.sqlite_disk.specs.declared.Disk.{Ghosts as Disk}
 use Rattle.sqlite_disk.specs.declared.Files.{Files}
 use Rattle.sqlite_trees.specs.Props.{Trees-set}
@@ -10,8 +11,9 @@ use Rattle.office_tables.specs.{Content.Content, Stored.content_now, Stored.cont
 use Rattle.office_tables_sql.specs.{Version.AreToday}
 use Rattle.office_tables.proofs.MovedLemmas.{hold_office}
 use Rattle.signal_office_faults.specs.declared.fault.Fault.{Fault}
+use Rattle.signal_office_in_file.specs.Ended.{IsStoreOrMemory}
 use Rattle.signal_office_file.specs.Files.{AreThoseOf, HoldIn, IsImageOf, KeepTables}
-use Rattle.signal_office_file.specs.Left.{IsCleanFile, IsUnclosed, LeavesDatabases, LeavesToday, MayLeaveOf}
+use Rattle.signal_office_file.specs.Left.{ClosesFiles, ClosesOffice, IsCleanFile, IsUnclosed, LeavesDatabases, LeavesToday, MayLeaveOf, TellsError}
 use Rattle.signal_office_file.specs.declared.left.FileLeft.{FileLeft}
 use Rattle.signal_office_file.specs.declared.left.FileLeft.TheVariants as left
 
@@ -48,20 +50,37 @@ module _ {D : Type 0} (g : Disk D) (files : Files D) where
         content = sym (ap (λ (d : Database). content_of d.trees) (current.office.settled (copied.was_clean, copied.was_open)));
       }
 
--- ---- what is left where a database could not be closed
+-- ---- what is told and left where a database could not be closed
+
+-- an error of the database
+pub error_told : (error : Error) (told : Fault) → TellsError error told → IsStoreOrMemory told
+error_told error told (inl memory) = inr memory.1
+error_told error told (inr store) = inl store.1
 
 module _ {D : Type 0} {g : Disk D} (conn : Held (FileStore D g)) (told : Fault) where
+  pub closing_told : (back : FileLeft D g) → IsUnclosed conn told back → IsStoreOrMemory told
+  closing_told (left.Database back) it = error_told (store_error it.cause) told it.told_is
+  closing_told (left.Closed back) none = absurd none
+  closing_told (left.Unopened back) none = absurd none
+
   pub unclosed_today : (back : FileLeft D g) → IsCurrent (file_state conn) → IsUnclosed conn told back → LeavesToday back
   unclosed_today (left.Database back) current it = λ clean trees may. current.left (it.clean clean) trees (it.crash trees may)
   unclosed_today _ current it = tt
 
   -- a stop leaves no more of it than of the connection
-  pub unclosed_leaves : (back : FileLeft D g) → IsUnclosed conn told back → LeavesToday back → IsCleanFile back
+  pub unclosed_leaves : (back : FileLeft D g) → ClosesOffice conn (Err (told, back)) → IsCleanFile back
       → LeavesDatabases back × HasCleanDisk (file_state conn) × ((tables : Content) → MayLeaveOf back tables → MayLeave (file_state conn) tables)
-  unclosed_leaves (left.Database back) it today clean = (
+  unclosed_leaves (left.Database back) (it, today) clean = (
     it.sound clean,
     it.clean clean,
     λ tables may. (it.clean clean, may.0, it.crash may.0 may.1, sym (hold_today may.0 tables (today clean may.0 may.1) may.2)),
   )
-  unclosed_leaves (left.Closed back) none today clean = absurd none
-  unclosed_leaves (left.Unopened back) none today clean = absurd none
+  unclosed_leaves (left.Closed back) none clean = absurd none.0
+  unclosed_leaves (left.Unopened back) none clean = absurd none.0
+
+-- an office of today's version is closed as its database is
+pub closes_office : {D : Type 0} {g : Disk D} (conn : Held (FileStore D g)) (r : Result (Files D) (Fault × FileLeft D g)) → IsCurrent (file_state conn)
+    → (IsTrue (file_state conn).is_open → (file_state conn).may_leave (file_state conn).committed.trees) → ClosesFiles conn r → ClosesOffice conn r
+closes_office {g = g} conn (Ok back) current stays it =
+    record { usable = it.0; copied = it.1; kept = λ clean. kept_tables g back conn (it.1 clean) current stays }
+closes_office conn (Err e) current stays it = (it, unclosed_today conn e.0 e.1 current it)

@@ -1,12 +1,6 @@
--- Two files at a path, of which it is known what they held, and what is told where they were not closed.
-use Rattle.std.proofs.Common.{◌≡◌, Result, Ok, Err, ℕ, inl, inr, refl, subst, sym}
+-- Two files at a path, of which it is known what they held; and which of two faults is told.
+use Rattle.std.proofs.Common.{◌≡◌, Result, Ok, Err, ℕ, inl, inr, subst, sym}
 use Rattle.std.specs.Prelude.{MatchResult}
-use Rattle.sqlite.specs.Held.{Held}
-use Rattle.sqlite.specs.State.{store_error}
-use Rattle.sqlite.specs.declared.FileStore.{FileStore}
-use Rattle.sqlite.specs.declared.error.Error.{Error}
-use Rattle.sqlite.specs.declared.error.Error.TheVariants.{SqliteFailure}
-use Rattle.sqlite.specs.declared.error.ErrorCode.TheVariants.{OutOfMemory}
 use Rattle.sqlite.specs.Recovery.{Image}
 use Rattle.sqlite_disk.specs.declared.Disk.{Ghosts as Disk}
 use Rattle.sqlite_disk.specs.declared.Files.{Files}
@@ -16,11 +10,8 @@ use Rattle.signal_office_in_file.specs.declared.Ended.{Ended}
 use Rattle.signal_office_in_file.specs.declared.Ended.TheVariants.{Unopened, Refused, Closed, Unclosed}
 use Rattle.signal_office_file.specs.Files.{AreNew, HoldIn}
 use Rattle.signal_office_file.specs.InFile.{files_view, view_at}
-use Rattle.signal_office_file.specs.Left.{IsUnclosed}
 use Rattle.signal_office_file.specs.Migrating.{EndsMigration}
-use Rattle.signal_office_file.specs.Told.{told_of_error}
 use Rattle.signal_office_file.specs.declared.left.FileLeft.{FileLeft}
-use Rattle.signal_office_file.specs.declared.left.FileLeft.TheVariants as left
 
 module _ {D : Type 0} (g : Disk D) (image : Image) (files : Files D) (new : AreNew g files image) where
   ends_at : {T : Type 0} (work : Work T) (r : Ended T (FileLeft D g))
@@ -45,17 +36,6 @@ module _ {D : Type 0} (g : Disk D) (image : Image) (files : Files D) (new : AreN
   -- what a migration counted is noted too, where its outcome is handed on
   pub counted_noted : (r result : Ended (Result ℕ Fault) (FileLeft D g)) → result ≡ r → EndsMigration files r → IsCounted (view_at g image) result
   counted_noted r result same it = subst (IsCounted (view_at g image)) (sym same) (counted_at r it)
-
--- ---- what is told where files were not closed
-
-error_told : (error : Error) → IsStoreOrMemory (told_of_error error)
-error_told (SqliteFailure OutOfMemory) = inr refl
-error_told _ = inl refl
-
-pub closing_told : {D : Type 0} {g : Disk D} (conn : Held (FileStore D g)) (told : Fault) (back : FileLeft D g) → IsUnclosed conn told back → IsStoreOrMemory told
-closing_told conn told (left.Database back) it = subst IsStoreOrMemory (sym it.told_is) (error_told (store_error it.cause))
-closing_told conn told (left.Closed back) none = absurd none
-closing_told conn told (left.Unopened back) none = absurd none
 
 -- the first of two faults
 pub first_told : {T Cause : Type 0} (fault_of : Cause → Fault) (done : Result T Cause) (closing told : Fault) → IsStoreOrMemory closing

@@ -2,12 +2,9 @@
 use Rattle.std.proofs.Common.{◌≡◌, ◌≢◌, inl, inr, Result, refl, sym, ap, subst, ◌∙◌, arith}
 use Rattle.std.proofs.Math.Logic.{∥∥₁_elim}
 use Rattle.sqlite.specs.{Files.file_state, Files.over_files, Held.Held, Held.state, State.HasCleanDisk, Tree.Trees}
-use Rattle.sqlite.specs.declared.FileStore.{FileStore}
-use Rattle.sqlite.specs.declared.error.Error.{Error}
-use Rattle.sqlite.specs.declared.error.Error.TheVariants.{SqliteFailure}
-use Rattle.sqlite.specs.declared.error.ErrorCode.TheVariants.{OutOfMemory}
 use Rattle.sqlite_disk.specs.declared.Disk.{Ghosts as Disk}
 use Rattle.sqlite_disk.specs.declared.Files.{Files}
+use Rattle.sqlite_store.specs.Laws.{settled_at}
 use Rattle.sqlite_trees.specs.{Props.Trees-set, declared.store.Store.Ghosts}
 use Rattle.office_tables.specs.{Found.HasOtherVersion, Found.HasRowsAlone, Found.Hold}
 use Rattle.office_tables_sql.specs.{Version.AreToday}
@@ -17,21 +14,19 @@ use Rattle.office_tables.specs.declared.open.OpenFault.{OpenFault}
 use Rattle.office_tables.specs.declared.open.OpenFault.TheVariants as why
 use Rattle.office_tables.proofs.MovedLemmas.{hold_office, today_rows, today_version}
 use Rattle.signal_office_faults.specs.declared.fault.Fault.{Fault}
-use Rattle.signal_office_file.specs.{Files.HoldToday, Files.IsAlike, Told.told_of, Told.told_of_error}
-use Rattle.signal_office_file.specs.Left.{IsOpenedIn, IsRefusedIn, KeepsToday, TellsNoTables}
+use Rattle.signal_office_in_file.specs.Ended.{IsStoreOrMemory}
+use Rattle.signal_office_file.proofs.FilesLemmas.{error_told}
+use Rattle.signal_office_file.specs.Files.{HoldToday, IsAlike}
+use Rattle.signal_office_file.specs.Left.{IsRefusedIn, KeepsToday, told_of}
+use Rattle.signal_office_file.specs.Serving.{RefusedFiles}
 use Rattle.signal_office_file.specs.declared.left.FileLeft.{FileLeft}
 use Rattle.signal_office_file.specs.declared.left.FileLeft.TheVariants as left
 
--- an error of the database tells nothing of tables
-error_told : (error : Error) → TellsNoTables (told_of_error error)
-error_told (SqliteFailure OutOfMemory) = ((λ is. cc), (λ is. cc))
-error_told _ = ((λ is. cc), (λ is. cc))
-
-cause_told : (cause : OpenFault) → (cause ≢ why.Version) × (cause ≢ why.Damaged) → TellsNoTables (told_of cause)
+cause_told : (cause : OpenFault) → (cause ≢ why.Version) × (cause ≢ why.Damaged) → IsStoreOrMemory (told_of cause)
 cause_told why.Version none = absurd (none.0 refl)
 cause_told why.Damaged none = absurd (none.1 refl)
-cause_told why.Store none = ((λ is. cc), (λ is. cc))
-cause_told why.NoMemory none = ((λ is. cc), (λ is. cc))
+cause_told why.Store none = inl refl
+cause_told why.NoMemory none = inr refl
 
 -- a connection that found today's tables, and was refused
 module _ {S : Type 0} (g : Ghosts S) (conn : Held S) (cause : OpenFault) (back : Result (Held S) S) (it : IsRefused g conn cause back)
@@ -51,17 +46,19 @@ module _ {S : Type 0} (g : Ghosts S) (conn : Held S) (cause : OpenFault) (back :
     | inr over ↦ record { today = over.today; content = hold_office trees (content_of db) today.sound.lists.listed (subst (λ (t : Trees). Hold t (content_of db)) same over.kept) }
   ]
 
-module _ {D : Type 0} {g : Disk D} (files : Files D) (trees : Trees) (held : HoldToday g files trees) where
-  found_same : (conn : Held (FileStore D g)) → IsOpenedIn files conn → HasCleanDisk (file_state conn) → (file_state conn).committed.trees ≡ trees
-  found_same conn found clean = ∥∥₁_elim (held.alone _ (inl refl)).both (Trees-set _ _) (λ db. (found clean).0.holds trees db)
+module _ {D : Type 0} {g : Disk D} (stays : (file : D) → g.may_leave file (g.seen file)) (files : Files D) where
+  keeps_today : (trees : Trees) → HoldToday g files trees → (told : Fault) (back : FileLeft D g) → IsRefusedIn files told back → KeepsToday trees told back
+  keeps_today trees held told (left.Closed back) none = absurd none
+  keeps_today trees held told (left.Unopened back) (inl spent) = record { told_is = λ clean. inl spent.told_is; recovers = λ clean. tt }
+  keeps_today trees held told (left.Unopened back) (inr failed) = record { told_is = λ clean. error_told failed.error told failed.told_is; recovers = λ clean. tt }
+  keeps_today trees held told (left.Database back) it =
+      let found : HasCleanDisk (file_state it.conn) → (file_state it.conn).committed.trees ≡ trees =
+      λ clean. ∥∥₁_elim (held.alone _ (inl refl)).both (Trees-set _ _) (λ db. (it.found clean).0.holds trees db) in
+      record {
+        told_is = λ clean. subst IsStoreOrMemory (sym it.told_is) (cause_told it.cause (tells_none over_files it.conn it.cause back it.refused trees held.today found clean));
+        recovers = λ clean. leaves_same over_files it.conn it.cause back it.refused trees held.today found clean
+            (λ db may. settled_at it.conn.store stays db (it.found (omega (arith, clean, it.refused.left.clean))).1.0.is_open may);
+      }
 
-  pub keeps_today : ((conn : Held (FileStore D g)) → IsOpenedIn files conn → HasCleanDisk (file_state conn) → (db : Trees) → (file_state conn).may_leave db → db ≡ (file_state conn).committed.trees)
-      → (told : Fault) (back : FileLeft D g) → IsRefusedIn files told back → KeepsToday trees told back
-  keeps_today settled told (left.Closed back) none = absurd none
-  keeps_today settled told (left.Unopened back) (inl spent) = record { told_is = λ clean. subst TellsNoTables (sym spent.told_is) ((λ is. cc), (λ is. cc)); recovers = λ clean. tt }
-  keeps_today settled told (left.Unopened back) (inr failed) = record { told_is = λ clean. subst TellsNoTables (sym failed.told_is) (error_told failed.error); recovers = λ clean. tt }
-  keeps_today settled told (left.Database back) it = record {
-    told_is = λ clean. subst TellsNoTables (sym it.told_is) (cause_told it.cause (tells_none over_files it.conn it.cause back it.refused trees held.today (found_same it.conn it.found) clean));
-    recovers = λ clean. leaves_same over_files it.conn it.cause back it.refused trees held.today (found_same it.conn it.found) clean
-        (settled it.conn it.found (omega (arith, clean, it.refused.left.clean)));
-  }
+  pub refused_files : (told : Fault) (back : FileLeft D g) → IsRefusedIn files told back → RefusedFiles files told back
+  refused_files told back it = record { refused = it; kept = λ trees held. keeps_today trees held told back it }

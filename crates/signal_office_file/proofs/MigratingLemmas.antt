@@ -51,10 +51,8 @@ module _ {D : Type 0} {g : Disk D} (files : Files D) (conn : Held (FileStore D g
         trees = (file_state conn).committed.trees;
         alone = copied_alone g back conn here;
         migrated = go outcome it.migrates here.was_clean here.was_open;
-        told = record {
-          version = λ told. (it.found, found_clean, it.finds, it.migrates.version told here.was_clean);
-          damaged = λ told. (was, record { holds = found.holds; reads = found.reads }, it.migrates.damaged told here.was_clean);
-        };
+        version = λ told. (it.found, found_clean, it.finds, it.migrates.version told here.was_clean);
+        damaged = λ told. it.migrates.damaged told here.was_clean;
       }
     where
       go : (o : Result Migrated OpenFault) → MigratesOnDisk over_files o it.found conn → HasCleanDisk (file_state conn) → IsTrue (file_state conn).is_open

@@ -1,5 +1,6 @@
 -- Why a file was refused, and what is left of it.
-use Rattle.std.specs.Prelude.{◌≡◌, ◌≢◌, ◌⊎◌, Option, None, Some, Result}
+use Rattle.std.specs.Prelude.{◌≡◌, ◌≢◌, ◌⊎◌, Option, None, Some, Result, Ok, Err}
+use Rattle.sqlite.specs.Closing.{IsCopied}
 use Rattle.sqlite.specs.Files.{FailsToOpenFiles, Finds, IsCleanLeft, IsOpened, LeavesFiles, file_state, over_files}
 use Rattle.sqlite.specs.Held.{AreDatabases, Held}
 use Rattle.sqlite.specs.State.{HasCleanDisk, store_error}
@@ -7,6 +8,8 @@ use Rattle.sqlite.specs.WalReads.{AreClean}
 use Rattle.sqlite.specs.Tree.{Trees}
 use Rattle.sqlite.specs.declared.FileStore.{FileStore}
 use Rattle.sqlite.specs.declared.error.Error.{Error}
+use Rattle.sqlite.specs.declared.error.Error.TheVariants.{SqliteFailure}
+use Rattle.sqlite.specs.declared.error.ErrorCode.TheVariants.{OutOfMemory}
 use Rattle.sqlite.specs.declared.file.Leftover.{Leftover}
 use Rattle.sqlite.specs.declared.file.Leftover.TheVariants as rest
 use Rattle.sqlite_disk.specs.declared.Disk.{Ghosts as Disk}
@@ -14,19 +17,29 @@ use Rattle.sqlite_disk.specs.declared.Files.{Files}
 use Rattle.sqlite_trees.specs.declared.error.StoreError.{StoreError}
 use Rattle.office_tables.specs.Content.{Content}
 use Rattle.office_tables.specs.Found.{Hold}
+use Rattle.office_tables.specs.Stored.{content_now}
 use Rattle.office_tables.specs.Opening.{IsCleanStore, IsRefused, store_left}
 use Rattle.office_tables_sql.specs.Version.{AreToday}
 use Rattle.office_tables.specs.declared.open.OpenFault.{OpenFault}
+use Rattle.office_tables.specs.declared.open.OpenFault.TheVariants as why
 use Rattle.signal_office_faults.specs.declared.fault.Fault.{Fault}
 use Rattle.signal_office_faults.specs.declared.fault.Fault.TheVariants as fault
-use Rattle.signal_office_file.specs.Files.{AreUsable, IsAlike}
-use Rattle.signal_office_file.specs.Told.{told_of, told_of_error}
+use Rattle.signal_office_in_file.specs.Ended.{IsStoreOrMemory}
+use Rattle.signal_office_file.specs.Files.{AreUsable, IsAlike, KeepTables}
 use Rattle.signal_office_file.specs.declared.left.FileLeft.{FileLeft}
 use Rattle.signal_office_file.specs.declared.left.FileLeft.TheVariants as left
 
--- the fault tells neither of another version nor of rows that are no records
-abbrev pub TellsNoTables : Fault → Type 0
-TellsNoTables told = (told ≢ fault.Version) × (told ≢ fault.Damaged)
+-- the fault that is reported of an error of the database: that memory was refused, or else the store
+abbrev pub TellsError : Error → Fault → Type 0
+TellsError error told =
+    ((error ≡ SqliteFailure OutOfMemory) × (told ≡ fault.Memory)) ⊎ ((error ≢ SqliteFailure OutOfMemory) × (told ≡ fault.Store))
+
+-- the fault that is reported of tables that were refused
+abbrev pub told_of : OpenFault → Fault
+told_of why.Version = fault.Version
+told_of why.Damaged = fault.Damaged
+told_of why.Store = fault.Store
+told_of why.NoMemory = fault.Memory
 
 module _ {D : Type 0} {g : Disk D} where
   -- a sync of the files failed before, and nothing was done to them
@@ -38,7 +51,7 @@ module _ {D : Type 0} {g : Disk D} where
   -- no database was opened in the files, which are left as an open leaves them
   pub record FailedToOpen (files : Files D) (told : Fault) (back : Leftover D g) : Type 0 where
     pub error : Error
-    pub told_is : told ≡ told_of_error error
+    pub told_is : TellsError error told
     pub cause : IsCleanLeft back → FailsToOpenFiles files back error
     pub unharmed : IsCleanLeft back → LeavesFiles files back
 
@@ -87,13 +100,13 @@ module _ {D : Type 0} {g : Disk D} where
 
   -- files of today's tables were refused neither for their version nor for their rows
   pub record KeepsToday (trees : Trees) (told : Fault) (back : FileLeft D g) : Type 0 where
-    pub told_is : IsCleanFile back → TellsNoTables told
+    pub told_is : IsCleanFile back → IsStoreOrMemory told
     pub recovers : IsCleanFile back → RecoversTo trees back
 
   -- the database was not closed, and a stop leaves no more of it than before
   pub record StaysOpened (conn : Held (FileStore D g)) (told : Fault) (back : Result (Held (FileStore D g)) (FileStore D g)) : Type 0 where
     pub cause : StoreError
-    pub told_is : told ≡ told_of_error (store_error cause)
+    pub told_is : TellsError (store_error cause) told
     pub clean : IsCleanStore over_files (store_left over_files back) → HasCleanDisk (file_state conn)
     pub crash : (trees : Trees) → over_files.recovers (store_left over_files back) trees → (file_state conn).may_leave trees
     pub sound : IsCleanStore over_files (store_left over_files back) → AreDatabases (over_files.recovers (store_left over_files back))
@@ -114,6 +127,22 @@ module _ {D : Type 0} {g : Disk D} where
   abbrev pub LeavesDatabases : FileLeft D g → Type 0
   LeavesDatabases (left.Database back) = AreDatabases (over_files.recovers (store_left over_files back))
   LeavesDatabases _ = ⊥
+
+  -- the files of a database were closed, and hold its last commit; or they were not, and a stop leaves no more of it than before
+  abbrev pub ClosesFiles : Held (FileStore D g) → Result (Files D) (Fault × FileLeft D g) → Type 0
+  ClosesFiles conn (Ok back) = AreUsable g back × (AreClean g back.log back.db → IsCopied conn back)
+  ClosesFiles conn (Err e) = IsUnclosed conn e.0 e.1
+
+  -- closed files hold the tables of the office over this database, with today's version
+  pub record HoldOffice (conn : Held (FileStore D g)) (back : Files D) : Type 0 where
+    pub usable : AreUsable g back
+    pub copied : AreClean g back.log back.db → IsCopied conn back
+    pub kept : AreClean g back.log back.db → KeepTables g back (content_now (file_state conn))
+
+  -- the files of an office were closed, as those of its database, whose version is today's
+  abbrev pub ClosesOffice : Held (FileStore D g) → Result (Files D) (Fault × FileLeft D g) → Type 0
+  ClosesOffice conn (Ok back) = HoldOffice conn back
+  ClosesOffice conn (Err e) = IsUnclosed conn e.0 e.1 × LeavesToday e.1
 
   -- a stop leaves these tables of it; a table that is missing holds nothing
   abbrev pub MayLeaveOf : FileLeft D g → Content → Type 0

@@ -1,5 +1,5 @@
 -- The tables of version 1 in files, and what becomes of them.
-use Rattle.std.specs.Prelude.{◌≡◌, ◌⊎◌, ℕ, ◌+◌, Result, Ok, Err, IfOk, OnOk, IsTrue}
+use Rattle.std.specs.Prelude.{◌≡◌, ◌⊎◌, ℕ, ◌+◌, Result, Ok, Err, IfOk, OnOk, MatchResult, IsTrue}
 use Rattle.sqlite.specs.Files.{image_of, file_state, over_files}
 use Rattle.sqlite.specs.Held.{Held, state}
 use Rattle.sqlite.specs.Recovery.{Image}
@@ -23,19 +23,9 @@ use Rattle.signal_office_faults.specs.declared.fault.Fault.{Fault}
 use Rattle.signal_office_in_file.specs.declared.Ended.{Ended}
 use Rattle.signal_office_in_file.specs.declared.Ended.TheVariants.{Unopened, Refused, Closed, Unclosed}
 use Rattle.signal_office_file.specs.Files.{AreThoseOf, AreUsable, HoldToday, IsImageOf}
-use Rattle.signal_office_file.specs.Left.{IsOpenedIn, IsRefusedIn, IsUnclosed}
-use Rattle.signal_office_file.specs.Told.{told_of}
+use Rattle.signal_office_file.specs.Left.{IsOpenedIn, IsRefusedIn, IsUnclosed, told_of}
 use Rattle.signal_office_file.specs.declared.left.FileLeft.{FileLeft}
 use Rattle.signal_office_file.specs.declared.left.FileLeft.TheVariants as left
-
--- the tables in the files stood formerly for the office
-abbrev pub StandFormerlyInFiles : Image → Office → Type 0
-StandFormerlyInFiles image office =
-    (trees : Trees) → AreThoseOf image trees → StandFormerly trees office
-
--- a stop leaves tables as they were, or migrated
-abbrev pub LeavesEither : Trees → (Trees → Type 0) → Type 0
-LeavesEither was may_leave = (trees : Trees) → may_leave trees → (trees ≡ was) ⊎ MayBecome was trees
 
 -- What `SqlShelf::migrate` says of a database, with what it leaves committed, on a clean disk
 -- alone. A stop leaves what was committed, or what becomes of it.
@@ -48,8 +38,8 @@ pub record MigratesOnDisk
   pub version : TellsVersion g outcome old new
   pub damaged : TellsDamage outcome (state g old) (state g new)
   pub unchanged : KeepsCommitted outcome (state g old) (state g new)
-  pub crash : HasCleanDisk (state g new) → IsTrue (state g old).is_open
-      → LeavesEither (state g old).committed.trees (state g new).may_leave
+  pub crash : HasCleanDisk (state g new) → IsTrue (state g old).is_open → (trees : Trees) → (state g new).may_leave trees
+      → (trees ≡ (state g old).committed.trees) ⊎ MayBecome (state g old).committed.trees trees
 
 -- what became of tables, or they are as they were where that was refused
 abbrev pub AreMigrated : Trees → Trees → Result Migrated OpenFault → Type 0
@@ -61,22 +51,10 @@ abbrev pub told_of_outcome : Result Migrated OpenFault → Result ℕ Fault
 told_of_outcome (Ok count) = Ok (count.timing + count.draft)
 told_of_outcome (Err cause) = Err (told_of cause)
 
--- the fault that is reported where the files could not be closed: that of the migration, or else that of closing
-abbrev pub told_unclosed : Fault → Result Migrated OpenFault → Fault
-told_unclosed closing (Ok count) = closing
-told_unclosed closing (Err cause) = told_of cause
-
 module _ {D : Type 0} (g : Disk D) where
-  -- Version and Damaged are reported of what the files held.
-  pub record TellsOfFiles (files : Files D) (outcome : Result Migrated OpenFault) : Type 0 where
-    pub version : outcome ≡ Err why.Version → (conn : Held (FileStore D g))
-        × HasCleanDisk (file_state conn) × IsOpenedIn {g = g} files conn
-        × HasUnknownVersion over_files conn
-    pub damaged : outcome ≡ Err why.Damaged → (was : Trees) × AreThoseOf (image_of g files) was
-        × HasDamagedFormer was
-
   -- The files are closed, and hold what became of the tables that were found in them, as they read
-  -- now and after a stop; or those tables, where the migration was refused.
+  -- now and after a stop; or those tables, where the migration was refused. Version and Damaged are
+  -- reported of what the files held.
   pub record ClosedMigrated
       (files : Files D) (outcome : Result Migrated OpenFault) (back : Files D) : Type 0 where
     pub was : Trees
@@ -84,7 +62,10 @@ module _ {D : Type 0} (g : Disk D) where
     pub trees : Trees
     pub alone : (image : Image) → IsImageOf g back image → HoldsAlone image trees
     pub migrated : AreMigrated was trees outcome
-    pub told : TellsOfFiles files outcome
+    pub version : outcome ≡ Err why.Version → (conn : Held (FileStore D g))
+        × HasCleanDisk (file_state conn) × IsOpenedIn {g = g} files conn
+        × HasUnknownVersion over_files conn
+    pub damaged : outcome ≡ Err why.Damaged → HasDamagedFormer was
 
 module _ {D : Type 0} {g : Disk D} where
   -- a connection found its tables in the files, and they were migrated on disk
@@ -103,7 +84,7 @@ module _ {D : Type 0} {g : Disk D} where
     pub migrates : MigratesIn files outcome conn
     pub closing : Fault
     pub unclosed : IsUnclosed conn closing back
-    pub told_is : told ≡ told_unclosed closing outcome
+    pub told_is : MatchResult (told_of_outcome outcome) (λ _. told ≡ closing) (λ cause. told ≡ cause)
 
   -- The files are closed after a migration, and hold what became of their tables.
   abbrev pub IsClosedMigrated : Files D → Result ℕ Fault → FileLeft D g → Type 0
@@ -119,15 +100,15 @@ module _ {D : Type 0} {g : Disk D} where
   EndsMigration files (Closed told back) = IsClosedMigrated files told back
   EndsMigration files (Unclosed told back) = FailedToClose files told back
 
-  -- Tables that stood formerly for an office stand for it today, in the closed files.
-  abbrev pub StandAnewIn : Files D → FileLeft D g → Type 0
-  StandAnewIn files (left.Closed back) =
-      AreClean g back.log back.db → (before : Office)
-      → StandFormerlyInFiles (image_of g files) before → (trees : Trees) × HoldToday g back trees
-      × StandAnew (content_of trees) before
-  StandAnewIn files _ = ⊥
-
-  -- a migration that was done brought the tables in the files to today's version
+  -- a migration that was done: tables that stood formerly for an office stand for it today, in the closed files
   abbrev pub BringsToday : Files D → Ended (Result ℕ Fault) (FileLeft D g) → Type 0
-  BringsToday files (Closed (Ok count) back) = StandAnewIn files back
+  BringsToday files (Closed (Ok count) (left.Closed back)) =
+      AreClean g back.log back.db → (before : Office)
+      → ((trees : Trees) → AreThoseOf (image_of g files) trees → StandFormerly trees before)
+      → (trees : Trees) × HoldToday g back trees × StandAnew (content_of trees) before
   BringsToday files _ = Unit {0}
+
+  -- a migration of files ended so, and if it was done, it brought their tables to today's version
+  pub record MigratesFiles (files : Files D) (ended : Ended (Result ℕ Fault) (FileLeft D g)) : Type 0 where
+    pub ends : EndsMigration files ended
+    pub today : BringsToday files ended

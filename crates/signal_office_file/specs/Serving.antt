@@ -1,14 +1,18 @@
 -- The office over the tables in files: what was opened, and what was served.
-use Rattle.std.specs.Prelude.{◌≡◌, ℕ, List, Result, IsTrue}
-use Rattle.sqlite.specs.Files.{file_state}
+use Rattle.std.specs.Prelude.{◌≡◌, ℕ, List, Result, Ok, Err, IsTrue}
+use Rattle.sqlite.specs.Files.{file_state, image_of}
 use Rattle.sqlite.specs.Held.{Held}
 use Rattle.sqlite.specs.Recovery.{Image}
-use Rattle.sqlite.specs.State.{State}
+use Rattle.sqlite.specs.State.{HasCleanDisk, State}
+use Rattle.sqlite.specs.Tree.{Trees}
+use Rattle.sqlite.specs.WalReads.{AreClean}
+use Rattle.sqlite.specs.declared.FileStore.{FileStore}
 use Rattle.sqlite_disk.specs.declared.Disk.{Ghosts as Disk}
+use Rattle.sqlite_disk.specs.declared.Files.{Files}
 use Rattle.office_tables.specs.Calls.{IsHonest}
 use Rattle.office_tables.specs.Content.{Content}
 use Rattle.office_tables.specs.Stored.{content_now}
-use Rattle.office_tables.specs.SqlShelf.{MayLeave, SqlView}
+use Rattle.office_tables.specs.SqlShelf.{IsCurrent, MayLeave, SqlView}
 use Rattle.office_tables_shelf.specs.Counts.{no_writes}
 use Rattle.office_tables_shelf.specs.declared.counts.WriteCounts.{WriteCounts}
 use Rattle.office_machine.specs.Office.{Office}
@@ -20,7 +24,10 @@ use Rattle.office_http_framing.specs.Serve.{Did, Ends}
 use Rattle.office_http_framing.specs.Stops.{Leaves, Storage}
 use Rattle.office_http_framing.specs.declared.engine.Served.{Served}
 use Rattle.office_http_framing.specs.declared.engine.ServeFault.{ServeFault}
-use Rattle.signal_office_file.specs.Files.{HoldIn}
+use Rattle.signal_office_faults.specs.declared.fault.Fault.{Fault}
+use Rattle.signal_office_file.specs.Files.{HoldIn, HoldToday}
+use Rattle.signal_office_file.specs.Left.{IsRefusedIn, KeepsToday}
+use Rattle.signal_office_file.specs.declared.left.FileLeft.{FileLeft}
 
 -- how the office is stored in the tables of a database, whose connection has these states
 abbrev pub sql_storage : {S : Type 0} → (Held S → State) → Storage (SqlView S) Office Content
@@ -38,6 +45,24 @@ pub record AreOpenedIn
   pub crash : (tables : Content) → MayLeave (state_of opened.conn) tables
       → tables ≡ content_now (state_of opened.conn)
   pub unwritten : opened.counts ≡ no_writes
+
+module _ {D : Type 0} {g : Disk D} (files : Files D) where
+  -- An office was opened over the tables in the files. Nothing makes a disk clean again; on a clean one the tables hold what the files held.
+  pub record OpenedOffice (office : SqlView (FileStore D g)) : Type 0 where
+    pub clean : HasCleanDisk (file_state office.conn) → AreClean g files.log files.db
+    pub opened : HasCleanDisk (file_state office.conn) → AreOpenedIn file_state (image_of g files) office
+    -- today's version is stored, also in whatever a crash may leave
+    pub current : IsCurrent (file_state office.conn)
+
+  -- Files were refused with the fault that they have, and are left as they were: so today's tables never for their version or their rows.
+  pub record RefusedFiles (told : Fault) (back : FileLeft D g) : Type 0 where
+    pub refused : IsRefusedIn files told back
+    pub kept : (trees : Trees) → HoldToday g files trees → KeepsToday trees told back
+
+  -- an office was opened over the tables in the files, or they were refused
+  abbrev pub OpensFiles : Result (SqlView (FileStore D g)) (Fault × FileLeft D g) → Type 0
+  OpensFiles (Ok office) = OpenedOffice office
+  OpensFiles (Err e) = RefusedFiles e.0 e.1
 
 -- What was done over the requests from an office, and their answers, where the files held these
 -- tables, which were all that a crash could leave before.

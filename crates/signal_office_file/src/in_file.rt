@@ -22,7 +22,7 @@ use sqlite_disk::{Disk, Files};
 use std::alloc::Global;
 
 /// The first of two faults: that of the work, or else that of closing.
-fn first_fault<T: Drop, E>(done: Result<T, E>, closing: Fault) -> Fault
+pub(crate) fn first_fault<T: Drop, E>(done: Result<T, E>, closing: Fault) -> Fault
 where
     Fault: From<E>,
     ensures { MatchResult done (λ _. result ≡ closing)

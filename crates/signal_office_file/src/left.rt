@@ -1,8 +1,7 @@
 //! Why the files of an office were refused or not closed, and what is left of them.
 
 ghost use Rattle.std.specs.Prelude.{◌≡◌};
-ghost use Rattle.signal_office_file.specs.Left.{closed_of, database_of};
-ghost use Rattle.signal_office_file.specs.Told.{told_of_error, told_of};
+ghost use Rattle.signal_office_file.specs.Left.{TellsError, closed_of, database_of, told_of};
 
 use office_tables::open::{Left, OpenFault};
 use signal_office_faults::Fault;
@@ -26,8 +25,7 @@ impl<D: Disk + Drop> FileLeft<D> {
     {
         match self {
             FileLeft::Closed(files) => Some(files),
-            FileLeft::Unopened(_left) => None,
-            FileLeft::Database(_left) => None,
+            _ => None,
         }
     }
 
@@ -36,9 +34,8 @@ impl<D: Disk + Drop> FileLeft<D> {
         ensures { result ≡ database_of self }
     {
         match self {
-            FileLeft::Closed(_files) => None,
-            FileLeft::Unopened(_left) => None,
             FileLeft::Database(left) => Some(left),
+            _ => None,
         }
     }
 }
@@ -60,7 +57,7 @@ pub type Refused<D> = (Fault, FileLeft<D>);
 
 /// The fault that is reported of an error of the database.
 pub(crate) fn fault_of_database(error: Error) -> Fault
-    ensures { result ≡ told_of_error error }
+    ensures { TellsError error result }
 {
     match error {
         Error::SqliteFailure(ErrorCode::OutOfMemory) => Fault::Memory,

@@ -1,11 +1,12 @@
 //! The tables of a file of an older version, brought to today's version.
 
 ghost use Rattle.std.specs.Prelude.{◌≡◌};
-ghost use Rattle.signal_office_file.specs.Migrating.{told_of_outcome, told_unclosed, BringsToday, EndsMigration, MigratesOnDisk};
+ghost use Rattle.signal_office_file.specs.Migrating.{told_of_outcome, MigratesFiles, MigratesOnDisk};
 ghost use Rattle.sqlite.specs.Held.{state};
 ghost use Rattle.sqlite.specs.State.{HasCleanDisk};
 ghost use Rattle.office_tables.specs.Arranged.{IsArrangedIfClean};
 
+use crate::in_file::first_fault;
 use crate::left::{FileLeft, fault_of_opening};
 use crate::opening::{close_file, database_in};
 use office_tables::Migrated;
@@ -19,7 +20,7 @@ use std::alloc::Global;
 
 /// Brings the tables of a database to today's version, and gives it back, with what is told of its
 /// last commit.
-fn migrated<S: Alter>(
+fn migrate_conn<S: Alter>(
     alloc: Global,
     mut conn: Connection<S>,
 ) -> (Connection<S>, Result<Migrated, OpenFault>)
@@ -39,39 +40,29 @@ pub fn migrate_file<D: Disk + Drop>(
     options: Options,
 ) -> Ended<Result<u128, Fault>, FileLeft<D>>
     // Closed, they hold what became of their tables, with the count of what was written anew, or,
-    // where that was refused, their tables; else a stop leaves either.
-    ensures ends { EndsMigration files result }
-    // Done, the tables of an office of version 1 are its tables today: so the headline of
-    // `serve_file` holds of a run over the files that came back.
-    ensures today { BringsToday files result }
+    // where that was refused, their tables; else a stop leaves either. Done, the tables of an
+    // office of version 1 are its tables today: so the headline of `serve_file` holds of a run over
+    // the files that came back.
+    ensures { MigratesFiles files result }
 {
     let conn = match database_in(alloc, files, options) {
         Ok(conn) => conn,
         Err((fault, left)) => return Ended::Refused(fault, FileLeft::Unopened(left)),
     };
-    let (conn, outcome) = migrated(alloc, conn);
+    let (conn, outcome) = migrate_conn(alloc, conn);
+    let done = rows_written(outcome);
     match close_file(conn) {
-        Ok(files) => Ended::Closed(told_of(outcome), FileLeft::Closed(files)),
-        Err((fault, left)) => Ended::Unclosed(unclosed(fault, outcome), left),
+        Ok(files) => Ended::Closed(done, FileLeft::Closed(files)),
+        Err((fault, left)) => Ended::Unclosed(first_fault(done, fault), left),
     }
 }
 
-/// What came of a migration whose files were closed: how many rows were written anew.
-fn told_of(outcome: Result<Migrated, OpenFault>) -> Result<u128, Fault>
+/// What came of a migration: how many rows were written anew.
+fn rows_written(outcome: Result<Migrated, OpenFault>) -> Result<u128, Fault>
     ensures { result ≡ told_of_outcome outcome }
 {
     match outcome {
         Ok(migrated) => Ok(migrated.timing as u128 + migrated.draft as u128),
         Err(fault) => Err(fault_of_opening(fault)),
-    }
-}
-
-/// Why a migrated file was not closed. A fault from before comes first.
-fn unclosed(closing: Fault, outcome: Result<Migrated, OpenFault>) -> Fault
-    ensures { result ≡ told_unclosed closing outcome }
-{
-    match outcome {
-        Ok(_) => closing,
-        Err(fault) => fault_of_opening(fault),
     }
 }

@@ -1,20 +1,13 @@
 //! The office over the tables of a database in files: opened, and closed, so that the log is copied
 //! into the database file.
 
-ghost use Rattle.std.specs.Prelude.{IfOk, IfErr};
-ghost use Rattle.sqlite.specs.Closing.{IsCopied};
-ghost use Rattle.sqlite.specs.Files.{file_state, image_of};
+ghost use Rattle.std.specs.Prelude.{◌≡◌, IfOk, IfErr};
 ghost use Rattle.sqlite.specs.Held.{state};
-ghost use Rattle.sqlite.specs.State.{HasCleanDisk};
-ghost use Rattle.sqlite.specs.Tree.{Trees};
-ghost use Rattle.sqlite.specs.WalReads.{AreClean};
-ghost use Rattle.office_tables.specs.Stored.{content_now};
 ghost use Rattle.office_tables.specs.Opening.{IsOpened, IsRefused};
 ghost use Rattle.office_tables.specs.Arranged.{IsArrangedIfClean};
 ghost use Rattle.office_tables.specs.SqlShelf.{IsCurrent};
-ghost use Rattle.signal_office_file.specs.Files.{HoldToday, AreUsable, KeepTables};
-ghost use Rattle.signal_office_file.specs.Left.{IsOpenedIn, IsRefusedIn, IsUnopened, KeepsToday, IsUnclosed, LeavesToday};
-ghost use Rattle.signal_office_file.specs.Serving.{AreOpenedIn};
+ghost use Rattle.signal_office_file.specs.Left.{ClosesFiles, ClosesOffice, IsOpenedIn, IsUnopened};
+ghost use Rattle.signal_office_file.specs.Serving.{OpensFiles};
 
 use crate::left::{FileLeft, Refused, fault_of_database, fault_of_opening};
 use office_desk::office::Office;
@@ -74,19 +67,7 @@ pub fn open_file<D: Disk + Drop>(
     files: Files<D>,
     options: Options,
 ) -> Result<FileOffice<D>, Refused<D>>
-    // Nothing makes a disk clean again.
-    ensures clean { IfOk result (λ office. HasCleanDisk (file_state office.conn) →
-        AreClean D.Disk files.log files.db) }
-    // On a clean disk: what the tables hold is what the files held.
-    ensures opened { IfOk result (λ office. HasCleanDisk (file_state office.conn) →
-        AreOpenedIn file_state (image_of D.Disk files) office) }
-    // Today's version is stored, also in whatever a crash may leave.
-    ensures current { IfOk result (λ office. IsCurrent (file_state office.conn)) }
-    // The fault is the one that these files have, and they are left as they were.
-    ensures refused { IfErr result (λ e. IsRefusedIn files e.0 e.1) }
-    // So files that hold today's tables are never told as damaged, or of another version.
-    ensures kept { (trees : Trees) → HoldToday D.Disk files trees →
-        IfErr result (λ e. KeepsToday trees e.0 e.1) }
+    ensures { OpensFiles files result }
 {
     let conn = match database_in(alloc, files, options) {
         Ok(conn) => conn,
@@ -102,10 +83,7 @@ pub fn open_file<D: Disk + Drop>(
 pub(crate) fn close_file<D: Disk + Drop>(
     conn: Connection<FileStore<D>>,
 ) -> Result<Files<D>, Refused<D>>
-    ensures copied { IfOk result (λ files.
-        AreClean D.Disk files.log files.db → IsCopied conn files) }
-    ensures usable { IfOk result (AreUsable D.Disk) }
-    ensures unclosed { IfErr result (λ e. IsUnclosed conn e.0 e.1) }
+    ensures { ClosesFiles conn result }
 {
     match conn.close_files() {
         Ok(files) => Ok(files),
@@ -113,17 +91,19 @@ pub(crate) fn close_file<D: Disk + Drop>(
     }
 }
 
+/// The database of an office over tables in SQL.
+fn conn_of<S: Alter + Drop>(office: Office<SqlShelf<S>>) -> Connection<S>
+    ensures same { result ≡ office.conn }
+    ensures current { IsCurrent (state S.Store result) }
+{
+    office.into_shelf().into_conn()
+}
+
 /// Closes the files of an office, and gives them back. They hold its tables then, as an opening
 /// finds them: the tables of an office, with today's version.
 pub fn close_office<D: Disk + Drop>(office: FileOffice<D>) -> Result<Files<D>, Refused<D>>
-    ensures copied { IfOk result (λ files.
-        AreClean D.Disk files.log files.db → IsCopied office.conn files) }
-    ensures kept { IfOk result (λ files. AreClean D.Disk files.log files.db →
-        KeepTables D.Disk files (content_now (file_state office.conn))) }
-    ensures usable { IfOk result (AreUsable D.Disk) }
     // Where that fails, a stop leaves no more of it than before.
-    ensures unclosed { IfErr result (λ e. IsUnclosed office.conn e.0 e.1) }
-    ensures current { IfErr result (λ e. LeavesToday e.1) }
+    ensures { ClosesOffice office.conn result }
 {
-    close_file(office.into_shelf().into_conn())
+    close_file(conn_of(office))
 }

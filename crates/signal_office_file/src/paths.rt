@@ -1,7 +1,7 @@
 //! The two files of an office at a path, opened at once, or as soon as no other run has them open,
 //! and the calls that were made of them.
 
-ghost use Rattle.std.specs.Prelude.{◌≡◌, IfOk, IfErr, Err, ◌++◌, ◌∷◌, [], OnErr, OnOk, ◌<◌, ◌↔◌, IsTrue};
+ghost use Rattle.std.specs.Prelude.{◌≡◌, IfOk, IfErr, ◌++◌, ◌∷◌, [], OnErr, OnOk, ◌<◌, ◌↔◌, IsTrue};
 ghost use Rattle.sqlite.specs.WalFiles.{image_at};
 ghost use Rattle.signal_office_in_file.specs.Calls.{IsCalled, called};
 ghost use Rattle.signal_office_in_file.specs.Ended.{IsStoreOrMemory};
@@ -79,8 +79,10 @@ pub(crate) fn files_at<S: Begin>(
         AreNew ⟦<FileFrom<S> as Disk>⟧ found.0 (image_at S.Start)) }
     ensures usable { IfOk result (λ found. AreUsable ⟦<FileFrom<S> as Disk>⟧ found.0) }
     ensures fault { IfErr result IsStoreOrMemory }
-    ensures noted { IsCalled (calls_of calls.old.items) (calls_of calls.new.items)
-        (called path.now wait kind) (result ≡ Err Fault.Memory) }
+    ensures noted { OnOk result (calls_of calls.new.items
+        ≡ calls_of calls.old.items ++ called path.now wait kind ∷ []) }
+    ensures refused { IfErr result (λ why. IsCalled (calls_of calls.old.items)
+        (calls_of calls.new.items) (called path.now wait kind) (why ≡ Fault.Memory)) }
 {
     note(calls, alloc, path, wait, kind)?;
     let files = pair_at(rt, path, wait)?;

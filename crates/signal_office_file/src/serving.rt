@@ -5,7 +5,6 @@ ghost use Rattle.sqlite.specs.Files.{file_state, image_of};
 ghost use Rattle.sqlite.specs.Held.{state};
 ghost use Rattle.sqlite.specs.Recovery.{Image};
 ghost use Rattle.sqlite.specs.State.{HasCleanDisk};
-ghost use Rattle.sqlite.specs.Tree.{Trees};
 ghost use Rattle.sqlite.specs.WalReads.{AreClean};
 ghost use Rattle.office_tables.specs.SqlShelf.{IsCurrent};
 ghost use Rattle.office_machine.specs.Office.{Office as OfficeState};
@@ -16,9 +15,8 @@ ghost use Rattle.office_http_framing.specs.Asks.{OnlyAsks};
 ghost use Rattle.office_http_framing.specs.Limits.{longest_request};
 ghost use Rattle.office_http_framing.specs.Serve.{Did, TellsFault, ends_of};
 ghost use Rattle.office_http.specs.Protocol.{office_protocol};
-ghost use Rattle.signal_office_file.specs.Files.{HoldIn, HoldToday};
-ghost use Rattle.signal_office_file.specs.Left.{IsRefusedIn, KeepsToday};
-ghost use Rattle.signal_office_file.specs.Serving.{AreOpenedIn, ServesFiles};
+ghost use Rattle.signal_office_file.specs.Files.{HoldIn};
+ghost use Rattle.signal_office_file.specs.Serving.{AreOpenedIn, RefusedFiles, ServesFiles};
 
 use crate::left::Refused;
 use crate::opening::{FileOffice, open_file};
@@ -64,11 +62,7 @@ pub fn serve_file<D: Disk + Drop, R: Source, W: Sink>(
     ensures fault { IfOk result (λ served. TellsFault
         (ends_of (R.told reader.old) (W.told writer.old))
         (ends_of (R.told reader.new) (W.told writer.new)) served.1) }
-    // The files were refused for what they have, and are left as they were; of today's tables
-    // neither their version nor their rows are a reason.
-    ensures refused { IfErr result (λ e. IsRefusedIn files e.0 e.1) }
-    ensures kept { (trees : Trees) → HoldToday D.Disk files trees →
-        IfErr result (λ e. KeepsToday trees e.0 e.1) }
+    ensures refused { IfErr result (λ e. RefusedFiles files e.0 e.1) }
     ensures untouched { IfErr result (λ _.
         (reader.new ≡ reader.old) × (writer.new ≡ writer.old)) }
     // The reader is called only while a request is awaited, and so often at most.

@@ -1,12 +1,11 @@
 -- What an input gives, read by read, and why it is not taken.
-use Rattle.std.proofs.Common.{◌≡◌, ℕ, Bool, true, false, List, Ok, Err, inr, refl, subst, sym}
+use Rattle.std.proofs.Common.{◌≡◌, ℕ, Bool, true, false, List, Ok, Err, inr, refl}
 use Rattle.std.specs.Io.KnownBytes.{Consumes}
 use Rattle.std.specs.Prelude.{IfErr, IsErrAnd, Result}
 use Rattle.office_http_framing.specs.Ends.{Told}
 use Rattle.signal_office_faults.specs.declared.fault.Fault.{Fault}
 use Rattle.signal_office_faults.specs.declared.fault.Fault.TheVariants as fault
-use Rattle.signal_office_line.specs.declared.job.CsvFile.{CsvFile}
-use Rattle.signal_office_jobs.specs.Reading.{GivesFile, GivesNoFile, GivesSome, IsCsvRead, is_input}
+use Rattle.signal_office_jobs.specs.Reading.{GivesFile, GivesNoFile, GivesSome}
 
 -- memory was refused for bytes that the input gave
 pub refused_so : {A : Type 0} (result : Result A Fault) (bytes : List ℕ) (start end : Told) → Consumes start.bytes end.bytes bytes
@@ -18,11 +17,3 @@ refused_so (Err why) bytes start end gives is = record { bytes = bytes; gives = 
 pub refused_after : (input : Bool) (bytes : List ℕ) (start end : Told) → GivesFile input bytes start end → GivesNoFile input fault.Memory start end
 refused_after true bytes start end it = record { bytes = bytes; gives = it.gives; fails = inr refl }
 refused_after false bytes start end it = (it, inr refl)
-
-pub refused_text : (file : CsvFile) (text lines : List ℕ) (start end : Told) → IsCsvRead file text lines start end → GivesNoFile (is_input file) fault.Memory start end
-refused_text file text lines start end it = refused_after (is_input file) it.0 start end it.1
-
--- a fault that is handed on
-pub is_told : {A : Type 0} (Says : Fault → Type 0) (result : Result A Fault) (why : Fault) → IsErrAnd result (λ it. it ≡ why) → Says why → IfErr result Says
-is_told Says (Ok it) why is says = absurd is
-is_told Says (Err it) why is says = subst Says (sym is) says

@@ -3,8 +3,5 @@ pub mod InFileLemmas
 pub mod InputLemmas
 pub mod MemoryLemmas
 pub mod RequestLemmas
-pub mod RevisedLemmas
-pub mod RunLemmas
 pub mod ServingLemmas
-pub mod StopLemmas
 pub mod CallsLemmas

@@ -1,15 +1,14 @@
 -- What a copy of an office does, and when it is refused.
-use Rattle.std.specs.Prelude.{◌≡◌, ◌⊎◌, ℕ, Bool, true, false, not, ◌&&◌, ◌||◌, Result, Ok, Err, ⊤}
+use Rattle.std.specs.Prelude.{◌≡◌, ◌⊎◌, Bool, true, false, not, ◌&&◌, ◌||◌, codes, Result, Ok, Err, ⊤}
 use Rattle.office_http_framing.specs.Ends.{Told}
+use Rattle.signal_office_faults.specs.Done.{Output, PrintsWhat, TellsNothing}
 use Rattle.signal_office_faults.specs.declared.fault.Fault.{Fault}
 use Rattle.signal_office_faults.specs.declared.fault.Fault.TheVariants as fault
-use Rattle.signal_office_in_file.specs.Ended.{EndsOver, FileView, copy_work, told_by}
+use Rattle.signal_office_in_file.specs.Ended.{EndsOver, FileView, copy_work}
 use Rattle.signal_office_in_file.specs.declared.Ended.{Ended}
-use Rattle.signal_office_jobs.specs.InFile.{IsMissing}
-use Rattle.signal_office_commands.specs.Output.{Output, PrintsDone, TellsNothing, joined}
-use Rattle.signal_office_commands.specs.Done.{TellsOutcome, copied_line}
+use Rattle.signal_office_jobs.specs.InFile.{IsMissing, outcome_over}
+use Rattle.signal_office_jobs.specs.Requests.{outcome_as}
 use Rattle.signal_office_jobs.specs.declared.backup.Standing.{Standing}
-use Rattle.signal_office_commands.specs.declared.done.Done.{Done}
 
 -- A copy may be put where no log lies, which would bring another office back, nor a copy that was not finished; a file is replaced only by force.
 abbrev pub leaves_room : (force : Bool) → Standing → Bool
@@ -32,23 +31,14 @@ module _ {Left : Type 0} (view : FileView Left) where
     pub end : Told
     pub ended : Ended (Result ⊤ Fault) Left
     pub over : EndsOver view (copy_work view.alone start end) ended
-    pub put : IsPut (joined (told_by ended)) result
+    pub put : IsPut (outcome_over ended) result
 
   -- the office of the file was copied; or there was no output, or no memory for its name
   abbrev pub CopiesTo : Result ⊤ Fault → Type 0
   CopiesTo result = CopiesOffice result ⊎ ((result ≡ Err fault.Write) ⊎ (result ≡ Err fault.Memory))
 
-  -- the place was free, or was to be replaced, and what came of the copy is printed
-  pub record BacksUp (force : Bool) (start end : Told) (result : Result ℕ Fault) : Type 0 where
-    pub room : FindsRoom force (Ok tt)
-    pub copied : Result ⊤ Fault
-    pub copies : CopiesTo copied
-    pub done : Result Done Fault
-    pub tells : TellsOutcome (λ _. copied_line) copied done
-    pub prints : PrintsDone done start end result
-
-  -- a copy was made, and what came of it is printed; or the file is not there, or the place is not free, and that is reported
+  -- a copy was made where the place was free, or was to be replaced, and what came of it is printed; or the file is not there, or the place is not free, and that is reported
   abbrev pub BacksUpFile : Bool → Output
   BacksUpFile force start end result =
-      BacksUp force start end result
+      (FindsRoom force (Ok tt) × (copied : Result ⊤ Fault) × CopiesTo copied × PrintsWhat (outcome_as (codes "copied\n") copied) start end result)
       ⊎ ((why : Fault) × (IsMissing fault.File why ⊎ FindsRoom force (Err why)) × TellsNothing why start end result)

@@ -1,23 +1,13 @@
 -- Which calls a job makes of the opener of files.
-use Rattle.std.specs.Prelude.{List, [], ◌∷◌, true, false, Option, Some, None, Result, Ok, Err}
+use Rattle.std.specs.Prelude.{List, [], ◌∷◌, Option, Some, None, Result, Ok, Err}
 use Rattle.signal_office_in_file.specs.Calls.{FileCall, called}
 use Rattle.signal_office_in_file.specs.declared.Kind.{Kind}
 use Rattle.signal_office_in_file.specs.declared.Kind.TheVariants as kind
+use Rattle.signal_office_jobs.specs.Requests.{kind_of}
 use Rattle.signal_office_line.specs.declared.job.Job.{Job}
 use Rattle.signal_office_line.specs.declared.job.Job.TheVariants as job
 use Rattle.signal_office_line.specs.declared.job.JobFault.{JobFault}
 use Rattle.signal_office_line.specs.declared.job.OfficeFile.{OfficeFile}
-use Rattle.signal_office_line.specs.declared.job.Request.{Request}
-use Rattle.signal_office_line.specs.declared.job.Request.TheVariants as request
-
--- what changes the tables: an intersection, records and drafts; whatever else is asked looks at them
-abbrev pub kind_of : Request → Kind
-kind_of (request.Add id interval name) = kind.Change
-kind_of (request.Import csv until true) = kind.Look
-kind_of (request.Import csv until false) = kind.Change
-kind_of (request.Edit edit) = kind.Change
-kind_of (request.Abandon id clerk) = kind.Change
-kind_of _ = kind.Look
 
 -- one call of a kind, where a file is given
 abbrev pub calls_over : Kind → Option OfficeFile → List FileCall

@@ -9,4 +9,3 @@ pub mod Memory
 pub mod Jobs
 pub mod Runs
 pub mod Calls
-pub mod Looks

@@ -1,5 +1,6 @@
 -- The CSV files that a job reads, of the system or the input of the run, and what is said of a plan in one.
-use Rattle.std.specs.Prelude.{◌≡◌, ◌⊎◌, ℕ, Bool, true, false, List, [], ◌∷◌, codes, Option, Some, None, Ok, Err}
+use Rattle.std.specs.Prelude.{◌≡◌, ◌⊎◌, ℕ, Bool, true, false, List, [], ◌∷◌, codes, Option, Some, None, option_map, Result, Ok, Err, ⊤}
+use denote.Bor.{Bor}
 use Rattle.std.specs.Io.KnownBytes.{Appends, Consumes, IsAtEnd}
 use Rattle.std.specs.Str.{bytes_eq}
 use Rattle.office_http_framing.specs.Ends.{AppendsPart, FailsOrGivesNone, Rose, Told}
@@ -11,9 +12,41 @@ use Rattle.signal_office_faults.specs.Lines.{IsUnreadFile}
 use Rattle.signal_office_faults.specs.declared.fault.Fault.{Fault}
 use Rattle.signal_office_faults.specs.declared.fault.Fault.TheVariants as fault
 use Rattle.signal_office_jobs.specs.declared.reading.CsvText.{CsvText}
-use Rattle.signal_office_line.specs.declared.job.CsvFile.{CsvFile}
+use Rattle.signal_office_jobs.specs.declared.reading.Role.{Role}
+use Rattle.signal_office_jobs.specs.declared.reading.Role.TheVariants as role
+use Rattle.signal_office_jobs.specs.declared.reading.Wanted.{Wanted}
+use Rattle.signal_office_line.specs.declared.job.Job.{Job}
+use Rattle.signal_office_line.specs.declared.job.Job.TheVariants as job
 use Rattle.signal_office_line.specs.declared.job.Request.{Request}
 use Rattle.signal_office_line.specs.declared.job.Request.TheVariants as request
+use Rattle.signal_office_line.specs.declared.shows.CsvFile.{CsvFile}
+use Rattle.signal_office_line.specs.declared.shows.Shown.TheVariants as shown
+
+-- a file that a job reads, if it reads one, and what as
+abbrev pub Wanting : Type 0
+Wanting = Option CsvFile × Role
+
+-- what is wanted, as it is lent
+abbrev pub wanted_value : Wanted → Wanting
+wanted_value it = (option_map (λ (file : Bor CsvFile). file.now) it.file, it.role)
+
+-- a plan whose file may be left out
+abbrev pub plan_in : Option CsvFile → Wanting
+plan_in file = (file, role.Plan false)
+
+-- the file that is read for a request, before that of the office is opened
+abbrev pub file_for : Request → Wanting
+file_for (request.Import csv until check) = (Some csv, role.Records until)
+file_for (request.Edit edit) = plan_in edit.csv
+file_for (request.Show (shown.CompareRunning id plan csv)) = plan_in (Some plan)
+file_for _ = plan_in None
+
+-- THE FILES THAT A JOB READS, at most two, before it does anything
+abbrev pub files_of : Job → Wanting × Wanting
+files_of (job.Office db request) = (file_for request, plan_in None)
+files_of (job.CompareFiles first second csv) = (plan_in (Some first), (Some second, role.Plan true))
+files_of (job.ShowPlan csv it) = (plan_in (Some csv), plan_in None)
+files_of _ = (plan_in None, plan_in None)
 
 -- the input of the run stands where a path is a dash
 abbrev pub is_input : CsvFile → Bool
@@ -47,9 +80,9 @@ file_text true bytes = unpadded_text bytes
 file_text false bytes = bytes
 
 -- a CSV file has this text, and its records begin on these lines
-abbrev pub IsCsvRead : CsvFile → (text lines : List ℕ) → (start end : Told) → Type 0
-IsCsvRead file text lines start end =
-    (bytes : List ℕ) × GivesFile (is_input file) bytes start end × (text ≡ file_text file.padded bytes) × (lines ≡ record_lines bytes)
+abbrev pub IsCsvRead : CsvFile → CsvText → (start end : Told) → Type 0
+IsCsvRead file csv start end =
+    (bytes : List ℕ) × GivesFile (is_input file) bytes start end × (csv.text.items ≡ file_text file.padded bytes) × (csv.lines.items ≡ record_lines bytes)
 
 -- standard error took the notes, whole or as far as it takes them; where there are none it was not written to
 abbrev pub SaysNotes : (notes : List ℕ) → (err said : Told) → Type 0
@@ -57,62 +90,29 @@ SaysNotes [] err said = said ≡ err
 SaysNotes (b ∷ bs) err said =
     Appends err.bytes said.bytes (b ∷ bs) ⊎ (AppendsPart err.bytes said.bytes (b ∷ bs) × FailsOrGivesNone err.counts said.counts)
 
--- the plan in a CSV file, or in the other one of two, was read, and the notes on it were said
-abbrev pub IsPlanRead : (other : Bool) → CsvFile → CsvText → (start end err said : Told) → Type 0
-IsPlanRead other file csv start end err said =
-    IsCsvRead file csv.text.items csv.lines.items start end × SaysNotes (notes_in other csv.text.items) err said
+-- The notes on a plan were said, or memory for them was refused. Of records none is of a later day than one that is given, or this is why they are not taken.
+abbrev pub IsTextTaken : Role → (text : List ℕ) → Result ⊤ Fault → (err said : Told) → Type 0
+IsTextTaken (role.Plan other) text (Ok done) err said = SaysNotes (notes_in other text) err said
+IsTextTaken (role.Plan other) text (Err why) err said = (why ≡ fault.Memory) × (said ≡ err)
+IsTextTaken (role.Records until) text result err said = AreInTime until text result × (said ≡ err)
 
--- the plan in a CSV file was not read, and nothing was said
-abbrev pub IsPlanUnread : CsvFile → Fault → (start end err said : Told) → Type 0
-IsPlanUnread file why start end err said = GivesNoFile (is_input file) why start end × (said ≡ err)
+-- A file was read, and its text was taken as what it is wanted; or it was not read, or not taken. Where no file is wanted there is no text.
+abbrev pub IsReadAs : Role → Option CsvFile → Result CsvText Fault → (start end err said : Told) → Type 0
+IsReadAs it (Some file) (Ok csv) start end err said = IsCsvRead file csv start end × IsTextTaken it csv.text.items (Ok tt) err said
+IsReadAs it (Some file) (Err why) start end err said =
+    (GivesNoFile (is_input file) why start end × (said ≡ err))
+    ⊎ ((csv : CsvText) × IsCsvRead file csv start end × IsTextTaken it csv.text.items (Err why) err said)
+IsReadAs it None (Ok csv) start end err said = (csv.text.items ≡ []) × (csv.lines.items ≡ []) × (end ≡ start) × (said ≡ err)
+IsReadAs it None (Err why) start end err said = ⊥
 
--- both plans were read, one after the other
-pub record ArePlansRead (first second : CsvFile) (both : CsvText × CsvText) (start end err said : Told) : Type 0 where
-  pub middle : Told
-  pub noted : Told
-  pub one : IsPlanRead false first both.0 start middle err noted
-  pub other : IsPlanRead true second both.1 middle end noted said
+-- what is wanted was read, or this is why not
+abbrev pub IsWantedRead : Wanting → Result CsvText Fault → (start end err said : Told) → Type 0
+IsWantedRead wanted = IsReadAs wanted.1 wanted.0
 
--- the first was not, or the second
-abbrev pub ArePlansUnread : (first second : CsvFile) → Fault → (start end err said : Told) → Type 0
-ArePlansUnread first second why start end err said =
-    IsPlanUnread first why start end err said
-    ⊎ ((csv : CsvText) × (middle : Told) × (noted : Told) × IsPlanRead false first csv start middle err noted × IsPlanUnread second why middle end noted said)
-
--- nothing was read or said
-abbrev pub IsLeft : CsvText → (start end err said : Told) → Type 0
-IsLeft csv start end err said = (csv.text.items ≡ []) × (csv.lines.items ≡ []) × (end ≡ start) × (said ≡ err)
-
--- a plan whose file may be left out
-abbrev pub IsAnyPlanRead : Option CsvFile → CsvText → (start end err said : Told) → Type 0
-IsAnyPlanRead (Some file) csv start end err said = IsPlanRead false file csv start end err said
-IsAnyPlanRead None csv start end err said = IsLeft csv start end err said
-
--- why a plan whose file may be left out is not read: without a file there is no reason
-abbrev pub IsAnyPlanUnread : Option CsvFile → Fault → (start end err said : Told) → Type 0
-IsAnyPlanUnread (Some file) why start end err said = IsPlanUnread file why start end err said
-IsAnyPlanUnread None why start end err said = ⊥
-
--- records were read, none of which is of a later day than one that is given
-abbrev pub AreRecordsRead : CsvFile → (until : Option ℕ) → CsvText → (start end : Told) → Type 0
-AreRecordsRead file until csv start end = IsCsvRead file csv.text.items csv.lines.items start end × AreInTime until csv.text.items (Ok tt)
-
--- why records are not taken: they were not read, or one is of a later day, or their days are not looked at
-abbrev pub AreRecordsUnread : CsvFile → (until : Option ℕ) → Fault → (start end : Told) → Type 0
-AreRecordsUnread file until why start end =
-    GivesNoFile (is_input file) why start end
-    ⊎ ((csv : CsvText) × IsCsvRead file csv.text.items csv.lines.items start end × AreInTime until csv.text.items (Err why))
-
--- WHAT IS READ FOR A REQUEST, before the file of the office is opened
-abbrev pub IsReadFor : Request → CsvText → (start end err said : Told) → Type 0
-IsReadFor (request.Import file until check) csv start end err said = AreRecordsRead file until csv start end × (said ≡ err)
-IsReadFor (request.Edit edit) csv start end err said = IsAnyPlanRead edit.csv csv start end err said
-IsReadFor (request.CompareRunning id plan as_csv) csv start end err said = IsPlanRead false plan csv start end err said
-IsReadFor other csv start end err said = IsLeft csv start end err said
-
--- why nothing is read for a request that reads a CSV file
-abbrev pub IsUnreadFor : Request → Fault → (start end err said : Told) → Type 0
-IsUnreadFor (request.Import file until check) why start end err said = AreRecordsUnread file until why start end × (said ≡ err)
-IsUnreadFor (request.Edit edit) why start end err said = IsAnyPlanUnread edit.csv why start end err said
-IsUnreadFor (request.CompareRunning id plan as_csv) why start end err said = IsPlanUnread plan why start end err said
-IsUnreadFor other why start end err said = ⊥
+-- WHAT IS READ FOR A JOB: both files, one after the other; or the first was not read, or the second
+abbrev pub AreRead : Wanting × Wanting → Result (CsvText × CsvText) Fault → (start end err said : Told) → Type 0
+AreRead wanted (Ok both) start end err said =
+    (middle : Told) × (noted : Told) × IsWantedRead wanted.0 (Ok both.0) start middle err noted × IsWantedRead wanted.1 (Ok both.1) middle end noted said
+AreRead wanted (Err why) start end err said =
+    IsWantedRead wanted.0 (Err why) start end err said
+    ⊎ ((csv : CsvText) × (middle : Told) × (noted : Told) × IsWantedRead wanted.0 (Ok csv) start middle err noted × IsWantedRead wanted.1 (Err why) middle end noted said)

@@ -8,6 +8,7 @@ use Rattle.clap.specs.declared.error.kind.ErrorKind.TheVariants as kind
 use Rattle.office_http_framing.specs.Ends.{Told}
 use Rattle.office_http_framing.specs.Serve.{Ends}
 use Rattle.signal_office_commands.specs.Telling.{SaysFault}
+use Rattle.signal_office_faults.specs.Done.{Prints, shows_with}
 use Rattle.signal_office_faults.specs.Lines.{status_of}
 use Rattle.signal_office_faults.specs.declared.fault.Fault.{Fault}
 use Rattle.signal_office_faults.specs.declared.fault.Fault.TheVariants as fault
@@ -20,8 +21,7 @@ use Rattle.signal_office_line.specs.declared.job.JobFault.TheVariants.{Refused, 
 use Rattle.signal_office_line.specs.declared.job.BadWord.{BadWord}
 use Rattle.signal_office_line.specs.declared.job.BadWord.TheVariants as word
 use Rattle.signal_office_jobs.specs.Calls.{calls_found}
-use Rattle.signal_office_jobs.specs.Jobs.{Course, JobDoes}
-use Rattle.signal_office_commands.specs.Output.{Prints}
+use Rattle.signal_office_jobs.specs.Jobs.{Course, RunsJob}
 
 -- the words ask for help
 abbrev pub IsHelp : ErrorKind → Type 0
@@ -29,8 +29,8 @@ IsHelp asked = (asked ≡ kind.DisplayHelp) ⊎ (asked ≡ kind.DisplayVersion)
 
 -- help is printed, and has status 0; why words are refused goes to standard error, and has status 2
 pub record ShowsText (asked : ErrorKind) (text : List ℕ) (out ended err said : Told) (result : Result ℕ Fault) : Type 0 where
-  pub help : IsHelp asked → Prints text 0 out ended result × (said ≡ err)
-  pub refused : (IsHelp asked → ⊥) → (ended ≡ out) × Prints text 2 err said result
+  pub help : IsHelp asked → Prints (shows_with text 0) out ended result × (said ≡ err)
+  pub refused : (IsHelp asked → ⊥) → (ended ≡ out) × Prints (shows_with text 2) err said result
 
 -- The text that `clap` has for its refusal is shown, or memory for it was refused. The kit's `clap` does not say which text it is.
 abbrev pub ShowsRefusal : Error → (out ended err said : Told) → Result ℕ Fault → Type 0
@@ -51,7 +51,7 @@ OnlyTells why start end err said result = (end ≡ start) × (said ≡ err) × (
 
 -- What was found is done: the job, or the refusal is shown, or a bad word is reported, or that memory ran out.
 abbrev pub DoesFound : {Left : Type 0} → FileView Left → Result Job JobFault → Course
-DoesFound files (Ok job) start end err said result = JobDoes files job start end err said result
+DoesFound files (Ok job) start end err said result = RunsJob files job start end err said result
 DoesFound files (Err (Refused error)) start end err said result =
     (end.source ≡ start.source) × ShowsRefusal error start.sink end.sink err said result
 DoesFound files (Err (Bad bad)) start end err said result = OnlyTells (fault_of_word bad) start end err said result

@@ -15,12 +15,13 @@ use Rattle.office_http_framing.specs.declared.engine.ServeFault.{ServeFault}
 use Rattle.office_http_framing.specs.declared.engine.Served.{Served}
 use Rattle.office_machine.specs.Office.{Office}
 use Rattle.office_tables_shelf.specs.Content.{Content}
+use Rattle.signal_office_faults.specs.Done.{came_to}
+use Rattle.signal_office_faults.specs.declared.done.Done.{Done}
 use Rattle.signal_office_faults.specs.declared.fault.Fault.{Fault}
 use Rattle.signal_office_faults.specs.declared.fault.Fault.TheVariants as fault
 use Rattle.signal_office_in_file.specs.Ended.{Effect}
 use Rattle.signal_office_in_file.specs.Stopping.{AfterRequest, SameOr}
-use Rattle.signal_office_commands.specs.Done.{TellsOutcome}
-use Rattle.signal_office_commands.specs.declared.done.Done.{Done}
+use Rattle.signal_office_jobs.specs.Requests.{outcome_as}
 
 -- the line that says that a port is listened on
 abbrev pub listening_line : ℕ → List ℕ
@@ -75,7 +76,7 @@ InTurn before (connection ∷ connections) after =
 pub record ServesAs (port count : ℕ) (old : Content) (result : Result Done Fault) (new : Content) (start end : Told) : Type 0 where
   pub counts : Option ListenCounts
   pub outcome : Result ⊤ Fault
-  pub tells : TellsOutcome (λ _. []) outcome result
+  pub tells : came_to result ≡ outcome_as [] outcome
   pub ended : (served : List Connected) × ServesPort port count start end counts served outcome
   pub served : (before : Office) → StandForSound old before → (connections : List Connected) × ServesPort port count start end counts connections outcome
       × (after : Office) × InTurn before connections after × StandForSound new after

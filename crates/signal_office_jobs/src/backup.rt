@@ -5,9 +5,10 @@ ghost use Rattle.signal_office_in_file.specs.Calls.{AreCalled, called};
 ghost use Rattle.signal_office_in_file.specs.declared.Kind.TheVariants as kind;
 ghost use Rattle.signal_office_jobs.specs.Backup.{BacksUpFile, CopiesTo, FindsRoom, IsPut, leaves_room};
 
+use crate::in_file::outcome_over;
+use crate::office::line_of;
 use office_http::{Sink, ToWrite};
-use signal_office_commands::{copied, joined, print_done};
-use signal_office_faults::{Fault, is_missing};
+use signal_office_faults::{Fault, is_missing, print_done};
 use signal_office_in_file::OfficeInFile;
 use signal_office_line::{OfficeFile, Path};
 use std::alloc::{AllocError, Global};
@@ -65,7 +66,7 @@ fn room_at(rt: &HostRuntime, alloc: Global, path: &str, force: bool) -> Result<(
 }
 
 /// Makes a new file, which those may read who may read the other one.
-fn made_like(rt: &HostRuntime, other: &str, path: &str) -> io::Result<File> {
+fn make_like(rt: &HostRuntime, other: &str, path: &str) -> io::Result<File> {
     let mode = fs::metadata(rt, other)?.mode() & 0o777;
     OpenOptions::new()
         .write(true)
@@ -75,13 +76,13 @@ fn made_like(rt: &HostRuntime, other: &str, path: &str) -> io::Result<File> {
 }
 
 /// Puts a file that was written whole in the place of another.
-fn moved(rt: &HostRuntime, file: &File, part: &str, to: &str) -> io::Result<()> {
+fn put_in_place(rt: &HostRuntime, file: &File, part: &str, to: &str) -> io::Result<()> {
     file.sync_all()?;
     fs::rename(rt, part, to)
 }
 
 /// Puts a copy that was made in its place. One that was not made is removed.
-fn put(
+fn put_copy(
     rt: &HostRuntime,
     file: &File,
     copied: Result<(), Fault>,
@@ -91,7 +92,7 @@ fn put(
     ensures { IsPut copied result }
 {
     match copied {
-        Ok(()) if moved(rt, file, part, to).is_ok() => Ok(()),
+        Ok(()) if put_in_place(rt, file, part, to).is_ok() => Ok(()),
         Ok(()) => {
             let _ = fs::remove_file(rt, part);
             Err(Fault::Write)
@@ -104,7 +105,7 @@ fn put(
 }
 
 /// Copies the office of a file into a new one beside another, and puts that in its place.
-fn copied_to<F: OfficeInFile>(
+fn copy_to<F: OfficeInFile>(
     files: &mut F,
     rt: &HostRuntime,
     alloc: Global,
@@ -117,12 +118,12 @@ fn copied_to<F: OfficeInFile>(
 {
     let path = db.path.as_str();
     let part = format!(in alloc; "{to}.part")?;
-    let Ok(file) = made_like(rt, path, part.as_str()) else {
+    let Ok(file) = make_like(rt, path, part.as_str()) else {
         return Err(Fault::Write);
     };
     let mut sink = ToWrite::new(file);
     let ended = files.copy(rt, alloc, path, db.wait, &mut sink);
-    put(rt, &sink.writer, joined(ended.told()), part.as_str(), to)
+    put_copy(rt, &sink.writer, outcome_over(ended), part.as_str(), to)
 }
 
 /// Copies the office of a file into another, where that is free or is to be replaced, and prints
@@ -144,8 +145,7 @@ pub(crate) fn backup<F: OfficeInFile, W: Sink>(
         return Err(Fault::File);
     }
     let to = to.as_str();
-    match room_at(rt, alloc, to, force) {
-        Ok(()) => print_done(copied(copied_to::<F>(files, rt, alloc, db, to)), out),
-        Err(fault) => Err(fault),
-    }
+    room_at(rt, alloc, to, force)?;
+    let copied = copy_to::<F>(files, rt, alloc, db, to);
+    print_done(line_of(copied, "copied\n"), out)
 }

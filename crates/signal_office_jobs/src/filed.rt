@@ -54,7 +54,7 @@ impl FileOf {
     }
 
     /// What it shows.
-    pub(crate) fn shown(self) -> Shown
+    pub(crate) fn shown(self) -> Shown<'static>
         ensures { result ≡ file_shown self }
     {
         match self {

@@ -1,114 +1,74 @@
 //! Folders that are filled with what an office shows.
 
-ghost use Rattle.std.specs.Prelude.{◌≡◌, ◌≢◌, Ok, Err, IfErr, MatchResult};
-ghost use Rattle.office_tables_shelf.specs.Keeps.{KeepsShelf};
-ghost use Rattle.signal_office_jobs.specs.Filled.{ChecksFiles, FillsWith, IsUnshownLate, ListsOffice, PutsFile, PutsFiles, told_late};
-ghost use Rattle.signal_office_reports.specs.Reports.{IsShown};
+ghost use Rattle.std.specs.Prelude.{◌≡◌, ◌≢◌, Err};
+ghost use Rattle.signal_office_jobs.specs.Filled.{FillsWith, ListsOffice, PutsFiles, late_outcome};
+ghost use Rattle.signal_office_queries.specs.Asks.{OnlyLooks};
 
 use crate::filed::{FileOf, files_in};
-use crate::office::shown_of;
 use office_desk::office::Office;
 use office_machine::intersections::ListedIntersection;
 use office_tables_shelf::shelf::Shelf;
 use signal_office_faults::{Fault, Folder};
-use signal_office_line::{Folder as FolderKind, Shown};
+use signal_office_line::Folder as FolderKind;
 use signal_office_queries::{Query, first_seen, intersections_in, look};
+use signal_office_reports::report;
 use signal_records::Listing;
 use std::alloc::Global;
 
+/// No folder: what is put is let go.
+#[derive(Clone, Copy)]
+struct NoFolder;
+
+impl Folder for NoFolder {
+    ghost use Rattle.std.specs.Prelude.{None};
+
+    ghost files = { λ _. None };
+
+    fn put(&mut self, _name: &str, _text: &[u8]) -> Result<(), Fault> {
+        Ok(())
+    }
+}
+
 /// The intersections of an office, by their numbers.
-fn listed_in<S: Shelf>(
+fn list_intersections<S: Shelf>(
     alloc: Global,
     office: &mut Office<S>,
 ) -> Result<Listing<ListedIntersection>, Fault>
-    ensures kept { KeepsShelf S.Shelf office.old office.new }
-    ensures clean { S.is_clean office.new → S.is_clean office.old }
-    ensures lists { S.is_honest office.new → ListsOffice (S.content office.old) result }
+    ensures { OnlyLooks S.Shelf office.old office.new (λ tables. ListsOffice tables result) }
 {
     let seen = look(alloc, office, &[Query::Intersections])?;
     intersections_in(first_seen(seen))
 }
 
-/// Makes the text of each file, and lets it go: so each is known to be one before one is put.
-fn check_each<S: Shelf>(
-    alloc: Global,
-    office: &mut Office<S>,
-    files: &[FileOf],
-) -> Result<(), Fault>
-    ensures kept { KeepsShelf S.Shelf office.old office.new }
-    ensures clean { S.is_clean office.new → S.is_clean office.old }
-    ensures checks { S.is_honest office.new →
-        ChecksFiles (S.content office.old) files.now result }
-{
-    for file in files {
-        let text = shown_of(alloc, office, file.shown())?;
-        drop(text);
-    }
-    Ok(())
-}
-
-/// A row that was a record when all texts were made, and is none now, is reported as a fault of the
-/// database.
-fn told_late(fault: Fault) -> Fault
-    ensures value { result ≡ told_late fault }
-    ensures undamaged { result ≢ Fault.Damaged }
-{
-    match fault {
-        Fault::Damaged => Fault::Store,
-        fault => fault,
-    }
-}
-
-/// What is shown in a file, whose text was made before.
-fn text_of<S: Shelf>(alloc: Global, office: &mut Office<S>, shown: Shown) -> Result<Vec<u8>, Fault>
-    ensures kept { KeepsShelf S.Shelf office.old office.new }
-    ensures clean { S.is_clean office.new → S.is_clean office.old }
-    ensures shown { S.is_honest office.new → MatchResult result
-        (λ text. IsShown shown (S.content office.old) (Ok text.items))
-        (λ why. IsUnshownLate shown (S.content office.old) why) }
-    ensures undamaged { IfErr result (λ why. why ≢ Fault.Damaged) }
-{
-    match shown_of(alloc, office, shown) {
-        Ok(text) => Ok(text),
-        Err(fault) => Err(told_late(fault)),
-    }
-}
-
-/// Puts a file.
-fn put_file<S: Shelf, D: Folder>(
-    alloc: Global,
-    office: &mut Office<S>,
-    file: &FileOf,
-    folder: &mut D,
-) -> Result<(), Fault>
-    ensures kept { KeepsShelf S.Shelf office.old office.new }
-    ensures clean { S.is_clean office.new → S.is_clean office.old }
-    ensures puts { S.is_honest office.new → PutsFile (S.content office.old) file.now
-        (D.files folder.old) (D.files folder.new) result }
-    ensures undamaged { IfErr result (λ why. why ≢ Fault.Damaged) }
-{
-    let text = text_of(alloc, office, file.shown())?;
-    let name = file.name(alloc)?;
-    folder.put(name.as_str(), &text)
-}
-
-/// Puts the files in their order.
+/// Makes the text of each file in their order, and puts it.
 fn put_each<S: Shelf, D: Folder>(
     alloc: Global,
     office: &mut Office<S>,
     files: &[FileOf],
     folder: &mut D,
 ) -> Result<(), Fault>
-    ensures kept { KeepsShelf S.Shelf office.old office.new }
-    ensures clean { S.is_clean office.new → S.is_clean office.old }
-    ensures puts { S.is_honest office.new → PutsFiles (S.content office.old) files.now
-        (D.files folder.old) (D.files folder.new) result }
-    ensures undamaged { IfErr result (λ why. why ≢ Fault.Damaged) }
+    ensures { OnlyLooks S.Shelf office.old office.new (λ tables. PutsFiles tables files.now
+        (D.files folder.old) (D.files folder.new) result) }
 {
     for file in files {
-        put_file(alloc, office, file, folder)?;
+        let shown = file.shown();
+        let done = report(alloc, office, &shown, &[])?;
+        let name = file.name(alloc)?;
+        folder.put(name.as_str(), done.as_bytes())?;
     }
     Ok(())
+}
+
+/// A row that was a record when all texts were made, and is none now, is reported as a fault of the
+/// database.
+fn late_outcome(outcome: Result<(), Fault>) -> Result<(), Fault>
+    ensures value { result ≡ late_outcome outcome }
+    ensures undamaged { result ≢ Err Fault.Damaged }
+{
+    match outcome {
+        Err(Fault::Damaged) => Err(Fault::Store),
+        outcome => outcome,
+    }
 }
 
 /// Fills a folder with the files of an office of a kind. None is put where a row that one of them
@@ -119,18 +79,16 @@ pub fn fill<S: Shelf, D: Folder>(
     kind: &FolderKind,
     folder: &mut D,
 ) -> Result<(), Fault>
-    // It changes nothing.
-    ensures kept { KeepsShelf S.Shelf office.old office.new }
-    ensures clean { S.is_clean office.new → S.is_clean office.old }
-    // The files that were put are those of the office, each with what it shows; or the first of
-    // them, and this is why not all.
-    ensures fills { S.is_honest office.new → FillsWith kind.now (S.content office.old)
-        (D.files folder.old) (D.files folder.new) result }
+    // It changes nothing. The files that were put are those of the office, each with what it shows;
+    // or the first of them, and this is why not all.
+    ensures fills { OnlyLooks S.Shelf office.old office.new (λ tables. FillsWith kind.now tables
+        (D.files folder.old) (D.files folder.new) result) }
     // Where a row is no record, nothing was put.
     ensures whole { result ≡ Err Fault.Damaged → D.files folder.new ≡ D.files folder.old }
 {
-    let listed = listed_in(alloc, office)?;
+    let listed = list_intersections(alloc, office)?;
     let files = files_in(alloc, kind, listed.as_slice())?;
-    check_each(alloc, office, &files)?;
-    put_each(alloc, office, &files, folder)
+    let files = files.as_slice();
+    put_each(alloc, office, files, &mut NoFolder)?;
+    late_outcome(put_each(alloc, office, files, folder))
 }

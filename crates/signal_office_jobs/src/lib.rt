@@ -2,8 +2,9 @@
 //! open; from a source of bytes to its two outputs.
 //!
 //! A new command over the office of a file is a `Request` (crate `signal_office_line`), an arm of
-//! `answer` (`office.rt`) and a row of `effect_of` (`specs/Requests`); one that shows something is
-//! only a `Shown`. Any other job is an arm of `run_job` (`program.rt`) and a row of `JobDoes`.
+//! `answer` (`office.rt`) and a row of `asking_of` (`specs/Requests`); one that shows something is
+//! only a `Shown`. Any other job is an arm of `do_job` (`program.rt`) and a row of `JobDoes`; one
+//! that reads a CSV file has a row of `files_of` (`reading.rt`, `specs/Reading`).
 #![tactic(auto)]
 
 mod backup;
@@ -13,7 +14,6 @@ mod in_file;
 mod input;
 mod memory;
 mod office;
-mod plans;
 mod program;
 mod reading;
 mod serving;

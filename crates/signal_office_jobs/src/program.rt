@@ -5,18 +5,19 @@ ghost use Rattle.office_http_framing.specs.Serve.{ends_of};
 ghost use Rattle.signal_office_in_file.specs.Calls.{AreCalled};
 ghost use Rattle.signal_office_in_file.specs.declared.Kind.TheVariants as kind;
 ghost use Rattle.signal_office_jobs.specs.Calls.{calls_found, calls_of, calls_over};
-ghost use Rattle.signal_office_jobs.specs.Jobs.{Batches, JobDoes, ServesNew, ServesOn, status_over, stream_status};
+ghost use Rattle.signal_office_jobs.specs.Jobs.{Batches, JobDoes, RunsJob, ServesNew, ServesOn, status_over, stream_status};
 ghost use Rattle.signal_office_jobs.specs.Runs.{DoesFound, EndsWith, RunsWords, ShowsRefusal, fault_of_word};
 
 use crate::backup::backup;
-use crate::in_file::{ask_office, in_file, migrate};
+use crate::in_file::{in_file, migrate};
 use crate::memory::{open_in_memory, serve_new_office};
-use crate::plans::{compare_plans, show_plan};
-use crate::serving::{Serving, serve as serve_office};
+use crate::office::{Asked, makes_file};
+use crate::reading::read_files;
+use crate::serving::Serving;
 use office_http::{ServeFault, Served, Sink, Source};
-use signal_office_commands::{print_done, print_text, report};
-use signal_office_faults::Fault;
-use signal_office_in_file::OfficeInFile;
+use signal_office_commands::{compare_files, report, show_plan};
+use signal_office_faults::{Fault, print_done, print_text};
+use signal_office_in_file::{OfficeInFile, OfficeTask};
 use signal_office_line::{BadWord, Job, JobFault, OfficeFile, job_of};
 use std::alloc::Global;
 
@@ -74,14 +75,12 @@ fn batch<F: OfficeInFile, R: Source, W: Sink>(
 fn serve_in_memory<W: Sink>(
     rt: &HostRuntime,
     alloc: Global,
-    port: u16,
-    count: u32,
+    task: Serving,
     out: &mut W,
 ) -> Result<u8, Fault>
-    ensures { ServesNew port count (W.told out.old) (W.told out.new) result }
+    ensures { ServesNew task.port task.count (W.told out.old) (W.told out.new) result }
 {
-    let mut office = open_in_memory(alloc);
-    let done = serve_office(rt, alloc, &mut office, port, count, out);
+    let (_, done) = task.done_with(rt, alloc, open_in_memory(alloc), out);
     print_done(done, out)
 }
 
@@ -91,25 +90,65 @@ fn serve<F: OfficeInFile, W: Sink>(
     files: &mut F,
     rt: &HostRuntime,
     alloc: Global,
-    port: u16,
-    count: u32,
+    task: Serving,
     db: &Option<OfficeFile<'_>>,
     out: &mut W,
 ) -> Result<u8, Fault>
-    ensures does { ServesOn F.known port count db.now (W.told out.old) (W.told out.new) result }
+    ensures does { ServesOn F.known task.port task.count db.now (W.told out.old) (W.told out.new)
+        result }
     ensures calls { AreCalled (F.calls files.old) (F.calls files.new)
         (calls_over kind.Change db.now) result }
 {
     match db {
-        None => serve_in_memory(rt, alloc, port, count, out),
-        Some(db) => {
-            let task = Serving { port, count };
-            in_file::<F, Serving, W>(files, rt, alloc, db, true, &task, out)
-        }
+        None => serve_in_memory(rt, alloc, task, out),
+        Some(db) => in_file::<F, Serving, W>(files, rt, alloc, db, true, &task, out),
     }
 }
 
-/// Does a job, and gives the status.
+/// Does a job with what was read for it, and gives the status.
+fn do_job<F: OfficeInFile, R: Source, W: Sink>(
+    files: &mut F,
+    rt: &HostRuntime,
+    alloc: Global,
+    job: &Job<'_>,
+    text: &[u8],
+    lines: &[usize],
+    other: &[u8],
+    source: &mut R,
+    out: &mut W,
+) -> Result<u8, Fault>
+    ensures does { JobDoes F.known job.now text.now lines.now other.now
+        (ends_of (R.told source.old) (W.told out.old))
+        (ends_of (R.told source.new) (W.told out.new)) result }
+    // The opener was called as the job has it, once; or not at all.
+    ensures calls { AreCalled (F.calls files.old) (F.calls files.new) (calls_of job.now) result }
+{
+    match job {
+        Job::Batch { db } => batch::<F, R, W>(files, rt, alloc, db, source, out),
+        Job::Serve { port, count, db } => {
+            let task = Serving {
+                port: *port,
+                count: *count,
+            };
+            serve::<F, W>(files, rt, alloc, task, db, out)
+        }
+        Job::Office { db, request } => {
+            let makes = makes_file(request);
+            let asked = Asked {
+                request,
+                text,
+                lines,
+            };
+            in_file::<F, Asked<'_>, W>(files, rt, alloc, db, makes, &asked, out)
+        }
+        Job::Migrate { db } => migrate::<F, W>(files, rt, alloc, db, out),
+        Job::Backup { db, to, force } => backup::<F, W>(files, rt, alloc, db, to, *force, out),
+        Job::CompareFiles { csv, .. } => print_done(compare_files(alloc, text, other, *csv), out),
+        Job::ShowPlan { shown, .. } => print_done(show_plan(alloc, text, lines, *shown), out),
+    }
+}
+
+/// Reads the CSV files of a job, does it, and gives the status.
 fn run_job<F: OfficeInFile, R: Source, W: Sink, E: Sink>(
     files: &mut F,
     rt: &HostRuntime,
@@ -119,24 +158,17 @@ fn run_job<F: OfficeInFile, R: Source, W: Sink, E: Sink>(
     out: &mut W,
     err: &mut E,
 ) -> Result<u8, Fault>
-    ensures does { JobDoes F.known job.now (ends_of (R.told source.old) (W.told out.old))
+    ensures does { RunsJob F.known job.now (ends_of (R.told source.old) (W.told out.old))
         (ends_of (R.told source.new) (W.told out.new)) (E.told err.old) (E.told err.new) result }
-    // The opener was called as the job has it, once; or not at all.
     ensures calls { AreCalled (F.calls files.old) (F.calls files.new) (calls_of job.now) result }
 {
-    match job {
-        Job::Batch { db } => batch::<F, R, W>(files, rt, alloc, db, source, out),
-        Job::Serve { port, count, db } => serve::<F, W>(files, rt, alloc, *port, *count, db, out),
-        Job::Office { db, request } => {
-            ask_office::<F, R, W, E>(files, rt, alloc, db, request, source, out, err)
-        }
-        Job::Migrate { db } => migrate::<F, W>(files, rt, alloc, db, out),
-        Job::Backup { db, to, force } => backup::<F, W>(files, rt, alloc, db, to, *force, out),
-        Job::CompareFiles { first, second, csv } => {
-            compare_plans(rt, alloc, first, second, *csv, source, out, err)
-        }
-        Job::ShowPlan { csv, shown } => show_plan(rt, alloc, csv, *shown, source, out, err),
-    }
+    let (csv, other) = read_files(rt, alloc, job, source, err)?;
+    let (text, lines, other) = (
+        csv.text.as_slice(),
+        csv.lines.as_slice(),
+        other.text.as_slice(),
+    );
+    do_job::<F, R, W>(files, rt, alloc, job, text, lines, other, source, out)
 }
 
 /// Prints help on standard output, and why words are refused on standard error.

@@ -1,20 +1,82 @@
-//! CSV files that are read before the file of an office is opened, and the notes on those of plans.
+//! CSV files that are read before a job is done, and what is said of them.
 
-ghost use Rattle.std.specs.Prelude.{◌≡◌, [], IfErr, IfOk};
-ghost use Rattle.signal_office_faults.specs.Notes.{notes_in};
+ghost use Rattle.std.specs.Prelude.{◌≡◌, option_map, IfErr, IfOk};
 ghost use Rattle.signal_office_faults.specs.declared.fault.Fault.TheVariants as fault;
-ghost use Rattle.signal_office_jobs.specs.Reading.{GivesFile, GivesNoFile, IsCsvRead, IsAnyPlanRead, IsAnyPlanUnread, IsPlanRead, AreRecordsRead, AreRecordsUnread, ArePlansRead, ArePlansUnread, IsPlanUnread, IsReadFor, IsUnreadFor, SaysNotes, file_text, is_input};
+ghost use Rattle.signal_office_jobs.specs.declared.reading.Role.TheVariants as role;
+ghost use Rattle.signal_office_jobs.specs.Reading.{AreRead, GivesFile, GivesNoFile, IsCsvRead, IsWantedRead, IsTextTaken, SaysNotes, file_for, file_text, files_of, is_input, wanted_value};
 
 use crate::input::read_input;
 use cabinet_core::Day;
 use office_http_framing::ends::{Sink, Source, write_all};
 use signal_office_commands::check_days;
 use signal_office_faults::{Fault, notes_in, read_file, record_lines, unpadded_csv};
-use signal_office_line::{CsvFile, Request};
+use signal_office_line::{CsvFile, Job, Request, Shown};
 use std::alloc::Global;
 
 /// The path that stands for the input of the run.
 const INPUT: &str = "-";
+
+/// What a CSV file is read as.
+#[derive(Clone, Copy)]
+enum Role {
+    /// A plan, which may be the other one of two. The notes on it are said on standard error.
+    Plan { other: bool },
+    /// Records, none of which may be of a later day than one that is given.
+    Records { until: Option<Day> },
+}
+
+/// A CSV file that a job reads, if it reads one, and what as.
+#[derive(Clone, Copy)]
+struct Wanted<'a> {
+    file: Option<&'a CsvFile<'a>>,
+    role: Role,
+}
+
+/// The text of a CSV file, and the lines of the file on which its records begin, counted from 1.
+#[derive(Drop)]
+pub(crate) struct CsvText {
+    pub(crate) text: Vec<u8>,
+    pub(crate) lines: Vec<usize>,
+}
+
+/// A plan whose file may be left out, or the other one of two.
+fn plan_in<'a>(file: Option<&'a CsvFile<'a>>, other: bool) -> Wanted<'a>
+    ensures { wanted_value result ≡ (option_map (λ it. it.now) file.entry, role.Plan other) }
+{
+    Wanted {
+        file,
+        role: Role::Plan { other },
+    }
+}
+
+/// The CSV file that is read for a request.
+fn file_for<'a>(request: &'a Request<'a>) -> Wanted<'a>
+    ensures { wanted_value result ≡ file_for request.entry.now }
+{
+    match request {
+        Request::Import { csv, until, .. } => Wanted {
+            file: Some(csv),
+            role: Role::Records { until: *until },
+        },
+        Request::Edit(edit) => plan_in(edit.csv.as_ref(), false),
+        Request::Show(Shown::CompareRunning { plan, .. }) => plan_in(Some(plan), false),
+        _ => plan_in(None, false),
+    }
+}
+
+/// The CSV files that a job reads, at most two.
+fn files_of<'a>(job: &'a Job<'a>) -> (Wanted<'a>, Wanted<'a>)
+    ensures { (wanted_value result.0, wanted_value result.1) ≡ files_of job.entry.now }
+{
+    match job {
+        Job::Office { request, .. } => (file_for(request), plan_in(None, false)),
+        Job::CompareFiles { first, second, .. } => {
+            (plan_in(Some(first), false), plan_in(Some(second), true))
+        }
+        Job::ShowPlan { csv, .. } => (plan_in(Some(csv), false), plan_in(None, false)),
+        _ => (plan_in(None, false), plan_in(None, false)),
+    }
+}
 
 /// Whether the file is the input of the run.
 fn is_input(file: &CsvFile<'_>) -> bool
@@ -54,13 +116,6 @@ fn text_of(alloc: Global, bytes: Vec<u8>, padded: bool) -> Result<Vec<u8>, Fault
     }
 }
 
-/// The text of a CSV file, and the lines of the file on which its records begin, counted from 1.
-#[derive(Drop)]
-pub(crate) struct CsvText {
-    pub(crate) text: Vec<u8>,
-    pub(crate) lines: Vec<usize>,
-}
-
 /// The text of a CSV file, which is the input of the run where its path is `-`.
 #[tactic(auto, using(crate::proofs::InputLemmas::refused_after))]
 fn read_csv<R: Source>(
@@ -69,8 +124,8 @@ fn read_csv<R: Source>(
     file: &CsvFile<'_>,
     source: &mut R,
 ) -> Result<CsvText, Fault>
-    ensures text { IfOk result (λ csv. IsCsvRead file.now csv.text.items
-        csv.lines.items (R.told source.old) (R.told source.new)) }
+    ensures text { IfOk result (λ csv. IsCsvRead file.now csv (R.told source.old)
+        (R.told source.new)) }
     ensures fault { IfErr result (λ why. GivesNoFile (is_input file.now) why
         (R.told source.old) (R.told source.new)) }
 {
@@ -89,123 +144,57 @@ fn say_notes<E: Sink>(notes: &[u8], err: &mut E)
     }
 }
 
-/// Says the notes on a plan: a line for each record that puts or removes a key again.
-fn note<E: Sink>(alloc: Global, other: bool, plan: &[u8], err: &mut E) -> Result<(), Fault>
-    ensures said { IfOk result (λ _.
-        SaysNotes (notes_in other plan.now) (E.told err.old) (E.told err.new)) }
-    ensures fault { IfErr result (λ why. (why ≡ fault.Memory) × (E.told err.new ≡ E.told err.old)) }
+/// Says the notes on a plan, a line for each record that puts or removes a key again; or looks at
+/// the days of records.
+fn take_text<E: Sink>(alloc: Global, role: Role, text: &[u8], err: &mut E) -> Result<(), Fault>
+    ensures { IsTextTaken role text.now result (E.told err.old) (E.told err.new) }
 {
-    let notes = notes_in(alloc, other, plan)?;
-    say_notes(notes.as_str().as_bytes(), err);
-    Ok(())
+    match role {
+        Role::Plan { other } => {
+            let notes = notes_in(alloc, other, text)?;
+            say_notes(notes.as_str().as_bytes(), err);
+            Ok(())
+        }
+        Role::Records { until } => check_days(alloc, text, until),
+    }
 }
 
-/// The plan in a CSV file, or in the other one of two, which is the input of the run where its path
-/// is `-`. The notes on it are said on standard error.
-#[tactic(auto, using(crate::proofs::InputLemmas::refused_text))]
-pub(crate) fn read_plan<R: Source, E: Sink>(
+/// Reads a CSV file, and takes its text as what it is wanted; or gives no text, where there is no
+/// file.
+fn read_wanted<R: Source, E: Sink>(
     rt: &HostRuntime,
     alloc: Global,
-    file: &CsvFile<'_>,
-    other: bool,
+    wanted: &Wanted<'_>,
     source: &mut R,
     err: &mut E,
 ) -> Result<CsvText, Fault>
-    ensures plan { IfOk result (λ plan. IsPlanRead other file.now plan
-        (R.told source.old) (R.told source.new) (E.told err.old) (E.told err.new)) }
-    ensures fault { IfErr result (λ why. IsPlanUnread file.now why
-        (R.told source.old) (R.told source.new) (E.told err.old) (E.told err.new)) }
+    ensures { IsWantedRead (wanted_value wanted.now) result (R.told source.old) (R.told source.new)
+        (E.told err.old) (E.told err.new) }
 {
-    let plan = read_csv(rt, alloc, file, source)?;
-    note(alloc, other, &plan.text, err)?;
-    Ok(plan)
-}
-
-/// The plans in two CSV files, one read after the other.
-pub(crate) fn read_plans<R: Source, E: Sink>(
-    rt: &HostRuntime,
-    alloc: Global,
-    first: &CsvFile<'_>,
-    second: &CsvFile<'_>,
-    source: &mut R,
-    err: &mut E,
-) -> Result<(CsvText, CsvText), Fault>
-    ensures plans { IfOk result (λ both. ArePlansRead first.now second.now both
-        (R.told source.old) (R.told source.new) (E.told err.old) (E.told err.new)) }
-    ensures fault { IfErr result (λ why. ArePlansUnread first.now second.now why
-        (R.told source.old) (R.told source.new) (E.told err.old) (E.told err.new)) }
-{
-    let plan = read_plan(rt, alloc, first, false, source, err)?;
-    let other = read_plan(rt, alloc, second, true, source, err)?;
-    Ok((plan, other))
-}
-
-/// The records of a CSV file, where none has a later day than one that is given.
-fn read_records<R: Source>(
-    rt: &HostRuntime,
-    alloc: Global,
-    file: &CsvFile<'_>,
-    until: Option<Day>,
-    source: &mut R,
-) -> Result<CsvText, Fault>
-    ensures records { IfOk result (λ csv.
-        AreRecordsRead file.now until csv (R.told source.old) (R.told source.new)) }
-    ensures fault { IfErr result (λ why.
-        AreRecordsUnread file.now until why (R.told source.old) (R.told source.new)) }
-{
+    let Some(file) = wanted.file else {
+        return Ok(CsvText {
+            text: Vec::new(alloc),
+            lines: Vec::new(alloc),
+        });
+    };
     let csv = read_csv(rt, alloc, file, source)?;
-    check_days(alloc, &csv.text, until)?;
+    take_text(alloc, wanted.role, &csv.text, err)?;
     Ok(csv)
 }
 
-/// No text, where no CSV file is read.
-fn no_text(alloc: Global) -> CsvText
-    ensures text { result.text.items ≡ [] }
-    ensures lines { result.lines.items ≡ [] }
-{
-    CsvText {
-        text: Vec::new(alloc),
-        lines: Vec::new(alloc),
-    }
-}
-
-/// The plan in a CSV file that may be left out.
-fn read_any_plan<R: Source, E: Sink>(
+/// Reads the CSV files of a job, one after the other.
+pub(crate) fn read_files<R: Source, E: Sink>(
     rt: &HostRuntime,
     alloc: Global,
-    file: &Option<CsvFile<'_>>,
+    job: &Job<'_>,
     source: &mut R,
     err: &mut E,
-) -> Result<CsvText, Fault>
-    ensures plan { IfOk result (λ plan. IsAnyPlanRead file.now plan
-        (R.told source.old) (R.told source.new) (E.told err.old) (E.told err.new)) }
-    ensures fault { IfErr result (λ why. IsAnyPlanUnread file.now why
-        (R.told source.old) (R.told source.new) (E.told err.old) (E.told err.new)) }
+) -> Result<(CsvText, CsvText), Fault>
+    ensures { AreRead (files_of job.now) result (R.told source.old) (R.told source.new)
+        (E.told err.old) (E.told err.new) }
 {
-    match file {
-        Some(file) => read_plan(rt, alloc, file, false, source, err),
-        None => Ok(no_text(alloc)),
-    }
-}
-
-/// What is read for a request before the file of the office is opened: the records of a CSV file, a
-/// plan with the notes on it, or nothing.
-pub(crate) fn read_for<R: Source, E: Sink>(
-    rt: &HostRuntime,
-    alloc: Global,
-    request: &Request<'_>,
-    source: &mut R,
-    err: &mut E,
-) -> Result<CsvText, Fault>
-    ensures read { IfOk result (λ csv. IsReadFor request.now csv
-        (R.told source.old) (R.told source.new) (E.told err.old) (E.told err.new)) }
-    ensures fault { IfErr result (λ why. IsUnreadFor request.now why
-        (R.told source.old) (R.told source.new) (E.told err.old) (E.told err.new)) }
-{
-    match request {
-        Request::Import { csv, until, .. } => read_records(rt, alloc, csv, *until, source),
-        Request::Edit(edit) => read_any_plan(rt, alloc, &edit.csv, source, err),
-        Request::CompareRunning { plan, .. } => read_plan(rt, alloc, plan, false, source, err),
-        _ => Ok(no_text(alloc)),
-    }
+    let (first, second) = files_of(job);
+    let csv = read_wanted(rt, alloc, &first, source, err)?;
+    let other = read_wanted(rt, alloc, &second, source, err)?;
+    Ok((csv, other))
 }

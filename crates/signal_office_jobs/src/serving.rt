@@ -6,14 +6,13 @@ ghost use Rattle.office_tables_shelf.specs.Content.{Content};
 ghost use Rattle.office_http_framing.specs.Stops.{KeepsState};
 ghost use Rattle.office_http.specs.Listening.{Connected, Listens};
 ghost use Rattle.office_http.specs.Protocol.{office_storage};
-ghost use Rattle.signal_office_in_file.specs.Stopping.{StopsWithin};
-ghost use Rattle.signal_office_jobs.specs.Serving.{AfterServing, SaysListening, SaysPort, ServesAs, ServesPort, fault_of_stop};
+ghost use Rattle.signal_office_jobs.specs.Serving.{SaysListening, ServesPort, fault_of_stop};
 
+use crate::office::line_of;
 use office_desk::office::Office;
 use office_http::{FromListener, ServeStop, Sink, serve_each, write_all};
 use office_tables_shelf::shelf::Shelf;
-use signal_office_commands::Done;
-use signal_office_faults::Fault;
+use signal_office_faults::{Done, Fault};
 use signal_office_in_file::{Kind, OfficeTask};
 use std::alloc::Global;
 use std::net::{Ipv4Addr, SocketAddr, TcpListener};
@@ -76,28 +75,6 @@ pub fn serve_port<S: Shelf, W: Sink>(
     (Some(listener), served.map_err(fault_of))
 }
 
-/// Serves so many connections on a port.
-pub(crate) fn serve<S: Shelf, W: Sink>(
-    rt: &HostRuntime,
-    alloc: Global,
-    office: &mut Office<S>,
-    port: u16,
-    count: u32,
-    out: &mut W,
-) -> Result<Done, Fault>
-    ensures clean { S.is_clean office.new → S.is_clean office.old }
-    ensures honest { S.is_honest office.new → S.is_honest office.old }
-    ensures stop { StopsWithin S.Shelf office.old office.new AfterServing }
-    ensures said { SaysPort port count (W.told out.old) (W.told out.new) }
-    ensures does { S.is_clean office.new → S.is_honest office.new →
-        ServesAs port count (S.content office.old) result (S.content office.new)
-        (W.told out.old) (W.told out.new) }
-{
-    let (_, served) = serve_port(rt, alloc, office, port, count, out);
-    served?;
-    Ok(Done::with(Vec::new(alloc)))
-}
-
 /// So many connections on a port, served by the office of a file.
 #[derive(Clone, Copy)]
 pub(crate) struct Serving {
@@ -124,8 +101,8 @@ impl OfficeTask<Done> for Serving {
         mut office: Office<S>,
         out: &mut W,
     ) -> (Office<S>, Result<Done, Fault>) {
-        let outcome = serve(rt, alloc, &mut office, self.port, self.count, out);
-        (office, outcome)
+        let (_, served) = serve_port(rt, alloc, &mut office, self.port, self.count, out);
+        (office, line_of(served, ""))
     }
 
     ghost keeps = { λ _ none. absurd none };

@@ -9,7 +9,7 @@ use Rattle.clap.specs.Walk.{Row, Text, first_of}
 use Rattle.office_files.specs.RecordReading.{day_of, part_of, words_of}
 use Rattle.signal_office_line.specs.declared.job.BadWord.{BadWord}
 use Rattle.signal_office_line.specs.declared.job.BadWord.TheVariants as wrong
-use Rattle.signal_office_line.specs.declared.job.CsvFile.{CsvFile}
+use Rattle.signal_office_line.specs.declared.shows.CsvFile.{CsvFile}
 use Rattle.signal_office_line.specs.declared.job.Folder.TheVariants as folder
 use Rattle.signal_office_line.specs.declared.job.Job.{Job}
 use Rattle.signal_office_line.specs.declared.job.Job.TheVariants as job
@@ -225,7 +225,7 @@ requests =
     -- `orders --db FILE [--csv] [ID]`
     ∷ (codes "orders", λ rows. needed (choice_from 1 9_999 (codes "ID") rows) >>= (λ id. Ok (request.Show (shown.Orders id (flag_at (codes "csv") rows)))))
     -- `used --db FILE [--csv] [PART]`
-    ∷ (codes "used", λ rows. any_of wrong.Part part_of (first_of (codes "PART") rows) >>= (λ part. Ok (request.Used part (flag_at (codes "csv") rows))))
+    ∷ (codes "used", λ rows. any_of wrong.Part part_of (first_of (codes "PART") rows) >>= (λ part. Ok (request.Show (shown.Used part (flag_at (codes "csv") rows)))))
     -- `abandon --db FILE --clerk NAME ID`
     ∷ (codes "abandon", λ rows. intersection_at rows >>= (λ id. name_at wrong.Clerk 40 (codes "clerk") rows >>= (λ clerk. Ok (request.Abandon id clerk))))
     ∷ (codes "overdue", overdue_at) ∷ (codes "add", add_at) ∷ (codes "import", import_at)
@@ -259,10 +259,10 @@ comparison_of None (Some other) rows = do
   Ok (job.CompareFiles plan other (flag_at (codes "csv") rows))
 comparison_of (Some db) None rows = do
   id ← needed (number_from 1 9_999 (codes "PLAN") rows)
-  Ok (job.Office db (request.CompareDraft id (flag_at (codes "csv") rows)))
+  Ok (job.Office db (request.Show (shown.CompareDraft id (flag_at (codes "csv") rows))))
 comparison_of (Some db) (Some other) rows = do
   id ← needed (number_from 1 9_999 (codes "PLAN") rows)
-  Ok (job.Office db (request.CompareRunning id other (flag_at (codes "csv") rows)))
+  Ok (job.Office db (request.Show (shown.CompareRunning id other (flag_at (codes "csv") rows))))
 comparison_of None None rows = Err Unstated
 
 -- a comparison, by whether an office and another file are given

@@ -12,20 +12,13 @@ ghost use Rattle.signal_office_line.specs.Refusals.{IsFoundInWords, IsJobFound, 
 use crate::command_line::command_line;
 use crate::jobs::job_at;
 use crate::refusals::value_refusal;
-use crate::shows::{PlanShown, Shown};
-use crate::words::{Name, Part, Path};
+use crate::shows::{CsvFile, PlanShown, Shown};
+use crate::words::{Name, Path};
 use cabinet_core::Day;
 use clap::error::ErrorKind;
 use clap::{ArgMatches, Error};
 use signal_values::{InterId, Interval};
 use std::alloc::{AllocError, Global};
-
-/// A CSV file, and whether its records are padded with empty fields.
-#[derive(Drop)]
-pub struct CsvFile<'a> {
-    pub path: Path<'a>,
-    pub padded: bool,
-}
 
 /// The file of an office, and for how many seconds, 0 to 3600, a run tries again to open it where
 /// another run has it open.
@@ -64,16 +57,11 @@ pub struct Edit<'a> {
 #[derive(Drop)]
 pub enum Request<'a> {
     /// Print what is shown of it.
-    Show(Shown),
+    Show(Shown<'a>),
     /// Fill a folder with what it shows.
     Fill {
         dir: Path<'a>,
         folder: Folder,
-    },
-    /// Print what was used of all parts, or of one, as a text or as CSV.
-    Used {
-        part: Option<Part<'a>>,
-        csv: bool,
     },
     /// Add an intersection.
     Add {
@@ -95,18 +83,6 @@ pub enum Request<'a> {
     Abandon {
         id: InterId,
         clerk: Name<'a, 40>,
-    },
-    /// Print what an intersection's draft changes, as a text or as CSV.
-    CompareDraft {
-        id: InterId,
-        csv: bool,
-    },
-    /// Print what the plan in a CSV file differs in from the committed timing set of an
-    /// intersection, as a text or as CSV.
-    CompareRunning {
-        id: InterId,
-        plan: CsvFile<'a>,
-        csv: bool,
     },
 }
 

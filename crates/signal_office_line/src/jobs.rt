@@ -5,8 +5,8 @@ ghost use Rattle.clap.specs.Matches.{found_of};
 ghost use Rattle.clap.specs.Walk.{rows_of};
 ghost use Rattle.signal_office_line.specs.Job.{add_at, choice_from, compare_at, diagram_at, edit_at, edited_file, export_at, import_at, job_at, number_from, office_of, overdue_at, page_at, pages_at, request_at, serve_at, view_of};
 
-use crate::job::{BadWord, CsvFile, Edit, Folder, Job, NoJob, Request};
-use crate::shows::{PlanShown, Shown, View};
+use crate::job::{BadWord, Edit, Folder, Job, NoJob, Request};
+use crate::shows::{CsvFile, PlanShown, Shown, View};
 use crate::values::{
     any_day, any_intersection, any_office_file, any_part, choice_from, csv_file, day, flag,
     intersection, name, number_from, office_file, path, word,
@@ -180,11 +180,10 @@ fn request_at<'a>(command: &str, matches: &ArgMatches<'a>) -> Result<Request<'a>
             csv: flag(matches, "csv"),
         },
         "overdue" => return overdue(matches),
-        "used" => {
-            let part = any_part(matches, "PART")?;
-            let csv = flag(matches, "csv");
-            return Ok(Request::Used { part, csv });
-        }
+        "used" => Shown::Used {
+            part: any_part(matches, "PART")?,
+            csv: flag(matches, "csv"),
+        },
         "add" => return add(matches),
         "import" => return import(matches),
         "export" => return export(matches),
@@ -233,12 +232,12 @@ fn compare<'a>(matches: &ArgMatches<'a>) -> Result<Job<'a>, NoJob>
         }
         (Some(db), None) => {
             let id = any_intersection(matches, "PLAN").ok_or(NoJob::Unstated)?;
-            let request = Request::CompareDraft { id, csv };
+            let request = Request::Show(Shown::CompareDraft { id, csv });
             Ok(Job::Office { db, request })
         }
         (Some(db), Some(plan)) => {
             let id = any_intersection(matches, "PLAN").ok_or(NoJob::Unstated)?;
-            let request = Request::CompareRunning { id, plan, csv };
+            let request = Request::Show(Shown::CompareRunning { id, plan, csv });
             Ok(Job::Office { db, request })
         }
         (None, None) => Err(NoJob::Unstated),

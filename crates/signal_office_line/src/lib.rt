@@ -16,6 +16,6 @@ mod shows;
 mod values;
 mod words;
 
-pub use job::{BadWord, CsvFile, Edit, Folder, Job, JobFault, OfficeFile, Request, job_of};
-pub use shows::{PlanShown, Shown, View};
+pub use job::{BadWord, Edit, Folder, Job, JobFault, OfficeFile, Request, job_of};
+pub use shows::{CsvFile, PlanShown, Shown, View};
 pub use words::{Name, Part, Path};

@@ -6,7 +6,8 @@ ghost use Rattle.clap.specs.Walk.{first_of, rows_of};
 ghost use Rattle.signal_office_line.specs.Job.{any_db_at, any_of, choice_from, csv_at, day_at, db_at, flag_at, intersection_at, name_at, number_from, word_at};
 ghost use Rattle.office_files.specs.RecordReading.{day_of, part_of};
 
-use crate::job::{BadWord, CsvFile, NoJob, OfficeFile};
+use crate::job::{BadWord, NoJob, OfficeFile};
+use crate::shows::CsvFile;
 use crate::words::{Name, Part, Path, day_of};
 use cabinet_core::Day;
 use clap::ArgMatches;

@@ -1,5 +1,5 @@
 -- What is gathered of the intersections, one after the other.
-use Rattle.std.proofs.Common.{◌≡◌, ◌++◌, inl, inr, ℕ, List, [], ◌∷◌, arith, length, map, filter, flat_map, Option, Some, None, Result, Ok, Err, refl, ap, sym, subst, ◌∙◌}
+use Rattle.std.proofs.Common.{◌≡◌, ◌++◌, inl, inr, ℕ, List, [], ◌∷◌, append-nil, arith, length, map, filter, flat_map, Option, Some, None, Result, Ok, Err, refl, ap, sym, subst, ◌∙◌, ⊎_elim}
 use Rattle.std.proofs.lemmas.List.{append_assoc}
 use Rattle.std.specs.Prelude.{Bool, true, false, cond, Vec}
 use Rattle.std.specs.{FinMap.entries, FinMap.get, List.AllByRecursion, Option.IsSome}
@@ -12,18 +12,22 @@ use Rattle.office_machine.specs.declared.command.Command.TheVariants as command
 use Rattle.office_machine.specs.declared.intersections.ListedIntersection.{ListedIntersection}
 use Rattle.office_machine.specs.declared.reply.CabinetShown.{CabinetShown}
 use Rattle.office_machine.specs.declared.reply.Reply.TheVariants as reply
-use Rattle.office_machine.specs.{Listed.intersection_listed, Listed.intersections_of, Office.Intersection, Office.Office}
-use Rattle.office_machine.specs.Step.{cabinet_shown, shown}
+use Rattle.office_machine.specs.declared.reply.RunningTiming.{RunningTiming}
+use Rattle.office_machine.specs.{Listed.intersection_listed, Listed.intersections_of, Office.Intersection, Office.Office, Office.side_of}
+use Rattle.office_machine.specs.Step.{cabinet_shown, shown, timing_shown}
 use Rattle.office_tables_shelf.specs.{Cells.Cell, Content.Content, Damage.HasAnyDamagedIntersection, Rows.intersection_columns, Rows.intersection_key, declared.rows.IntersectionRow.IntersectionRow}
 use Rattle.office_tables_shelf.proofs.ListedRows.{table_row}
 use Rattle.signal_office_faults.specs.declared.fault.Fault.{Fault}
 use Rattle.signal_office_faults.specs.declared.fault.Fault.TheVariants as told
-use Rattle.signal_office_queries.specs.Gathering.{AreWhole, SeesCabinet, filed_in}
+use Rattle.signal_office_queries.specs.Gathering.{AreWhole, IsCountOf, filed_in, SeesCabinet, SeesCabinets, SeesCount, SeesListed}
 use Rattle.signal_office_queries.specs.NamedOrders.{AreOpenOf, named_from, named_in, named_on}
-use Rattle.signal_office_queries.specs.Seen.{Meets, OfOffice}
+use Rattle.signal_office_queries.specs.Seen.{IsUnseen, Meets, MeetsListed, OfOffice, cabinet_listed}
+use Rattle.signal_office_queries.specs.declared.seen.ListedCabinet.{ListedCabinet}
 use Rattle.signal_office_queries.specs.declared.seen.Query.TheVariants as query
 use Rattle.signal_office_queries.specs.declared.seen.Seen.{Seen}
 use Rattle.signal_office_queries.specs.declared.seen.Seen.TheVariants as seen
+use Rattle.signal_plans.specs.Warnings.{warnings_of}
+use Rattle.signal_records.specs.TimingSet.{Rows}
 
 -- ---- open orders that a map has
 
@@ -79,22 +83,74 @@ sees_cabinet tables id it (Err why) shows sound is =
     let store : why ≡ told.Store = unfiled it why (sym is) in
     (inr (inl store), λ e. let same : told.Store ≡ told.Damaged = sym store ∙ e in cc)
 
-pub none_left : {A : Type 0} (xs : List A) → length xs ≡ 0 → xs ≡ []
+-- ---- how many warnings its committed plan has
+
+plan_in : (found : Option Intersection) (timing : RunningTiming)
+    → seen.Reply (reply.Timing timing) ≡ seen.Reply (shown found (λ i. reply.Timing (timing_shown i))) → timing.rows ≡ (side_of found).committed
+plan_in None timing e = cc
+plan_in (Some i) timing e = let is : timing ≡ timing_shown i = cc in ap (λ (t : RunningTiming). t.rows) is
+
+counted_so : (it : Seen) (count : ℕ) → IsCountOf it (Ok count) → (timing : RunningTiming) × (it ≡ seen.Reply (reply.Timing timing)) × (count ≡ length (warnings_of timing.rows))
+counted_so (seen.Reply (reply.Timing timing)) count is = (timing, refl, is)
+counted_so other count is = absurd cc
+
+pub sees_count : (tables : Content) (id : ℕ) (it : Seen) (count : ℕ)
+    → OfOffice tables (λ office. it ≡ seen.Reply (shown (get office.intersections id) (λ i. reply.Timing (timing_shown i))))
+    → (¬ MeetsDamage tables (command.Timing id)) → IsCountOf it (Ok count) → SeesCount true tables id (Ok (Some count))
+sees_count tables id it count shows sound is =
+    let so = counted_so it count is in (
+      λ office stands.
+          let plan = plan_in (get office.intersections id) so.0 (sym so.1 ∙ shows office stands) in
+          ap (λ (n : ℕ). Some n) (so.2 ∙ ap (λ (rows : Rows). length (warnings_of rows)) plan),
+      sound,
+    )
+
+pub uncounted : (damaged : Type 0) (it : Seen) (why : Fault) → IsCountOf it (Err why) → IsUnseen damaged why
+uncounted damaged (seen.Reply (reply.Timing timing)) why memory = (inl memory, λ e. let same : told.Memory ≡ told.Damaged = sym memory ∙ e in cc)
+uncounted damaged other why is =
+    let store : why ≡ told.Store = cc in
+    (inr (inl store), λ e. let same : told.Store ≡ told.Damaged = sym store ∙ e in cc)
+
+pub sees_listed : (counted : Bool) (tables : Content) (listed : ListedIntersection) (cabinet : CabinetShown) (warnings : Option ℕ)
+    → SeesCabinet tables listed.id (Ok cabinet) → SeesCount counted tables listed.id (Ok warnings)
+    → SeesListed counted tables listed (Ok (record { listed = listed; cabinet = cabinet; warnings = warnings }))
+sees_listed counted tables listed cabinet warnings holds counts = (
+  λ office stands. λ i. record { listed = listed; cabinet = holds.0 office stands i; warnings = counts.0 office stands i },
+  ⊎_elim holds.1 counts.1,
+)
+
+-- ---- one intersection after the other
+
+none_left : {A : Type 0} (xs : List A) → length xs ≡ 0 → xs ≡ []
 none_left [] empty = refl
 none_left (x ∷ xs) empty = absurd (omega arith)
 
-module _ {A : Type 0} (of : ListedIntersection → A) where
-  -- what one more gives, before those that are left
-  pub gathered_more : (found new : List A) (listed : ListedIntersection) (rest : List ListedIntersection) (one : A) (all : List A)
-      → one ≡ of listed → new ≡ found ++ one ∷ [] → found ++ map of (listed ∷ rest) ≡ all → new ++ map of rest ≡ all
-  gathered_more found new listed rest one all gives is before =
-      ap (λ (xs : List A). xs ++ map of rest) is ∙ append_assoc found (one ∷ []) (map of rest)
-      ∙ ap (λ (x : A). found ++ x ∷ map of rest) gives ∙ before
+-- what was found, before what is left, is what is gathered of all; and where those that are left are whole, all are
+abbrev pub IsGathered : (counted : Bool) → Content → (found : List ListedCabinet) → (left all : List ListedIntersection) → Type 0
+IsGathered counted tables found left all =
+    OfOffice tables (λ office. found ++ map (cabinet_listed counted office) left ≡ map (cabinet_listed counted office) all)
+    × (AreWhole counted tables left → AreWhole counted tables all)
 
-  -- what those of all that are listed give is what those of the office give
-  pub each_gathered : (es : List Entry) → map of (map intersection_listed es) ≡ map (λ e. of (intersection_listed e)) es
-  each_gathered [] = refl
-  each_gathered (e ∷ es) = ap (λ rest. of (intersection_listed e) ∷ rest) (each_gathered es)
+module _ (counted : Bool) (tables : Content) (all : List ListedIntersection) where
+  pub gathered_more : (found new : List ListedCabinet) (listed : ListedIntersection) (left rest : List ListedIntersection) (one : ListedCabinet)
+      → left ≡ listed ∷ rest → new ≡ found ++ one ∷ [] → IsGathered counted tables found left all → SeesListed counted tables listed (Ok one)
+      → IsGathered counted tables new rest all
+  gathered_more found new listed left rest one next is before sees = (
+    λ office stands.
+        ap (λ (xs : List ListedCabinet). xs ++ map (cabinet_listed counted office) rest) is
+        ∙ append_assoc found (one ∷ []) (map (cabinet_listed counted office) rest)
+        ∙ ap (λ (x : ListedCabinet). found ++ x ∷ map (cabinet_listed counted office) rest) (sees.0 office stands)
+        ∙ ap (λ (xs : List ListedIntersection). found ++ map (cabinet_listed counted office) xs) (sym next)
+        ∙ before.0 office stands,
+    λ whole. before.1 (subst (AreWhole counted tables) (sym next) (sees.1, whole)),
+  )
+
+  pub gathered_all : (found : List ListedCabinet) (left : List ListedIntersection) → length left ≡ 0 → IsGathered counted tables found left all → SeesCabinets counted tables all (Ok found)
+  gathered_all found left empty gathered =
+      let none : left ≡ [] = none_left left empty in (
+        λ office stands. sym (append-nil found) ∙ ap (λ (xs : List ListedIntersection). found ++ map (cabinet_listed counted office) xs) (sym none) ∙ gathered.0 office stands,
+        gathered.1 (subst (AreWhole counted tables) (sym none) tt),
+      )
 
 -- ---- each row that was read is a record
 
@@ -111,16 +167,16 @@ same_number : (a b : ℕ) → intersection_key a ≡ intersection_key b → a �
 same_number a b same = cc
 
 -- an intersection stands in the tables
-abbrev pub IsStored : Content → ℕ → Type 0
+abbrev IsStored : Content → ℕ → Type 0
 IsStored tables id = (columns : List Cell) × (get tables.intersection (intersection_key id) ≡ Some columns)
 
 -- a damaged row is of an intersection that is there
-pub there_at : (tables : Content) (id : ℕ) {Later : Type 0} → MeetsAfter tables id Later → IsStored tables id
+there_at : (tables : Content) (id : ℕ) {Later : Type 0} → MeetsAfter tables id Later → IsStored tables id
 there_at tables id (inl row) = (row.columns, row.stored)
 there_at tables id (inr after) = some_stored (get tables.intersection (intersection_key id)) after.0
 
 -- where those of all that are listed meet no damage, none does
-pub none_meets : (Damage : ℕ → Type 0) (tables : Content) (list : List ListedIntersection) → ((id : ℕ) → Damage id → IsStored tables id)
+none_meets : (Damage : ℕ → Type 0) (tables : Content) (list : List ListedIntersection) → ((id : ℕ) → Damage id → IsStored tables id)
     → ListsEachIntersection tables list → AllByRecursion (λ (listed : ListedIntersection). ¬ Damage listed.id) list → (id : ℕ) → ¬ Damage id
 none_meets Damage tables list there lists whole id damaged =
     let stored = there id damaged in
@@ -129,9 +185,14 @@ none_meets Damage tables list there lists whole id damaged =
     stored.0 lists.lists (each_row Damage tables lists.rows (subst (AllByRecursion (λ (listed : ListedIntersection). ¬ Damage listed.id)) lists.found_is whole)) stored.1 in
     is.1 (subst Damage (same_number id is.0.0 is.2) damaged)
 
+stored_where : (counted : Bool) (tables : Content) (id : ℕ) → MeetsListed counted tables id → IsStored tables id
+stored_where counted tables id (inl cabinet) = there_at tables id cabinet
+stored_where true tables id (inr timing) = there_at tables id timing
+stored_where false tables id (inr none) = absurd none
+
 -- where those of all that are listed were read, none is damaged
-pub all_whole : (tables : Content) (list : List ListedIntersection) → ListsEachIntersection tables list → (¬ HasAnyDamagedIntersection tables) → AreWhole tables list
-    → ¬ Meets tables query.Cabinets
-all_whole tables list lists sound whole (inl damaged) = sound damaged
-all_whole tables list lists sound whole (inr damaged) =
-    none_meets (λ id. MeetsDamage tables (command.Cabinet id)) tables list (λ id. there_at tables id) lists whole damaged.0 damaged.1
+pub all_whole : (counted : Bool) (tables : Content) (list : List ListedIntersection) → ListsEachIntersection tables list → (¬ HasAnyDamagedIntersection tables)
+    → AreWhole counted tables list → ¬ Meets tables (query.Cabinets counted)
+all_whole counted tables list lists sound whole (inl damaged) = sound damaged
+all_whole counted tables list lists sound whole (inr damaged) =
+    none_meets (MeetsListed counted tables) tables list (stored_where counted tables) lists whole damaged.0 damaged.1

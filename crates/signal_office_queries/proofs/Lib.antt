@@ -1,4 +1,4 @@
 pub mod SeenLemmas
+pub mod AskLemmas
 pub mod LookLemmas
 mod GatheringLemmas
-mod AdvisingLemmas

@@ -1,20 +1,11 @@
 -- What some queries see, one after the other.
-use Rattle.std.proofs.Common.{◌≡◌, ◌+◌, ◌<◌, ◌++◌, ◌∙◌, inl, inr, arith, ℕ, zero, suc, List, [], ◌∷◌, get_or, length, map, take, Result, Ok, Err, sym, ap, subst, refl}
+use Rattle.std.proofs.Common.{◌≡◌, ◌+◌, ◌<◌, ◌++◌, ◌∙◌, inl, inr, arith, ℕ, zero, suc, List, [], ◌∷◌, get_or, length, map, take, Ok, Err, sym, ap, subst}
 use Rattle.std.proofs.lemmas.List.{map-append, take_more}
-use Rattle.std.specs.Prelude.{Vec}
-use Rattle.office_tables_shelf.specs.{Content.Content, Keeps.KeepsShelf, declared.shelf.Shelf.Ghosts}
+use Rattle.office_tables_shelf.specs.Content.{Content}
 use Rattle.signal_office_faults.specs.declared.fault.Fault.{Fault}
-use Rattle.signal_office_queries.specs.Seen.{Gives, IsMadeOfAnswers, Looks, Meets, MeetsAny, PassEach, Passes, Sees, query_answer}
+use Rattle.signal_office_queries.specs.Seen.{Looks, Meets, MeetsAny, PassEach, Passes, Sees, query_answer}
 use Rattle.signal_office_queries.specs.declared.seen.Query.{Query}
 use Rattle.signal_office_queries.specs.declared.seen.Seen.{Seen}
-
-pub kept_same : {S : Type 0} (g : Ghosts S) (shelf : S) → KeepsShelf g shelf shelf
-kept_same g shelf = record {
-  honest_before = λ honest. honest;
-  same_content = λ _. refl;
-  same_counts = refl;
-  same_outcomes = λ tables left. left;
-}
 
 pass_more : (tables : Content) (qs : List Query) (found : List Seen) (q : Query) (it : Seen) → PassEach tables qs found → Passes tables q it
     → PassEach tables (qs ++ q ∷ []) (found ++ it ∷ [])
@@ -45,9 +36,3 @@ meets_at tables (p ∷ qs) (suc i) q low at meets = inr (meets_at tables qs i q 
 pub unseen_at : (tables : Content) (qs : List Query) (i : ℕ) (q : Query) (why : Fault) → i < length qs → q ≡ get_or qs i q → Sees tables q (Err why)
     → Looks tables qs (Err why)
 unseen_at tables qs i q why low at it = (it.0, λ e. meets_at tables qs i q low at (it.1 e))
-
--- what is made of what was seen
-pub made_of_seen : {T A : Type 0} (queries : List Query) (makes : List Seen → Result (List T) Fault → Type 0) (tables : Content) (found : List Seen) (result : Result (Vec T A) Fault)
-    → Looks tables queries (Ok found) → Gives (makes found) result → Gives (IsMadeOfAnswers queries makes tables) result
-made_of_seen queries makes tables found (Ok list) looks made = (Ok found, looks, made)
-made_of_seen queries makes tables found (Err why) looks made = (Ok found, looks, made)

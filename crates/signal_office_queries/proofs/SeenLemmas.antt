@@ -15,7 +15,6 @@ use Rattle.office_tables_shelf.specs.{Content.Content, Keeps.KeepsShelf, Shelf.I
 use Rattle.office_tables_shelf.proofs.KeptLemmas.{kept_on}
 use Rattle.signal_office_faults.specs.declared.fault.Fault.{Fault}
 use Rattle.signal_office_faults.specs.declared.fault.Fault.TheVariants as told
-use Rattle.signal_office_queries.specs.Refused.{fault_of}
 use Rattle.signal_office_queries.specs.Seen.{IsAnswer, IsNamedRefusal, IsUnseen, OfOffice, Sees, SeesAs, is_normal, is_state_normal, no_draft, seen_in}
 use Rattle.signal_office_queries.specs.declared.seen.Query.TheVariants as query
 use Rattle.signal_office_queries.specs.declared.seen.Seen.{Seen}
@@ -116,29 +115,7 @@ pub sees_open : (tables : Content) (id : ℕ) (result : Result Seen Fault) → (
 sees_open tables id (Ok it) sound sees = (sees.0, (sound, ((λ _. sees.1.0), sees.1.1)))
 sees_open tables id (Err why) sound sees = (sees.0, λ e. inr (sees.1 e))
 
--- ---- what the office reads besides, of an open database
-
-module _ {S : Type 0} (g : Ghosts S) (old new : S) (kept : KeepsShelf g old new) where
-  pub of_tables : (Says : Content → Type 0) (tables : Content) → HoldsTables g old tables → g.is_honest new → Says (g.content old) → Says tables
-  of_tables Says tables held honest says = subst Says (held (kept.honest_before honest)) says
-
--- where it answered, the database was open
-pub was_open : {A H : Type 0} {x : A} → H ⊎ (◌≡◌ {A = Result A Refusal} (Ok x) (Err refusal.Unavailable)) → H
-was_open (inl honest) = honest
-was_open (inr shut) = absurd cc
-
--- and where it told of a damaged row
-pub stayed_open : {A H : Type 0} (why : Refusal) → why ≡ refusal.Damaged → H ⊎ (◌≡◌ {A = Result A Refusal} (Err why) (Err refusal.Unavailable)) → H
-stayed_open why is (inl honest) = honest
-stayed_open why is (inr shut) = let other : why ≡ refusal.Unavailable = cc in absurd (let no : refusal.Damaged ≡ refusal.Unavailable = sym is ∙ other in cc)
-
--- and where it refused
-pub sees_refusal : (damaged : Type 0) (why : Refusal) (fault : Fault) → fault ≡ fault_of why → (why ≡ refusal.Unavailable) ⊎ (why ≡ refusal.Damaged)
-    → (why ≡ refusal.Damaged → damaged) → IsUnseen damaged fault
-sees_refusal damaged why fault is (inl unavailable) meets =
-    let store : fault ≡ told.Store = is ∙ ap fault_of unavailable in
-    (inr (inl store), λ e. let same : told.Store ≡ told.Damaged = sym store ∙ e in cc)
-sees_refusal damaged why fault is (inr broken) meets = (inr (inr (is ∙ ap fault_of broken)), λ e. meets broken)
+-- ---- faults
 
 -- memory was refused
 pub unseen_memory : (damaged : Type 0) → IsUnseen damaged told.Memory

@@ -1,11 +1,10 @@
 -- What is gathered of all intersections, step by step.
-use Rattle.std.specs.Prelude.{ℕ, List, map, Result, Ok, Err, Vec}
+use Rattle.std.specs.Prelude.{◌≡◌, ℕ, Bool, List, length, map, MatchResult, Option, Result, Ok, Err, Vec}
 use Rattle.std.specs.List.{AllByRecursion}
 use Rattle.cabinet_core.specs.declared.record.Order.{Order}
 use Rattle.office_desk.specs.Damage.{MeetsDamage}
 use Rattle.office_desk_timing.specs.Listing.{ListsEachIntersection}
 use Rattle.office_machine.specs.Listed.{intersections_of}
-use Rattle.office_machine.specs.Office.{Office}
 use Rattle.office_machine.specs.Step.{cabinet_shown}
 use Rattle.office_machine.specs.declared.command.Command.TheVariants as command
 use Rattle.office_machine.specs.declared.intersections.ListedIntersection.{ListedIntersection}
@@ -17,10 +16,11 @@ use Rattle.office_tables_shelf.specs.Damage.{HasAnyDamagedIntersection}
 use Rattle.signal_office_faults.specs.declared.fault.Fault.{Fault}
 use Rattle.signal_office_faults.specs.declared.fault.Fault.TheVariants as told
 use Rattle.signal_office_queries.specs.NamedOrders.{AreOpenOf}
-use Rattle.signal_office_queries.specs.Seen.{OfOffice, SeesAs}
+use Rattle.signal_office_queries.specs.Seen.{MeetsCounted, MeetsListed, OfOffice, SeesAs, cabinet_listed, warning_count}
 use Rattle.signal_office_queries.specs.declared.seen.ListedCabinet.{ListedCabinet}
 use Rattle.signal_office_queries.specs.declared.seen.Seen.{Seen}
 use Rattle.signal_office_queries.specs.declared.seen.Seen.TheVariants as seen
+use Rattle.signal_plans.specs.Warnings.{warnings_of}
 
 -- all intersections of the office, one for each row of the table whatever that holds besides
 abbrev pub SeesList : Content → Result (List ListedIntersection) Fault → Type 0
@@ -41,19 +41,26 @@ abbrev pub SeesCabinet : Content → ℕ → Result CabinetShown Fault → Type 
 SeesCabinet tables id =
     SeesAs (λ office. cabinet_shown office.register id) (λ _. ¬ MeetsDamage tables (command.Cabinet id)) (MeetsDamage tables (command.Cabinet id)) tables
 
--- of those that are listed
-abbrev pub with_cabinet : ListedIntersection → CabinetShown → ListedCabinet
-with_cabinet listed cabinet = record { listed = listed; cabinet = cabinet }
+-- how many warnings a committed plan has that was seen, which is known
+abbrev pub IsCountOf : Seen → Result ℕ Fault → Type 0
+IsCountOf (seen.Reply (reply.Timing timing)) result = MatchResult result (λ count. count ≡ length (warnings_of timing.rows)) (λ why. why ≡ told.Memory)
+IsCountOf other result = result ≡ Err told.Store
 
--- an intersection of a list with its cabinet in an office
-abbrev pub listed_cabinet_of : Office → ListedIntersection → ListedCabinet
-listed_cabinet_of office listed = with_cabinet listed (cabinet_shown office.register listed.id)
+-- what counting the warnings of one committed plan, or not, may see of tables
+abbrev pub SeesCount : (counted : Bool) → Content → ℕ → Result (Option ℕ) Fault → Type 0
+SeesCount counted tables id =
+    SeesAs (λ office. warning_count counted office id) (λ _. ¬ MeetsCounted counted tables id) (MeetsCounted counted tables id) tables
 
--- no cabinet of a list meets a damaged row
-abbrev pub AreWhole : Content → List ListedIntersection → Type 0
-AreWhole tables = AllByRecursion (λ (listed : ListedIntersection). ¬ MeetsDamage tables (command.Cabinet listed.id))
+-- what a look at the cabinet of one that is listed may see of tables
+abbrev pub SeesListed : (counted : Bool) → Content → ListedIntersection → Result ListedCabinet Fault → Type 0
+SeesListed counted tables listed =
+    SeesAs (λ office. cabinet_listed counted office listed) (λ _. ¬ MeetsListed counted tables listed.id) (MeetsListed counted tables listed.id) tables
+
+-- none of a list meets a damaged row
+abbrev pub AreWhole : (counted : Bool) → Content → List ListedIntersection → Type 0
+AreWhole counted tables = AllByRecursion (λ (listed : ListedIntersection). ¬ MeetsListed counted tables listed.id)
 
 -- what a look at the cabinets of a list may see of tables
-abbrev pub SeesCabinets : Content → List ListedIntersection → Result (List ListedCabinet) Fault → Type 0
-SeesCabinets tables list =
-    SeesAs (λ office. map (listed_cabinet_of office) list) (λ _. AreWhole tables list) ((id : ℕ) × MeetsDamage tables (command.Cabinet id)) tables
+abbrev pub SeesCabinets : (counted : Bool) → Content → List ListedIntersection → Result (List ListedCabinet) Fault → Type 0
+SeesCabinets counted tables list =
+    SeesAs (λ office. map (cabinet_listed counted office) list) (λ _. AreWhole counted tables list) ((id : ℕ) × MeetsListed counted tables id) tables

@@ -2,5 +2,6 @@ pub mod Refused
 pub mod NamedOrders
 pub mod Seen
 pub mod Gathering
-pub mod Advising
 pub mod Parts
+pub mod Asks
+pub mod Comparison

@@ -12,7 +12,6 @@ use Rattle.office_machine.specs.declared.reply.RunningTiming.{RunningTiming}
 use Rattle.signal_office_faults.specs.declared.fault.Fault.{Fault}
 use Rattle.signal_office_faults.specs.declared.fault.Fault.TheVariants as told
 use Rattle.signal_office_queries.specs.Refused.{fault_of}
-use Rattle.signal_office_queries.specs.declared.seen.AdvisedCabinet.{AdvisedCabinet}
 use Rattle.signal_office_queries.specs.declared.seen.ListedCabinet.{ListedCabinet}
 use Rattle.signal_office_queries.specs.declared.seen.Seen.{Seen}
 use Rattle.signal_office_queries.specs.declared.seen.Seen.TheVariants as seen
@@ -75,11 +74,6 @@ abbrev pub cabinets_in : Seen → Result (List ListedCabinet) Fault
 cabinets_in (seen.Cabinets cabinets) = Ok cabinets
 cabinets_in other = Err told.Store
 
--- the cabinets and numbers of warnings that were seen, or the fault
-abbrev pub advised_in : Seen → Result (List AdvisedCabinet) Fault
-advised_in (seen.AdvisedCabinets cabinets) = Ok cabinets
-advised_in other = Err told.Store
-
 -- the first of what was seen, or a refusal where nothing was
 abbrev pub first_seen : List Seen → Seen
 first_seen [] = seen.Reply (reply.Refused refusal.Unavailable)
@@ -99,16 +93,12 @@ abbrev pub ◌>>=◌ : {A B : Type 0} → Result A Fault → (A → Result B Fau
 (Ok x) >>= f = f x
 (Err e) >>= f = Err e
 
--- the register of a cabinet, with what is known of its intersection
-abbrev pub register_of : (state cabinet : Seen) → Result (IntersectionState × CabinetShown) Fault
-register_of state cabinet = do
-  known ← state_in state
-  holds ← cabinet_in cabinet
-  Ok (known, holds)
-
--- the state and the register among what was seen
+-- what is known of an intersection, with the register of its cabinet, among what was seen
 abbrev pub register_in : List Seen → Result (IntersectionState × CabinetShown) Fault
-register_in found = register_of (first_seen found) (first_seen (rest_of found))
+register_in found = do
+  known ← state_in (first_seen found)
+  holds ← cabinet_in (first_seen (rest_of found))
+  Ok (known, holds)
 
 -- ---- what is made of it
 

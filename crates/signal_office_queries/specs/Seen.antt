@@ -1,17 +1,17 @@
 -- What queries see of an office, and what a look at its tables gives.
-use Rattle.std.specs.Prelude.{◌≡◌, ◌≢◌, ◌⊎◌, ◌<◌, ℕ, Bool, true, false, List, [], ◌∷◌, length, map, take, Result, Ok, Err, MatchResult, Vec}
-use Rattle.std.specs.FinMap.{entries}
+use Rattle.std.specs.Prelude.{◌≡◌, ◌≢◌, ◌⊎◌, ◌<◌, ℕ, Bool, true, false, List, [], ◌∷◌, length, map, take, Option, Some, None, Result, Ok, Err, MatchResult, Vec}
 use Rattle.draft_core.specs.declared.refusal.DraftRefusal.TheVariants as draft
 use Rattle.signal_records.specs.declared.state.DbState.{DbState}
 use Rattle.signal_records.specs.declared.state.DbState.TheVariants.{Normal}
 use Rattle.office_desk.specs.Damage.{MeetsDamage}
 use Rattle.office_desk.specs.Named.{RefusesBy, numbers_of}
 use Rattle.office_desk.specs.StandFor.{StandForSound}
-use Rattle.office_machine.specs.Listed.{intersection_listed, intersections_of}
-use Rattle.office_machine.specs.Office.{Intersection, Office, side_at}
+use Rattle.office_machine.specs.Listed.{intersections_of}
+use Rattle.office_machine.specs.Office.{Office, side_at}
 use Rattle.office_machine.specs.Step.{answered, cabinet_shown, overdue_on}
 use Rattle.office_machine.specs.declared.command.Command.{Command}
 use Rattle.office_machine.specs.declared.command.Command.TheVariants as command
+use Rattle.office_machine.specs.declared.intersections.ListedIntersection.{ListedIntersection}
 use Rattle.office_machine.specs.declared.refusal.Refusal.TheVariants as refusal
 use Rattle.office_machine.specs.declared.reply.Reply.{Reply}
 use Rattle.office_machine.specs.declared.reply.Reply.TheVariants as reply
@@ -22,27 +22,23 @@ use Rattle.signal_plans.specs.Warnings.{warnings_of}
 use Rattle.signal_office_faults.specs.declared.fault.Fault.{Fault}
 use Rattle.signal_office_faults.specs.declared.fault.Fault.TheVariants as told
 use Rattle.signal_office_queries.specs.NamedOrders.{named_in}
-use Rattle.signal_office_queries.specs.declared.seen.AdvisedCabinet.{AdvisedCabinet}
 use Rattle.signal_office_queries.specs.declared.seen.ListedCabinet.{ListedCabinet}
 use Rattle.signal_office_queries.specs.declared.seen.Query.{Query}
 use Rattle.signal_office_queries.specs.declared.seen.Query.TheVariants as query
 use Rattle.signal_office_queries.specs.declared.seen.Seen.{Seen}
 use Rattle.signal_office_queries.specs.declared.seen.Seen.TheVariants as seen
 
--- an intersection with all that the register of an office holds of it
-abbrev pub cabinet_listed : Office → ℕ × Intersection → ListedCabinet
-cabinet_listed office e = record { listed = intersection_listed e; cabinet = cabinet_shown office.register e.0 }
+-- how many warnings the committed plan of an intersection has, where they are counted
+abbrev pub warning_count : (counted : Bool) → Office → ℕ → Option ℕ
+warning_count true office id = Some (length (warnings_of (side_at office id).committed))
+warning_count false office id = None
 
--- how many warnings the committed plan of an intersection has
-abbrev pub warning_count : Office → ℕ → ℕ
-warning_count office id = length (warnings_of (side_at office id).committed)
-
--- an intersection with all that the register of an office holds of it, and with the number of warnings of its committed plan
-abbrev pub cabinet_advised : Office → ℕ × Intersection → AdvisedCabinet
-cabinet_advised office e = record {
-  listed = intersection_listed e;
-  cabinet = cabinet_shown office.register e.0;
-  warnings = warning_count office e.0;
+-- an intersection that is listed, with all that the register of an office holds of it
+abbrev pub cabinet_listed : (counted : Bool) → Office → ListedIntersection → ListedCabinet
+cabinet_listed counted office listed = record {
+  listed = listed;
+  cabinet = cabinet_shown office.register listed.id;
+  warnings = warning_count counted office listed.id;
 }
 
 -- what an office shows where it is asked: its answer, a refusal too
@@ -56,12 +52,16 @@ query_answer office query.Stock = seen.Reply (answered office command.Stock).0
 query_answer office (query.Overdue day most) = seen.Reply (reply.Overdue (take most (overdue_on office day)))
 query_answer office query.Intersections = seen.Intersections (intersections_of office)
 query_answer office query.OpenOrders = seen.Orders (named_in office)
-query_answer office query.Cabinets = seen.Cabinets (map (cabinet_listed office) (entries office.intersections))
-query_answer office query.AdvisedCabinets = seen.AdvisedCabinets (map (cabinet_advised office) (entries office.intersections))
+query_answer office (query.Cabinets counted) = seen.Cabinets (map (cabinet_listed counted office) (intersections_of office))
 
--- a row of the cabinet of an intersection, or of its committed plan, is no record
-abbrev pub MeetsIndexed : Content → ℕ → Type 0
-MeetsIndexed tables id = MeetsDamage tables (command.Cabinet id) ⊎ MeetsDamage tables (command.Timing id)
+-- where its warnings are counted, a row of the committed plan of an intersection is no record
+abbrev pub MeetsCounted : (counted : Bool) → Content → ℕ → Type 0
+MeetsCounted true tables id = MeetsDamage tables (command.Timing id)
+MeetsCounted false tables id = ⊥
+
+-- a row of the cabinet of an intersection, or of its committed plan where that is read, is no record
+abbrev pub MeetsListed : (counted : Bool) → Content → ℕ → Type 0
+MeetsListed counted tables id = MeetsDamage tables (command.Cabinet id) ⊎ MeetsCounted counted tables id
 
 -- a row that the query reads is no record
 abbrev pub Meets : Content → Query → Type 0
@@ -74,8 +74,7 @@ Meets tables query.Stock = MeetsDamage tables command.Stock
 Meets tables (query.Overdue day most) = MeetsDamage tables (command.Overdue day)
 Meets tables query.Intersections = HasAnyDamagedIntersection tables
 Meets tables query.OpenOrders = HasAnyDamagedIntersection tables ⊎ HasAnyDamagedOrder tables
-Meets tables query.Cabinets = HasAnyDamagedIntersection tables ⊎ ((id : ℕ) × MeetsDamage tables (command.Cabinet id))
-Meets tables query.AdvisedCabinets = HasAnyDamagedIntersection tables ⊎ ((id : ℕ) × MeetsIndexed tables id)
+Meets tables (query.Cabinets counted) = HasAnyDamagedIntersection tables ⊎ ((id : ℕ) × MeetsListed counted tables id)
 
 -- one of some queries meets a damaged row
 abbrev pub MeetsAny : Content → List Query → Type 0
@@ -114,8 +113,7 @@ Passes tables query.Stock it = IsAnswer tables command.Stock it
 Passes tables (query.Overdue day most) it = IsShort it most → ¬ Meets tables (query.Overdue day most)
 Passes tables query.Intersections it = ¬ Meets tables query.Intersections
 Passes tables query.OpenOrders it = ¬ Meets tables query.OpenOrders
-Passes tables query.Cabinets it = ¬ Meets tables query.Cabinets
-Passes tables query.AdvisedCabinets it = ¬ Meets tables query.AdvisedCabinets
+Passes tables (query.Cabinets counted) it = ¬ Meets tables (query.Cabinets counted)
 
 -- each query passes with its answer
 abbrev pub PassEach : Content → List Query → List Seen → Type 0

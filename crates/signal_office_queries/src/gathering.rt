@@ -1,17 +1,16 @@
 //! What is gathered of all intersections: the list of them, their open orders, their cabinets.
 
-ghost use Rattle.std.specs.Prelude.{◌≡◌, ◌∷◌, ◌++◌, [], flat_map, IfOk, MatchResult, OnOk};
-ghost use Rattle.office_desk.specs.Running.{TellsTables};
+ghost use Rattle.std.specs.Prelude.{◌≡◌, flat_map, IfOk, MatchResult};
 ghost use Rattle.office_tables_shelf.specs.CabinetReads.{HasAnyDamagedOrder};
-ghost use Rattle.office_tables_shelf.specs.Keeps.{KeepsShelf};
 ghost use Rattle.office_tables_shelf.specs.OpenOrders.{orders_in};
-ghost use Rattle.signal_office_queries.specs.Gathering.{SeesCabinet, SeesCabinets, SeesList, SeesMap, filed_in, with_cabinet};
+ghost use Rattle.signal_office_queries.specs.Asks.{OnlyLooks};
+ghost use Rattle.signal_office_queries.specs.Gathering.{IsCountOf, SeesCabinet, SeesCabinets, SeesCount, SeesList, SeesListed, SeesMap, filed_in};
 ghost use Rattle.signal_office_queries.specs.NamedOrders.{named_from};
 ghost use Rattle.signal_office_queries.specs.Seen.{Gives, IsUnseen, Sees};
 
 use crate::looking::see_reply;
 use crate::refused::fault_of;
-use crate::seen::{ListedCabinet, Query, Seen};
+use crate::seen::{ListedCabinet, Query, Seen, add_to};
 use cabinet_core::Order;
 use office_desk::office::Office;
 use office_machine::command::Command;
@@ -20,18 +19,17 @@ use office_machine::orders::{NamedOrder, add_named};
 use office_machine::reply::{CabinetShown, Reply};
 use office_tables_shelf::shelf::Shelf;
 use signal_office_faults::Fault;
+use signal_plans::warnings;
 use signal_records::{InterId, Listing, NoMemory};
 use std::alloc::Global;
 use std::collections::BTreeMap;
 
 /// All intersections, by their numbers.
-pub(crate) fn list_intersections<S: Shelf>(
+fn list_intersections<S: Shelf>(
     alloc: Global,
     office: &mut Office<S>,
 ) -> Result<Vec<ListedIntersection>, Fault>
-    ensures kept { KeepsShelf S.Shelf office.old office.new }
-    ensures clean { S.is_clean office.new → S.is_clean office.old }
-    ensures sees { TellsTables S.Shelf office.old office.new
+    ensures { OnlyLooks S.Shelf office.old office.new
         (λ tables. Gives (SeesList tables) result) }
 {
     match office.intersections(alloc) {
@@ -45,9 +43,7 @@ pub(crate) fn see_intersections<S: Shelf>(
     alloc: Global,
     office: &mut Office<S>,
 ) -> Result<Seen, Fault>
-    ensures kept { KeepsShelf S.Shelf office.old office.new }
-    ensures clean { S.is_clean office.new → S.is_clean office.old }
-    ensures sees { TellsTables S.Shelf office.old office.new
+    ensures { OnlyLooks S.Shelf office.old office.new
         (λ tables. Sees tables Query.Intersections result) }
 {
     let found = list_intersections(alloc, office)?;
@@ -59,9 +55,7 @@ fn read_open_orders<S: Shelf>(
     alloc: Global,
     office: &mut Office<S>,
 ) -> Result<BTreeMap<InterId, Vec<Order>>, Fault>
-    ensures kept { KeepsShelf S.Shelf office.old office.new }
-    ensures clean { S.is_clean office.new → S.is_clean office.old }
-    ensures sees { TellsTables S.Shelf office.old office.new (λ tables. MatchResult result
+    ensures { OnlyLooks S.Shelf office.old office.new (λ tables. MatchResult result
         (λ found. SeesMap tables found.entries) (λ why. IsUnseen (HasAnyDamagedOrder tables) why)) }
 {
     match office.open_orders(alloc) {
@@ -103,9 +97,7 @@ pub(crate) fn see_open_orders<S: Shelf>(
     alloc: Global,
     office: &mut Office<S>,
 ) -> Result<Seen, Fault>
-    ensures kept { KeepsShelf S.Shelf office.old office.new }
-    ensures clean { S.is_clean office.new → S.is_clean office.old }
-    ensures sees { TellsTables S.Shelf office.old office.new
+    ensures { OnlyLooks S.Shelf office.old office.new
         (λ tables. Sees tables Query.OpenOrders result) }
 {
     let list = list_intersections(alloc, office)?;
@@ -114,7 +106,7 @@ pub(crate) fn see_open_orders<S: Shelf>(
     Ok(Seen::Orders(Listing::new(found)))
 }
 
-/// What the register holds of an intersection that is listed.
+/// What was seen of a cabinet that is known.
 fn filed_in(seen: Seen) -> Result<CabinetShown, Fault>
     ensures { result ≡ filed_in seen }
 {
@@ -124,58 +116,95 @@ fn filed_in(seen: Seen) -> Result<CabinetShown, Fault>
     }
 }
 
-pub(crate) fn read_cabinet<S: Shelf>(
+/// What the register holds of an intersection that is listed.
+fn read_cabinet<S: Shelf>(
     alloc: Global,
     office: &mut Office<S>,
     id: InterId,
 ) -> Result<CabinetShown, Fault>
-    ensures kept { KeepsShelf S.Shelf office.old office.new }
-    ensures clean { S.is_clean office.new → S.is_clean office.old }
-    ensures sees { TellsTables S.Shelf office.old office.new
-        (λ tables. SeesCabinet tables id result) }
+    ensures { OnlyLooks S.Shelf office.old office.new (λ tables. SeesCabinet tables id result) }
 {
     filed_in(see_reply(alloc, office, Command::Cabinet { id })?)
 }
 
-fn add_cabinet(
-    found: &mut Vec<ListedCabinet>,
-    listed: ListedIntersection,
-    cabinet: CabinetShown,
-) -> Result<(), NoMemory>
-    ensures { OnOk result (found.new.items
-        ≡ found.old.items ++ with_cabinet listed cabinet ∷ []) }
+/// How many warnings a committed plan has that was seen.
+fn warnings_in(alloc: Global, timing: &Seen) -> Result<usize, Fault>
+    ensures { IsCountOf timing.now result }
 {
-    found.push(ListedCabinet { listed, cabinet })?;
-    Ok(())
+    match timing {
+        Seen::Reply(Reply::Timing(timing)) => {
+            let found = warnings(alloc, &timing.rows)?;
+            Ok(found.len())
+        }
+        _ => Err(Fault::Store),
+    }
 }
 
-/// What the register holds of these intersections.
-fn cabinets_of<S: Shelf>(
+/// How many warnings the committed plan of an intersection has, where they are to be counted.
+fn count_warnings<S: Shelf>(
+    alloc: Global,
+    office: &mut Office<S>,
+    id: InterId,
+    counted: bool,
+) -> Result<Option<usize>, Fault>
+    ensures { OnlyLooks S.Shelf office.old office.new
+        (λ tables. SeesCount counted tables id result) }
+{
+    if !counted {
+        return Ok(None);
+    }
+    let timing = see_reply(alloc, office, Command::Timing { id })?;
+    Ok(Some(warnings_in(alloc, &timing)?))
+}
+
+/// What is gathered of an intersection that is listed.
+fn read_listed<S: Shelf>(
+    alloc: Global,
+    office: &mut Office<S>,
+    listed: ListedIntersection,
+    counted: bool,
+) -> Result<ListedCabinet, Fault>
+    ensures { OnlyLooks S.Shelf office.old office.new
+        (λ tables. SeesListed counted tables listed result) }
+{
+    let cabinet = read_cabinet(alloc, office, listed.id)?;
+    let warnings = count_warnings(alloc, office, listed.id, counted)?;
+    Ok(ListedCabinet {
+        listed,
+        cabinet,
+        warnings,
+    })
+}
+
+/// What is gathered of these intersections.
+fn read_cabinets<S: Shelf>(
     alloc: Global,
     office: &mut Office<S>,
     list: Vec<ListedIntersection>,
+    counted: bool,
 ) -> Result<Vec<ListedCabinet>, Fault>
-    ensures kept { KeepsShelf S.Shelf office.old office.new }
-    ensures clean { S.is_clean office.new → S.is_clean office.old }
-    ensures sees { TellsTables S.Shelf office.old office.new
-        (λ tables. Gives (SeesCabinets tables list.items) result) }
+    ensures { OnlyLooks S.Shelf office.old office.new
+        (λ tables. Gives (SeesCabinets counted tables list.items) result) }
 {
     let mut found = Vec::new(alloc);
     for listed in list {
-        let cabinet = read_cabinet(alloc, office, listed.id)?;
-        add_cabinet(&mut found, listed, cabinet)?;
+        let cabinet = read_listed(alloc, office, listed, counted)?;
+        add_to(&mut found, cabinet)?;
     }
     Ok(found)
 }
 
-/// What the register holds of each intersection, as it is seen.
-pub(crate) fn see_cabinets<S: Shelf>(alloc: Global, office: &mut Office<S>) -> Result<Seen, Fault>
-    ensures kept { KeepsShelf S.Shelf office.old office.new }
-    ensures clean { S.is_clean office.new → S.is_clean office.old }
-    ensures sees { TellsTables S.Shelf office.old office.new
-        (λ tables. Sees tables Query.Cabinets result) }
+/// What the register holds of each intersection, with its warnings where they are to be counted, as
+/// it is seen.
+pub(crate) fn see_cabinets<S: Shelf>(
+    alloc: Global,
+    office: &mut Office<S>,
+    counted: bool,
+) -> Result<Seen, Fault>
+    ensures { OnlyLooks S.Shelf office.old office.new
+        (λ tables. Sees tables (Query.Cabinets counted) result) }
 {
     let list = list_intersections(alloc, office)?;
-    let found = cabinets_of(alloc, office, list)?;
+    let found = read_cabinets(alloc, office, list, counted)?;
     Ok(Seen::Cabinets(Listing::new(found)))
 }

@@ -2,8 +2,8 @@
 //! and `parts` takes from that what a report or a command is made of, or the fault of a refusal.
 #![tactic(auto)]
 
-mod advising;
 mod asking;
+mod comparing;
 mod gathering;
 mod looking;
 mod parts;
@@ -11,10 +11,11 @@ mod refused;
 mod seen;
 
 pub use asking::ask;
+pub use comparing::comparison;
 pub use looking::look;
 pub use parts::{
-    advised_in, cabinet_in, cabinets_in, draft_in, first_seen, intersections_in, next_of,
-    open_draft_in, orders_seen, overdue_in, register_in, state_in, stock_in, timing_in,
+    cabinet_in, cabinets_in, draft_in, first_seen, intersections_in, next_of, open_draft_in,
+    orders_seen, overdue_in, register_in, state_in, stock_in, timing_in,
 };
 pub use refused::fault_of;
-pub use seen::{AdvisedCabinet, ListedCabinet, Query, Seen};
+pub use seen::{ListedCabinet, Query, Seen};

@@ -1,18 +1,16 @@
 //! A look at an office, by some queries.
 
-ghost use Rattle.std.specs.Prelude.{◌≡◌, ◌∷◌, ◌++◌, [], OnOk};
+ghost use Rattle.std.specs.Prelude.{◌≡◌};
 ghost use Rattle.office_desk.specs.Changes.{IsQueryCommand};
 ghost use Rattle.office_desk.specs.Damage.{MeetsDamage};
-ghost use Rattle.office_desk.specs.Running.{TellsTables};
 ghost use Rattle.office_machine.specs.Step.{answered};
-ghost use Rattle.office_tables_shelf.specs.Keeps.{KeepsShelf};
+ghost use Rattle.signal_office_queries.specs.Asks.{OnlyLooks};
 ghost use Rattle.signal_office_queries.specs.Seen.{Gives, IsAnswer, Looks, Sees, SeesAs, is_normal, seen_in};
 
-use crate::advising::see_advised;
 use crate::asking::ask;
 use crate::gathering::{see_cabinets, see_intersections, see_open_orders};
 use crate::refused::fault_of;
-use crate::seen::{Query, Seen};
+use crate::seen::{Query, Seen, add_to};
 use cabinet_core::Day;
 use draft_core::refusal::DraftRefusal;
 use draft_core::state::DbState;
@@ -22,7 +20,7 @@ use office_machine::refusal::Refusal;
 use office_machine::reply::{OverdueList, Reply};
 use office_tables_shelf::shelf::Shelf;
 use signal_office_faults::Fault;
-use signal_records::{InterId, NoMemory};
+use signal_records::InterId;
 use std::alloc::Global;
 
 /// What a reply shows.
@@ -43,9 +41,7 @@ pub(crate) fn see_reply<S: Shelf>(
     query: Command,
 ) -> Result<Seen, Fault>
     requires { IsQueryCommand query }
-    ensures kept { KeepsShelf S.Shelf office.old office.new }
-    ensures clean { S.is_clean office.new → S.is_clean office.old }
-    ensures sees { TellsTables S.Shelf office.old office.new (λ tables.
+    ensures { OnlyLooks S.Shelf office.old office.new (λ tables.
         SeesAs (λ before. Seen.Reply (answered before query).0) (IsAnswer tables query)
         (MeetsDamage tables query) tables result) }
 {
@@ -68,9 +64,7 @@ fn see_open_draft<S: Shelf>(
     office: &mut Office<S>,
     id: InterId,
 ) -> Result<Seen, Fault>
-    ensures kept { KeepsShelf S.Shelf office.old office.new }
-    ensures clean { S.is_clean office.new → S.is_clean office.old }
-    ensures sees { TellsTables S.Shelf office.old office.new
+    ensures { OnlyLooks S.Shelf office.old office.new
         (λ tables. Sees tables (Query.OpenDraft id) result) }
 {
     let state = see_reply(alloc, office, Command::State { id })?;
@@ -88,9 +82,7 @@ fn see_overdue<S: Shelf>(
     day: Day,
     most: usize,
 ) -> Result<Seen, Fault>
-    ensures kept { KeepsShelf S.Shelf office.old office.new }
-    ensures clean { S.is_clean office.new → S.is_clean office.old }
-    ensures sees { TellsTables S.Shelf office.old office.new
+    ensures { OnlyLooks S.Shelf office.old office.new
         (λ tables. Sees tables (Query.Overdue day most) result) }
 {
     match office.overdue_first(alloc, day, most) {
@@ -101,9 +93,7 @@ fn see_overdue<S: Shelf>(
 
 /// What one query sees.
 fn look_at<S: Shelf>(alloc: Global, office: &mut Office<S>, query: Query) -> Result<Seen, Fault>
-    ensures kept { KeepsShelf S.Shelf office.old office.new }
-    ensures clean { S.is_clean office.new → S.is_clean office.old }
-    ensures sees { TellsTables S.Shelf office.old office.new (λ tables. Sees tables query result) }
+    ensures { OnlyLooks S.Shelf office.old office.new (λ tables. Sees tables query result) }
 {
     match query {
         Query::State { id } => see_reply(alloc, office, Command::State { id }),
@@ -115,16 +105,8 @@ fn look_at<S: Shelf>(alloc: Global, office: &mut Office<S>, query: Query) -> Res
         Query::Overdue { day, most } => see_overdue(alloc, office, day, most),
         Query::Intersections => see_intersections(alloc, office),
         Query::OpenOrders => see_open_orders(alloc, office),
-        Query::Cabinets => see_cabinets(alloc, office),
-        Query::AdvisedCabinets => see_advised(alloc, office),
+        Query::Cabinets { with_warnings } => see_cabinets(alloc, office, with_warnings),
     }
-}
-
-fn add_seen(all: &mut Vec<Seen>, seen: Seen) -> Result<(), NoMemory>
-    ensures { OnOk result (all.new.items ≡ all.old.items ++ seen ∷ []) }
-{
-    all.push(seen)?;
-    Ok(())
 }
 
 /// What the queries see of an office, which stays as it is: all of the same office.
@@ -133,18 +115,15 @@ pub fn look<S: Shelf>(
     office: &mut Office<S>,
     queries: &[Query],
 ) -> Result<Vec<Seen>, Fault>
-    // It changes nothing.
-    ensures kept { KeepsShelf S.Shelf office.old office.new }
-    ensures clean { S.is_clean office.new → S.is_clean office.old }
     // Each is what the office shows where it is asked, and no damaged row was passed over. Where
     // it fails, memory or the database refused, or a row that is read is no record.
-    ensures looks { TellsTables S.Shelf office.old office.new
+    ensures { OnlyLooks S.Shelf office.old office.new
         (λ tables. Gives (Looks tables queries.now) result) }
 {
     let mut all = Vec::new(alloc);
     for query in queries {
         let seen = look_at(alloc, office, *query)?;
-        add_seen(&mut all, seen)?;
+        add_to(&mut all, seen)?;
     }
     Ok(all)
 }

@@ -2,10 +2,10 @@
 
 ghost use Rattle.std.specs.Prelude.{◌≡◌};
 ghost use Rattle.std.specs.Vec.Iter.{into_iter_items};
-ghost use Rattle.signal_office_queries.specs.Parts.{advised_in, cabinet_in, cabinets_in, draft_in, first_seen, intersections_in, open_draft_in, orders_seen, overdue_in, register_in, register_of, rest_of, state_in, stock_in, timing_in};
+ghost use Rattle.signal_office_queries.specs.Parts.{cabinet_in, cabinets_in, draft_in, first_seen, intersections_in, open_draft_in, orders_seen, overdue_in, register_in, rest_of, state_in, stock_in, timing_in};
 
 use crate::refused::fault_of;
-use crate::seen::{AdvisedCabinet, ListedCabinet, Seen};
+use crate::seen::{ListedCabinet, Seen};
 use draft_core::refusal::DraftRefusal;
 use office_machine::intersections::ListedIntersection;
 use office_machine::orders::NamedOrder;
@@ -124,16 +124,6 @@ pub fn cabinets_in(seen: Seen) -> Result<Listing<ListedCabinet>, Fault>
     }
 }
 
-/// What the register holds of each intersection, and how many warnings its committed plan has.
-pub fn advised_in(seen: Seen) -> Result<Listing<AdvisedCabinet>, Fault>
-    ensures { result ≡ advised_in seen }
-{
-    match seen {
-        Seen::AdvisedCabinets(cabinets) => Ok(cabinets),
-        _ => Err(Fault::Store),
-    }
-}
-
 /// The next of what was seen.
 pub fn next_of(seen: &mut IntoIter<Seen>) -> Seen
     ensures first { result ≡ first_seen (into_iter_items seen.old) }
@@ -153,20 +143,12 @@ pub fn first_seen(seen: Vec<Seen>) -> Seen
     next_of(&mut seen)
 }
 
-fn register_of(state: Seen, cabinet: Seen) -> Result<(IntersectionState, CabinetShown), Fault>
-    ensures { result ≡ register_of state cabinet }
-{
-    let state = state_in(state)?;
-    let cabinet = cabinet_in(cabinet)?;
-    Ok((state, cabinet))
-}
-
 /// What is known of an intersection, with what the register holds of it.
 pub fn register_in(seen: Vec<Seen>) -> Result<(IntersectionState, CabinetShown), Fault>
     ensures { result ≡ register_in seen.items }
 {
     let mut seen = seen.into_iter();
-    let state = next_of(&mut seen);
-    let cabinet = next_of(&mut seen);
-    register_of(state, cabinet)
+    let state = state_in(next_of(&mut seen))?;
+    let cabinet = cabinet_in(next_of(&mut seen))?;
+    Ok((state, cabinet))
 }

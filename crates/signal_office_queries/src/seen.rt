@@ -1,10 +1,12 @@
 //! What a report asks of an office, and what it sees.
 
+ghost use Rattle.std.specs.Prelude.{◌≡◌, ◌∷◌, ◌++◌, [], OnOk};
+
 use cabinet_core::Day;
 use office_machine::intersections::ListedIntersection;
 use office_machine::orders::NamedOrder;
 use office_machine::reply::{CabinetShown, Reply};
-use signal_records::{InterId, Listing};
+use signal_records::{InterId, Listing, NoMemory};
 
 /// What a report asks of an office, which stays as it is.
 #[derive(Clone, Copy)]
@@ -27,26 +29,18 @@ pub enum Query {
     Intersections,
     /// The open orders of all intersections.
     OpenOrders,
-    /// What the register holds of each intersection.
-    Cabinets,
-    /// What the register holds of each intersection, and how many warnings its committed plan has.
-    AdvisedCabinets,
+    /// What the register holds of each intersection; and how many warnings its committed plan has,
+    /// where that is asked too. No plan is read else.
+    Cabinets { with_warnings: bool },
 }
 
-/// An intersection that is listed, with all that the register holds of it.
+/// An intersection that is listed, with all that the register holds of it, and with how many
+/// warnings its committed plan has, where they were counted.
 #[derive(Drop)]
 pub struct ListedCabinet {
     pub listed: ListedIntersection,
     pub cabinet: CabinetShown,
-}
-
-/// An intersection that is listed, with all that the register holds of it, and with how many
-/// warnings its committed plan has.
-#[derive(Drop)]
-pub struct AdvisedCabinet {
-    pub listed: ListedIntersection,
-    pub cabinet: CabinetShown,
-    pub warnings: usize,
+    pub warnings: Option<usize>,
 }
 
 /// What a query sees. That an intersection is unknown, or has no draft, is what is seen of it.
@@ -56,5 +50,12 @@ pub enum Seen {
     Intersections(Listing<ListedIntersection>),
     Orders(Listing<NamedOrder>),
     Cabinets(Listing<ListedCabinet>),
-    AdvisedCabinets(Listing<AdvisedCabinet>),
+}
+
+/// Adds one to a list.
+pub(crate) fn add_to<T: Drop>(list: &mut Vec<T>, it: T) -> Result<(), NoMemory>
+    ensures { OnOk result (list.new.items ≡ list.old.items ++ it ∷ []) }
+{
+    list.push(it)?;
+    Ok(())
 }

@@ -1,19 +1,19 @@
 -- What the index of an office is an index of.
-use Rattle.std.specs.Prelude.{◌≡◌, ℕ, List, [], map, Option, Some, None}
-use Rattle.std.specs.FinMap.{entries}
+use Rattle.std.specs.Prelude.{◌≡◌, ℕ, true, List, [], map, Option, Some, None}
 use Rattle.cabinet_core.specs.Overdue.{Listed}
 use Rattle.cabinet_core.specs.Stock.{stock_of}
+use Rattle.office_machine.specs.Listed.{intersections_of}
 use Rattle.office_machine.specs.Office.{Office}
 use Rattle.office_machine.specs.Step.{overdue_on}
 use Rattle.signal_page.specs.Index.{IsIndex}
 use Rattle.signal_page.specs.Overdue.{number_of_entry, overdue_among}
 use Rattle.signal_office_reports.specs.Reports.{index_shown}
-use Rattle.signal_office_queries.specs.Seen.{cabinet_advised}
+use Rattle.signal_office_queries.specs.Seen.{cabinet_listed}
 use Rattle.signal_page.specs.declared.index_shown.IndexShown.{IndexShown}
 
 -- what the index of an office shows: its intersections by their numbers, each with the number of warnings of its committed plan, their open orders, and the stock
 abbrev pub index_from : Office → IndexShown
-index_from office = index_shown (map (cabinet_advised office) (entries office.intersections)) (stock_of office.register)
+index_from office = index_shown (map (cabinet_listed true office) (intersections_of office)) (stock_of office.register)
 
 -- the numbers of the intersections that are overdue on the day, if one is given
 abbrev pub late_in : Office → Option ℕ → List ℕ

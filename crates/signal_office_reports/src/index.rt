@@ -1,33 +1,32 @@
 //! The index of all intersections, and what was used at them.
 
-ghost use Rattle.std.specs.Prelude.{◌≡◌, flat_map, map, IfOk};
-ghost use Rattle.signal_office_reports.specs.Reports.{IsMade, IsUsedMade, index_entry_of, index_in, index_of, index_shown, named_of, used_among};
-ghost use Rattle.signal_office_queries.specs.Seen.{Gives};
+ghost use Rattle.std.specs.Prelude.{◌≡◌, [], flat_map, map, IfOk};
+ghost use Rattle.signal_office_faults.specs.Done.{came_to};
+ghost use Rattle.signal_office_reports.specs.Reports.{IsMade, index_entry_of, index_in, index_shown, named_of, used_among};
 
 use cabinet_core::{Day, PartCode};
 use office_listings::{UsedPart, add_used, used_list};
 use office_machine::orders::{NamedOrder, add_named_orders};
 use office_machine::reply::Stock;
-use signal_office_faults::Fault;
-use signal_office_line::Shown;
-use signal_office_queries::{
-    AdvisedCabinet, ListedCabinet, Seen, advised_in, cabinets_in, first_seen, next_of, stock_in,
-};
+use signal_office_faults::{Done, Fault};
+use signal_office_line::{Part, Shown};
+use signal_office_queries::{ListedCabinet, Seen, cabinets_in, first_seen, next_of, stock_in};
 use signal_page::{IndexEntry, IndexShown, add_entry, index_page};
 use signal_records::{Listing, NoMemory};
 use std::alloc::Global;
 
-fn entries_in(alloc: Global, cabinets: &[AdvisedCabinet]) -> Result<Vec<IndexEntry>, NoMemory>
+fn entries_in(alloc: Global, cabinets: &[ListedCabinet]) -> Result<Vec<IndexEntry>, NoMemory>
     ensures { IfOk result (λ entries. entries.items ≡ map index_entry_of cabinets.now) }
 {
     let mut entries = Vec::new(alloc);
     for it in cabinets {
-        add_entry(&mut entries, &it.listed, &it.cabinet, it.warnings)?;
+        let warnings = it.warnings.unwrap_or(0);
+        add_entry(&mut entries, &it.listed, &it.cabinet, warnings)?;
     }
     Ok(entries)
 }
 
-fn orders_in(alloc: Global, cabinets: &[AdvisedCabinet]) -> Result<Vec<NamedOrder>, NoMemory>
+fn orders_in(alloc: Global, cabinets: &[ListedCabinet]) -> Result<Vec<NamedOrder>, NoMemory>
     ensures { IfOk result (λ orders. orders.items ≡ flat_map named_of cabinets.now) }
 {
     let mut orders = Vec::new(alloc);
@@ -39,7 +38,7 @@ fn orders_in(alloc: Global, cabinets: &[AdvisedCabinet]) -> Result<Vec<NamedOrde
 
 fn index_shown(
     alloc: Global,
-    cabinets: &[AdvisedCabinet],
+    cabinets: &[ListedCabinet],
     stock: Stock,
 ) -> Result<IndexShown, NoMemory>
     ensures { IfOk result (λ shown. shown ≡ index_shown cabinets.now stock) }
@@ -54,30 +53,32 @@ fn index_shown(
 }
 
 /// The cabinets that an index shows, with the warnings of their plans, and the stock.
-fn index_of(cabinets: Seen, stock: Seen) -> Result<(Listing<AdvisedCabinet>, Stock), Fault>
-    ensures { result ≡ index_of cabinets stock }
-{
-    let cabinets = advised_in(cabinets)?;
-    let stock = stock_in(stock)?;
-    Ok((cabinets, stock))
-}
-
-fn index_in(seen: Vec<Seen>) -> Result<(Listing<AdvisedCabinet>, Stock), Fault>
+fn index_in(seen: Vec<Seen>) -> Result<(Listing<ListedCabinet>, Stock), Fault>
     ensures { result ≡ index_in seen.items }
 {
     let mut seen = seen.into_iter();
-    let cabinets = next_of(&mut seen);
-    let stock = next_of(&mut seen);
-    index_of(cabinets, stock)
+    let cabinets = cabinets_in(next_of(&mut seen))?;
+    let stock = stock_in(next_of(&mut seen))?;
+    Ok((cabinets, stock))
 }
 
 /// The index page, with those that are overdue on a day, if one is given.
-pub(crate) fn index(alloc: Global, day: Option<Day>, seen: Vec<Seen>) -> Result<Vec<u8>, Fault>
-    ensures { Gives (IsMade (Shown.Index day) seen.items) result }
+pub(crate) fn index(alloc: Global, day: Option<Day>, seen: Vec<Seen>) -> Result<Done, Fault>
+    ensures { IsMade (Shown.Index day) [] seen.items (came_to result) }
 {
     let (cabinets, stock) = index_in(seen)?;
     let shown = index_shown(alloc, cabinets.as_slice(), stock)?;
-    Ok(index_page(alloc, &shown, day)?)
+    Ok(Done::with(index_page(alloc, &shown, day)?))
+}
+
+/// The code of a part, in memory of its own, where one is named.
+fn code_of(alloc: Global, part: &Option<Part<'_>>) -> Result<Option<PartCode>, NoMemory>
+    ensures { IfOk result (λ code. code ≡ part.now) }
+{
+    match part {
+        Some(part) => Ok(Some(part.to_code(alloc)?)),
+        None => Ok(None),
+    }
 }
 
 fn used_among(
@@ -94,16 +95,18 @@ fn used_among(
     Ok(found)
 }
 
-/// What was used of all parts, or of one, as a text or as CSV.
-pub(crate) fn used_text_of(
+/// What was used of all parts, or of the one that is named, for the orders of all intersections,
+/// closed ones too, as a text or as CSV.
+pub(crate) fn used(
     alloc: Global,
-    part: &Option<PartCode>,
+    part: &Option<Part<'_>>,
     csv: bool,
     seen: Vec<Seen>,
-) -> Result<Vec<u8>, Fault>
-    ensures { Gives (IsUsedMade part.now csv seen.items) result }
+) -> Result<Done, Fault>
+    ensures { IsMade (Shown.Used part.now csv) [] seen.items (came_to result) }
 {
     let cabinets = cabinets_in(first_seen(seen))?;
-    let found = used_among(alloc, part, cabinets.as_slice())?;
-    Ok(used_list(alloc, csv, &found)?)
+    let code = code_of(alloc, part)?;
+    let found = used_among(alloc, &code, cabinets.as_slice())?;
+    Ok(Done::with(used_list(alloc, csv, &found)?))
 }

@@ -2,10 +2,11 @@
 //! seen. A new report is a `Shown` with a line of `queries_of` and a text of its own.
 #![tactic(auto)]
 
+mod comparing;
 mod index;
 mod page;
 mod queries;
 mod reporting;
 mod text;
 
-pub use reporting::{report, used};
+pub use reporting::report;

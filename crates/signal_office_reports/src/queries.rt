@@ -29,7 +29,7 @@ fn export_queries(alloc: Global, id: InterId, view: View) -> Result<Vec<Query>, 
 }
 
 /// What is asked for it.
-pub(crate) fn queries_of(alloc: Global, shown: &Shown) -> Result<Vec<Query>, NoMemory>
+pub(crate) fn queries_of(alloc: Global, shown: &Shown<'_>) -> Result<Vec<Query>, NoMemory>
     ensures { IfOk result (λ queries. queries.items ≡ queries_of shown.now) }
 {
     match *shown {
@@ -38,15 +38,29 @@ pub(crate) fn queries_of(alloc: Global, shown: &Shown) -> Result<Vec<Query>, NoM
         Shown::List { .. } => Ok(vec![in alloc; Query::Intersections]?),
         Shown::Stock { .. } => Ok(vec![in alloc; Query::Stock]?),
         Shown::Orders { id, csv } => orders_queries(alloc, id, csv),
+        Shown::Used { .. } => Ok(vec![in alloc;
+            Query::Cabinets {
+                with_warnings: false
+            },
+        ]?),
         Shown::Cabinet { id } => Ok(vec![in alloc; Query::State { id }, Query::Cabinet { id }]?),
         Shown::Export { id, view } => export_queries(alloc, id, view),
         Shown::Diagram { id, .. } => Ok(vec![in alloc; Query::Timing { id }]?),
+        Shown::CompareDraft { id, .. } => {
+            Ok(vec![in alloc; Query::Timing { id }, Query::Draft { id }]?)
+        }
+        Shown::CompareRunning { id, .. } => Ok(vec![in alloc; Query::Timing { id }]?),
         Shown::Page { id, .. } => Ok(vec![in alloc;
             Query::State { id },
             Query::Timing { id },
             Query::OpenDraft { id },
             Query::Cabinet { id },
         ]?),
-        Shown::Index { .. } => Ok(vec![in alloc; Query::AdvisedCabinets, Query::Stock]?),
+        Shown::Index { .. } => Ok(vec![in alloc;
+            Query::Cabinets {
+                with_warnings: true,
+            },
+            Query::Stock,
+        ]?),
     }
 }

@@ -2,17 +2,17 @@
 use Rattle.std.proofs.Common.{◌≡◌, ℕ, suc, ◌<◌, ◌≤◌, ◌⊎◌, inl, inr, List, [], ◌∷◌, ◌++◌, length, get_or, flat_map, refl, sym, ap, ap₂, ◌∙◌, arith, append-nil}
 use Rattle.std.proofs.{lemmas.Bool.cases_lt, lemmas.Bool.ne_eqb, lemmas.Str.inside_one, lemmas.Grind.flat_map-append}
 use Rattle.std.specs.Prelude.{encode_utf8}
-use Rattle.signal_page.specs.Words.{escaped, escaped_byte}
+use Rattle.signal_page.specs.Words.{escaped_text, escaped_byte}
 
 -- nothing is left
-pub escaped_empty : (words : List ℕ) → length words ≡ 0 → escaped words ≡ []
-unfolding escaped
+pub escaped_empty : (words : List ℕ) → length words ≡ 0 → escaped_text words ≡ []
+unfolding escaped_text
 escaped_empty [] none = refl
 escaped_empty (b ∷ bs) none = absurd (omega arith)
 
 -- a character more
-pub escaped_step : (words rest : List ℕ) (c : ℕ) → words ≡ encode_utf8 c ++ rest → escaped words ≡ flat_map escaped_byte (encode_utf8 c) ++ escaped rest
-unfolding escaped
+pub escaped_step : (words rest : List ℕ) (c : ℕ) → words ≡ encode_utf8 c ++ rest → escaped_text words ≡ flat_map escaped_byte (encode_utf8 c) ++ escaped_text rest
+unfolding escaped_text
 escaped_step words rest c parts = ap (flat_map escaped_byte) parts ∙ flat_map-append escaped_byte (encode_utf8 c) rest
 
 -- ---- a character that is written as it is

@@ -2,7 +2,7 @@
 use Rattle.std.proofs.Common.{◌≡◌, ℕ, eqb, Bool, true, false, List, [], ◌∷◌, ◌++◌, codes, refl, ap, ◌∙◌}
 use Rattle.std.proofs.lemmas.Bool.{eqb-true}
 use Rattle.std.specs.Prelude.{cond}
-use Rattle.signal_page.specs.{Words.escaped_byte, Words.escaped, Words.read_after, Words.unescaped}
+use Rattle.signal_page.specs.{Words.escaped_byte, Words.escaped_text, Words.read_after, Words.unescaped_text}
 
 -- a text is read as a byte, whatever follows
 abbrev pub IsReadAs : ℕ → List ℕ → List ℕ → Type 0
@@ -33,7 +33,7 @@ byte_read b rest =
     (λ e. entity b 39 rest (codes "&#39;") refl (eqb-true b 39 e))
     (λ _. plain b rest other)))))
 
-pub restored : (words : List ℕ) → unescaped (escaped words) ≡ words
-unfolding escaped
+pub restored : (words : List ℕ) → unescaped_text (escaped_text words) ≡ words
+unfolding escaped_text
 restored [] = refl
-restored (b ∷ bs) = byte_read b (escaped bs) ∙ ap (λ (xs : List ℕ). b ∷ xs) (restored bs)
+restored (b ∷ bs) = byte_read b (escaped_text bs) ∙ ap (λ (xs : List ℕ). b ∷ xs) (restored bs)

@@ -4,8 +4,8 @@ use Rattle.std.proofs.lemmas.List.Elements.{filter-append}
 use Rattle.std.specs.Prelude.{cond, decimal}
 use Rattle.cabinet_core.specs.declared.record.UsedLine.{UsedLine}
 use Rattle.office_files.specs.Cells.{when_empty}
-use Rattle.signal_page.specs.Words.{escaped_byte, escaped, is_markup, marks}
-use Rattle.signal_page.specs.Nodes.{Shown, Name, Title, Parts, isolated, order_line_text, node_text, html, blank_line, blank, IsHtml}
+use Rattle.signal_page.specs.Words.{escaped_byte, escaped_text, is_markup, marks}
+use Rattle.signal_page.specs.Nodes.{Shown, Name, Title, Parts, isolated_text, order_line_text, node_text, html, blank_line, blank, IsHtml}
 
 -- the markup characters of two texts, one after the other
 both : (a b : List ℕ) → marks (a ++ b) ≡ marks a ++ marks b
@@ -34,18 +34,18 @@ byte_marks b =
     in_case (eqb b 34) (codes "&quot;") _ refl (λ quot.
     in_case (eqb b 39) (codes "&#39;") _ refl (λ apos. plain b lt gt quot apos)))))
 
-escaped_marks : (words : List ℕ) → marks (escaped words) ≡ []
-unfolding escaped marks
+escaped_marks : (words : List ℕ) → marks (escaped_text words) ≡ []
+unfolding escaped_text marks
 escaped_marks [] = refl
 escaped_marks (b ∷ bs) =
-    filter-append is_markup (escaped_byte b) (escaped bs)
+    filter-append is_markup (escaped_byte b) (escaped_text bs)
     ∙ ap₂ (λ (xs ys : List ℕ). xs ++ ys) (byte_marks b) (escaped_marks bs)
 
-escaped_same : (x y : List ℕ) → marks (escaped x) ≡ marks (escaped y)
+escaped_same : (x y : List ℕ) → marks (escaped_text x) ≡ marks (escaped_text y)
 escaped_same x y = escaped_marks x ∙ sym (escaped_marks y)
 
-isolated_same : (x y : List ℕ) → marks (isolated x) ≡ marks (isolated y)
-unfolding isolated
+isolated_same : (x y : List ℕ) → marks (isolated_text x) ≡ marks (isolated_text y)
+unfolding isolated_text
 isolated_same x y = joined _ _ (codes "</bdi>") _ (joined (codes "<bdi>") _ _ _ refl (escaped_same x y)) refl
 
 -- ---- what stands in a page

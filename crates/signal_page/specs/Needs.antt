@@ -60,5 +60,5 @@ abbrev pub coordinates : Rows → ℕ → ℕ → Bool
 coordinates set n p = is_some (phase_at set p) && is_coordinated (split_at set n p)
 
 -- the phases that a split plan coordinates
-abbrev pub coordinated : Rows → ℕ → List ℕ
-coordinated set n = filter (coordinates set n) phase_numbers
+abbrev pub coordinated_in : Rows → ℕ → List ℕ
+coordinated_in set n = filter (coordinates set n) phase_numbers

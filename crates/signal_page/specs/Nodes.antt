@@ -6,7 +6,7 @@ use Rattle.office_files.specs.Cells.{tenths, numbers_text, when_empty}
 use Rattle.office_files.specs.Records.{is_line_of}
 use Rattle.signal_page.specs.declared.nodes.Node.{Node}
 use Rattle.signal_page.specs.declared.nodes.Node.TheVariants as node
-use Rattle.signal_page.specs.Words.{escaped, marks}
+use Rattle.signal_page.specs.Words.{escaped_text, marks}
 
 -- What stands in a page: markup and words of its own, numbers, tenths above and below zero, a dash
 -- in place of a number, nothing; the number that heads a row, alone or as a link to the page of an
@@ -62,14 +62,14 @@ day_or words None = words
 day_or words (Some day) = day_text day
 
 -- a name or text of others in the page's body, where its direction stays within it
-unfoldable pub isolated : List ℕ → List ℕ
-isolated words = codes "<bdi>" ++ escaped words ++ codes "</bdi>"
+unfoldable pub isolated_text : List ℕ → List ℕ
+isolated_text words = codes "<bdi>" ++ escaped_text words ++ codes "</bdi>"
 
 -- a line of an order: its number, and the part that was used
 unfoldable pub order_line_text : UsedLine → List ℕ
 order_line_text line =
     codes "<div>" ++ decimal line.line ++ codes ": " ++ decimal line.count ++ codes " &times; "
-    ++ isolated line.part ++ codes "</div>"
+    ++ isolated_text line.part ++ codes "</div>"
 
 -- the words for a split that is short by so many tenths of a second
 unfoldable pub short_words : ℕ → List ℕ
@@ -96,8 +96,8 @@ node_text (Last day) = day_or (codes "none") day
 node_text (Due day late) =
     day_or (codes "never inspected") day
     ++ (if late then codes " <strong class='late'>overdue</strong>" else [])
-node_text (Name words) = isolated words
-node_text (Title words) = escaped words
+node_text (Name words) = isolated_text words
+node_text (Title words) = escaped_text words
 node_text (Parts lines) = when_empty lines (codes "none") ++ flat_map order_line_text lines
 
 -- a page as a text

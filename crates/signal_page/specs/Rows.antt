@@ -20,7 +20,7 @@ use Rattle.signal_rules.specs.declared.violation.Subject.TheVariants as subject
 use Rattle.signal_page.specs.declared.rows.Kind.{Kind}
 use Rattle.signal_page.specs.declared.rows.Kind.TheVariants as kind
 use Rattle.signal_page.specs.declared.rows.Remarks.{Remarks}
-use Rattle.signal_page.specs.Needs.{called_cells, need_at, need_cell, spare_cell, coordinated}
+use Rattle.signal_page.specs.Needs.{called_cells, need_at, need_cell, spare_cell, coordinated_in}
 use Rattle.signal_page.specs.Nodes.{Shown, Own, Number, Tenths, Dash, Head, Phases}
 use Rattle.signal_page.specs.Tables.{Heading, Numbers, Words, TableLine, Row as row_line, Broken, Warned, table}
 
@@ -72,7 +72,7 @@ abbrev pub cells_of : Rows → Row → List Shown
 cells_of set (row.Phase p phase) = phase_cells p phase
 cells_of set (row.Seq n ring seq) = Head n ∷ Head ring ∷ Phases seq.list ∷ []
 cells_of set (row.Split n p split) = split_cells set n p split
-cells_of set (row.Pattern n pattern) = pattern_cells n pattern (coordinated set pattern.split)
+cells_of set (row.Pattern n pattern) = pattern_cells n pattern (coordinated_in set pattern.split)
 
 -- ---- the remarks on a row
 

@@ -10,8 +10,8 @@ escaped_byte b =
     (if b == 34 then codes "&quot;" else (if b == 39 then codes "&#39;" else b ∷ []))))
 
 -- a name or text as it is written
-unfoldable pub escaped : List ℕ → List ℕ
-escaped words = flat_map escaped_byte words
+unfoldable pub escaped_text : List ℕ → List ℕ
+escaped_text words = flat_map escaped_byte words
 
 -- the characters of which tags and attributes are made
 abbrev pub is_markup : ℕ → Bool
@@ -44,5 +44,5 @@ read_after (b ∷ bs) zero =
     if b == 38 then (entity bs).0 ∷ read_after bs (entity bs).1 else b ∷ read_after bs 0
 
 -- the text that a reader takes from what is written
-abbrev pub unescaped : List ℕ → List ℕ
-unescaped text = read_after text 0
+abbrev pub unescaped_text : List ℕ → List ℕ
+unescaped_text text = read_after text 0

@@ -4,7 +4,7 @@ ghost use Rattle.std.specs.Prelude.{◌≡◌, ◌++◌, ℕ, List, OnOk, IfOk, 
 ghost use Rattle.signal_page.specs.Nodes.{IsHtml, html, shown_of};
 ghost use Rattle.signal_page.specs.Page.{IsPage, IsPlanPage, cabinet_section, draft_body, draft_section, page_head, header, heading, link_if, links, open_draft, page, page_end, plan_page, plan_section};
 ghost use Rattle.signal_page.specs.Rows.{remarks_by};
-ghost use Rattle.signal_page.specs.Words.{escaped, unescaped};
+ghost use Rattle.signal_page.specs.Words.{escaped_text, unescaped_text};
 
 use crate::changes::push_changes_part;
 use crate::facts::{push_cabinet_facts, push_draft_facts};
@@ -270,7 +270,7 @@ pub fn intersection_page(
     // It is that of its definition, and whatever names and texts hold, its tags are its own.
     ensures page { IfOk result (λ text. IsPage linked shown.now text.items) }
     // A reader takes each name and text back as it was.
-    ensures read { (words : List ℕ) → unescaped (escaped words) ≡ words }
+    ensures read { (words : List ℕ) → unescaped_text (escaped_text words) ≡ words }
 {
     let advice = warnings(alloc, &shown.committed)?;
     let runs = Remarks {

@@ -5,7 +5,7 @@ ghost use Rattle.signal_page.specs.Index.{IsIndex, day_note, entry_line, holder_
 ghost use Rattle.signal_page.specs.Nodes.{IsHtml, html, shown_by};
 ghost use Rattle.signal_page.specs.Overdue.{is_overdue, is_past_due, others_among, overdue_among, overdue_before};
 ghost use Rattle.signal_page.specs.Tables.{line_nodes, lines_nodes};
-ghost use Rattle.signal_page.specs.Words.{escaped, unescaped};
+ghost use Rattle.signal_page.specs.Words.{escaped_text, unescaped_text};
 
 use crate::columns::{INTERSECTION_COLUMNS, NAMED_ORDER_COLUMNS, STOCK_COLUMNS};
 use crate::document::{end_page, push_head};
@@ -299,7 +299,7 @@ pub fn index_page(alloc: Global, shown: &IndexShown, day: Option<Day>) -> Result
     // It is that of its definition, its tags are its own, and each intersection has its row.
     ensures page { IfOk result (λ text. IsIndex day shown.now text.items) }
     // A reader takes each name and text back as it was.
-    ensures read { (words : List ℕ) → unescaped (escaped words) ≡ words }
+    ensures read { (words : List ℕ) → unescaped_text (escaped_text words) ≡ words }
 {
     whole_index(alloc, shown, &day)
 }

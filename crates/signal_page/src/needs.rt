@@ -3,7 +3,7 @@
 ghost use Rattle.std.specs.Prelude.{◌≡◌, ◌*◌, ◌∷◌, [], IfOk};
 ghost use Rattle.signal_rules.specs.Lookup.{phase_at};
 ghost use Rattle.signal_rules.specs.SplitRule.{need_if_called};
-ghost use Rattle.signal_page.specs.Needs.{called_cells, coordinated, coordinates, need_at, need_cell, part_word, spare_cell, walk_cells};
+ghost use Rattle.signal_page.specs.Needs.{called_cells, coordinated_in, need_at, need_cell, part_word, spare_cell, walk_cells};
 ghost use Rattle.signal_page.specs.Nodes.{shown_by, shown_of};
 
 use crate::nodes::Node;
@@ -101,24 +101,17 @@ pub(crate) fn called_cells(set: &TimingSet, p: PhaseNo, split: &Split) -> Called
     }
 }
 
-/// Whether a split plan coordinates a phase of the set.
-fn coordinates(set: &TimingSet, n: SplitNo, p: PhaseNo) -> bool
-    ensures { result ≡ coordinates set.now n p }
-{
-    has_phase(set, p) && is_coordinated(split_at(set, n, p))
-}
-
 /// The phases that a split plan coordinates, ascending.
-pub(crate) fn coordinated(
+pub(crate) fn coordinated_in(
     alloc: Global,
     set: &TimingSet,
     n: SplitNo,
 ) -> Result<Vec<PhaseNo>, NoMemory>
-    ensures { IfOk result (λ found. found.items ≡ coordinated set.now n) }
+    ensures { IfOk result (λ found. found.items ≡ coordinated_in set.now n) }
 {
     let mut found = Vec::new(alloc);
     for p in PhaseNo::all() {
-        if coordinates(set, n, p) {
+        if has_phase(set, p) && is_coordinated(split_at(set, n, p)) {
             found.push(p)?;
         }
     }

@@ -4,7 +4,7 @@ ghost use Rattle.std.specs.Prelude.{◌≡◌, ◌∷◌, ◌++◌, [], OnOk, fi
 ghost use Rattle.std.specs.List.{list_any};
 ghost use Rattle.office_files.specs.Cells.{tenths};
 ghost use Rattle.office_files.specs.Records.{is_line_of};
-ghost use Rattle.signal_page.specs.Nodes.{day_or, html, isolated, node_text, order_line_text, short_mark, short_words, shown_by, shown_of, Due, Own, Parts};
+ghost use Rattle.signal_page.specs.Nodes.{day_or, html, isolated_text, node_text, order_line_text, short_mark, short_words, shown_by, shown_of, Due, Own, Parts};
 
 use crate::words::push_escaped;
 use cabinet_core::{Date, UsedLine, push_date};
@@ -99,9 +99,10 @@ fn push_due(text: &mut String, day: Option<Date>, late: bool) -> Result<(), Allo
 }
 
 /// Appends a name or text of others, whose direction stays within it.
-#[tactic(auto, unfolding(crate::specs::Nodes::isolated))]
+#[tactic(auto, unfolding(crate::specs::Nodes::isolated_text))]
 fn push_isolated(text: &mut String, words: &str) -> Result<(), AllocError>
-    ensures { OnOk result (string_bytes text.new ≡ string_bytes text.old ++ isolated words.now) }
+    ensures { OnOk result
+        (string_bytes text.new ≡ string_bytes text.old ++ isolated_text words.now) }
 {
     text.push_str("<bdi>")?;
     push_escaped(text, words)?;

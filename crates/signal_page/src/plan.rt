@@ -31,13 +31,6 @@ fn push_figure(
     }
 }
 
-/// How long walk and clearance take, in seconds.
-fn walking(ped: &Ped) -> u32
-    ensures { result ≡ ped.now.walk + ped.now.clear }
-{
-    u32::from(ped.walk) + u32::from(ped.clear)
-}
-
 /// The tenths of a second that a split has before yellow.
 fn before_yellow(split: &Split, phase: &Phase) -> u32
     ensures { result ≡ before_yellow split.now phase.now }
@@ -73,7 +66,7 @@ fn push_cut_words(
             Node::Own("<p>Phase "),
             Node::Number(u64::from(p.get())),
             Node::Own(": walk and pedestrian clearance take "),
-            Node::Number(u64::from(walking(ped))),
+            Node::Number(u64::from(ped.walk) + u64::from(ped.clear)),
             Node::Own(" s, and the split of "),
             Node::Number(u64::from(split.time)),
             Node::Own(" s has "),

@@ -6,7 +6,7 @@ ghost use Rattle.signal_page.specs.Rows.{broken_lines, cells_of, columns, flag_w
 ghost use Rattle.signal_page.specs.Tables.{cells_beside, headings_by, lines_nodes, row_of};
 
 use crate::columns::{PATTERN_COLUMNS, PHASE_COLUMNS, SEQUENCE_COLUMNS, SPLIT_COLUMNS};
-use crate::needs::{called_cells, coordinated, need_at, need_cell, spare_cell};
+use crate::needs::{called_cells, coordinated_in, need_at, need_cell, spare_cell};
 use crate::nodes::Node;
 use crate::tables::{Column, end_table, open_table, push_broken_row, push_cells, push_warned_row};
 use signal_plans::{Scope, Warning};
@@ -219,7 +219,7 @@ fn push_cells_of(
         Row::Seq(n, ring, seq) => push_cells(text, &sequence_cells(*n, *ring, seq), others),
         Row::Split(n, p, split) => push_cells(text, &split_cells(set, *n, *p, split), others),
         Row::Pattern(n, pattern) => {
-            let phases = coordinated(alloc, set, pattern.split)?;
+            let phases = coordinated_in(alloc, set, pattern.split)?;
             push_cells(text, &pattern_cells(*n, pattern, &phases), others)
         }
     }
@@ -252,7 +252,7 @@ pub(crate) fn push_cells_beside(
             )
         }
         Row::Pattern(n, pattern) => {
-            let phases = coordinated(alloc, other_set, pattern.split)?;
+            let phases = coordinated_in(alloc, other_set, pattern.split)?;
             push_cells_of(alloc, text, set, row, &pattern_cells(*n, pattern, &phases))
         }
     }

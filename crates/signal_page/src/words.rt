@@ -1,7 +1,7 @@
 //! Names and texts of others in a page.
 
 ghost use Rattle.std.specs.Prelude.{◌≡◌, ◌++◌, OnOk, encode_utf8, flat_map, string_bytes};
-ghost use Rattle.signal_page.specs.Words.{escaped, escaped_byte};
+ghost use Rattle.signal_page.specs.Words.{escaped_text, escaped_byte};
 
 use std::alloc::AllocError;
 
@@ -22,7 +22,8 @@ fn push_character(text: &mut String, c: char) -> Result<(), AllocError>
 
 /// Appends a name or text of others so that no character of it is markup.
 pub(crate) fn push_escaped(text: &mut String, words: &str) -> Result<(), AllocError>
-    ensures { OnOk result (string_bytes text.new ≡ string_bytes text.old ++ escaped words.now) }
+    ensures { OnOk result
+        (string_bytes text.new ≡ string_bytes text.old ++ escaped_text words.now) }
 {
     for c in words.chars() {
         push_character(text, c)?;

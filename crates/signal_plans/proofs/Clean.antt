@@ -12,7 +12,7 @@ use Rattle.signal_rules.specs.SplitRule.{split_cases}
 use Rattle.signal_rules.specs.PatternRules.{rows_cases, has_rows, offset_cases, coordination_cases, sum_cases, lanes_fill_cycle, lanes_agree, conflict_cases}
 use Rattle.signal_rules.specs.Lanes.{used_rings}
 use Rattle.signal_rules.specs.Slots.{spans_of, conflicts_in}
-use Rattle.signal_rules.specs.Violations.{Findings, explained, broken, violations_in, phase_findings, pattern_findings, for_phase, for_sequence, for_split, for_pattern, violations_at, violations_of, split_rows, split_subjects}
+use Rattle.signal_rules.specs.Violations.{Findings, with_reason, broken, violations_in, phase_findings, pattern_findings, for_phase, for_sequence, for_split, for_pattern, violations_at, violations_of, split_rows, split_subjects}
 use Rattle.signal_rules.specs.declared.violation.Rule.TheVariants as rule
 use Rattle.signal_rules.specs.declared.violation.Subject.TheVariants as subject
 use Rattle.signal_rules.proofs.{Kept.nil_append, Kept.nil_parts, Among.in_filter, Slots.conflicts_of_slots}
@@ -66,7 +66,7 @@ all_hold fs = list_all (λ (f : Rule × Cases Reason). holds f.1) fs
 none_broken : (s : Subject) (fs : Findings) → violations_in (broken s fs) ≡ [] → all_hold fs ≡ true
 none_broken s [] none = refl
 none_broken s ((r, cs) ∷ fs) none = by_reason (first_true cs) refl (none_broken s fs) none where
-  by_reason : (o : Option Reason) → first_true cs ≡ o → (violations_in (broken s fs) ≡ [] → all_hold fs ≡ true) → violations_in (explained s r o (broken s fs)) ≡ [] → (holds cs && all_hold fs) ≡ true
+  by_reason : (o : Option Reason) → first_true cs ≡ o → (violations_in (broken s fs) ≡ [] → all_hold fs ≡ true) → violations_in (with_reason s r o (broken s fs)) ≡ [] → (holds cs && all_hold fs) ≡ true
   by_reason None e later none = rw e (later none)
   by_reason (Some why) e later none = absurd (cc)
 

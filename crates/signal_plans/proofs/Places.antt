@@ -2,8 +2,8 @@
 use Rattle.std.proofs.Common.{◌≡◌, ℕ, ◌+◌, ◌-◌, ◌<◌, ◌≤◌, Bool, true, false, eqb, cond, List, [], ◌∷◌, ◌++◌, length, get_or, Some, count_by, sum_by, ◌⊎◌, inl, inr, refl, sym, ap, ◌∙◌, append_assoc, arith}
 use Rattle.std.proofs.lemmas.Bool.{lt-ltb, le-ltb, eq-eqb, eqb-true, cases_lt}
 use Rattle.std.proofs.lemmas.List.Sums.{sum_by-cons, sum_by-append}
-use Rattle.signal_rules.specs.CutPoints.{timed, phase_in}
-use Rattle.signal_rules.proofs.CutPoints.{length-timed, phase_in_timed}
+use Rattle.signal_rules.specs.CutPoints.{row_seconds, phase_in}
+use Rattle.signal_rules.proofs.CutPoints.{length-row_seconds, phase_in_timed}
 use Rattle.signal_plans.specs.Timing.{Begins, Times, StandsBefore}
 
 -- how often a phase stands in a row
@@ -36,9 +36,9 @@ rest_of whole rest e f = omega arith
 
 module _ (time : ℕ → ℕ) where
   -- a row lasts as long as its phases together
-  pub length_is : (row : List ℕ) → length (timed time row) ≡ sum_by time row
+  pub length_is : (row : List ℕ) → length (row_seconds time row) ≡ sum_by time row
   length_is [] = refl
-  length_is (p ∷ ps) = length-timed time p ps ∙ ap (λ n. time p + n) (length_is ps) ∙ sym (sum_by-cons time p ps)
+  length_is (p ∷ ps) = length-row_seconds time p ps ∙ ap (λ n. time p + n) (length_is ps) ∙ sym (sum_by-cons time p ps)
 
   whole_is : (before after : List ℕ) (p : ℕ) → sum_by time (before ++ p ∷ after) ≡ sum_by time before + (time p + sum_by time after)
   whole_is before after p = sum_by-append time before (p ∷ after) ∙ ap (λ n. sum_by time before + n) (sum_by-cons time p after)
@@ -79,10 +79,10 @@ module _ (time : ℕ → ℕ) where
   pub alone_at : (row : List ℕ) (p q second : ℕ) → Times time row p second → Times time row q second → p ≡ q
   alone_at row p q second t u = let e : Some p ≡ Some q = sym (found_at row p second t) ∙ found_at row q second u in cc
 
-  pub lane_at : (row : List ℕ) (p second : ℕ) → Times time row p second → get_or (timed time row) second 0 ≡ p
+  pub lane_at : (row : List ℕ) (p second : ℕ) → Times time row p second → get_or (row_seconds time row) second 0 ≡ p
   lane_at row p second t =
-      let lt : second < length (timed time row) = omega (arith, times_within row p second t, length_is row) in
-      let e : Some (get_or (timed time row) second 0) ≡ Some p = sym (phase_in_timed time row second lt) ∙ found_at row p second t in
+      let lt : second < length (row_seconds time row) = omega (arith, times_within row p second t, length_is row) in
+      let e : Some (get_or (row_seconds time row) second 0) ≡ Some p = sym (phase_in_timed time row second lt) ∙ found_at row p second t in
       cc
 
   -- each second of the row is one of some phase

@@ -11,9 +11,9 @@ use Rattle.signal_plans.specs.declared.difference.Difference.{Difference}
 use Rattle.signal_plans.specs.declared.difference.Difference.TheVariants.{Added, Removed, Changed}
 
 -- parts with a separator between
-abbrev pub separated : List ℕ → List (List ℕ) → List ℕ
-separated separator [] = []
-separated separator (part ∷ parts) = part ++ flat_map (λ p. separator ++ p) parts
+abbrev pub separated_by : List ℕ → List (List ℕ) → List ℕ
+separated_by separator [] = []
+separated_by separator (part ∷ parts) = part ++ flat_map (λ p. separator ++ p) parts
 
 -- a dash in place of an empty text
 abbrev pub or_dash : List ℕ → List ℕ
@@ -22,14 +22,14 @@ or_dash (b ∷ bs) = b ∷ bs
 
 -- the field at a place of a row, counted from 0 with the kind; a dash where it is empty or the row
 -- has none there
-abbrev pub shown : List (List ℕ) → ℕ → List ℕ
-shown fields place = or_dash (slice_index_or fields place [])
+abbrev pub field_or_dash : List (List ℕ) → ℕ → List ℕ
+field_or_dash fields place = or_dash (slice_index_or fields place [])
 
 -- the text of a field at which two rows differ: `minGreen 8 > 10`; none where they do not
 abbrev pub field_change : List (List ℕ) → List (List ℕ) → ℕ → List ℕ → List (List ℕ)
 field_change before after place name =
-    if bytes_eq (shown before place) (shown after place) then []
-    else (name ++ codes " " ++ shown before place ++ codes " > " ++ shown after place) ∷ []
+    if bytes_eq (field_or_dash before place) (field_or_dash after place) then []
+    else (name ++ codes " " ++ field_or_dash before place ++ codes " > " ++ field_or_dash after place) ∷ []
 
 -- the fields of a phase up to its mates that differ in two rows
 abbrev pub front_changes : List (List ℕ) → List (List ℕ) → List (List ℕ)
@@ -65,15 +65,15 @@ changed_fields before after =
 
 -- the text of a key: `phase,2`
 abbrev pub key_text : Key → List ℕ
-key_text k = separated (codes ",") (key_spelling k)
+key_text k = separated_by (codes ",") (key_spelling k)
 
 -- a difference without the end of its line: its sign, then a row as in CSV, or a key and its fields that differ
 abbrev pub difference_text : Difference → List ℕ
-difference_text (Added row) = codes "+ " ++ separated (codes ",") (spelling current_limits row)
-difference_text (Removed row) = codes "- " ++ separated (codes ",") (spelling current_limits row)
+difference_text (Added row) = codes "+ " ++ separated_by (codes ",") (spelling current_limits row)
+difference_text (Removed row) = codes "- " ++ separated_by (codes ",") (spelling current_limits row)
 difference_text (Changed before after) =
     codes "~ " ++ key_text (key_of after) ++ codes ": "
-    ++ separated (codes ", ") (changed_fields before after)
+    ++ separated_by (codes ", ") (changed_fields before after)
 
 -- the line of a difference
 abbrev pub difference_line : Difference → List ℕ

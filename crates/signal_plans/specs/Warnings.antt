@@ -20,9 +20,9 @@ use Rattle.signal_plans.specs.PatternWarnings.{coordination_advice}
 use Rattle.signal_plans.specs.PlanWarnings.{plan_cases}
 
 -- a piece of advice as a warning of its subject, if there is one
-abbrev pub warned : Scope → Option Advice → List Warning
-warned s None = []
-warned s (Some advice) = record { subject = s; advice = advice } ∷ []
+abbrev pub warning_of : Scope → Option Advice → List Warning
+warning_of s None = []
+warning_of s (Some advice) = record { subject = s; advice = advice } ∷ []
 
 -- of some cases, in their order, each that is so, once
 abbrev pub told_cases : Scope → Cases Advice → List Warning
@@ -46,7 +46,7 @@ row_warnings set n p (Some split) =
 abbrev pub pattern_warnings : Rows → ℕ → Option Pattern → List Warning
 pattern_warnings set n None = []
 pattern_warnings set n (Some pattern) =
-    warned (scope.Subject (subject.Pattern n)) (coordination_advice set pattern)
+    warning_of (scope.Subject (subject.Pattern n)) (coordination_advice set pattern)
 
 -- the warnings of a subject; of a sequence there are none
 abbrev pub warnings_at : Rows → Subject → List Warning

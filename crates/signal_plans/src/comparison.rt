@@ -3,7 +3,7 @@
 ghost use Rattle.std.specs.Prelude.{◌≡◌, ◌++◌, ◌∷◌, map, codes, string_bytes, OnOk, IfOk};
 ghost use Rattle.signal_records.specs.Spelling.{spelling};
 ghost use Rattle.signal_records.specs.Within.{current_limits};
-ghost use Rattle.signal_plans.specs.Comparison.{separated, key_text, difference_text, comparison_text};
+ghost use Rattle.signal_plans.specs.Comparison.{separated_by, key_text, difference_text, comparison_text};
 
 use crate::difference::Difference;
 use crate::fields::changed_fields;
@@ -18,7 +18,7 @@ fn push_separated_from(
     rest: &[String],
 ) -> Result<(), AllocError>
     ensures { OnOk result (string_bytes text.new ≡ string_bytes text.old
-        ++ separated separator.now (map string_bytes (first.now ∷ rest.now))) }
+        ++ separated_by separator.now (map string_bytes (first.now ∷ rest.now))) }
 {
     text.push_str(first.as_str())?;
     for part in rest {
@@ -30,7 +30,7 @@ fn push_separated_from(
 /// Appends the parts with the separator between.
 fn push_separated(text: &mut String, separator: &str, parts: &[String]) -> Result<(), AllocError>
     ensures { OnOk result (string_bytes text.new ≡ string_bytes text.old
-        ++ separated separator.now (map string_bytes parts.now)) }
+        ++ separated_by separator.now (map string_bytes parts.now)) }
 {
     match parts {
         [] => Ok(()),
@@ -53,7 +53,7 @@ fn push_key(text: &mut String, key: Key) -> Result<(), AllocError>
 /// Appends a row as it stands in a CSV file.
 fn push_row(alloc: Global, text: &mut String, row: &Row) -> Result<(), NoMemory>
     ensures { OnOk result (string_bytes text.new ≡ string_bytes text.old
-        ++ separated (codes ",") (spelling current_limits row.now)) }
+        ++ separated_by (codes ",") (spelling current_limits row.now)) }
 {
     let fields = write_row(alloc, row)?;
     push_separated(text, ",", fields.as_slice())?;

@@ -2,14 +2,14 @@
 
 ghost use Rattle.std.specs.Prelude.{◌≡◌, ◌++◌, map, string_bytes, OnOk};
 ghost use Rattle.signal_records.specs.Spelling.{Writes};
-ghost use Rattle.signal_plans.specs.Comparison.{shown, field_change, front_changes, ped_changes, row_changes, changed_fields};
+ghost use Rattle.signal_plans.specs.Comparison.{field_or_dash, field_change, front_changes, ped_changes, row_changes, changed_fields};
 
 use signal_records::{Key, NoMemory, Row, write_row};
 use std::alloc::Global;
 
 /// The field at a place of a row, or a dash where it is empty or there is none.
-fn shown(fields: &[String], place: usize) -> &str
-    ensures { result.now ≡ shown (map string_bytes fields.now) place }
+fn field_or_dash(fields: &[String], place: usize) -> &str
+    ensures { result.now ≡ field_or_dash (map string_bytes fields.now) place }
 {
     match fields.get(place) {
         Some(field) if !field.is_empty() => field.as_str(),
@@ -36,8 +36,8 @@ fn push_field(
         ++ field_change (map string_bytes rows.entry.before.now)
         (map string_bytes rows.entry.after.now) place name.now) }
 {
-    let before = shown(rows.before, place);
-    let after = shown(rows.after, place);
+    let before = field_or_dash(rows.before, place);
+    let after = field_or_dash(rows.after, place);
     if before != after {
         parts.push(format!(in alloc; "{name} {before} > {after}")?)?;
     }

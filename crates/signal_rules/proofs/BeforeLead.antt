@@ -9,13 +9,13 @@ use Rattle.signal_rules.specs.declared.{reason.Reason.Reason, violation.Rule.Rul
 use Rattle.signal_rules.specs.declared.violation.Rule.TheVariants as rule
 use Rattle.signal_rules.specs.declared.violation.Subject.TheVariants as subject
 use Rattle.signal_rules.specs.{Cases.Cases, Cases.first_true, Lookup.phase_at, Lookup.split_at, PhaseRules.of_ped, PhaseRules.lead_cases, SplitRule.split_cases}
-use Rattle.signal_rules.specs.Violations.{Findings, explained, broken, violations_in, violations_at, violations_of, phase_findings, for_phase, for_split, subjects}
+use Rattle.signal_rules.specs.Violations.{Findings, with_reason, broken, violations_in, violations_at, violations_of, phase_findings, for_phase, for_split, subjects}
 use Rattle.signal_rules.specs.BeforeLead.{HasNoLead, is_of_lead, no_lead, without_lead, for_split_before, violations_before_at, violations_before_lead}
 
 -- a rule that holds is no violation
 dropped : (s : Subject) (fs : Findings) (r : Rule) (cs : Cases Reason) → first_true cs ≡ None → broken s (fs ++ (r, cs) ∷ []) ≡ broken s fs
-dropped s [] r cs none = ap (λ o. explained s r o []) none
-dropped s (f ∷ fs) r cs none = ap (explained s f.0 (first_true f.1)) (dropped s fs r cs none)
+dropped s [] r cs none = ap (λ o. with_reason s r o []) none
+dropped s (f ∷ fs) r cs none = ap (with_reason s f.0 (first_true f.1)) (dropped s fs r cs none)
 
 -- V14 holds where there is no lead
 no_lead_right : (ped : Option Ped) → IfSome ped (λ p. p.lead ≡ 0) → first_true (of_ped ped lead_cases) ≡ None

@@ -8,7 +8,7 @@ use Rattle.signal_records.specs.{declared.record.Row.Row, Key.key_cmp, Row.key_o
 use Rattle.signal_records.specs.declared.record.Row.TheVariants as row
 use Rattle.signal_rules.specs.declared.violation.Subject.TheVariants as subject
 use Rattle.signal_rules.specs.Lookup.{the_phase, the_list, the_split, the_pattern, last_sequence, last_split, last_pattern, ring_numbers, is_in}
-use Rattle.signal_rules.specs.RowWalk.{keyed, of_kind, sequence_of, sequences_after, is_from_to, is_within}
+use Rattle.signal_rules.specs.RowWalk.{with_keys, of_kind, sequence_of, sequences_after, is_from_to, is_within}
 use Rattle.signal_rules.proofs.{Among.any_at, Among.in_numbers, InOrder.firsts, InOrder.second_at, KeyOrder.number_less, KeyOrder.pair_less, KeyOrder.pair_tied, KeyOrder.tied_alone, RowNumbers.within_bounds, RowNumbers.found_or}
 use Rattle.signal_rules.proofs.Unreached.{list_any_same}
 use Rattle.signal_values.proofs.Ties.{numbers_tie}
@@ -32,10 +32,10 @@ pub phase_inside : (r : Row) (p : ℕ) → is_within r ≡ true → phase_of r �
 phase_inside (row.Phase m x) p h e = within_bounds PHASES m p h e
 phase_inside _ p h e = absurd (cc)
 
-pub phase_found : (p : ℕ) (rows : List Row) → is_some (the_phase (find key_cmp (key.Phase p) (keyed rows))) ≡ is_in p (filter_map phase_of rows)
+pub phase_found : (p : ℕ) (rows : List Row) → is_some (the_phase (find key_cmp (key.Phase p) (with_keys rows))) ≡ is_in p (filter_map phase_of rows)
 phase_found p [] = refl
 phase_found p (row.Phase m x ∷ rows) =
-    found_or the_phase (row.Phase m x) (find key_cmp (key.Phase p) (keyed rows)) (eq_by_cmp key_cmp (key.Phase p) (key.Phase m)) _ refl (phase_found p rows)
+    found_or the_phase (row.Phase m x) (find key_cmp (key.Phase p) (with_keys rows)) (eq_by_cmp key_cmp (key.Phase p) (key.Phase m)) _ refl (phase_found p rows)
     ∙ ap (λ b. b || is_in p (filter_map phase_of rows)) (tied_alone p m)
 phase_found p (_ ∷ rows) = phase_found p rows
 
@@ -63,10 +63,10 @@ pub pattern_inside : (r : Row) (p : ℕ) → is_within r ≡ true → pattern_of
 pattern_inside (row.Pattern n x) p h e = within_bounds last_pattern n p h e
 pattern_inside _ p h e = absurd (cc)
 
-pub pattern_found : (p : ℕ) (rows : List Row) → is_some (the_pattern (find key_cmp (key.Pattern p) (keyed rows))) ≡ is_in p (filter_map pattern_of rows)
+pub pattern_found : (p : ℕ) (rows : List Row) → is_some (the_pattern (find key_cmp (key.Pattern p) (with_keys rows))) ≡ is_in p (filter_map pattern_of rows)
 pattern_found p [] = refl
 pattern_found p (row.Pattern m x ∷ rows) =
-    found_or the_pattern (row.Pattern m x) (find key_cmp (key.Pattern p) (keyed rows)) (eq_by_cmp key_cmp (key.Pattern p) (key.Pattern m)) _ refl (pattern_found p rows)
+    found_or the_pattern (row.Pattern m x) (find key_cmp (key.Pattern p) (with_keys rows)) (eq_by_cmp key_cmp (key.Pattern p) (key.Pattern m)) _ refl (pattern_found p rows)
     ∙ ap (λ b. b || is_in p (filter_map pattern_of rows)) (tied_alone p m)
 pattern_found p (_ ∷ rows) = pattern_found p rows
 
@@ -106,17 +106,17 @@ any_ring true ring low high =
 any_ring false ring low high = refl
 
 pub sequence_found : (n : ℕ) (rows : List Row) → list_all is_within rows ≡ true
-    → list_any (λ ring. is_some (the_list (find key_cmp (key.Seq n ring) (keyed rows)))) ring_numbers ≡ is_in n (filter_map sequence_of rows)
+    → list_any (λ ring. is_some (the_list (find key_cmp (key.Seq n ring) (with_keys rows)))) ring_numbers ≡ is_in n (filter_map sequence_of rows)
 sequence_found n [] within = refl
 sequence_found n (row.Seq m r x ∷ rows) within =
     let both = and_parts (is_within (row.Seq m r x)) (list_all is_within rows) within in
     let bounds = and_parts (is_from_to 1 last_sequence m) (is_from_to 1 RINGS r) both.0 in
     let ring = and_parts (leb 1 r) (leb r RINGS) bounds.1 in
-    list_any_same (λ s. is_some (the_list (find key_cmp (key.Seq n s) (keyed (row.Seq m r x ∷ rows))))) (λ s. (eqb m n && eqb r s) || is_some (the_list (find key_cmp (key.Seq n s) (keyed rows)))) ring_numbers
-    (λ s. found_or the_list (row.Seq m r x) (find key_cmp (key.Seq n s) (keyed rows)) (eq_by_cmp key_cmp (key.Seq n s) (key.Seq m r)) _ refl refl
-    ∙ ap (λ b. b || is_some (the_list (find key_cmp (key.Seq n s) (keyed rows)))) (pair_tied n m (nat_cmp s r) ∙ ap (λ b. eqb m n && b) (numbers_tie s r)))
-    ∙ either (λ s. eqb m n && eqb r s) (λ s. is_some (the_list (find key_cmp (key.Seq n s) (keyed rows)))) ring_numbers
-    ∙ ap (λ b. b || list_any (λ s. is_some (the_list (find key_cmp (key.Seq n s) (keyed rows)))) ring_numbers) (any_ring (eqb m n) r (leb-true 1 r ring.0) (leb-true r RINGS ring.1))
+    list_any_same (λ s. is_some (the_list (find key_cmp (key.Seq n s) (with_keys (row.Seq m r x ∷ rows))))) (λ s. (eqb m n && eqb r s) || is_some (the_list (find key_cmp (key.Seq n s) (with_keys rows)))) ring_numbers
+    (λ s. found_or the_list (row.Seq m r x) (find key_cmp (key.Seq n s) (with_keys rows)) (eq_by_cmp key_cmp (key.Seq n s) (key.Seq m r)) _ refl refl
+    ∙ ap (λ b. b || is_some (the_list (find key_cmp (key.Seq n s) (with_keys rows)))) (pair_tied n m (nat_cmp s r) ∙ ap (λ b. eqb m n && b) (numbers_tie s r)))
+    ∙ either (λ s. eqb m n && eqb r s) (λ s. is_some (the_list (find key_cmp (key.Seq n s) (with_keys rows)))) ring_numbers
+    ∙ ap (λ b. b || list_any (λ s. is_some (the_list (find key_cmp (key.Seq n s) (with_keys rows)))) ring_numbers) (any_ring (eqb m n) r (leb-true 1 r ring.0) (leb-true r RINGS ring.1))
     ∙ ap (λ b. eqb m n || b) (sequence_found n rows both.1)
 sequence_found n (_ ∷ rows) within = sequence_found n rows (and_parts _ _ within).1
 
@@ -178,10 +178,10 @@ pub phase_split_inside : (k : ℕ) (r : Row) (p : ℕ) → is_within r ≡ true 
 phase_split_inside k (row.Split n m x) p h e = within_bounds PHASES m p (and_parts _ _ h).1 (ap (λ t. Some t) (chosen k n m p e).1)
 phase_split_inside k _ p h e = absurd (cc)
 
-pub split_found : (n p : ℕ) (rows : List Row) → is_some (the_split (find key_cmp (key.Split n p) (keyed rows))) ≡ is_in p (filter_map (phase_split n) rows)
+pub split_found : (n p : ℕ) (rows : List Row) → is_some (the_split (find key_cmp (key.Split n p) (with_keys rows))) ≡ is_in p (filter_map (phase_split n) rows)
 split_found n p [] = refl
 split_found n p (row.Split m r x ∷ rows) =
-    found_or the_split (row.Split m r x) (find key_cmp (key.Split n p) (keyed rows)) (eq_by_cmp key_cmp (key.Split n p) (key.Split m r)) _ refl (split_found n p rows)
+    found_or the_split (row.Split m r x) (find key_cmp (key.Split n p) (with_keys rows)) (eq_by_cmp key_cmp (key.Split n p) (key.Split m r)) _ refl (split_found n p rows)
     ∙ ap (λ b. b || is_in p (filter_map (phase_split n) rows)) (pair_tied n m (nat_cmp p r) ∙ ap (λ b. eqb m n && b) (numbers_tie p r))
     ∙ by_test (eqb m n) where
       by_test : (b : Bool) → ((b && eqb r p) || is_in p (filter_map (phase_split n) rows)) ≡ is_in p (cons_option (cond b (Some r) None) (filter_map (phase_split n) rows))

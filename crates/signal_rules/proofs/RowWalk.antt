@@ -7,7 +7,7 @@ use Rattle.signal_records.specs.{declared.record.Row.Row, Key.key_cmp, TimingSet
 use Rattle.signal_values.specs.declared.number.TheConstants.{PHASES}
 use Rattle.signal_rules.specs.declared.violation.Subject.{Subject}
 use Rattle.signal_rules.specs.Lookup.{the_phase, the_list, the_split, the_pattern, phase_at, sequence_at, split_at, pattern_at, last_sequence, last_split, last_pattern, phases, ring_numbers, sequence_numbers, split_numbers, pattern_numbers, has_sequence}
-use Rattle.signal_rules.specs.RowWalk.{keyed, of_kind, sequence_of, sequences_after}
+use Rattle.signal_rules.specs.RowWalk.{with_keys, of_kind, sequence_of, sequences_after}
 use Rattle.signal_rules.specs.Violations.{subjects, split_rows, split_subjects}
 use Rattle.signal_rules.specs.declared.violation.Subject.TheVariants as subject
 use Rattle.signal_rules.proofs.InOrder.{Rising, rising_from, in_order, firsts, firsts_rise, firsts_are, second_at, grouped}
@@ -34,7 +34,7 @@ module _ (set : Rows) (rows : List Row) (of : AreRowsOf set rows) where
       let rising : Rising 0 1 21 (filter_map sequence_of rows) = rise sequence_of 0 21 kind.sequence_rises kind.sequence_inside rows (sorted_rows set rows of) of.within in
       in_order (has_sequence set) last_sequence 1 21 (firsts 0 (filter_map sequence_of rows)) (omega arith)
       (firsts_rise 0 21 (filter_map sequence_of rows) (rising_from 0 1 0 21 (filter_map sequence_of rows) (omega arith) rising))
-      (λ n low high. list_any_same (λ ring. is_some (sequence_at set n ring)) (λ ring. is_some (the_list (find key_cmp (key.Seq n ring) (keyed rows)))) ring_numbers (λ ring. ap (λ o. is_some (the_list o)) (found set rows of (key.Seq n ring)))
+      (λ n low high. list_any_same (λ ring. is_some (sequence_at set n ring)) (λ ring. is_some (the_list (find key_cmp (key.Seq n ring) (with_keys rows)))) ring_numbers (λ ring. ap (λ o. is_some (the_list o)) (found set rows of (key.Seq n ring)))
       ∙ kind.sequence_found n rows of.within ∙ sym (firsts_are 0 n (filter_map sequence_of rows) (ne_eqb 0 n (λ e. omega arith))))
       ∙ sym (kind.walked_firsts 0 rows)
 

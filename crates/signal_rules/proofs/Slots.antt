@@ -6,7 +6,7 @@ use Rattle.std.proofs.lemmas.List.Folds.{list_all-append, list_all-map}
 use Rattle.std.specs.{Prelude.cond, List.list_all}
 use Rattle.signal_records.specs.{declared.record.Pattern.Pattern, TimingSet.Rows}
 use Rattle.signal_values.specs.Numbers.{numbers}
-use Rattle.signal_rules.specs.{SequenceRule.ring_row, CutPoints.start_of, CutPoints.starts, CutPoints.phase_in, CutPoints.listed, CutPoints.phases_in, Starts.times, Starts.agree_at, Counts.RisesAtMost, Counts.entries_of, Counts.sequence_entries, Slots.Span, Slots.Listing, Cases.holds}
+use Rattle.signal_rules.specs.{SequenceRule.ring_row, CutPoints.start_of, CutPoints.starts, CutPoints.phase_in, CutPoints.list_of_option, CutPoints.phases_in, Starts.times, Starts.agree_at, Counts.RisesAtMost, Counts.entries_of, Counts.sequence_entries, Slots.Span, Slots.Listing, Cases.holds}
 use Rattle.signal_rules.specs.Lanes.{lanes, used_rings, all_list_each_other, phases_at}
 use Rattle.signal_rules.specs.PatternRules.{lanes_fill_cycle, lanes_agree}
 use Rattle.signal_rules.specs.Slots.{listing_at, spans_at, spans_from, spans_of, spans_in, has_second, are_mates, later_cases, pair_cases, conflicts_in, agree_where_begun}
@@ -70,23 +70,23 @@ module _ (set : Rows) (split : ℕ) where
       ∙ (λ i. before_it p time s t lt i ++ before_row ps (s + time) t (omega arith) i)
 
   -- a row's phase of a second is the one that is found
-  in_row : (row : List ℕ) (s t : ℕ) → s ≤ t → listings_in t (spans_from set split s row) ≡ map (listing_at set) (listed (phase_in (times set split) row (t - s)))
+  in_row : (row : List ℕ) (s t : ℕ) → s ≤ t → listings_in t (spans_from set split s row) ≡ map (listing_at set) (list_of_option (phase_in (times set split) row (t - s)))
   in_row [] s t le = refl
   in_row (p ∷ ps) s t le =
       listings_in-append t (spans_at set p (times set split p) s) (spans_from set split (s + times set split p) ps)
       ∙ ap (λ l. l ++ listings_in t (spans_from set split (s + times set split p) ps)) (at_its_time p (times set split p) s t le)
       ∙ by_test (ltb (t - s) (times set split p)) refl (in_row ps (s + times set split p) t) where
         by_test : (b : Bool) → ltb (t - s) (times set split p) ≡ b
-            → (s + times set split p ≤ t → listings_in t (spans_from set split (s + times set split p) ps) ≡ map (listing_at set) (listed (phase_in (times set split) ps (t - (s + times set split p)))))
+            → (s + times set split p ≤ t → listings_in t (spans_from set split (s + times set split p) ps) ≡ map (listing_at set) (list_of_option (phase_in (times set split) ps (t - (s + times set split p)))))
             → map (listing_at set) (cond (ltb (t - s) (times set split p)) (p ∷ []) []) ++ listings_in t (spans_from set split (s + times set split p) ps)
-            ≡ map (listing_at set) (listed (phase_in (times set split) (p ∷ ps) (t - s)))
+            ≡ map (listing_at set) (list_of_option (phase_in (times set split) (p ∷ ps) (t - s)))
         by_test true e later =
             let early : t < s + times set split p = omega (arith, ltb-true (t - s) (times set split p) e) in
             rw (e, before_row ps (s + times set split p) t early) refl
         by_test false e later =
             let late : s + times set split p ≤ t = omega (arith, ltb-false (t - s) (times set split p) e) in
             let place : t - (s + times set split p) ≡ t - s - times set split p = omega arith in
-            rw e (later late ∙ ap (λ second. map (listing_at set) (listed (phase_in (times set split) ps second))) place)
+            rw e (later late ∙ ap (λ second. map (listing_at set) (list_of_option (phase_in (times set split) ps second))) place)
 
   -- spans begin where their row starts a phase
   begun_in_row : (T : ℕ → Bool) (row : List ℕ) (s : ℕ) → list_all (λ (x : Span). T x.from) (spans_from set split s row) ≡ list_all T (starts (times set split) s row)
@@ -118,10 +118,10 @@ module _ (set : Rows) (pattern : Pattern) where
   in_rows [] t = refl
   in_rows (ring ∷ rings) t =
       let row = ring_row set pattern.seq ring in
-      let found = listed (phase_in (times set pattern.split) row t) in
+      let found = list_of_option (phase_in (times set pattern.split) row t) in
       let here : t - 0 ≡ t = omega arith in
-      let same : listings_in t (spans_from set pattern.split 0 (ring_row set pattern.seq ring)) ≡ map (listing_at set) (listed (phase_in (times set pattern.split) (ring_row set pattern.seq ring) t)) =
-      in_row set pattern.split row 0 t (omega arith) ∙ ap (λ n. map (listing_at set) (listed (phase_in (times set pattern.split) row n))) here in
+      let same : listings_in t (spans_from set pattern.split 0 (ring_row set pattern.seq ring)) ≡ map (listing_at set) (list_of_option (phase_in (times set pattern.split) (ring_row set pattern.seq ring) t)) =
+      in_row set pattern.split row 0 t (omega arith) ∙ ap (λ n. map (listing_at set) (list_of_option (phase_in (times set pattern.split) row n))) here in
       listings_in-append t (spans_from set pattern.split 0 row) (spans_of set pattern rings)
       ∙ (λ i. same i ++ in_rows rings t i)
       ∙ sym (map-append (listing_at set) found (phases_in (times set pattern.split) (map (ring_row set pattern.seq) rings) t))

@@ -3,7 +3,7 @@ use Rattle.std.proofs.Common.{◌≡◌, ℕ, ◌+◌, ◌<◌, ◌≤◌, Bool,
 use Rattle.std.proofs.lemmas.List.Folds.{list_all-map}
 use Rattle.std.specs.{Prelude.cond, List.list_all}
 use Rattle.signal_records.specs.{declared.record.Pattern.Pattern, TimingSet.Rows}
-use Rattle.signal_rules.specs.{SequenceRule.ring_row, Lookup.ring_numbers, Lanes.lane, Lanes.is_used, Lanes.used_rings, CutPoints.timed, CutPoints.starts, Starts.times, Starts.agree_at, Starts.agree_at_starts, Starts.rings_fill}
+use Rattle.signal_rules.specs.{SequenceRule.ring_row, Lookup.ring_numbers, Lanes.lane, Lanes.is_used, Lanes.used_rings, CutPoints.row_seconds, CutPoints.starts, Starts.times, Starts.agree_at, Starts.agree_at_starts, Starts.rings_fill}
 use Rattle.signal_rules.specs.Lanes.{ring_sum, lanes, all_list_each_other, phases_at}
 use Rattle.signal_rules.specs.PatternRules.{lanes_fill_cycle, lanes_agree, agree_throughout}
 use Rattle.signal_rules.specs.declared.reason.Reason.TheVariants as reason
@@ -12,7 +12,7 @@ use Rattle.signal_rules.specs.Counts.{RisesAtMost, entries_of, sequence_entries}
 use Rattle.signal_rules.proofs.{Cases.holds-map, CutPoints.cut_points, CutPoints.phases_in_lanes, Steps.rises_within}
 
 -- the lanes of the rings' rows
-pub lanes_of_rows : (set : Rows) (seq split : ℕ) (rings : List ℕ) → map (timed (times set split)) (map (ring_row set seq) rings) ≡ map (lane set seq split) rings
+pub lanes_of_rows : (set : Rows) (seq split : ℕ) (rings : List ℕ) → map (row_seconds (times set split)) (map (ring_row set seq) rings) ≡ map (lane set seq split) rings
 lanes_of_rows set seq split [] = refl
 lanes_of_rows set seq split (ring ∷ rings) = ap (λ (xs : List (List ℕ)). lane set seq split ring ∷ xs) (lanes_of_rows set seq split rings)
 
@@ -24,8 +24,8 @@ pub agree_of_rings : (set : Rows) (pattern : Pattern) (rings : List ℕ) → lis
     → agree_throughout set (map (lane set pattern.seq pattern.split) rings) pattern.cycle ≡ agree_at_starts set pattern rings rings
 agree_of_rings set pattern rings fill =
     let time : ℕ → ℕ = times set pattern.split in
-    let same : map (timed (times set pattern.split)) (map (ring_row set pattern.seq) rings) ≡ map (lane set pattern.seq pattern.split) rings = lanes_of_rows set pattern.seq pattern.split rings in
-    let full : list_all (λ lane. eqb (length lane) pattern.cycle) (map (timed (times set pattern.split)) (map (ring_row set pattern.seq) rings)) ≡ true = ap (λ (xs : List (List ℕ)). list_all (λ lane. eqb (length lane) pattern.cycle) xs) same ∙ fill in
+    let same : map (row_seconds (times set pattern.split)) (map (ring_row set pattern.seq) rings) ≡ map (lane set pattern.seq pattern.split) rings = lanes_of_rows set pattern.seq pattern.split rings in
+    let full : list_all (λ lane. eqb (length lane) pattern.cycle) (map (row_seconds (times set pattern.split)) (map (ring_row set pattern.seq) rings)) ≡ true = ap (λ (xs : List (List ℕ)). list_all (λ lane. eqb (length lane) pattern.cycle) xs) same ∙ fill in
     ap (λ (xs : List (List ℕ)). agree_throughout set xs pattern.cycle) (sym same)
     ∙ cut_points (all_list_each_other set) (agree_at set pattern rings) (times set pattern.split) (map (ring_row set pattern.seq) rings) pattern.cycle refl full
     (λ t lt. ap (all_list_each_other set) (phases_in_lanes (times set pattern.split) (map (ring_row set pattern.seq) rings) pattern.cycle t full lt))
@@ -49,8 +49,8 @@ agree_by_starts set pattern rings e fill =
 pub agree_in_lanes : (set : Rows) (pattern : Pattern) (t : ℕ) → lanes_fill_cycle set pattern ≡ true → t < pattern.cycle → agree_at set pattern (used_rings set) t ≡ all_list_each_other set (phases_at (lanes set pattern) t)
 agree_in_lanes set pattern t fill lt =
     let rows : List (List ℕ) = map (ring_row set pattern.seq) (used_rings set) in
-    let same : map (timed (times set pattern.split)) rows ≡ lanes set pattern = lanes_of_rows set pattern.seq pattern.split (used_rings set) in
-    let full : list_all (λ lane. eqb (length lane) pattern.cycle) (map (timed (times set pattern.split)) rows) ≡ true = ap (λ (xs : List (List ℕ)). list_all (λ lane. eqb (length lane) pattern.cycle) xs) same ∙ lanes_filled set pattern fill in
+    let same : map (row_seconds (times set pattern.split)) rows ≡ lanes set pattern = lanes_of_rows set pattern.seq pattern.split (used_rings set) in
+    let full : list_all (λ lane. eqb (length lane) pattern.cycle) (map (row_seconds (times set pattern.split)) rows) ≡ true = ap (λ (xs : List (List ℕ)). list_all (λ lane. eqb (length lane) pattern.cycle) xs) same ∙ lanes_filled set pattern fill in
     ap (all_list_each_other set) (phases_in_lanes (times set pattern.split) rows pattern.cycle t full lt ∙ ap (λ (xs : List (List ℕ)). phases_at xs t) same)
 
 -- fewer rings have fewer entries

@@ -13,8 +13,8 @@ use Rattle.signal_rules.specs.declared.violation.Subject.TheVariants as subject
 use Rattle.signal_rules.specs.Lookup.{last_sequence, last_split, last_pattern}
 
 -- rows under their keys
-abbrev pub keyed : List Row → List (Key × Row)
-keyed rows = map (λ r. (key_of r, r)) rows
+abbrev pub with_keys : List Row → List (Key × Row)
+with_keys rows = map (λ r. (key_of r, r)) rows
 
 -- the subject that a row is, or is a part of
 abbrev pub subject_of : Row → Subject

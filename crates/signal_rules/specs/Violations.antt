@@ -76,14 +76,14 @@ findings set (subject.Split n p) = for_split set p (split_at set n p)
 findings set (subject.Pattern n) = for_pattern set (pattern_at set n)
 
 -- a rule with its reason, if it has one, before others
-abbrev pub explained : Subject → Rule → Option Reason → List Explained → List Explained
-explained s r None others = others
-explained s r (Some why) others = record { violation = record { subject = s; rule = r }; reason = why } ∷ others
+abbrev pub with_reason : Subject → Rule → Option Reason → List Explained → List Explained
+with_reason s r None others = others
+with_reason s r (Some why) others = record { violation = record { subject = s; rule = r }; reason = why } ∷ others
 
 -- the rules that do not hold, each once and with the first of its reasons
 abbrev pub broken : Subject → Findings → List Explained
 broken s [] = []
-broken s (f ∷ fs) = explained s f.0 (first_true f.1) (broken s fs)
+broken s (f ∷ fs) = with_reason s f.0 (first_true f.1) (broken s fs)
 
 -- the rules that a subject breaks, each with the first of its reasons
 abbrev pub explained_at : Rows → Subject → List Explained

@@ -7,7 +7,7 @@ ghost use Rattle.signal_rules.specs.Cases.{first_true, holds};
 ghost use Rattle.signal_rules.specs.Counts.{RisesAtMost, sequence_entries, most_seconds};
 ghost use Rattle.signal_rules.specs.Lookup as set_has;
 ghost use Rattle.signal_rules.specs.Slots.{agree_where_begun, conflicts_in};
-ghost use Rattle.signal_rules.specs.Violations.{violations_of, explained, explained_at, broken, phase_findings, lane_findings, pattern_findings};
+ghost use Rattle.signal_rules.specs.Violations.{violations_of, with_reason, explained_at, broken, phase_findings, lane_findings, pattern_findings};
 
 use crate::lanes::{Slot, rings_of};
 use crate::lookup::{pattern_at, phase_at, phases_of, split_at};
@@ -116,7 +116,7 @@ fn report<F: Finding>(
     found: &mut Vec<F>,
 ) -> Result<(), NoMemory>
     ensures { OnOk result (found.new.items ≡ found.old.items
-        ++ map F.of (explained subject rule reason [])) }
+        ++ map F.of (with_reason subject rule reason [])) }
 {
     if let Some(reason) = reason {
         found.push(F::of(Violation { subject, rule }, reason))?;
@@ -254,7 +254,7 @@ fn judge_slots<F: Finding>(
     requires { holds (conflicts_in cycle slots.now) ≡ agree_where_begun slots.now slots.now }
     ensures ticks { RisesAtMost (length slots.now) ticks.old ticks.new }
     ensures found { OnOk result (found.new.items ≡ found.old.items
-        ++ map F.of (explained subject Rule.V13 (first_true (conflicts_in cycle slots.now)) [])) }
+        ++ map F.of (with_reason subject Rule.V13 (first_true (conflicts_in cycle slots.now)) [])) }
 {
     if !pattern::rings_agree(slots, ticks) {
         let rule = Rule::V13;

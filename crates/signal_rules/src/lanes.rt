@@ -8,7 +8,7 @@ ghost use Rattle.signal_rules.specs.Lookup as set_has;
 ghost use Rattle.signal_rules.specs.Lookup.{phase_at, the_mates, lists};
 ghost use Rattle.signal_rules.specs.Lanes.{time_of, lane, used_rings};
 ghost use Rattle.signal_rules.specs.OnePass.{rings_at};
-ghost use Rattle.signal_rules.specs.CutPoints.{timed};
+ghost use Rattle.signal_rules.specs.CutPoints.{row_seconds};
 ghost use Rattle.signal_rules.specs.Starts.{times};
 ghost use Rattle.signal_rules.specs.Slots.{spans_at, spans_from, has_second, are_mates, spans_in, later_cases, pair_cases, slot_cases};
 
@@ -48,7 +48,7 @@ pub(crate) fn row_fills<'s>(
     slots: &mut Vec<Slot<'s>>,
 ) -> Result<bool, NoMemory>
     ensures fill { IfOk result (λ fill. fill ≡
-        (length (timed (times set.now pattern.now.split) row.now) == pattern.now.cycle)) }
+        (length (row_seconds (times set.now pattern.now.split) row.now) == pattern.now.cycle)) }
     ensures slots { IfOk result (λ fill. fill ≡ true →
         slots.new.items ≡ slots.old.items ++ spans_from set.now pattern.now.split 0 row.now) }
 {

@@ -1,7 +1,7 @@
 //! What a phase needs of its split: with yellow and red the longer of its green and its walk.
 
 ghost use Rattle.std.specs.Prelude.{◌≡◌};
-ghost use Rattle.signal_rules.specs.SplitRule.{longer_part, governing_part, split_need, need_if_called};
+ghost use Rattle.signal_rules.specs.SplitRule.{governing_part, split_need, need_if_called};
 
 use signal_records::{Ped, Phase, SplitMode, need};
 
@@ -44,24 +44,20 @@ fn governing_part(phase: &Phase, mode: SplitMode) -> NeedPart
     ensures { result ≡ governing_part phase.now mode }
 {
     match (mode, &phase.ped) {
-        (SplitMode::PedestrianRecall | SplitMode::MaximumVehicleAndPedestrianRecall, Some(ped)) =>
-            longer_part(ped, phase.min_green),
+        (SplitMode::PedestrianRecall | SplitMode::MaximumVehicleAndPedestrianRecall, Some(ped)) => {
+            let Ped {
+                walk,
+                clear,
+                lead,
+                ..
+            } = *ped;
+            let green = lead.get() + u32::from(phase.min_green);
+            if green < u32::from(walk) + u32::from(clear) {
+                NeedPart::Walk
+            } else {
+                NeedPart::Green
+            }
+        }
         _ => NeedPart::Green,
-    }
-}
-
-fn longer_part(ped: &Ped, min_green: u8) -> NeedPart
-    ensures { result ≡ longer_part ped.now min_green }
-{
-    let Ped {
-        walk,
-        clear,
-        lead,
-        ..
-    } = ped;
-    if lead.get() + u32::from(min_green) < u32::from(*walk) + u32::from(*clear) {
-        NeedPart::Walk
-    } else {
-        NeedPart::Green
     }
 }

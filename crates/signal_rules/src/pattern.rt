@@ -4,11 +4,11 @@ ghost use Rattle.std.specs.Prelude.{◌≡◌, ◌++◌, true, false, is_some, l
 ghost use Rattle.signal_rules.specs.Lookup as set_has;
 ghost use Rattle.signal_rules.specs.Cases.{first_true};
 ghost use Rattle.signal_rules.specs.Counts.{RisesAtLeast, RisesAtMost};
-ghost use Rattle.signal_rules.specs.PatternRules.{splits_cases, rows_cases, offset_cases, coordination_cases, is_coordinated, has_coordinated, rings_cases};
+ghost use Rattle.signal_rules.specs.PatternRules.{splits_cases, rows_cases, offset_cases, coordination_cases, is_coordinated, rings_cases};
 ghost use Rattle.signal_rules.specs.Slots.{spans_of, conflicts_in, agree_where_begun};
 
 use crate::lanes::{Slot, lane_seconds, pair_reason, row_fills};
-use crate::lookup::{has_split, ring_row, split_at};
+use crate::lookup::{ring_row, split_at};
 use crate::reason::{PatternReason, Reason};
 use crate::sequence::has_sequence;
 use signal_records::{Cycle, NoMemory, Pattern, PhaseNo, RingNo, Split, SplitNo, TimingSet};
@@ -30,7 +30,7 @@ fn splits_reason(set: &TimingSet, phases: &[PhaseNo], split: SplitNo) -> Option<
     ensures { result ≡ first_true (splits_cases set.now split phases.now) }
 {
     for phase in phases {
-        if !has_split(set, split, *phase) {
+        if split_at(set, split, *phase).is_none() {
             let phase = *phase;
             return Some(Reason::Pattern(PatternReason::NoSplit { split, phase }));
         }
@@ -59,23 +59,12 @@ pub(crate) fn coordination_reason(
     ensures { result ≡ first_true (coordination_cases set.now pattern.now) }
 {
     let split = pattern.split;
-    if has_coordinated(set, phases, split) {
-        return None;
-    }
-    Some(Reason::Pattern(PatternReason::NoneCoordinated { split }))
-}
-
-/// Whether one of the phases, which are those of the set, is coordinated.
-fn has_coordinated(set: &TimingSet, phases: &[PhaseNo], n: SplitNo) -> bool
-    requires { phases.now ≡ set_has.phases set.now }
-    ensures { result ≡ has_coordinated set.now n }
-{
     for p in phases {
-        if is_coordinated(split_at(set, n, *p)) {
-            return true;
+        if is_coordinated(split_at(set, split, *p)) {
+            return None;
         }
     }
-    false
+    Some(Reason::Pattern(PatternReason::NoneCoordinated { split }))
 }
 
 /// Whether a phase is coordinated; one without a split row is not.

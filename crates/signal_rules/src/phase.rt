@@ -2,9 +2,10 @@
 
 ghost use Rattle.std.specs.Prelude.{◌≡◌, ◌≤◌};
 ghost use Rattle.signal_rules.specs.Cases.{first_true};
-ghost use Rattle.signal_rules.specs.Lookup.{phase_at, is_in};
+ghost use Rattle.signal_rules.specs.Lookup.{phase_at};
 ghost use Rattle.signal_rules.specs.PhaseRules.{yellow_cases, red_cases, of_ped, walk_cases, clearance, crossing_cases, setback_cases, lead_cases, mate_cases, mates_cases};
 
+use crate::lanes::lists;
 use crate::lookup::phase_at;
 use crate::reason::{CrossingReason, IntervalReason, MateReason, Reason};
 use signal_records::{Ped, Phase, PhaseNo, TimingSet};
@@ -136,14 +137,8 @@ fn mate_reason(set: &TimingSet, p: PhaseNo, phase: &Phase, mate: PhaseNo) -> Opt
         let ring = phase.ring;
         return Some(Reason::Mate(MateReason::SameRing { mate, ring }));
     }
-    if !has_mate(other, p) {
+    if !lists(set, mate, p) {
         return Some(Reason::Mate(MateReason::NotListed { mate }));
     }
     None
-}
-
-fn has_mate(phase: &Phase, p: PhaseNo) -> bool
-    ensures { result ≡ is_in p phase.now.mates }
-{
-    phase.mates.as_slice().contains(&p)
 }

@@ -1,13 +1,13 @@
 //! The subjects that a change of some rows touches.
 
 ghost use Rattle.std.specs.Prelude.{◌≡◌, IfOk};
-ghost use Rattle.signal_rules.specs.Touched.{reaches, reaches_any, uses_sequence, uses_split, touched_subjects};
+ghost use Rattle.signal_rules.specs.Touched.{reaches, reaches_any, touched_subjects};
 
 use crate::lanes::lists;
 use crate::lookup::pattern_at;
 use crate::subjects::subjects_of;
 use crate::violation::Subject;
-use signal_records::{Key, NoMemory, Pattern, SeqNo, SplitNo, TimingSet};
+use signal_records::{Key, NoMemory, TimingSet};
 use std::alloc::Global;
 
 /// Of the subjects that the draft has, those that a key reaches, in their order and each once.
@@ -51,35 +51,17 @@ fn reaches(set: &TimingSet, key: Key, subject: Subject) -> bool
         },
         Key::Seq(m, _) => match subject {
             Subject::Seq(n) => n == m,
-            Subject::Pattern(n) => uses_sequence(m, pattern_at(set, n)),
+            Subject::Pattern(n) => matches!(pattern_at(set, n), Some(used) if used.seq == m),
             _ => false,
         },
         Key::Split(m, q) => match subject {
             Subject::Split(n, p) => n == m && p == q,
-            Subject::Pattern(n) => uses_split(m, pattern_at(set, n)),
+            Subject::Pattern(n) => matches!(pattern_at(set, n), Some(used) if used.split == m),
             _ => false,
         },
         Key::Pattern(m) => match subject {
             Subject::Pattern(n) => n == m,
             _ => false,
         },
-    }
-}
-
-fn uses_sequence(n: SeqNo, pattern: Option<Pattern>) -> bool
-    ensures { result ≡ uses_sequence n pattern }
-{
-    match pattern {
-        Some(pattern) => pattern.seq == n,
-        None => false,
-    }
-}
-
-fn uses_split(n: SplitNo, pattern: Option<Pattern>) -> bool
-    ensures { result ≡ uses_split n pattern }
-{
-    match pattern {
-        Some(pattern) => pattern.split == n,
-        None => false,
     }
 }

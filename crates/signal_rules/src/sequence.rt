@@ -5,7 +5,7 @@ ghost use Rattle.std.specs.List.{flat_map};
 ghost use Rattle.signal_rules.specs.Cases.{first_true};
 ghost use Rattle.signal_rules.specs.Lookup as set_has;
 ghost use Rattle.signal_rules.specs.Lookup.{has_sequence, phase_at, ring_numbers};
-ghost use Rattle.signal_rules.specs.SequenceRule.{place_cases, row_cases, times_in, once_cases, sequence_cases};
+ghost use Rattle.signal_rules.specs.SequenceRule.{place_cases, row_cases, once_cases, sequence_cases};
 
 use crate::lookup::{has_row, phase_at, ring_row};
 use crate::reason::{Reason, SequenceReason};
@@ -32,14 +32,14 @@ pub(crate) fn sequence_reason(set: &TimingSet, phases: &[PhaseNo], n: SeqNo) -> 
     requires { phases.now ≡ set_has.phases set.now }
     ensures { result ≡ first_true (sequence_cases set.now n) }
 {
-    match misplaced(set, n) {
+    match misplaced_reason(set, n) {
         Some(reason) => Some(reason),
         None => not_once(set, phases, n),
     }
 }
 
 /// The first phase that stands in the row of a ring and is not of that ring.
-fn misplaced(set: &TimingSet, n: SeqNo) -> Option<Reason>
+fn misplaced_reason(set: &TimingSet, n: SeqNo) -> Option<Reason>
     ensures { result ≡ first_true (flat_map (row_cases set.now n) ring_numbers) }
 {
     for ring in RingNo::all() {
@@ -95,7 +95,7 @@ fn once_reason(set: &TimingSet, n: SeqNo, p: PhaseNo) -> Option<Reason>
 {
     let phase = phase_at(set, p)?;
     let ring = phase.ring;
-    let times = times_in(ring_row(set, n, ring), p);
+    let times = ring_row(set, n, ring).iter().filter(|m| **m == p).count();
     if times == 0 {
         return Some(Reason::Sequence(SequenceReason::Missing { phase: p, ring }));
     }
@@ -103,11 +103,4 @@ fn once_reason(set: &TimingSet, n: SeqNo, p: PhaseNo) -> Option<Reason>
         return Some(Reason::Sequence(SequenceReason::Repeated { phase: p }));
     }
     None
-}
-
-/// How often a phase stands in a row.
-fn times_in(row: &[PhaseNo], p: PhaseNo) -> usize
-    ensures { result ≡ times_in row.now p }
-{
-    row.iter().filter(|m| **m == p).count()
 }

@@ -2,11 +2,11 @@
 
 ghost use Rattle.std.specs.Prelude.{◌≡◌, ◌++◌, true, OnOk, IfOk, map};
 ghost use Rattle.std.specs.List.{flat_map, list_all};
-ghost use Rattle.signal_rules.specs.RowWalk.{subject_of, of_kind, sequence_of, other_than, sequences_after, is_within};
+ghost use Rattle.signal_rules.specs.RowWalk.{subject_of, of_kind, sequences_after, is_within};
 ghost use Rattle.signal_rules.specs.Violations.{subjects};
 
 use crate::violation::Subject;
-use signal_records::{NoMemory, Row, SeqNo, TimingSet};
+use signal_records::{NoMemory, Row, TimingSet};
 use std::alloc::Global;
 
 /// Phases, sequences, split rows and patterns, each by ascending number.
@@ -59,16 +59,9 @@ fn add_kind(rows: &[Row], kind: u32, subjects: &mut Vec<Subject>) -> Result<(), 
         ≡ subjects.old.items ++ flat_map (of_kind kind) rows.now) }
 {
     for row in rows {
-        add_row(row, kind, subjects)?;
-    }
-    Ok(())
-}
-
-fn add_row(row: &Row, kind: u32, subjects: &mut Vec<Subject>) -> Result<(), NoMemory>
-    ensures { OnOk result (subjects.new.items ≡ subjects.old.items ++ of_kind kind row.now) }
-{
-    if row.key().kind() == kind {
-        subjects.push(subject_of(row))?;
+        if row.key().kind() == kind {
+            subjects.push(subject_of(row))?;
+        }
     }
     Ok(())
 }
@@ -92,20 +85,13 @@ fn add_sequences(rows: &[Row], subjects: &mut Vec<Subject>) -> Result<(), NoMemo
 {
     let mut last = 0;
     for row in rows {
-        if let Some(n) = next_sequence(last, row) {
-            subjects.push(Subject::Seq(n))?;
-            last = n.get();
+        match row {
+            Row::Seq(n, _, _) if n.get() != last => {
+                subjects.push(Subject::Seq(*n))?;
+                last = n.get();
+            }
+            _ => {}
         }
     }
     Ok(())
-}
-
-/// The sequence of a row, if it is another than the last one.
-fn next_sequence(last: u32, row: &Row) -> Option<SeqNo>
-    ensures { result ≡ other_than last (sequence_of row.now) }
-{
-    match row {
-        Row::Seq(n, _, _) => { if n.get() == last { None } else { Some(*n) } }
-        _ => None,
-    }
 }

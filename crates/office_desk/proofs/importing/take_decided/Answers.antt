@@ -25,7 +25,7 @@ pub returns-in-Same-clause-rows : goal.returns-in-Same-clause-rows
 returns-in-Same-clause-rows c = sym (append-nil c.args.pending) ∙ ap (λ (t : Registered). c.args.pending ++ rows_told t) (sym c.in-Same.is) ∙ ap (λ (d : Option Registered). c.args.pending ++ rows_decided d) (sym c.in-Some.is)
 
 pub returns-in-Refused-clause-taken : goal.returns-in-Refused-clause-taken
-returns-in-Refused-clause-taken c = ap (λ (why : Refusal). taken.Refused why) c.refused.ensures ∙ ap (λ (t : Registered). taken_as (Some t)) (sym c.in-Refused.is) ∙ ap taken_as (sym c.in-Some.is)
+returns-in-Refused-clause-taken c = ap (λ (why : Refusal). taken.Refused why) c.register_refusal.ensures ∙ ap (λ (t : Registered). taken_as (Some t)) (sym c.in-Refused.is) ∙ ap taken_as (sym c.in-Some.is)
 
 pub returns-in-Refused-clause-rows : goal.returns-in-Refused-clause-rows
 returns-in-Refused-clause-rows c = sym (append-nil c.args.pending) ∙ ap (λ (t : Registered). c.args.pending ++ rows_told t) (sym c.in-Refused.is) ∙ ap (λ (d : Option Registered). c.args.pending ++ rows_decided d) (sym c.in-Some.is)

@@ -9,8 +9,8 @@ pub returns-clause-decides : goal.returns-clause-decides
 returns-clause-decides g c =
     let many : 9999 ≤ 18_446_744_073_709_551_615 = omega arith in
     told_decides _ _ _ _ _
-    (c.unchanged.ensures.reply ∙ ap (λ (list : List Listed). Overdue list) c.new-found.ensures)
-    (λ e. cc) (λ why e. absurd cc) c.unchanged.ensures.no_changes
+    (c.from_reply.ensures.reply ∙ ap (λ (list : List Listed). Overdue list) c.new-found.ensures)
+    (λ e. cc) (λ why e. absurd cc) c.from_reply.ensures.no_changes
     (λ honest. c.in_ok-late.ensures.whole honest
     (let few : c.in_ok-late.late.len < 18_446_744_073_709_551_615 =
     omega (arith, c.in_ok-late.late.ok.1, c.in_ok-late.late.small) in few))

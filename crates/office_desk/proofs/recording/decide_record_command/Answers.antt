@@ -11,8 +11,8 @@ returns-then-not-branch-clause-decides g c =
     let asked = c.args.command.now in
     let gone = c.if-not-branch.true in
     let tells = λ (honest : g.S.Shelf.is_honest c.is_known.new.shelf). about_tells tables _ _ _ _ c.cabinet_of.ensures gone (c.in_ok-is_known.ensures.tells honest) in
-    unknown_decides _ _ _ _ c.refused.ensures.reply
-    (unknown_named (cabinet_of asked) _ (rw c.cabinet_of.ensures at (c.is_known.ensures.asked (c.in_ok-is_known.was ∙ ap (λ (b : Bool). Ok b) gone)))) c.refused.ensures.no_changes
+    unknown_decides _ _ _ _ c.from_refusal.ensures.reply
+    (unknown_named (cabinet_of asked) _ (rw c.cabinet_of.ensures at (c.is_known.ensures.asked (c.in_ok-is_known.was ∙ ap (λ (b : Bool). Ok b) gone)))) c.from_refusal.ensures.no_changes
     (λ honest. gone_whole tables asked (cabinet_of asked) (tells honest).told (tells honest).whole)
     (λ honest office stands. at_unknown office (cabinet_of asked) _ ((tells honest).known office stands))
 

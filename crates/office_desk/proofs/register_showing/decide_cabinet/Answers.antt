@@ -9,7 +9,7 @@ pub returns-then-not-branch-clause-decides : goal.returns-then-not-branch-clause
 returns-then-not-branch-clause-decides g c =
     let gone = c.if-not-branch.true in
     let known = c.in_ok-is_known.ensures in
-    unknown_decides _ _ _ _ c.refused.ensures.reply (inl refl) c.refused.ensures.no_changes
+    unknown_decides _ _ _ _ c.from_refusal.ensures.reply (inl refl) c.from_refusal.ensures.no_changes
     (λ honest. gone_after _ c.args.id _ (sym gone ∙ (known.tells honest).told) (known.tells honest).whole)
     (λ honest office stands. rw (none_there (get office.intersections c.args.id) (sym gone ∙ (known.tells honest).known office stands)))
 
@@ -17,7 +17,7 @@ pub returns-clause-decides : goal.returns-clause-decides
 returns-clause-decides g c =
     let known = c.in_ok-is_known.ensures in
     let view = c.in_ok-view.ensures in
-    told_decides _ _ _ _ _ c.unchanged.ensures.reply (λ e. cc) (λ why e. absurd cc) c.unchanged.ensures.no_changes
+    told_decides _ _ _ _ _ c.from_reply.ensures.reply (λ e. cc) (λ why e. absurd cc) c.from_reply.ensures.no_changes
     (λ honest.
     let first = c.cabinet_view.ensures.reads.kept.honest_before honest in
     row_after _ c.args.id _ (known.tells first).whole (rw (c.is_known.ensures.reads.kept.same_content first) at (view.shows honest).1))

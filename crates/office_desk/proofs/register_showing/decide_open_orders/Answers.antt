@@ -10,7 +10,7 @@ pub returns-then-not-known-clause-decides : goal.returns-then-not-known-clause-d
 returns-then-not-known-clause-decides g c =
     let gone = c.if-not-known.true in
     let known = c.in_ok-known.ensures in
-    unknown_decides _ _ _ _ c.refused.ensures.reply (inl refl) c.refused.ensures.no_changes
+    unknown_decides _ _ _ _ c.from_refusal.ensures.reply (inl refl) c.from_refusal.ensures.no_changes
     (λ honest. gone_after _ c.args.id _ (sym gone ∙ (known.tells honest).told) (known.tells honest).whole)
     (λ honest office stands. rw (none_there (get office.intersections c.args.id) (sym gone ∙ (known.tells honest).known office stands)))
 
@@ -19,8 +19,8 @@ returns-clause-decides g c =
     let known = c.in_ok-known.ensures in
     let list = c.in_ok-list.ensures in
     told_decides _ _ _ _ _
-    (c.unchanged.ensures.reply ∙ ap (λ (numbers : List ℕ). OpenOrders numbers) c.new-numbers.ensures)
-    (λ e. cc) (λ why e. absurd cc) c.unchanged.ensures.no_changes
+    (c.from_reply.ensures.reply ∙ ap (λ (numbers : List ℕ). OpenOrders numbers) c.new-numbers.ensures)
+    (λ e. cc) (λ why e. absurd cc) c.from_reply.ensures.no_changes
     (λ honest.
     let first = c.open_orders.ensures.reads.kept.honest_before honest in
     row_after _ c.args.id _ (known.tells first).whole (rw (c.is_known.ensures.reads.kept.same_content first) at (list.shows honest).1))

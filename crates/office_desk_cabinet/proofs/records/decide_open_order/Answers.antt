@@ -7,8 +7,8 @@ pub returns-clause-decides : goal.returns-clause-decides
 returns-clause-decides g c =
     let says = c.open_order-decision.ensures in
     decided 0 _ _ _ (OpenOrder c.args.id c.args.opening.now) c.order-there.result
-    c.open_order-decision.result c.registered.result
+    c.open_order-decision.result c.report_record.result
     (λ honest.
     let there = taken_stands _ (place.Order c.args.id c.args.opening.now.number) _ _ c.order-there.ensures (c.in_ok-found.ensures.stands honest) in
     record { reads = there.reads; whole = there.whole })
-    says.line (says.makes c.args.id) c.registered.ensures.tells c.registered.ensures.fault
+    says.line (says.makes c.args.id) c.report_record.ensures.tells c.report_record.ensures.fault

@@ -12,7 +12,7 @@ returns-clause-decides g c =
     let hand = c.hand-hand.result in
     let pending = c.args.pending.now in
     let says = c.receive-decision.ensures in
-    decided 0 _ _ _ (Receive asked) (there, hand) c.receive-decision.result c.received.result
+    decided 0 _ _ _ (Receive asked) (there, hand) c.receive-decision.result c.report_delivery.result
     (λ honest.
     let at_hand = c.record_at-2.ensures.reads.kept.honest_before honest in
     let first = c.record_at.ensures.reads.kept.same_content at_hand in
@@ -22,4 +22,4 @@ returns-clause-decides g c =
     record { reads = (came.reads, on.reads); whole = ⊎_elim came.whole on.whole })
     says.line (says.makes 0)
     (received_tells 0 asked (receive_line there hand asked) hand c.receive-decision.result
-    c.received.result says.line c.received.ensures.tells) c.received.ensures.fault
+    c.report_delivery.result says.line c.report_delivery.ensures.tells) c.report_delivery.ensures.fault

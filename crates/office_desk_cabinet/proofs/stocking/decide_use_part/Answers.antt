@@ -14,7 +14,7 @@ returns-clause-decides g c =
     let pending = c.args.pending.now in
     let says = c.use_part-decision.ensures in
     decided 0 _ _ _ (UsePart id asked) (there, order, c.hand-hand.result)
-    c.use_part-decision.result c.registered.result
+    c.use_part-decision.result c.report_record.result
     (λ honest.
     let at_line = c.record_at-3.ensures.reads.kept.honest_before honest in
     let at_hand = c.record_at-2.ensures.reads.kept.honest_before at_line in
@@ -29,4 +29,4 @@ returns-clause-decides g c =
       reads = (line.reads, of.reads, on.reads);
       whole = ⊎_elim line.whole (⊎_elim of.whole on.whole);
     })
-    says.line (says.makes id) c.registered.ensures.tells c.registered.ensures.fault
+    says.line (says.makes id) c.report_record.ensures.tells c.report_record.ensures.fault

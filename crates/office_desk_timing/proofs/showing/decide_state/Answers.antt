@@ -7,7 +7,7 @@ use Rattle.office_desk_timing.proofs.showing.decide_state.Goals as goal
 pub returns-in_default-clause-decides : goal.returns-in_default-clause-decides
 returns-in_default-clause-decides g c =
     let row = c.in_ok-row.ensures in
-    unknown_decides _ _ _ _ c.refused.ensures.reply (inl refl) c.refused.ensures.no_changes
+    unknown_decides _ _ _ _ c.from_refusal.ensures.reply (inl refl) c.from_refusal.ensures.no_changes
     (λ honest damaged. elim damaged [
       | inl met ↦ (row.row honest).1 met
       | inr judged ↦ absurd (let f : None ≡ Some (intersection_columns judged.row) = sym (rw c.in_default.is at (row.row honest).0) ∙ judged.read in cc)
@@ -16,7 +16,7 @@ returns-in_default-clause-decides g c =
 pub returns-clause-decides : goal.returns-clause-decides
 returns-clause-decides g c =
     let row = c.in_ok-row.ensures in
-    told_decides _ _ _ _ _ (c.unchanged.ensures.reply ∙ c.shown.ensures) (λ e. cc) (λ why e. absurd cc) c.unchanged.ensures.no_changes (λ honest.
+    told_decides _ _ _ _ _ (c.from_reply.ensures.reply ∙ c.state_reply.ensures) (λ e. cc) (λ why e. absurd cc) c.from_reply.ensures.no_changes (λ honest.
     let read = c.verdict_at.ensures.reads.kept.honest_before honest in
     let first = c.committed_count.ensures.kept.honest_before read in
     let still = c.committed_count.ensures.kept.same_content read ∙ c.intersection_row.ensures.reads.kept.same_content first in

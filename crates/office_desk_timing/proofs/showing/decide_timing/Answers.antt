@@ -6,14 +6,14 @@ use Rattle.office_desk_timing.proofs.showing.decide_timing.Goals as goal
 
 pub returns-in_default-clause-decides : goal.returns-in_default-clause-decides
 returns-in_default-clause-decides g c =
-    unknown_decides _ _ _ _ c.refused.ensures.reply (inl refl) c.refused.ensures.no_changes
+    unknown_decides _ _ _ _ c.from_refusal.ensures.reply (inl refl) c.from_refusal.ensures.no_changes
     (λ honest. none_after _ c.args.id _ (rw c.in_default.is at (c.in_ok-row.ensures.row honest).0))
     (λ honest office stands. rw (none_found _ office c.args.id stands (rw c.in_default.is at (c.in_ok-row.ensures.row honest).0)))
 
 pub returns-clause-decides : goal.returns-clause-decides
 returns-clause-decides g c =
     let row = c.in_ok-row.ensures in
-    told_decides _ _ _ _ _ c.unchanged.ensures.reply (λ e. cc) (λ why e. absurd cc) c.unchanged.ensures.no_changes
+    told_decides _ _ _ _ _ c.from_reply.ensures.reply (λ e. cc) (λ why e. absurd cc) c.from_reply.ensures.no_changes
     (λ honest.
     let first = c.committed_set.ensures.reads.kept.honest_before honest in
     let set = rw (c.intersection_row.ensures.reads.kept.same_content first) at (c.in_ok-rows.ensures.set honest) in

@@ -19,7 +19,7 @@ returns-in_default-clause-decides g c =
     absent_decides _ _ _ _ c.args.step.now _ (λ honest.
     subst (λ (r : Reach). IsFound r tables c.args.id None) c.reach.ensures
     (subst (λ (o : Option Found). IsFound c.reach.result tables c.args.id o) c.in_default.is (c.in_ok-found.ensures.found honest)))
-    c.refused.ensures.reply c.refused.ensures.no_changes
+    c.from_refusal.ensures.reply c.from_refusal.ensures.no_changes
 
 pub returns-clause-decides : goal.returns-clause-decides
 returns-clause-decides g c =

@@ -1,5 +1,5 @@
 use Rattle.std.proofs.Common.{◌≡◌, ◌∙◌, [], ◌∷◌, ◌++◌, ap, sym, refl, subst, arith}
-use Rattle.office_http.specs.Listening.{Listens, connected, one_accepted, one_failed}
+use Rattle.office_http.specs.Listening.{Listens, connection_between, one_accepted, one_failed}
 use Rattle.office_http.specs.Protocol.{office_storage}
 use Rattle.office_http.proofs.ListeningLemmas.{when_ok, when_err, listens-start, listens-next, one_longer, accepted-next, turns-start, turns-same, turns-next, turns-untouched}
 use Rattle.office_http.proofs.listening.serve_each.Goals as goal
@@ -72,19 +72,19 @@ loop-preserved g c =
       did = λ clean before tables keeps.
           let so_far = c.loop.invariant.did (served.ensures.clean clean) before tables keeps in
           let next = when_ok _ served.result (sym c.if-is_err.ensures.value) (served.ensures.did clean so_far.1.after so_far.1.kept so_far.1.keeps) in (
-            so_far.0 ++ connected _ _ ∷ [],
+            so_far.0 ++ connection_between _ _ ∷ [],
             listens-next _ _ tables before _ _ next.1 next.0 so_far.0 _ so_far.1 next.2,
             one_longer so_far.0 _ c.loop.counter so_far.2,
             turns-next (g.L.Listen.told c.args.listener.now) (g.L.Listen.told c.loop.listener) (g.L.Listen.told c.accept.new.self) (g.L.Listen.told c.take_back.new.self) so_far.0 _ _ _ _ so_far.3
-                (c.take_back.ensures.counts ∙ (c.in-Ok.ensures.counts ∙ ap one_accepted so_far.3.counted) ∙ accepted-next so_far.0 (connected _ _) _)
+                (c.take_back.ensures.counts ∙ (c.in-Ok.ensures.counts ∙ ap one_accepted so_far.3.counted) ∙ accepted-next so_far.0 (connection_between _ _) _)
                 c.in-Ok.ensures.given c.in-Ok.ensures.returned c.take_back.ensures.given c.take_back.ensures.returned,
           );
       turned =
           let so_far = c.loop.invariant.turned in (
-            so_far.0 ++ connected _ _ ∷ [],
+            so_far.0 ++ connection_between _ _ ∷ [],
             one_longer so_far.0 _ c.loop.counter so_far.1,
             turns-next (g.L.Listen.told c.args.listener.now) (g.L.Listen.told c.loop.listener) (g.L.Listen.told c.accept.new.self) (g.L.Listen.told c.take_back.new.self) so_far.0 _ _ _ _ so_far.2
-                (c.take_back.ensures.counts ∙ (c.in-Ok.ensures.counts ∙ ap one_accepted so_far.2.counted) ∙ accepted-next so_far.0 (connected _ _) _)
+                (c.take_back.ensures.counts ∙ (c.in-Ok.ensures.counts ∙ ap one_accepted so_far.2.counted) ∙ accepted-next so_far.0 (connection_between _ _) _)
                 c.in-Ok.ensures.given c.in-Ok.ensures.returned c.take_back.ensures.given c.take_back.ensures.returned,
           );
     }

@@ -30,7 +30,7 @@ pub returns-then-is_err-clause-did : goal.returns-then-is_err-clause-did
 returns-then-is_err-clause-did g c clean before held keeps =
     let so_far = c.loop-left.invariant.progress (c.serve_request.ensures.clean clean) before held keeps in
     let step = c.serve_request.ensures.step clean so_far.0 so_far.1 so_far.2.ran.keeps in
-    let whole : BeginsWithRequest c.loop-left.buffer (plain c.in-Whole.request) c.in-Whole.length = subst (λ b. BeginsWithRequest b (plain c.in-Whole.request) c.in-Whole.length) c.held.ensures.bytes c.in-Whole.ensures in (
+    let whole : BeginsWithRequest c.loop-left.buffer (plain c.in-Whole.request) c.in-Whole.length = subst (λ b. BeginsWithRequest b (plain c.in-Whole.request) c.in-Whole.length) c.content.ensures.bytes c.in-Whole.ensures in (
       step.3,
       step.2,
       Did-broken g.M.Machine.protocol _ c.args.max_requests c.loop-left.requests c.loop-left.left c.loop-left.buffer _ _ so_far.2 _ (plain c.in-Whole.request) c.in-Whole.length step.0 (g.W.Sink.told c.serve_request.new.writer) c.loop-left-test.true whole
@@ -46,7 +46,7 @@ loop-left-preserved-in-Whole g c =
     let len = c.in-Whole.length in
     let buffer = c.loop-left.buffer in
     let request = plain c.in-Whole.request in
-    let whole : BeginsWithRequest buffer request len = subst (λ b. BeginsWithRequest b request len) c.held.ensures.bytes c.in-Whole.ensures in
+    let whole : BeginsWithRequest buffer request len = subst (λ b. BeginsWithRequest b request len) c.content.ensures.bytes c.in-Whole.ensures in
     let shorter = omega_length buffer len c.consume.new.self c.consume.ensures in
     record {
       clean = λ clean. c.loop-left.invariant.clean (c.serve_request.ensures.clean clean);
@@ -74,7 +74,7 @@ returns-then-is_err-2-clause-did g c clean before held keeps =
     let so_far = c.loop-left.invariant.progress clean before held keeps in
     let closing = c.serve_fault.ensures.answer in
     let broken = written_in_part c.serve_fault.result _ _ closing.0 (sym c.if-is_err-2.ensures.value) closing.2 in
-    let at_fault : IsFaulty c.loop-left.buffer c.in-Bad.fault = subst (λ b. IsFaulty b c.in-Bad.fault) c.held.ensures.bytes c.in-Bad.ensures in (
+    let at_fault : IsFaulty c.loop-left.buffer c.in-Bad.fault = subst (λ b. IsFaulty b c.in-Bad.fault) c.content.ensures.bytes c.in-Bad.ensures in (
       so_far.0,
       so_far.1,
       Did-ended g.M.Machine.protocol _ c.args.max_requests c.loop-left.requests c.loop-left.left c.loop-left.buffer _ _ so_far.2 _ (closing.0 ∷ []) (g.W.Sink.told c.serve_fault.new.writer) broken.part broken.taken
@@ -87,7 +87,7 @@ returns-in-Bad-clause-did g c clean before held keeps =
     let so_far = c.loop-left.invariant.progress clean before held keeps in
     let closing = c.serve_fault.ensures.answer in
     let written = written_whole c.serve_fault.result _ _ closing.0 (sym c.if-is_err-2.ensures.value) closing.2 in
-    let at_fault : IsFaulty c.loop-left.buffer c.in-Bad.fault = subst (λ b. IsFaulty b c.in-Bad.fault) c.held.ensures.bytes c.in-Bad.ensures in (
+    let at_fault : IsFaulty c.loop-left.buffer c.in-Bad.fault = subst (λ b. IsFaulty b c.in-Bad.fault) c.content.ensures.bytes c.in-Bad.ensures in (
       so_far.0,
       so_far.1,
       Did-ended g.M.Machine.protocol _ c.args.max_requests c.loop-left.requests c.loop-left.left c.loop-left.buffer _ _ so_far.2 _ (closing.0 ∷ []) (g.W.Sink.told c.serve_fault.new.writer) closing.0 written
@@ -97,14 +97,14 @@ returns-in-Bad-clause-did g c clean before held keeps =
 
 pub fill-requires : goal.fill-requires
 fill-requires g c =
-    let incomplete : IsIncomplete c.loop-left.buffer = subst IsIncomplete c.held.ensures.bytes c.in-More.ensures in
+    let incomplete : IsIncomplete c.loop-left.buffer = subst IsIncomplete c.content.ensures.bytes c.in-More.ensures in
     incomplete-bound c.loop-left.buffer incomplete
 
 -- a read that gave nothing
 pub returns-in-Ok-eq0-clause-did : goal.returns-in-Ok-eq0-clause-did
 returns-in-Ok-eq0-clause-did g c clean before held keeps =
     let so_far = c.loop-left.invariant.progress clean before held keeps in
-    let incomplete : IsIncomplete c.loop-left.buffer = subst IsIncomplete c.held.ensures.bytes c.in-More.ensures in
+    let incomplete : IsIncomplete c.loop-left.buffer = subst IsIncomplete c.content.ensures.bytes c.in-More.ensures in
     let bytes = c.in-Ok-eq0.ensures.bytes in
     let counts = c.in-Ok-eq0.ensures.counts in
     let grown : (g.R.Source.told c.args.reader.now).counts.empties ≤ (g.R.Source.told c.loop-left.reader).counts.empties = omega (arith, c.loop-left.invariant.reader.empties) in
@@ -124,7 +124,7 @@ returns-in-Ok-eq0-clause-did g c clean before held keeps =
 pub returns-in-Err-clause-did : goal.returns-in-Err-clause-did
 returns-in-Err-clause-did g c clean before held keeps =
     let so_far = c.loop-left.invariant.progress clean before held keeps in
-    let incomplete : IsIncomplete c.loop-left.buffer = subst IsIncomplete c.held.ensures.bytes c.in-More.ensures in
+    let incomplete : IsIncomplete c.loop-left.buffer = subst IsIncomplete c.content.ensures.bytes c.in-More.ensures in
     let counts = c.in-Err.ensures.counts in
     let last = Progress-more _ c.args.max_requests c.loop-left.requests c.loop-left.left c.loop-left.buffer _ _ so_far.2 (g.R.Source.told c.fill.new.source) [] c.loop-left.buffer c.loop-left-test.true incomplete c.loop-left.invariant.reader
     (Consumes-from_Keeps _ _ c.in-Err.ensures.bytes.1) (ap (λ k. k.calls) counts) (ap (λ k. k.next_reads) counts) (sym (append-nil c.loop-left.buffer)) in (
@@ -138,7 +138,7 @@ pub loop-left-preserved : goal.loop-left-preserved
 loop-left-preserved g c =
     let bytes = c.in-Ok-fill.ensures.bytes in
     let longer : length c.fill.new.self ≡ length c.loop-left.buffer + c.in-Ok-fill.field-0 = omega (arith, ap length bytes.2, length-append c.loop-left.buffer bytes.0, bytes.1) in
-    let incomplete : IsIncomplete c.loop-left.buffer = subst IsIncomplete c.held.ensures.bytes c.in-More.ensures in
+    let incomplete : IsIncomplete c.loop-left.buffer = subst IsIncomplete c.content.ensures.bytes c.in-More.ensures in
     let some : 0 < c.in-Ok-fill.field-0 = omega (arith, c.in-Ok-fill.field-0-test.1) in
     let calls : (g.R.Source.told c.fill.new.source).counts.calls ≤ (g.R.Source.told c.loop-left.reader).counts.calls + 1 = grind (arith, nat_tests, ap (λ k. k.calls) c.in-Ok-fill.ensures.counts) in
     record {
@@ -164,13 +164,13 @@ loop-left-preserved g c =
 
 pub returns-in-Ok-eq0-clause-asks : goal.returns-in-Ok-eq0-clause-asks
 returns-in-Ok-eq0-clause-asks g c =
-    let incomplete : IsIncomplete c.loop-left.buffer = subst IsIncomplete c.held.ensures.bytes c.in-More.ensures in
+    let incomplete : IsIncomplete c.loop-left.buffer = subst IsIncomplete c.content.ensures.bytes c.in-More.ensures in
     let bytes = c.in-Ok-eq0.ensures.bytes in
     only_asks _ _ _ _ _ _ (asks-more _ _ _ c.loop-left.buffer _ _ c.loop-left.invariant.asks c.fill.new.source bytes.0 _ c.loop-left-test.true incomplete c.loop-left.invariant.reader bytes.3 (ap (λ k. k.calls) c.in-Ok-eq0.ensures.counts) (ap (λ k. k.next_reads) c.in-Ok-eq0.ensures.counts) refl)
 
 pub returns-in-Err-clause-asks : goal.returns-in-Err-clause-asks
 returns-in-Err-clause-asks g c =
-    let incomplete : IsIncomplete c.loop-left.buffer = subst IsIncomplete c.held.ensures.bytes c.in-More.ensures in
+    let incomplete : IsIncomplete c.loop-left.buffer = subst IsIncomplete c.content.ensures.bytes c.in-More.ensures in
     only_asks _ _ _ _ _ _ (asks-more _ _ _ c.loop-left.buffer _ _ c.loop-left.invariant.asks c.fill.new.source [] _ c.loop-left-test.true incomplete c.loop-left.invariant.reader (Consumes-from_Keeps _ _ c.in-Err.ensures.bytes.1) (ap (λ k. k.calls) c.in-Err.ensures.counts) (ap (λ k. k.next_reads) c.in-Err.ensures.counts) refl)
 
 -- the last request was answered

@@ -12,7 +12,7 @@ use Rattle.office_tables_sql.proofs.inspection.last_days.Goals as goal
 pub returns-clause-days : goal.returns-clause-days
 returns-clause-days g c =
     let tables = content_now (state g.S.Store c.args.conn.now) in
-    IfOk-weaker c.gathered.result _ _ (λ days it honest id.
+    IfOk-weaker c.gather_rows.result _ _ (λ days it honest id.
     let found = it honest in
     record {
       inspections = of_one id found.records;
@@ -20,11 +20,11 @@ returns-clause-days g c =
           (λ id n x. of_number id n (number (pos x.number) ∷ [])) tables.inspection found.records found.lists id;
       within = within_one IsInspectionWithin found.records found.within id;
       latest = found.held id;
-    }) c.gathered.ensures.rows
+    }) c.gather_rows.ensures.rows
 
 pub returns-clause-whole : goal.returns-clause-whole
 returns-clause-whole g c =
     let tables = content_now (state g.S.Store c.args.conn.now) in
-    IfOk-weaker c.gathered.result _ _ (λ days it honest.
+    IfOk-weaker c.gather_rows.result _ _ (λ days it honest.
     none_damaged _ Inspection (IsOfOne IsInspectionWithin) (λ e. inspection_key e.0 e.1.number)
-    (λ e. inspection_columns e.1) tables _ days (it honest)) c.gathered.ensures.rows
+    (λ e. inspection_columns e.1) tables _ days (it honest)) c.gather_rows.ensures.rows

@@ -12,7 +12,7 @@ use Rattle.office_tables_sql.proofs.order.open_orders.Goals as goal
 pub returns-clause-orders : goal.returns-clause-orders
 returns-clause-orders g c =
     let tables = content_now (state g.S.Store c.args.conn.now) in
-    IfOk-weaker c.gathered.result _ _ (λ orders it honest id.
+    IfOk-weaker c.gather_rows.result _ _ (λ orders it honest id.
     let found = it honest in
     record {
       orders = of_one id found.records;
@@ -20,11 +20,11 @@ returns-clause-orders g c =
           (λ id n x. of_number id n (number (pos x.number) ∷ [])) tables.work_order found.records found.lists id;
       within = within_one IsOrderWithin found.records found.within id;
       open_ones = found.held id;
-    }) c.gathered.ensures.rows
+    }) c.gather_rows.ensures.rows
 
 pub returns-clause-whole : goal.returns-clause-whole
 returns-clause-whole g c =
     let tables = content_now (state g.S.Store c.args.conn.now) in
-    IfOk-weaker c.gathered.result _ _ (λ orders it honest.
+    IfOk-weaker c.gather_rows.result _ _ (λ orders it honest.
     none_damaged _ WorkOrder (IsOfOne IsOrderWithin) (λ e. order_key e.0 e.1.number)
-    (λ e. order_columns e.1) tables _ orders (it honest)) c.gathered.ensures.rows
+    (λ e. order_columns e.1) tables _ orders (it honest)) c.gather_rows.ensures.rows

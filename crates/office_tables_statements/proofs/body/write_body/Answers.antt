@@ -5,4 +5,4 @@ use Rattle.office_tables_statements.proofs.body.write_body.Goals as goal
 
 pub returns : goal.returns
 unfolding body_in
-returns c = c.in_ok-joined.ensures ∙ ap (join_with_byte 44) (c.as_slice.ensures ∙ c.in_ok-fields.ensures.spelled)
+returns c = c.in_ok-join_fields.ensures ∙ ap (join_with_byte 44) (c.as_slice.ensures ∙ c.in_ok-fields.ensures.spelled)

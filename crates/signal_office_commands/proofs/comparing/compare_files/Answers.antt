@@ -1,18 +1,16 @@
-use Rattle.std.proofs.Common.{inr}
-use Rattle.signal_office_commands.proofs.FaultLemmas.{on_fault}
+use Rattle.std.proofs.Common.{inr, subst, sym}
+use Rattle.signal_office_commands.proofs.FaultLemmas.{came_err, compared}
 use Rattle.signal_office_commands.proofs.comparing.compare_files.Goals as goal
+use Rattle.signal_office_commands.specs.Comparing.{ComparesFiles}
+use Rattle.signal_office_faults.specs.Done.{came_to}
+use Rattle.signal_office_queries.specs.Comparison.{TellsComparison}
 
-pub returns-clause-found : goal.returns-clause-found
-returns-clause-found c =
-    record {
-      before = c.in_ok-before.before;
-      after = c.in_ok-after.after;
-      first_is = c.in_ok-before.ensures.plan;
-      second_is = c.in_ok-after.ensures.plan;
-      told = c.in_ok-differences.ensures.told;
-    }
+pub returns : goal.returns
+returns c =
+    compared c.args.csv _ _ _ _ _ _ c.in_ok-before.ensures.plan c.in_ok-after.ensures.plan c.in_ok-differences.ensures.told
+    (subst (λ found. TellsComparison c.args.csv found (came_to c.comparison.result)) c.deref.ensures.value c.comparison.ensures)
 
-pub returns-in_err-after-clause-fault : goal.returns-in_err-after-clause-fault
-returns-in_err-after-clause-fault c =
-    on_fault _ c.in_err-after.field-0.0 _ c.from_residual-in_err-after.ensures.1 (λ other.
-    inr (c.in_ok-before.before, c.in_ok-before.ensures.plan, c.in_err-after.ensures.fault other))
+pub returns-in_err-after : goal.returns-in_err-after
+returns-in_err-after c =
+    subst (ComparesFiles c.args.csv c.args.first.now c.args.second.now) (sym (came_err _ _ c.from_residual-in_err-after.ensures.1))
+    (λ other. inr (c.in_ok-before.before, c.in_ok-before.ensures.plan, c.in_err-after.ensures.fault other))

@@ -1,61 +1,33 @@
-use Rattle.std.proofs.Common.{Ok, Err, Some, None, ap, refl}
-use Rattle.office_desk.specs.Running.{MakesTables}
+use Rattle.std.proofs.Common.{Ok, Err, refl, subst, sym}
+use Rattle.signal_office_commands.proofs.FaultLemmas.{err_is}
 use Rattle.signal_office_commands.proofs.ReplacingLemmas.{plan_left_by}
-use Rattle.signal_office_commands.proofs.RevisedLemmas.{looking_stops, revises_as, revises_by, revises_idly, revises_not, revising_stops}
+use Rattle.signal_office_commands.proofs.RevisedLemmas.{revises_as, revises_by, revises_not}
 use Rattle.signal_office_commands.proofs.revising.revise_plan.Goals as goal
-use Rattle.signal_office_commands.specs.Revising.{RevisesSo, wrote_timing}
-use Rattle.signal_office_queries.proofs.SeenLemmas.{handed}
+use Rattle.signal_office_commands.specs.Revising.{EndsAs}
+use Rattle.signal_office_commands.specs.declared.revising.Revised.TheVariants.{Same}
 
 pub returns-in-Some-clause-writes : goal.returns-in-Some-clause-writes
-returns-in-Some-clause-writes g c =
-    revises_by g.S.Shelf c.args.bytes.now c.args.edit.now c.args.office.now _ c.in_ok-found.ensures.kept (Ok c.in_ok-found.found) c.in_ok-found.ensures.comes _ c.in-Some.revision c.run_revision.result (ap Ok c.in-Some.is)
-    c.run_revision.ensures.clean c.run_revision.ensures.drafts
+returns-in-Some-clause-writes g c = revises_by c.args.bytes.now c.args.edit.now _ c.in-Some.revision _ c.in-Some.is c.in_ok-found.ensures c.run_revision.ensures
 
 pub returns-in-Some-clause-revises : goal.returns-in-Some-clause-revises
-returns-in-Some-clause-revises g c =
-    revises_as g.S.Shelf c.args.office.now c.run_revision.new.office (wrote_timing (g.S.Shelf.written c.args.office.now) (g.S.Shelf.written c.run_revision.new.office)) c.args.bytes.now c.args.edit.now.id c.args.edit.now.clerk c.args.edit.now c.run_revision.result
-    (returns-in-Some-clause-writes g c)
+returns-in-Some-clause-revises g c = (revises_as c.args.bytes.now c.args.edit.now _ (returns-in-Some-clause-writes g c)).makes
 
 pub returns-in-Some-clause-plan : goal.returns-in-Some-clause-plan
-returns-in-Some-clause-plan g c =
-    plan_left_by g.S.Shelf c.args.office.now c.run_revision.new.office (wrote_timing (g.S.Shelf.written c.args.office.now) (g.S.Shelf.written c.run_revision.new.office)) c.args.bytes.now c.args.edit.now.id c.args.edit.now.clerk c.args.edit.now c.run_revision.result
-    (returns-in-Some-clause-writes g c)
+returns-in-Some-clause-plan g c = plan_left_by c.args.bytes.now c.args.edit.now _ (returns-in-Some-clause-writes g c)
 
 pub returns-in-None-clause-writes : goal.returns-in-None-clause-writes
-returns-in-None-clause-writes g c =
-    revises_idly g.S.Shelf c.args.bytes.now c.args.edit.now c.args.office.now _ c.in_ok-found.ensures.kept (Ok c.in_ok-found.found) c.in_ok-found.ensures.comes (Ok c.as_it_stands.result) (ap Ok c.in-None.is) (ap Ok c.as_it_stands.ensures)
+returns-in-None-clause-writes g c = revises_not c.args.bytes.now c.args.edit.now (Ok c.in_ok-found.found) (Ok Same) c.in_ok-found.ensures
+    (λ wrote tables. subst (λ found. EndsAs wrote (Ok found) tables tables (Ok Same)) (sym c.in-None.is) (refl, refl))
 
 pub returns-in-None-clause-revises : goal.returns-in-None-clause-revises
-returns-in-None-clause-revises g c =
-    revises_as g.S.Shelf c.args.office.now c.revision_in.new.office (wrote_timing (g.S.Shelf.written c.args.office.now) (g.S.Shelf.written c.revision_in.new.office)) c.args.bytes.now c.args.edit.now.id c.args.edit.now.clerk c.args.edit.now (Ok c.as_it_stands.result)
-    (returns-in-None-clause-writes g c)
+returns-in-None-clause-revises g c = (revises_as c.args.bytes.now c.args.edit.now _ (returns-in-None-clause-writes g c)).makes
 
 pub returns-in-None-clause-plan : goal.returns-in-None-clause-plan
-returns-in-None-clause-plan g c =
-    plan_left_by g.S.Shelf c.args.office.now c.revision_in.new.office (wrote_timing (g.S.Shelf.written c.args.office.now) (g.S.Shelf.written c.revision_in.new.office)) c.args.bytes.now c.args.edit.now.id c.args.edit.now.clerk c.args.edit.now (Ok c.as_it_stands.result)
-    (returns-in-None-clause-writes g c)
+returns-in-None-clause-plan g c = plan_left_by c.args.bytes.now c.args.edit.now _ (returns-in-None-clause-writes g c)
 
 pub returns-in_err-found-clause-writes : goal.returns-in_err-found-clause-writes
 returns-in_err-found-clause-writes g c =
-    handed c.from_residual.result c.in_err-found.field-0.0
-    (λ result. MakesTables g.S.Shelf c.args.office.now c.revision_in.new.office (λ old new. RevisesSo (wrote_timing (g.S.Shelf.written c.args.office.now) (g.S.Shelf.written c.revision_in.new.office)) c.args.bytes.now
-    c.args.edit.now.id c.args.edit.now.clerk c.args.edit.now old new result)) c.from_residual.ensures.1
-    (revises_not g.S.Shelf c.args.bytes.now c.args.edit.now c.args.office.now _ c.in_err-found.ensures.kept (Err c.in_err-found.field-0.0) c.in_err-found.ensures.comes c.in_err-found.field-0.0 refl)
+    revises_not c.args.bytes.now c.args.edit.now (Err c.in_err-found.field-0.0) _ c.in_err-found.ensures (λ wrote tables. (err_is _ _ c.from_residual.ensures.1, refl))
 
 pub returns-in_err-found-clause-revises : goal.returns-in_err-found-clause-revises
-returns-in_err-found-clause-revises g c =
-    revises_as g.S.Shelf c.args.office.now c.revision_in.new.office (wrote_timing (g.S.Shelf.written c.args.office.now) (g.S.Shelf.written c.revision_in.new.office)) c.args.bytes.now c.args.edit.now.id c.args.edit.now.clerk c.args.edit.now c.from_residual.result
-    (returns-in_err-found-clause-writes g c)
-
-pub returns-in-Some-clause-stop : goal.returns-in-Some-clause-stop
-returns-in-Some-clause-stop g c =
-    revising_stops g.S.Shelf c.args.bytes.now c.args.edit.now c.args.office.now _ c.in_ok-found.ensures.kept (Ok c.in_ok-found.found) c.in_ok-found.ensures.comes _ c.in-Some.revision (ap Ok c.in-Some.is)
-    c.run_revision.ensures.clean c.run_revision.ensures.stop
-
-pub returns-in-None-clause-stop : goal.returns-in-None-clause-stop
-returns-in-None-clause-stop g c =
-    looking_stops g.S.Shelf c.args.bytes.now c.args.edit.now c.args.office.now _ c.in_ok-found.ensures.kept (Ok c.in_ok-found.found) c.in_ok-found.ensures.comes
-
-pub returns-in_err-found-clause-stop : goal.returns-in_err-found-clause-stop
-returns-in_err-found-clause-stop g c =
-    looking_stops g.S.Shelf c.args.bytes.now c.args.edit.now c.args.office.now _ c.in_err-found.ensures.kept (Err c.in_err-found.field-0.0) c.in_err-found.ensures.comes
+returns-in_err-found-clause-revises g c = (revises_as c.args.bytes.now c.args.edit.now _ (returns-in_err-found-clause-writes g c)).makes

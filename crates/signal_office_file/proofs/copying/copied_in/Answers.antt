@@ -1,11 +1,13 @@
-use Rattle.std.proofs.Common.{Ok, refl}
+use Rattle.std.proofs.Common.{Ok, inl, refl}
 use Rattle.sqlite.specs.Files.{file_state}
 use Rattle.office_tables.specs.{Stored.content_now}
 use Rattle.signal_office_file.specs.Copying.{PoursAs}
 use Rattle.signal_office_file.proofs.CopyingLemmas.{poured_clean, poured_copy, poured_kept}
-use Rattle.signal_office_file.proofs.FilesLemmas.{unclosed_leaves}
-use Rattle.signal_office_file.proofs.InFileLemmas.{closing_told}
+use Rattle.signal_office_file.proofs.FilesLemmas.{closing_told, unclosed_leaves}
 use Rattle.signal_office_file.proofs.copying.copied_in.Goals as goal
+
+pub returns-in-Err : goal.returns-in-Err
+returns-in-Err g c = (refl, inl c.in-Err.ensures.refused)
 
 -- closed on a clean disk, the files hold what they held, and so do the bytes of the database file
 pub returns-in-Ok-close_office : goal.returns-in-Ok-close_office
@@ -33,9 +35,9 @@ returns-in-Err-close_office g c =
     let conn = c.in-Ok.office.conn in (
       Ok tt,
       tt,
-      closing_told conn c.in-Err-close_office.fault c.in-Err-close_office.left back.unclosed,
+      closing_told conn c.in-Err-close_office.fault c.in-Err-close_office.left back.0,
       λ clean.
-          let left = unclosed_leaves conn c.in-Err-close_office.fault c.in-Err-close_office.left back.unclosed back.current clean in
+          let left = unclosed_leaves conn c.in-Err-close_office.fault c.in-Err-close_office.left back clean in
           let opened = c.in-Ok.ensures.opened left.1 in
-          (content_now (file_state conn), opened.held, (left.0, back.current, λ found may. opened.crash found (left.2 found may))),
+          (content_now (file_state conn), opened.held, (left.0, back.1, λ found may. opened.crash found (left.2 found may))),
     )

@@ -1,4 +1,4 @@
-use Rattle.std.proofs.Common.{inr, sym, subst}
+use Rattle.std.proofs.Common.{inl, inr, sym, subst}
 use Rattle.std.proofs.Math.Logic.{∥∥₁_map}
 use Rattle.sqlite.specs.Files.{file_state}
 use Rattle.office_desk.specs.StandFor.{StandForSound}
@@ -6,9 +6,12 @@ use Rattle.office_http.specs.Protocol.{office_protocol}
 use Rattle.office_http_framing.proofs.ServeLemmas.{Did-weaker}
 use Rattle.office_tables.specs.{Calls.IsHonest, Stored.content_now}
 use Rattle.signal_office_faults.specs.Lines.{fault_of_stream}
-use Rattle.signal_office_file.proofs.InFileLemmas.{closing_told, first_told}
-use Rattle.signal_office_file.proofs.{FilesLemmas.unclosed_leaves, ServingLemmas.served_leaves, ServingLemmas.served_to_a_stop}
+use Rattle.signal_office_file.proofs.InFileLemmas.{first_told}
+use Rattle.signal_office_file.proofs.{FilesLemmas.closing_told, FilesLemmas.unclosed_leaves, ServingLemmas.served_leaves, ServingLemmas.served_to_a_stop}
 use Rattle.signal_office_file.proofs.in_file.answered_in.Goals as goal
+
+pub returns-in-Err-clause-ends : goal.returns-in-Err-clause-ends
+returns-in-Err-clause-ends g c = (c.in-Err.ensures.untouched, inl c.in-Err.ensures.refused.refused)
 
 -- closed on a clean disk, the database was open to the end, and holds what was kept
 pub returns-in-Ok-close_office-clause-ends : goal.returns-in-Ok-close_office-clause-ends
@@ -45,9 +48,9 @@ returns-in-Err-close_office-clause-ends g c =
       served.1,
       c.in-Ok.ensures.fault,
       first_told fault_of_stream served.1 c.in-Err-close_office.fault c.first_fault.result
-          (closing_told served.0.conn c.in-Err-close_office.fault c.in-Err-close_office.left back.unclosed) c.first_fault.ensures,
+          (closing_told served.0.conn c.in-Err-close_office.fault c.in-Err-close_office.left back.0) c.first_fault.ensures,
       λ clean.
-          let left = unclosed_leaves served.0.conn c.in-Err-close_office.fault c.in-Err-close_office.left back.unclosed back.current clean in
+          let left = unclosed_leaves served.0.conn c.in-Err-close_office.fault c.in-Err-close_office.left back clean in
           let did = c.in-Ok.ensures.did left.1 in (
             did.0,
             did.1,
@@ -55,7 +58,7 @@ returns-in-Err-close_office-clause-ends g c =
                 let ran = did.2 before stands in (
                   ran.0,
                   Did-weaker office_protocol _ _ c.args.max_requests _ _ served.1
-                      (λ requests answers it. (it.serves.laws, (left.0, back.current, λ found may. served_leaves file_state did.0 before served.0 ran.0 requests answers it found (left.2 found may)))) ran.1,
+                      (λ requests answers it. (it.serves.laws, (left.0, back.1, λ found may. served_leaves file_state did.0 before served.0 ran.0 requests answers it found (left.2 found may)))) ran.1,
                 ),
           ),
     )
@@ -64,7 +67,7 @@ pub returns-in-Err-close_office-clause-unclosed : goal.returns-in-Err-close_offi
 returns-in-Err-close_office-clause-unclosed g c clean =
     let back = c.in-Err-close_office.ensures in
     let served = c.in-Ok.served in
-    let left = unclosed_leaves served.0.conn c.in-Err-close_office.fault c.in-Err-close_office.left back.unclosed back.current clean in
+    let left = unclosed_leaves served.0.conn c.in-Err-close_office.fault c.in-Err-close_office.left back clean in
     let did = c.in-Ok.ensures.did left.1 in (
       left.0,
       λ tables may. (

@@ -1,9 +1,12 @@
-use Rattle.std.proofs.Common.{refl}
+use Rattle.std.proofs.Common.{inl, refl}
 use Rattle.sqlite.specs.Files.{file_state}
 use Rattle.office_tables.specs.{Calls.IsHonest, Stored.content_now}
-use Rattle.signal_office_file.proofs.FilesLemmas.{unclosed_leaves}
-use Rattle.signal_office_file.proofs.InFileLemmas.{closing_told, first_told}
+use Rattle.signal_office_file.proofs.FilesLemmas.{closing_told, unclosed_leaves}
+use Rattle.signal_office_file.proofs.InFileLemmas.{first_told}
 use Rattle.signal_office_file.proofs.in_file.done_in.Goals as goal
+
+pub returns-in-Err-clause-ends : goal.returns-in-Err-clause-ends
+returns-in-Err-clause-ends g c = (refl, inl c.in-Err.ensures.refused)
 
 -- closed on a clean disk, the database was open to the end
 pub returns-in-Ok-close_office-clause-ends : goal.returns-in-Ok-close_office-clause-ends
@@ -31,11 +34,11 @@ returns-in-Err-close_office-clause-ends g c =
       c.done_with-office.result.1,
       c.done_with-office.ensures.said,
       first_told (λ why. why) c.done_with-office.result.1 c.in-Err-close_office.fault c.first_fault.result
-          (closing_told conn c.in-Err-close_office.fault c.in-Err-close_office.left back.unclosed) c.first_fault.ensures,
+          (closing_told conn c.in-Err-close_office.fault c.in-Err-close_office.left back.0) c.first_fault.ensures,
       λ clean.
           let task = c.done_with-office.ensures in
-          let left = unclosed_leaves conn c.in-Err-close_office.fault c.in-Err-close_office.left back.unclosed back.current clean in
+          let left = unclosed_leaves conn c.in-Err-close_office.fault c.in-Err-close_office.left back clean in
           let old = content_now (file_state c.in-Ok.office.conn) in
           let opened = c.in-Ok.ensures.opened (task.clean left.1) in
-          (old, opened.held, (left.0, back.current, λ found may. task.stop left.1 old (λ _. refl) opened.crash found (left.2 found may))),
+          (old, opened.held, (left.0, back.1, λ found may. task.stop left.1 old (λ _. refl) opened.crash found (left.2 found may))),
     )

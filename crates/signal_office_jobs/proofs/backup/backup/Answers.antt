@@ -1,21 +1,29 @@
-use Rattle.std.proofs.Common.{inl, inr, refl}
-use Rattle.signal_office_commands.specs.Done.{copied_line}
-use Rattle.signal_office_jobs.proofs.CallsLemmas.{called_for, called_told}
+use Rattle.std.proofs.Common.{inl, inr, ap, codes, refl, subst, ◌∙◌}
+use Rattle.std.proofs.lemmas.Result.{err_from_is_err_and}
+use Rattle.signal_office_faults.specs.Done.{PrintsWhat}
+use Rattle.signal_office_jobs.proofs.CallsLemmas.{prints_fault}
 use Rattle.signal_office_jobs.proofs.backup.backup.Goals as goal
+use Rattle.signal_office_jobs.specs.Requests.{outcome_as}
 
-pub returns-in-Ok-clause-does : goal.returns-in-Ok-clause-does
-returns-in-Ok-clause-does g c = inl (record {
-  room = c.in-Ok.ensures;
-  copied = c.copied_to.result;
-  copies = c.copied_to.ensures.copies;
-  done = c.copied.result;
-  tells = c.copied.ensures;
-  prints = c.print_done.ensures;
-})
+pub returns-clause-does : goal.returns-clause-does
+returns-clause-does g c =
+    let told = g.W.Sink.told in
+    inl (
+      c.in_ok-room_at.ensures,
+      c.copy_to-copied.result,
+      c.copy_to-copied.ensures.copies,
+      subst (λ it. PrintsWhat it (told c.args.out.now) (told c.print_done.new.out) c.print_done.result) c.line_of.ensures c.print_done.ensures,
+    )
 
-pub returns-in-Err-clause-does : goal.returns-in-Err-clause-does
-returns-in-Err-clause-does g c = inr (c.in-Err.fault, inr c.in-Err.ensures, (refl, refl))
+pub returns-in_err-room_at-clause-does : goal.returns-in_err-room_at-clause-does
+returns-in_err-room_at-clause-does g c =
+    let is = err_from_is_err_and c.from_residual-in_err-room_at.result c.from_residual-in_err-room_at.ensures.1 in
+    rw (is.1, is.2) (inr (_, inr c.in_err-room_at.ensures, (refl, refl)))
 
-pub returns-in-Ok-clause-calls : goal.returns-in-Ok-clause-calls
-returns-in-Ok-clause-calls g c =
-    called_for _ _ _ _ _ _ _ (called_told (λ _. copied_line) _ _ _ _ _ c.copied_to.ensures.calls c.copied.ensures) c.print_done.ensures
+pub returns-clause-calls : goal.returns-clause-calls
+returns-clause-calls g c = elim c.copy_to-copied.ensures.calls [
+  | inl made ↦ inl made
+  | inr none ↦
+      let told = prints_fault _ none.1 _ _ _ (c.line_of.ensures ∙ ap (outcome_as (codes "copied\n")) none.2) c.print_done.ensures in
+      inr (none.0, told.0, told.1)
+]

@@ -1,50 +1,43 @@
-use Rattle.std.proofs.Common.{List, Ok, inl, inr, refl, subst, ◌∙◌, ap}
-use Rattle.office_tables_shelf.specs.Content.{Content}
-use Rattle.signal_office_faults.specs.declared.fault.Fault.TheVariants as fault
-use Rattle.signal_office_jobs.specs.Filed.{files_in}
-use Rattle.signal_office_jobs.specs.Filled.{ChecksFiles, IsAnyUnshown, PutsFiles}
-use Rattle.signal_office_jobs.specs.declared.filed.FileOf.{FileOf}
-use Rattle.signal_office_jobs.proofs.FillLemmas.{fills_none, fills_so, not_damaged}
+use Rattle.std.proofs.Common.{Ok, inl, inr, refl, ap, ◌∙◌}
+use Rattle.std.proofs.lemmas.Result.{err_from_is_err_and}
 use Rattle.signal_office_jobs.proofs.filling.fill.Goals as goal
+use Rattle.signal_office_jobs.specs.Filed.{files_in}
+use Rattle.signal_office_jobs.specs.Filled.{ListsOffice, MakesTexts}
+use Rattle.signal_office_queries.proofs.AskLemmas.{asks_then, asks_weaker}
 
 pub returns-clause-fills : goal.returns-clause-fills
-returns-clause-fills g c = λ honest.
-    let files = g.D.Folder.files in
-    let tables = g.S.Shelf.content c.args.office.now in
-    let listed = c.in_ok-listed.listed in
-    let checked = c.put_each.ensures.kept.honest_before honest in
-    let asked = c.check_each.ensures.kept.honest_before checked in
-    let first = c.listed_in.ensures.kept.same_content asked in
-    let later = c.check_each.ensures.kept.same_content checked in
-    let files_are = c.in_ok-files.ensures ∙ ap (files_in c.args.kind.now) c.as_slice.ensures in
-    let texts = subst (λ (held : Content). ChecksFiles held (files_in c.args.kind.now listed) (Ok tt)) first
-    (subst (λ (all : List FileOf). ChecksFiles (g.S.Shelf.content c.listed_in.new.office) all (Ok tt)) (c.deref.ensures.value ∙ files_are) (c.in_ok-check_each.ensures.checks checked)) in
-    let puts = subst (λ (held : Content). PutsFiles held (files_in c.args.kind.now listed) (files c.args.folder.now) (files c.put_each.new.folder) c.put_each.result) (later ∙ first)
-    (subst (λ (all : List FileOf). PutsFiles (g.S.Shelf.content c.check_each.new.office) all (files c.args.folder.now) (files c.put_each.new.folder) c.put_each.result)
-    (c.deref-2.ensures.value ∙ files_are) (c.put_each.ensures.puts honest)) in
-    fills_so c.args.kind.now tables (files c.args.folder.now) (files c.put_each.new.folder) listed c.put_each.result (c.in_ok-listed.ensures.lists asked) texts puts c.put_each.ensures.undamaged
-
-pub returns-clause-whole : goal.returns-clause-whole
-returns-clause-whole g c = λ is. absurd (not_damaged c.put_each.result c.put_each.ensures.undamaged is)
+returns-clause-fills g c =
+    let first = asks_then {Says = λ tables. ListsOffice tables (Ok c.in_ok-listed.listed) × MakesTexts tables c.as_slice-files.result.now (Ok tt)}
+    c.in_ok-listed.ensures c.in_ok-put_each.ensures (λ tables all made. (all, made)) in
+    asks_then first c.put_each-2.ensures (λ tables both puts. inr (
+      c.as_slice-files.result.now,
+      (c.in_ok-listed.listed, both.0, c.as_slice-files.ensures.value ∙ c.in_ok-files.ensures ∙ ap (files_in c.args.kind.now) c.as_slice.ensures),
+      both.1,
+      c.put_each-2.result,
+      puts,
+      c.late_outcome.ensures.value,
+    ))
 
 pub returns-in_err-listed-clause-fills : goal.returns-in_err-listed-clause-fills
-returns-in_err-listed-clause-fills g c = λ honest.
-    fills_none c.args.kind.now (g.S.Shelf.content c.args.office.now) (g.D.Folder.files c.args.folder.now) c.from_residual.result c.in_err-listed.field-0.0 c.from_residual.ensures.1
-    (inr (inl (c.in_err-listed.ensures.lists honest)))
+returns-in_err-listed-clause-fills g c =
+    let is = err_from_is_err_and c.from_residual.result c.from_residual.ensures.1 in
+    rw (is.1, is.2) (asks_weaker c.in_err-listed.ensures (λ tables none. inl (refl, _, refl, inl none)))
 
 pub returns-in_err-files-clause-fills : goal.returns-in_err-files-clause-fills
-returns-in_err-files-clause-fills g c = λ honest.
-    fills_none c.args.kind.now (g.S.Shelf.content c.args.office.now) (g.D.Folder.files c.args.folder.now) c.from_residual-in_err-files.result fault.Memory
-    c.from_residual-in_err-files.ensures.1 (inl refl)
+returns-in_err-files-clause-fills g c =
+    let is = err_from_is_err_and c.from_residual-in_err-files.result c.from_residual-in_err-files.ensures.1 in
+    rw (is.1, is.2) (asks_weaker c.in_ok-listed.ensures (λ tables all. inl (refl, _, refl, inr (inl refl))))
 
-pub returns-in_err-check_each-clause-fills : goal.returns-in_err-check_each-clause-fills
-returns-in_err-check_each-clause-fills g c = λ checked.
-    let tables = g.S.Shelf.content c.args.office.now in
-    let why = c.in_err-check_each.field-0.0 in
-    let asked = c.check_each.ensures.kept.honest_before checked in
-    let first = c.listed_in.ensures.kept.same_content asked in
-    let files_are = c.in_ok-files.ensures ∙ ap (files_in c.args.kind.now) c.as_slice.ensures in
-    let none = subst (λ (held : Content). IsAnyUnshown held (files_in c.args.kind.now c.in_ok-listed.listed) why) first
-    (subst (λ (all : List FileOf). IsAnyUnshown (g.S.Shelf.content c.listed_in.new.office) all why) (c.deref.ensures.value ∙ files_are) (c.in_err-check_each.ensures.checks checked)) in
-    fills_none c.args.kind.now tables (g.D.Folder.files c.args.folder.now) c.from_residual-in_err-check_each.result why c.from_residual-in_err-check_each.ensures.1
-    (inr (inr (c.in_ok-listed.listed, c.in_ok-listed.ensures.lists asked, inr (inr none))))
+pub returns-in_err-put_each-clause-fills : goal.returns-in_err-put_each-clause-fills
+returns-in_err-put_each-clause-fills g c =
+    let is = err_from_is_err_and c.from_residual-in_err-put_each.result c.from_residual-in_err-put_each.ensures.1 in
+    rw (is.1, is.2) (asks_then c.in_ok-listed.ensures c.in_err-put_each.ensures (λ tables all none. inl (
+      refl,
+      _,
+      refl,
+      inr (inr (
+        c.as_slice-files.result.now,
+        (c.in_ok-listed.listed, all, c.as_slice-files.ensures.value ∙ c.in_ok-files.ensures ∙ ap (files_in c.args.kind.now) c.as_slice.ensures),
+        none,
+      )),
+    )))

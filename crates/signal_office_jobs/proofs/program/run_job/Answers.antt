@@ -1,46 +1,22 @@
-use Rattle.std.proofs.Common.{refl}
-use Rattle.office_http_framing.specs.Serve.{ends_of}
-use Rattle.signal_office_jobs.proofs.RunLemmas.{done_so}
+use Rattle.std.proofs.Common.{inl, inr, refl}
+use Rattle.std.proofs.lemmas.Result.{err_from_is_err_and}
+use Rattle.signal_office_jobs.proofs.CallsLemmas.{none_called}
 use Rattle.signal_office_jobs.proofs.program.run_job.Goals as goal
 
-pub returns-in-Batch-clause-does : goal.returns-in-Batch-clause-does
-returns-in-Batch-clause-does g c =
-    done_so g.F.OfficeInFile.known c.args.job.now _ (ends_of (g.R.Source.told c.args.source.now) (g.W.Sink.told c.args.out.now))
-    (ends_of (g.R.Source.told c.batch.new.source) (g.W.Sink.told c.batch.new.out)) (g.E.Sink.told c.args.err.now) (g.E.Sink.told c.args.err.now)
-    c.batch.result c.in-Batch.is (refl, c.batch.ensures.does)
+pub returns-clause-does : goal.returns-clause-does
+returns-clause-does g c = inl (
+  (c.in_ok-csv.csv, c.in_ok-csv.other),
+  g.R.Source.told c.read_files.new.source,
+  c.in_ok-csv.ensures,
+  rw (c.as_slice-text.ensures.value, c.as_slice-lines.ensures.value, c.as_slice-other.ensures.value) at c.do_job.ensures.does,
+)
 
-pub returns-in-Serve-clause-does : goal.returns-in-Serve-clause-does
-returns-in-Serve-clause-does g c =
-    done_so g.F.OfficeInFile.known c.args.job.now _ (ends_of (g.R.Source.told c.args.source.now) (g.W.Sink.told c.args.out.now))
-    (ends_of (g.R.Source.told c.args.source.now) (g.W.Sink.told c.serve.new.out)) (g.E.Sink.told c.args.err.now) (g.E.Sink.told c.args.err.now)
-    c.serve.result c.in-Serve.is (refl, refl, c.serve.ensures.does)
+pub returns-in_err-csv-clause-does : goal.returns-in_err-csv-clause-does
+returns-in_err-csv-clause-does g c =
+    let is = err_from_is_err_and c.from_residual.result c.from_residual.ensures.1 in
+    rw (is.1, is.2) (inr (_, c.in_err-csv.ensures, (refl, refl)))
 
-pub returns-in-Office-clause-does : goal.returns-in-Office-clause-does
-returns-in-Office-clause-does g c =
-    done_so g.F.OfficeInFile.known c.args.job.now _ (ends_of (g.R.Source.told c.args.source.now) (g.W.Sink.told c.args.out.now))
-    (ends_of (g.R.Source.told c.ask_office.new.source) (g.W.Sink.told c.ask_office.new.out)) (g.E.Sink.told c.args.err.now) (g.E.Sink.told c.ask_office.new.err)
-    c.ask_office.result c.in-Office.is c.ask_office.ensures.does
-
-pub returns-in-Migrate-clause-does : goal.returns-in-Migrate-clause-does
-returns-in-Migrate-clause-does g c =
-    done_so g.F.OfficeInFile.known c.args.job.now _ (ends_of (g.R.Source.told c.args.source.now) (g.W.Sink.told c.args.out.now))
-    (ends_of (g.R.Source.told c.args.source.now) (g.W.Sink.told c.migrate.new.out)) (g.E.Sink.told c.args.err.now) (g.E.Sink.told c.args.err.now)
-    c.migrate.result c.in-Migrate.is (refl, refl, c.migrate.ensures.does)
-
-pub returns-in-Backup-clause-does : goal.returns-in-Backup-clause-does
-returns-in-Backup-clause-does g c =
-    done_so g.F.OfficeInFile.known c.args.job.now _ (ends_of (g.R.Source.told c.args.source.now) (g.W.Sink.told c.args.out.now))
-    (ends_of (g.R.Source.told c.args.source.now) (g.W.Sink.told c.backup.new.out)) (g.E.Sink.told c.args.err.now) (g.E.Sink.told c.args.err.now)
-    c.backup.result c.in-Backup.is (refl, refl, c.backup.ensures.does)
-
-pub returns-in-CompareFiles-clause-does : goal.returns-in-CompareFiles-clause-does
-returns-in-CompareFiles-clause-does g c =
-    done_so g.F.OfficeInFile.known c.args.job.now _ (ends_of (g.R.Source.told c.args.source.now) (g.W.Sink.told c.args.out.now))
-    (ends_of (g.R.Source.told c.compare_plans.new.source) (g.W.Sink.told c.compare_plans.new.out)) (g.E.Sink.told c.args.err.now) (g.E.Sink.told c.compare_plans.new.err)
-    c.compare_plans.result c.in-CompareFiles.is c.compare_plans.ensures
-
-pub returns-in-ShowPlan-clause-does : goal.returns-in-ShowPlan-clause-does
-returns-in-ShowPlan-clause-does g c =
-    done_so g.F.OfficeInFile.known c.args.job.now _ (ends_of (g.R.Source.told c.args.source.now) (g.W.Sink.told c.args.out.now))
-    (ends_of (g.R.Source.told c.show_plan.new.source) (g.W.Sink.told c.show_plan.new.out)) (g.E.Sink.told c.args.err.now) (g.E.Sink.told c.show_plan.new.err)
-    c.show_plan.result c.in-ShowPlan.is c.show_plan.ensures
+pub returns-in_err-csv-clause-calls : goal.returns-in_err-csv-clause-calls
+returns-in_err-csv-clause-calls g c =
+    let is = err_from_is_err_and c.from_residual.result c.from_residual.ensures.1 in
+    rw (is.1, is.2) (none_called _ _ _ _)

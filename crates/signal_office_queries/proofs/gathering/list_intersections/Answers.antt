@@ -1,19 +1,13 @@
-use Rattle.std.proofs.Common.{Ok, Err, ap}
-use Rattle.office_machine.specs.declared.refusal.Refusal.{Refusal}
+use Rattle.signal_office_queries.proofs.AskLemmas.{asks_found, asks_refused}
 use Rattle.office_tables_shelf.specs.Damage.{HasAnyDamagedIntersection}
-use Rattle.signal_office_queries.proofs.SeenLemmas.{of_tables, sees_refusal, stayed_open, was_open}
-use Rattle.signal_office_queries.specs.Gathering.{SeesList}
 use Rattle.signal_office_queries.proofs.gathering.list_intersections.Goals as goal
 
-pub returns-in-Ok-clause-sees : goal.returns-in-Ok-clause-sees
-returns-in-Ok-clause-sees g c = λ clean tables held.
-    let honest = was_open (c.in-Ok.ensures.shut clean) in
-    of_tables g.S.Shelf _ _ c.intersections.ensures.kept (λ tables. SeesList tables (Ok c.in-Ok.found.items)) tables held honest
-    (λ office stands. c.in-Ok.ensures.all honest office stands, (c.in-Ok.ensures.whole honest, c.in-Ok.ensures.lists honest))
+pub returns-in-Ok : goal.returns-in-Ok
+returns-in-Ok g c =
+    asks_found c.intersections.ensures.kept c.intersections.ensures.clean c.in-Ok.ensures.shut
+    (λ honest. (λ office stands. c.in-Ok.ensures.all honest office stands, (c.in-Ok.ensures.whole honest, c.in-Ok.ensures.lists honest)))
 
-pub returns-in-Err-clause-sees : goal.returns-in-Err-clause-sees
-returns-in-Err-clause-sees g c = λ clean tables held.
-    sees_refusal (HasAnyDamagedIntersection tables) c.in-Err.refusal c.fault_of.result c.fault_of.ensures c.in-Err.ensures.refused (λ is.
-    let honest = stayed_open c.in-Err.refusal is (c.in-Err.ensures.shut clean) in
-    of_tables g.S.Shelf _ _ c.intersections.ensures.kept (λ tables. HasAnyDamagedIntersection tables) tables held honest
-    (c.in-Err.ensures.damaged (ap (λ (why : Refusal). Err why) is) honest))
+pub returns-in-Err : goal.returns-in-Err
+returns-in-Err g c =
+    asks_refused c.intersections.ensures.kept c.intersections.ensures.clean HasAnyDamagedIntersection c.in-Err.refusal c.fault_of.result c.fault_of.ensures c.in-Err.ensures.shut
+    c.in-Err.ensures.refused c.in-Err.ensures.damaged

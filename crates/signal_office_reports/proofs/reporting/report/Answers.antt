@@ -1,15 +1,29 @@
-use Rattle.std.proofs.Common.{Err, refl}
-use Rattle.signal_office_queries.proofs.LookLemmas.{made_of_seen}
-use Rattle.signal_office_queries.proofs.SeenLemmas.{handed}
-use Rattle.signal_office_reports.specs.Reports.{IsMade, IsShown, queries_of}
-use Rattle.signal_office_queries.specs.Seen.{Gives}
+use Rattle.std.proofs.Common.{List, Ok, Err, refl, ◌∙◌, subst}
+use Rattle.signal_office_faults.specs.Done.{came_to}
+use Rattle.signal_office_faults.specs.declared.fault.Fault.TheVariants as told
+use Rattle.signal_office_queries.proofs.AskLemmas.{asks_none, asks_weaker}
+use Rattle.signal_office_queries.proofs.SeenLemmas.{handed, unseen_memory}
+use Rattle.signal_office_queries.specs.Seen.{Looks, MeetsAny}
+use Rattle.signal_office_queries.specs.declared.seen.Query.{Query}
+use Rattle.signal_office_reports.specs.Reports.{IsShown, queries_of}
 use Rattle.signal_office_reports.proofs.reporting.report.Goals as goal
 
-pub returns-clause-shown : goal.returns-clause-shown
-returns-clause-shown g c = λ clean tables held.
-    made_of_seen (queries_of c.args.shown.now) (IsMade c.args.shown.now) tables c.in_ok-seen.seen.items c.text_by.result (c.in_ok-seen.ensures.looks clean tables held) c.text_by.ensures
+pub returns : goal.returns
+returns g c =
+    asks_weaker c.in_ok-seen.ensures (λ tables looks. (
+      Ok c.in_ok-seen.seen.items,
+      subst (λ (qs : List Query). Looks tables qs (Ok c.in_ok-seen.seen.items)) (c.as_slice.ensures.value ∙ c.in_ok-queries.ensures) looks,
+      c.text_by.ensures,
+    ))
 
-pub returns-in_err-seen-clause-shown : goal.returns-in_err-seen-clause-shown
-returns-in_err-seen-clause-shown g c = λ clean tables held.
-    handed c.from_residual.result c.in_err-seen.field-0.0 (Gives (IsShown c.args.shown.now tables)) c.from_residual.ensures.1
-    (Err c.in_err-seen.field-0.0, c.in_err-seen.ensures.looks clean tables held, refl)
+pub returns-in_err-queries : goal.returns-in_err-queries
+returns-in_err-queries g c =
+    asks_none (λ tables.
+    handed c.from_residual.result told.Memory (λ r. IsShown c.args.shown.now c.args.plan.now tables (came_to r)) c.from_residual.ensures.1
+    (Err told.Memory, unseen_memory (MeetsAny tables (queries_of c.args.shown.now)), refl))
+
+pub returns-in_err-seen : goal.returns-in_err-seen
+returns-in_err-seen g c =
+    asks_weaker c.in_err-seen.ensures (λ tables why.
+    handed c.from_residual-in_err-seen.result c.in_err-seen.field-0.0 (λ r. IsShown c.args.shown.now c.args.plan.now tables (came_to r)) c.from_residual-in_err-seen.ensures.1
+    (Err c.in_err-seen.field-0.0, subst (λ (qs : List Query). Looks tables qs (Err c.in_err-seen.field-0.0)) (c.as_slice.ensures.value ∙ c.in_ok-queries.ensures) why, refl))

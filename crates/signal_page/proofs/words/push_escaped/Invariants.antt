@@ -1,11 +1,11 @@
 use Rattle.std.proofs.Common.{◌≡◌, ◌++◌, IsUtf8, string_bytes}
 use Rattle.std.specs.Str.Iter.{chars_rest}
-use Rattle.signal_page.specs.Words.{escaped}
+use Rattle.signal_page.specs.Words.{escaped_text}
 use Rattle.signal_page.proofs.words.push_escaped.Given as goal
 
 -- what is written, and what is left
 abbrev pub invariant-loop-c : goal.invariant-loop-c
 invariant-loop-c l = record {
   left : IsUtf8 (chars_rest l.c-iterator);
-  whole : string_bytes l.text ++ escaped (chars_rest l.c-iterator) ≡ string_bytes l.fn.text ++ escaped l.fn.words;
+  whole : string_bytes l.text ++ escaped_text (chars_rest l.c-iterator) ≡ string_bytes l.fn.text ++ escaped_text l.fn.words;
 }

@@ -1,14 +1,14 @@
 use Rattle.std.proofs.Common.{◌≡◌, ℕ, ◌+◌, ◌<◌, Bool, true, false, List, ◌∷◌, ◌++◌, drop, eqb, length, get_or, Option, Some, sym, ap, ◌∙◌, refl}
 use Rattle.signal_records.specs.{declared.record.Pattern.Pattern, TimingSet.Rows}
-use Rattle.signal_rules.specs.{SequenceRule.ring_row, CutPoints.timed, Starts.times, Slots.spans_from, Cases.first_true, PatternRules.rings_cases, Lanes.ring_sum}
+use Rattle.signal_rules.specs.{SequenceRule.ring_row, CutPoints.row_seconds, Starts.times, Slots.spans_from, Cases.first_true, PatternRules.rings_cases, Lanes.ring_sum}
 use Rattle.signal_rules.specs.declared.reason.Reason.{Reason}
 use Rattle.signal_rules.specs.declared.reason.Reason.TheVariants as reason
 use Rattle.signal_rules.specs.declared.reason.PatternReason.TheVariants.{OtherSum}
 use Rattle.signal_rules.proofs.Steps.{one_left, flat_map_step}
 use Rattle.signal_rules.proofs.pattern.sum_reason.Goals as goal
 
-test_is : (set : Rows) (pattern : Pattern) (ring : ℕ) (row : List ℕ) (fill b : Bool) → row ≡ ring_row set pattern.seq ring → fill ≡ eqb (length (timed (times set pattern.split) row)) pattern.cycle → fill ≡ b → eqb (ring_sum set pattern ring) pattern.cycle ≡ b
-test_is set pattern ring row fill b e f g = sym (f ∙ ap (λ ps. eqb (length (timed (times set pattern.split) ps)) pattern.cycle) e) ∙ g
+test_is : (set : Rows) (pattern : Pattern) (ring : ℕ) (row : List ℕ) (fill b : Bool) → row ≡ ring_row set pattern.seq ring → fill ≡ eqb (length (row_seconds (times set pattern.split) row)) pattern.cycle → fill ≡ b → eqb (ring_sum set pattern ring) pattern.cycle ≡ b
+test_is set pattern ring row fill b e f g = sym (f ∙ ap (λ ps. eqb (length (row_seconds (times set pattern.split) ps)) pattern.cycle) e) ∙ g
 
 first_other : (set : Rows) (pattern : Pattern) (rings : List ℕ) (i ring sum : ℕ) (whole : Option Reason) → i < length rings → ring ≡ get_or rings i ring → first_true (rings_cases set pattern (drop i rings)) ≡ whole → sum ≡ ring_sum set pattern ring
     → eqb (ring_sum set pattern ring) pattern.cycle ≡ false → Some (reason.Pattern (OtherSum ring sum pattern.cycle)) ≡ whole

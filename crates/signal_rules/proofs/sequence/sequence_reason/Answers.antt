@@ -11,4 +11,4 @@ returns-in-None c =
     let n = c.args.n in
     c.not_once.ensures
     ∙ ap (λ ps. first_true (flat_map (λ p. once_cases set n p (phase_at set p)) ps)) c.requires
-    ∙ sym (first_past (flat_map (row_cases set n) ring_numbers) (flat_map (λ p. once_cases set n p (phase_at set p)) (phases set)) (sym c.misplaced.ensures ∙ c.in-None.is))
+    ∙ sym (first_past (flat_map (row_cases set n) ring_numbers) (flat_map (λ p. once_cases set n p (phase_at set p)) (phases set)) (sym c.misplaced_reason.ensures ∙ c.in-None.is))

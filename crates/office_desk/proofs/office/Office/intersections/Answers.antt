@@ -16,4 +16,4 @@ returns-in-Ok-clause-shut g c = λ clean. inl (c.in-Ok.ensures.reads.read tt cle
 
 pub returns-in-Err-clause-shut : goal.returns-in-Err-clause-shut
 returns-in-Err-clause-shut g c = λ clean.
-    refusal_shut _ c.in-Err.fault _ (λ damaged. c.in-Err.ensures.reads.read tt clean damaged) (ap (λ (why : Refusal). Err why) c.refused.ensures)
+    refusal_shut _ c.in-Err.fault _ (λ damaged. c.in-Err.ensures.reads.read tt clean damaged) (ap (λ (why : Refusal). Err why) c.shelf_refusal.ensures)

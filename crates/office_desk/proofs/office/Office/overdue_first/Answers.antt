@@ -12,4 +12,4 @@ returns-in-Ok-clause-shut g c = λ clean. inl (c.in-Ok.ensures.open.told clean t
 
 pub returns-in-Err-clause-shut : goal.returns-in-Err-clause-shut
 returns-in-Err-clause-shut g c = λ clean.
-    refusal_shut _ c.in-Err.fault _ (λ damaged. c.in-Err.ensures.open.told clean damaged) (ap (λ (why : Refusal). Err why) c.refused.ensures)
+    refusal_shut _ c.in-Err.fault _ (λ damaged. c.in-Err.ensures.open.told clean damaged) (ap (λ (why : Refusal). Err why) c.shelf_refusal.ensures)

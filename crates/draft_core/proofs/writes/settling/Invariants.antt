@@ -1,9 +1,0 @@
-use Rattle.std.proofs.Common.{◌≡◌, ◌++◌, drop, map}
-use Rattle.draft_core.specs.Writes as writes
-use Rattle.draft_core.proofs.writes.settling.Given as goal
-
--- what is made, and what is made of the changes that are left
-abbrev pub invariant-loop-change : goal.invariant-loop-change
-invariant-loop-change l = l.made.items
-    ++ map (writes.settled_by l.committed) (drop l.change-index l.changes)
-    ≡ writes.settling l.committed l.changes

@@ -1,0 +1,82 @@
+-- Changes of an office, one after another, and beside calls that only ask it.
+use Rattle.std.proofs.Common.{◌≡◌, ◌⊎◌, ◌∙◌, inl, inr, Result, subst}
+use Rattle.office_tables_shelf.specs.{Content.Content, declared.shelf.Shelf.Ghosts}
+use Rattle.office_machine.specs.declared.command.Command.{Command}
+use Rattle.signal_office_commands.specs.Changing.{AfterStep, Changes, ChangesShelf, RunsCommand}
+use Rattle.signal_office_faults.specs.{Done.Printed, declared.fault.Fault.Fault}
+use Rattle.signal_office_queries.proofs.SeenLemmas.{still_held}
+use Rattle.signal_office_queries.specs.Asks.{OnlyLooks}
+
+module _ {S : Type 0} {g : Ghosts S} where
+  -- nothing was changed
+  pub changes_none : {shelf : S} {Made After : Content → Content → Type 0} → ((tables : Content) → Made tables tables) → ChangesShelf g shelf shelf Made After
+  changes_none made = record {
+    clean = λ clean. clean;
+    honest = λ honest. honest;
+    makes = λ clean tables held. (tables, made tables, held);
+    stop = λ clean tables held found may. inl may;
+  }
+
+  -- what was changed so, was changed so too by other words
+  pub changes_weaker : {old new : S} {Made After Other Later : Content → Content → Type 0} → ChangesShelf g old new Made After
+      → ((tables made : Content) → Made tables made → Other tables made) → ((tables found : Content) → After tables found → Later tables found) → ChangesShelf g old new Other Later
+  changes_weaker it so later = record {
+    clean = it.clean;
+    honest = it.honest;
+    makes = λ clean tables held. let made = it.makes clean tables held in (made.0, so tables made.0 made.1, made.2);
+    stop = λ clean tables held found may. elim (it.stop clean tables held found may) [ inl was ↦ inl was | inr after ↦ inr (later tables found after) ];
+  }
+
+  -- one change after another
+  pub changes_then : {old mid new : S} {First Early Then Late : Content → Content → Type 0} → ChangesShelf g old mid First Early → ChangesShelf g mid new Then Late
+      → ChangesShelf g old new (λ tables made. (middle : Content) × First tables middle × Then middle made)
+      (λ tables found. Early tables found ⊎ ((middle : Content) × First tables middle × Late middle found))
+  changes_then first rest = record {
+    clean = λ clean. first.clean (rest.clean clean);
+    honest = λ honest. first.honest (rest.honest honest);
+    makes = λ clean tables held.
+        let middle = first.makes (rest.clean clean) tables held in
+        let made = rest.makes clean middle.0 middle.2 in
+        (made.0, (middle.0, middle.1, made.1), made.2);
+    stop = λ clean tables held found may.
+        let middle = first.makes (rest.clean clean) tables held in
+        elim (rest.stop clean middle.0 middle.2 found may) [
+          | inl then ↦ elim (first.stop (rest.clean clean) tables held found then) [ inl was ↦ inl was | inr after ↦ inr (inl after) ]
+          | inr after ↦ inr (inr (middle.0, middle.1, after))
+        ];
+  }
+
+  -- the office was asked first
+  pub asks_before : {old mid new : S} {Says : Content → Type 0} {Made After : Content → Content → Type 0} → OnlyLooks g old mid Says → ChangesShelf g mid new Made After
+      → ChangesShelf g old new (λ tables made. Says tables × Made tables made) (λ tables found. Says tables × After tables found)
+  asks_before {old} {mid} first rest = record {
+    clean = λ clean. first.clean (rest.clean clean);
+    honest = λ honest. first.kept.honest_before (rest.honest honest);
+    makes = λ clean tables held.
+        let made = rest.makes clean tables (still_held g old mid tables first.kept held) in
+        (made.0, (first.tells (rest.clean clean) tables held, made.1), made.2);
+    stop = λ clean tables held found may. elim (rest.stop clean tables (still_held g old mid tables first.kept held) found may) [
+      | inl was ↦ inl (first.kept.same_outcomes found was)
+      | inr after ↦ inr (first.tells (rest.clean clean) tables held, after)
+    ];
+  }
+
+  -- the office was asked after it
+  pub asks_after : {old mid new : S} {Made After : Content → Content → Type 0} {Says : Content → Type 0} → ChangesShelf g old mid Made After → OnlyLooks g mid new Says
+      → ChangesShelf g old new (λ tables made. Made tables made × Says made) After
+  asks_after first rest = record {
+    clean = λ clean. first.clean (rest.clean clean);
+    honest = λ honest. first.honest (rest.kept.honest_before honest);
+    makes = λ clean tables held.
+        let made = first.makes (rest.clean clean) tables held in
+        (made.0, (made.1, rest.tells clean made.0 made.2), λ honest. rest.kept.same_content honest ∙ made.2 (rest.kept.honest_before honest));
+    stop = λ clean tables held found may. first.stop (rest.clean clean) tables held found (rest.kept.same_outcomes found may);
+  }
+
+  -- a command that was run is a change, of whatever it is seen as
+  pub runs_change : {old new : S} {A : Type 0} {made asked : A} (command : A → Command) (result : Result Printed Fault) → made ≡ asked
+      → ChangesShelf g old new (λ tables made_of. RunsCommand (command made) tables made_of result) (AfterStep (command made))
+      → ChangesShelf g old new (λ tables made_of. Changes (command asked) tables made_of result) (AfterStep (command asked))
+  runs_change {old} {new} command result same ran =
+      subst (λ it. ChangesShelf g old new (λ tables made_of. Changes (command it) tables made_of result) (AfterStep (command it))) same
+      (changes_weaker ran (λ tables made_of run. inl run) (λ tables found after. after))

@@ -1,0 +1,74 @@
+-- Commands that change an office: what they make of its tables, what is printed of it, and what a stop leaves.
+use Rattle.std.specs.Prelude.{◌≡◌, ◌⊎◌, ℕ, List, [], ◌∷◌, ◌++◌, codes, decimal, Result, Ok, Err}
+use Rattle.cabinet_core.specs.declared.command.RecordCommand.{RecordCommand}
+use Rattle.office_desk.specs.Answers.{AnswersAny, StandsAfterStep}
+use Rattle.office_desk.specs.Running.{MakesTables, TellsTables}
+use Rattle.office_files.specs.Records.{commands_of}
+use Rattle.office_machine.specs.declared.command.Command.{Command}
+use Rattle.office_machine.specs.declared.command.Command.TheVariants as command
+use Rattle.office_machine.specs.declared.reply.Reply.{Reply}
+use Rattle.office_machine.specs.declared.reply.Reply.TheVariants as reply
+use Rattle.office_tables_shelf.specs.Content.{Content}
+use Rattle.office_tables_shelf.specs.declared.shelf.Shelf.{Ghosts}
+use Rattle.signal_office_commands.specs.InTurn.{Makes}
+use Rattle.signal_office_queries.specs.Comparison.{IsUnread}
+use Rattle.signal_office_faults.specs.Done.{Printed, shows}
+use Rattle.signal_office_faults.specs.declared.fault.Fault.{Fault}
+use Rattle.signal_office_faults.specs.declared.fault.Fault.TheVariants as told
+
+-- On a clean disk a stop leaves what it could before, or such tables, made of those that an open database held.
+abbrev pub StopLeaves : {S : Type 0} → Ghosts S → (old new : S) → (Content → Content → Type 0) → Type 0
+StopLeaves g old new After =
+    TellsTables g old new (λ tables. (found : Content) → g.may_leave new found → g.may_leave old found ⊎ After tables found)
+
+-- An office was changed: nothing makes a disk clean again, or an office honest; on a clean disk its tables were made so of those that an open database held; and a stop
+-- leaves those, or such.
+pub record ChangesShelf {S : Type 0} (g : Ghosts S) (old new : S) (Made After : Content → Content → Type 0) : Type 0 where
+  pub clean : g.is_clean new → g.is_clean old
+  pub honest : g.is_honest new → g.is_honest old
+  pub makes : MakesTables g old new Made
+  pub stop : StopLeaves g old new After
+
+-- tables after the own step of one of the commands, whether or not it was answered; those before it were run in turn
+abbrev pub AfterOneOf : List Command → Content → Content → Type 0
+AfterOneOf [] old found = ⊥
+AfterOneOf (asked ∷ more) old found =
+    StandsAfterStep old asked found
+    ⊎ ((given : Reply) × (middle : Content) × AnswersAny old asked given middle × AfterOneOf more middle found)
+
+-- tables after the own step of a command
+abbrev pub AfterStep : Command → Content → Content → Type 0
+AfterStep asked old found = StandsAfterStep old asked found
+
+-- ---- one command
+
+-- the line that tells how many records of an import were new, and how many were there
+abbrev pub imported_line : (added same : ℕ) → List ℕ
+imported_line added same = codes "added " ++ decimal added ++ codes ", same " ++ decimal same ++ codes "\n"
+
+-- what is printed of the reply to a command that adds, imports or drops
+abbrev pub line_of_reply : Reply → Result Printed Fault
+line_of_reply reply.Added = Ok (shows (codes "added\n"))
+line_of_reply reply.Same = Ok (shows (codes "same\n"))
+line_of_reply (reply.Imported added same) = Ok (shows (imported_line added same))
+line_of_reply (reply.Moved revision state verdict) = Ok (shows (codes "abandoned\n"))
+line_of_reply other = Err told.Store
+
+-- A command was run, and its reply is told.
+abbrev pub RunsCommand : Command → Content → Content → Result Printed Fault → Type 0
+RunsCommand asked old new result = Makes line_of_reply (asked ∷ []) old new result
+
+-- A CHANGE of one command: it was run; or memory was refused before it, and nothing was changed.
+abbrev pub Changes : Command → Content → Content → Result Printed Fault → Type 0
+Changes asked old new result = RunsCommand asked old new result ⊎ ((result ≡ Err told.Memory) × (new ≡ old))
+
+-- All records of a file were imported; or they were not read, and nothing was changed.
+abbrev pub Imports : (csv : List ℕ) → Content → Content → Result Printed Fault → Type 0
+Imports csv old new result =
+    ((records : List RecordCommand) × (commands_of csv ≡ Ok records) × RunsCommand (command.Import records) old new result)
+    ⊎ ((why : Fault) × (result ≡ Err why) × IsUnread (commands_of csv) why × (new ≡ old))
+
+-- tables after the records of a file were imported, all of them
+abbrev pub AfterImporting : (csv : List ℕ) → Content → Content → Type 0
+AfterImporting csv old found =
+    (records : List RecordCommand) × (commands_of csv ≡ Ok records) × AfterStep (command.Import records) old found

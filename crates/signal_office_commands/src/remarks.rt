@@ -1,0 +1,66 @@
+//! What is told of a plan: the rules that it breaks, and what an engineer is warned of in it.
+
+ghost use Rattle.std.specs.Prelude.{◌≡◌, IfOk};
+ghost use Rattle.signal_office_commands.specs.Plans.{advice_lines, broken_text, checked_status, remarks_text};
+
+use office_files::{explained_text, violation_text};
+use signal_plans::{warnings, warnings_text};
+use signal_records::{NoMemory, TimingSet};
+use signal_rules::{Violation, reasons};
+use std::alloc::Global;
+
+/// The status where a plan that is checked, or is to be committed, breaks a rule.
+const HAS_VIOLATIONS: u8 = 3;
+
+/// The status of a plan that was checked.
+pub(crate) fn checked_status(violations: &[Violation]) -> u8
+    ensures { result ≡ checked_status violations.now }
+{
+    if violations.is_empty() {
+        0
+    } else {
+        HAS_VIOLATIONS
+    }
+}
+
+/// The rules that a plan breaks, with their reasons where that is asked.
+fn broken_text(
+    alloc: Global,
+    plan: &TimingSet,
+    violations: &[Violation],
+    explain: bool,
+) -> Result<Vec<u8>, NoMemory>
+    ensures { IfOk result (λ text. text.items ≡ broken_text explain plan.now violations.now) }
+{
+    if explain {
+        explained_text(alloc, &reasons(alloc, plan)?)
+    } else {
+        violation_text(alloc, violations)
+    }
+}
+
+/// A line for each warning of a plan.
+pub(crate) fn advice_text(alloc: Global, plan: &TimingSet) -> Result<Vec<u8>, NoMemory>
+    ensures { IfOk result (λ text. text.items ≡ advice_lines plan.now) }
+{
+    warnings_text(alloc, &warnings(alloc, plan)?)
+}
+
+/// The rules that a plan breaks, with their reasons where that is asked; and behind them its
+/// warnings where those are.
+pub(crate) fn remarks_text(
+    alloc: Global,
+    plan: &TimingSet,
+    violations: &[Violation],
+    explain: bool,
+    advise: bool,
+) -> Result<Vec<u8>, NoMemory>
+    ensures { IfOk result (λ text.
+        text.items ≡ remarks_text explain advise plan.now violations.now) }
+{
+    let mut text = broken_text(alloc, plan, violations, explain)?;
+    if advise {
+        text.extend_from_slice(&advice_text(alloc, plan)?)?;
+    }
+    Ok(text)
+}

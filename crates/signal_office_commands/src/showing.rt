@@ -1,0 +1,74 @@
+//! What is shown of the plan in a CSV file.
+
+ghost use Rattle.signal_office_commands.specs.Plans.{ShowsNone, ShowsOf, ShowsPlan};
+ghost use Rattle.signal_office_queries.specs.Comparison.{IsUnread};
+ghost use Rattle.office_files.specs.Changes.{changes_of};
+ghost use Rattle.signal_office_faults.specs.Done.{came_to};
+
+use crate::explained::explained_file;
+use crate::remarks::{checked_status, remarks_text};
+use office_files::{CsvFault, read_plan_csv};
+use signal_diagram::diagram;
+use signal_office_faults::{Done, Fault};
+use signal_office_line::PlanShown;
+use signal_page::plan_page;
+use signal_records::{PatternNo, TimingSet};
+use signal_rules::violations;
+use std::alloc::Global;
+
+/// The rules that a plan breaks, and its warnings where those are asked.
+fn show_remarks(alloc: Global, plan: &TimingSet, explain: bool, advise: bool) -> Result<Done, Fault>
+    ensures { ShowsOf (PlanShown.Violations explain advise) plan.now (came_to result) }
+{
+    let broken = violations(alloc, plan)?;
+    let text = remarks_text(alloc, plan, &broken, explain, advise)?;
+    Ok(Done::ending(text, checked_status(&broken)))
+}
+
+/// The picture of a pattern, which the plan has to have.
+fn draw(alloc: Global, plan: &TimingSet, pattern: PatternNo) -> Result<Done, Fault>
+    ensures { ShowsOf (PlanShown.Diagram pattern) plan.now (came_to result) }
+{
+    match diagram(alloc, plan, pattern)? {
+        Some(text) => Ok(Done::with(text)),
+        None => Err(Fault::UnknownPattern),
+    }
+}
+
+/// What is shown of a plan.
+fn show(alloc: Global, plan: &TimingSet, shown: PlanShown) -> Result<Done, Fault>
+    ensures { ShowsOf shown plan.now (came_to result) }
+{
+    match shown {
+        PlanShown::Violations { explain, advise } => show_remarks(alloc, plan, explain, advise),
+        PlanShown::Diagram { pattern } => draw(alloc, plan, pattern),
+        PlanShown::Page => Ok(Done::with(plan_page(alloc, plan)?)),
+    }
+}
+
+/// Why the file of a plan is not taken: where reasons are asked for, a bad record is told with its
+/// line and what is wrong there.
+fn refused_plan(alloc: Global, csv: &[u8], lines: &[usize], shown: PlanShown, why: Fault) -> Fault
+    ensures { IsUnread (changes_of csv.now) why → ShowsNone shown csv.now lines.now result }
+{
+    match shown {
+        PlanShown::Violations { explain: true, .. } => explained_file(alloc, csv, lines, why),
+        _ => why,
+    }
+}
+
+/// Shows the plan in a CSV file, whose records begin on these lines; or reports its first bad
+/// record, with its line where reasons are asked for.
+pub fn show_plan(
+    alloc: Global,
+    csv: &[u8],
+    lines: &[usize],
+    shown: PlanShown,
+) -> Result<Done, Fault>
+    ensures { ShowsPlan shown csv.now lines.now (came_to result) }
+{
+    match read_plan_csv(alloc, csv) {
+        Ok(plan) => show(alloc, &plan, shown),
+        Err(why) => Err(refused_plan(alloc, csv, lines, shown, Fault::Csv(why))),
+    }
+}
