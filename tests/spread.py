@@ -2,8 +2,8 @@
 
 Where the host of a virtual machine takes time of its processors, the kernel may let several proofs
 wait for one processor while others are idle: a gate then takes twice as long. `watch` looks at the
-processes below one. Where as many of their threads want to run as there are processors, and they
-get less than four fifths of these, each is given a processor for the next minute.
+processes below one. Where several of their threads want to run and they get less than four fifths of the
+processors that they could have, each is given one for the next minute.
 """
 import os
 import pathlib
@@ -53,14 +53,12 @@ def place(thread, processors):
         pass  # it has ended
 
 
-def share(threads, processors, homes):
-    """Gives each thread a processor, its own one of before as far as that has no more than others;
-    threads that have one and want none are let go."""
+def share(wanting, processors, homes):
+    """Gives each thread that wants to run a processor, that of before as far as no other has fewer."""
     loads = dict.fromkeys(sorted(processors), 0)
-    for it in homes.keys() - threads:
+    for it in homes.keys() - wanting:
         del homes[it]
-        place(it, processors)
-    for it in sorted(threads, key=lambda thread: (thread not in homes, thread)):
+    for it in sorted(wanting, key=lambda thread: (thread not in homes, thread)):
         least = min(loads, key=loads.get)
         if loads[homes.setdefault(it, least)] > loads[least]:
             homes[it] = least
@@ -69,15 +67,18 @@ def share(threads, processors, homes):
 
 
 def watch(root, is_over):
-    """Looks at the processes below one until that is over."""
+    """Looks at the processes below one until that is over. A thread that begins has the place of
+    the one that began it, so those that wait are let go at each look."""
     processors, homes, until, before, at = os.sched_getaffinity(0), {}, 0, {}, time.monotonic()
     while not is_over():
         time.sleep(PAUSE)
         now, found = time.monotonic(), threads_below(root)
         took = sum(ticks - before.get(it, (False, ticks))[1] for it, (_, ticks) in found.items())
         wanting = {it for it, (wants, _) in found.items() if wants}
-        got = took / TICKS / (now - at)
-        if len(wanting) >= len(processors) and got < ENOUGH * len(processors):
+        can = min(len(wanting), len(processors))
+        if can > 1 and took / TICKS / (now - at) < ENOUGH * can:
             until = now + LASTS
         share(wanting if now < until else set(), processors, homes)
+        for it in found.keys() - homes.keys() if until else ():
+            place(it, processors)
         before, at = found, now
