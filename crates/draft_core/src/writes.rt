@@ -1,4 +1,4 @@
-//! The rows that commit and abandon write.
+//! The changes of rows by which the steps commit and abandon end a draft.
 
 ghost use Rattle.std.specs.Prelude.{◌≡◌, IfOk};
 ghost use Rattle.draft_core.specs.Writes as writes;
@@ -7,7 +7,7 @@ use crate::timing::{TimingChange, TimingChanges};
 use signal_records::{Change, NoMemory, TimingSet};
 use std::alloc::Global;
 
-/// The draft rows go, where there are any.
+/// The change that drops all draft rows, which are `changes`; no change where there are none.
 fn drop_rows(alloc: Global, changes: &[Change]) -> Result<Vec<TimingChange>, NoMemory>
     ensures { IfOk result (λ made. made.items ≡ writes.abandon_rows changes.now) }
 {
@@ -18,7 +18,7 @@ fn drop_rows(alloc: Global, changes: &[Change]) -> Result<Vec<TimingChange>, NoM
     Ok(made)
 }
 
-/// The draft rows go, where there are any.
+/// What abandon writes: one change that drops the draft rows, or none where there are none.
 pub(crate) fn abandon_rows(alloc: Global, changes: &[Change]) -> Result<TimingChanges, NoMemory>
     ensures { IfOk result (λ made. made ≡ writes.abandon_rows changes.now) }
 {
@@ -39,7 +39,8 @@ fn settled_by(committed: &TimingSet, change: &Change) -> Result<TimingChange, No
     }
 }
 
-/// The draft rows go, and each is made a change of the committed set.
+/// What commit writes: a change that drops the draft rows, if there are any, and then each of
+/// them, in order, as a change of the committed set.
 pub(crate) fn commit_rows(
     alloc: Global,
     committed: &TimingSet,

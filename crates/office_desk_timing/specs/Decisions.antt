@@ -1,4 +1,4 @@
--- What a decision on the row that was read gives.
+-- What the desk answers of an intersection's timing, by the row that it read or the fault that it met.
 use Rattle.std.specs.Prelude.{◌≡◌, ℕ, Some}
 use Rattle.std.specs.Option.{option_map}
 use Rattle.signal_records.specs.declared.state.Holder.{Holder}
@@ -26,7 +26,8 @@ refusal_of NoMemory = Unavailable
 refusal_of Store = Unavailable
 refusal_of StoredDamaged = Damaged
 
--- what State shows of the row that was read, the number of committed rows, and the verdict
+-- what the query State shows of an intersection, by its number, its row, how many rows its committed
+-- set has, and the verdict on its draft
 abbrev pub row_shown : ℕ → IntersectionRow → ℕ → Verdict → IntersectionState
 row_shown id row rows verdict = record {
   id = id;
@@ -39,11 +40,13 @@ row_shown id row rows verdict = record {
   verify = verdict;
 }
 
--- the verdict on the draft of the intersection with this row
+-- this is the verdict on the intersection's draft, in each sound office that the tables stand for and
+-- in which the intersection has this row
 abbrev pub IsVerdictOf : Content → ℕ → IntersectionRow → Verdict → Type 0
 IsVerdictOf tables id row verdict = (office : Office) (i : Intersection) → StandForSound tables office → get office.intersections id ≡ Some i → row ≡ row_of i → verdict ≡ verdict_of i.timing.draft
 
--- what Draft shows of the timing side that was found
+-- the reply is what the query Draft shows of the intersection that was found, whichever timing side
+-- its draft rows stand for
 abbrev pub ShowsDraft : Found → Reply → Type 0
 ShowsDraft found reply =
     (rows : RowsByKey) (side : TimingSide) → Stands Plan found.timing rows side →

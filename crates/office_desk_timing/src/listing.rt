@@ -36,8 +36,9 @@ fn add_listed(
     Ok(())
 }
 
-/// All intersections, by their numbers. Their committed rows are counted, not read. An error is the
-/// shelf's, or want of memory.
+/// All intersections, in ascending order of their numbers. Their committed rows are counted, not
+/// read. The fault is `Damaged` where the row of some intersection is no record, `Store` where the
+/// database refused, and `NoMemory` where a growth was refused.
 pub fn list_intersections<S: Shelf>(
     shelf: &mut S,
     alloc: Global,

@@ -9,7 +9,8 @@ use signal_records::{InterId, NoMemory};
 use std::alloc::{AllocError, Global};
 use std::fmt::Write;
 
-/// Appends the due day, or that there never was an inspection, left in ten places.
+/// Appends the day on which an inspection fell due, as `YYYY-MM-DD`, or `never` and five spaces
+/// where there never was one: ten places.
 fn push_due(text: &mut String, due: &Option<Date>) -> Result<(), AllocError>
     ensures { OnOk result (string_bytes text.new ≡ string_bytes text.old ++ due_written due.now) }
 {
@@ -19,7 +20,7 @@ fn push_due(text: &mut String, due: &Option<Date>) -> Result<(), AllocError>
     }
 }
 
-/// Appends an intersection's number, right in four places.
+/// Appends an intersection's number, 1 to 9999, at the right of four places.
 fn push_id(text: &mut String, id: InterId) -> Result<(), AllocError>
     ensures { OnOk result (string_bytes text.new ≡ string_bytes text.old
         ++ right_aligned 4 (decimal id)) }
@@ -28,7 +29,7 @@ fn push_id(text: &mut String, id: InterId) -> Result<(), AllocError>
     write!(text, "{id:>4}")
 }
 
-/// Appends the line of one intersection.
+/// Appends the line of an overdue intersection: its number, due day and name, two spaces apart.
 fn push_line(text: &mut String, row: &OverdueRow) -> Result<(), AllocError>
     ensures { OnOk result (string_bytes text.new ≡ string_bytes text.old ++ overdue_line row.now) }
 {
@@ -39,9 +40,11 @@ fn push_line(text: &mut String, row: &OverdueRow) -> Result<(), AllocError>
     writeln!(text, "  {name}")
 }
 
-/// The report of the intersections that are overdue on a day: a heading with the day, a line for
-/// each with its number, the day on which it fell due or `never`, and its name, and their count.
-/// A day takes ten places where its year has four digits.
+/// The report of the intersections that are overdue on a day, in UTF-8: a heading with the day, a
+/// line for each, in the order of the rows, with its number, the day on which its inspection fell
+/// due or `never`, and its name, and a line with their count. A day is spelt `YYYY-MM-DD`.
+///
+/// `NoMemory` means that a growth was really refused.
 pub fn overdue_text(alloc: Global, day: Day, rows: &[OverdueRow]) -> Result<Vec<u8>, NoMemory>
     ensures { IfOk result (λ text. text.items ≡ overdue_report day rows.now) }
 {

@@ -22,8 +22,8 @@ pub(crate) trait CsvRecord {
         ensures within { OnOk result (IsWithin self.now) };
 }
 
-/// The file that has a record for each value, in order, as the crate writes it by default; but
-/// records may differ in length.
+/// The CSV file that has a record for each value, in order, as the crate `csv` writes it by
+/// default, except that records may differ in how many fields they have.
 pub(crate) fn write_records<T: CsvRecord>(alloc: Global, values: &[T]) -> Result<Vec<u8>, NoMemory>
     ensures text { IfOk result (λ text. text.items ≡ csv_text (map T.spelling values.now)) }
     ensures within { OnOk result (All T.IsWithin values.now) }
@@ -53,8 +53,10 @@ impl CsvRecord for ByteRecord {
     }
 }
 
-/// The file of records, in order, as the crate writes it by default; but records may differ in
-/// length.
+/// The CSV file of these records, in order, as the crate `csv` writes it by default, except that
+/// records may differ in how many fields they have. Each ends with a line feed.
+///
+/// `NoMemory` means that a growth was really refused.
 pub fn csv_file(alloc: Global, records: &[ByteRecord]) -> Result<Vec<u8>, NoMemory>
     ensures { IfOk result (λ text. text.items ≡ csv_text (map fields_of records.now)) }
 {

@@ -16,10 +16,10 @@ use std::os::fd::{AsRawFd, RawFd};
 /// How many milliseconds a connection may wait for its next request.
 const LONGEST_WAIT: i32 = 30_000;
 
-/// How many milliseconds a new connection has for its first bytes, whoever waits.
+/// How many milliseconds a new connection has for its first bytes, even while another client waits.
 const FIRST_WAIT: i32 = 100;
 
-/// A question of the system: whether a read of this socket returns at once.
+/// A question to the system, for `poll`: whether a read of this socket returns at once.
 fn readiness(socket: RawFd) -> pollfd {
     pollfd {
         fd: socket,
@@ -28,12 +28,14 @@ fn readiness(socket: RawFd) -> pollfd {
     }
 }
 
-/// Waits for the first bytes of a new connection, and says whether it can be read.
+/// Waits for the first bytes of a new connection, at most `FIRST_WAIT`, and says whether it can be
+/// read.
 fn begins_soon(stream: &TcpStream) -> bool {
     c::poll(&mut [readiness(stream.as_raw_fd())], FIRST_WAIT) > 0
 }
 
-/// Waits until the connection can be read or another client waits at the listener.
+/// Waits until the connection can be read or another client waits at the listener, at most
+/// `LONGEST_WAIT`, and says which is so. The error is `Interrupted` where the wait itself failed.
 fn await_either(stream: &TcpStream, listener: RawFd) -> io::Result<Ready> {
     let mut both = [readiness(stream.as_raw_fd()), readiness(listener)];
     if c::poll(&mut both, LONGEST_WAIT) < 0 {
@@ -45,7 +47,9 @@ fn await_either(stream: &TcpStream, listener: RawFd) -> io::Result<Ready> {
     })
 }
 
-/// Reads the first bytes of the next request, or answers none where the connection gives way.
+/// Reads the first bytes of the next request, or answers 0 bytes where the connection gives way to
+/// another client. The error is `TimedOut` where for `LONGEST_WAIT` there was nothing to read and
+/// no other client.
 fn read_or_give_way(
     stream: &mut TcpStream,
     listener: RawFd,
@@ -78,6 +82,7 @@ pub struct ConnectionReader {
 }
 
 impl ConnectionReader {
+    /// The reader of a connection that this listener accepted, before its first call.
     pub fn new(stream: TcpStream, listener: RawFd) -> ConnectionReader
         ensures { result.counts ≡ no_calls }
     {

@@ -1,4 +1,4 @@
-//! The office as the machine behind the engine.
+//! The office as the machine that answers the requests of an HTTP stream.
 
 ghost use Rattle.std.specs.Prelude.{◌≡◌, ◌≢◌, Ok, IsOk, IfOk};
 ghost use Rattle.office_http_responses.specs.Faults.{ask_fault_text};
@@ -28,8 +28,9 @@ pub(crate) struct StreamTools {
     pub(crate) routes: RouteCache,
 }
 
-/// The whole answer to a reply. That a stored row is no record is always told: its text takes no
-/// memory.
+/// The whole HTTP answer that tells a reply of the office, in this form; `Unavailable` where memory
+/// or the store was refused. It always tells that a stored row is no record (`Damaged`): that text
+/// takes no memory.
 fn answer_to(alloc: Global, reply: &Reply, form: Form) -> Result<Answer, Unavailable>
     ensures told { IfOk result (λ _. reply.now ≢ Reply.Refused Refusal.Unavailable) }
     ensures text { IfOk result (λ answer. bytes_of answer ≡ answer_bytes reply.now form) }
@@ -46,7 +47,8 @@ fn answer_to(alloc: Global, reply: &Reply, form: Form) -> Result<Answer, Unavail
     }
 }
 
-/// The whole answer to a request that asks nothing.
+/// The whole HTTP answer to a request that is no command: it tells why. `Unavailable` means that
+/// memory was refused.
 fn answer_fault(alloc: Global, fault: AskFault) -> Result<Answer, Unavailable>
     ensures { IfOk result (λ answer. (fault ≢ AskFault.NoMemory)
         × (bytes_of answer ≡ ask_fault_text fault)) }

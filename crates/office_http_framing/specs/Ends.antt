@@ -52,7 +52,7 @@ pub record Told : Type 0 where
   pub bytes : Option (List ℕ)
   pub counts : Counts
 
--- no count fell
+-- no count of calls, of failures or of empties fell
 pub record Grows (old new : Counts) : Type 0 where
   pub calls : old.calls ≤ new.calls
   pub failures : old.failures ≤ new.failures
@@ -79,11 +79,11 @@ abbrev pub StopsAtOnce : {T E : Type 0} → Result T E → Counts → Counts →
 StopsAtOnce result old new =
     MatchResult result (λ _. NoneStops old new) (λ _. OneFails old new ⊎ OneIsEmpty old new)
 
--- a call failed, or answered 0 bytes
+-- a call between these counts failed, or answered 0 bytes, as far as a count at its largest value can tell
 abbrev pub FailsOrGivesNone : Counts → Counts → Type 0
 FailsOrGivesNone old new = Rose old.failures new.failures ⊎ Rose old.empties new.empties
 
--- the bytes up to some place were taken
+-- the sink took the bytes up to some place
 pub record AppendsPart (old new : Option (List ℕ)) (bytes : List ℕ) : Type 0 where
   pub part : List ℕ
   pub rest : List ℕ

@@ -20,7 +20,7 @@ pub data Ending : Type 0 where
   closed unfinished : Ending
   faulty : Fault → Ending
 
--- the list of requests ends so at rest
+-- the list of requests ends this way, where rest is left of the bytes and so many more may come
 abbrev pub EndsAt : List ℕ → ℕ → Ending → Type 0
 EndsAt rest left closed = left ≡ 0
 EndsAt rest left unfinished = (0 < left) × IsIncomplete rest

@@ -34,8 +34,11 @@ impl Listed for OverdueRow {
     }
 }
 
-/// The overdue intersections as CSV: a record for each with its number, its name, and the day on
-/// which its inspection fell due, or nothing where there never was one. It is UTF-8.
+/// The overdue intersections as CSV, in UTF-8: a record for each, in order, with its number, its
+/// name, and the day on which its inspection fell due, as `YYYY-MM-DD`, or nothing where there
+/// never was one. No record is a heading.
+///
+/// `NoMemory` means that a growth was really refused.
 pub fn overdue_csv(alloc: Global, rows: &[OverdueRow]) -> Result<Vec<u8>, NoMemory>
     ensures text { IfOk result (λ text. text.items ≡ overdue_csv_text rows.now) }
     ensures utf8 { IfOk result (λ text. IsUtf8 text.items) }

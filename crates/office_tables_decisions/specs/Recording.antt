@@ -10,21 +10,23 @@ use Rattle.office_machine.specs.Office.{Office}
 use Rattle.office_tables_decisions.specs.StandFor.{StandForSound}
 use Rattle.office_machine.specs.Step.{is_known}
 
--- in whichever sound office the tables stand for
+-- this tells whether the intersection is there, or none is asked for, in whichever sound office the tables
+-- stand for
 abbrev pub IsKnownIn : Content → Option ℕ → Bool → Type 0
 IsKnownIn tables about known = (office : Office) → StandForSound tables office → known ≡ is_known office about
 
--- the intersection's row is no record
+-- an intersection is asked for, and its row is no record
 abbrev pub HasDamagedAbout : Content → Option ℕ → Type 0
 HasDamagedAbout tables None = ⊥
 HasDamagedAbout tables (Some id) = HasDamagedIntersection tables id
 
--- whether a row stands under its number; nothing is wanted of a command about none
+-- this tells whether a row stands under the intersection's number; it is true where none is asked for
 abbrev pub TellsAbout : Content → Option ℕ → Bool → Type 0
 TellsAbout tables None known = known ≡ true
 TellsAbout tables (Some id) known = known ≡ is_some (get tables.intersection (intersection_key id))
 
--- it is there or not, in whichever sound office the tables stand for and by its row, which is no damaged one
+-- this tells whether the intersection is there, both in whichever sound office the tables stand for and by
+-- its row, which is not damaged
 pub record TellsIntersection (tables : Content) (about : Option ℕ) (is_there : Bool) : Type 0 where
   pub known : IsKnownIn tables about is_there
   pub told : TellsAbout tables about is_there
@@ -34,7 +36,7 @@ pub record TellsIntersection (tables : Content) (about : Option ℕ) (is_there :
 abbrev pub AreFound : Content → BTreeSet ℕ → Type 0
 AreFound tables found = All (λ id. TellsIntersection tables (Some id) true) found.keys
 
--- one is asked for, and it is one of these
+-- an intersection is asked for, and it is one of these
 abbrev pub IsAmong : BTreeSet ℕ → Option ℕ → Type 0
 IsAmong found None = ⊥
 IsAmong found (Some id) = Contains found.keys id

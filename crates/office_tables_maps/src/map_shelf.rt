@@ -21,8 +21,8 @@ use std::marker::Model;
 use std::mem;
 
 /// Tables in memory, and how often the rows of each were written. Changes are made in a spare
-/// first, which then takes the place of the tables: so a refused change leaves no trace, and
-/// nothing is copied but after one.
+/// first, which then takes the place of the tables: so a refused change leaves no trace. The tables
+/// are copied only where there is no spare: at the first change, and after want of memory.
 #[derive(Drop)]
 pub struct MapShelf {
     now: Maps,

@@ -23,11 +23,15 @@ pub struct Maps {
     pub(crate) timing: BTreeMap<Place, Row>,
     /// What each draft row leaves at its key: a row, or none where it is a removal.
     pub(crate) draft: BTreeMap<Place, Option<Row>>,
-    /// Each inspection, order, used part and delivery stands under its own numbers.
+    /// Each inspection stands under its intersection and its own number.
     pub(crate) inspection: BTreeMap<RecordPlace, Inspection>,
+    /// Each order stands under its intersection and its own number.
     pub(crate) work_order: BTreeMap<RecordPlace, Order>,
+    /// Each used part stands under its intersection, the number of its order and its own line.
     pub(crate) used_part: BTreeMap<LinePlace, UsedLine>,
+    /// How many of each part are on hand.
     pub(crate) part: BTreeMap<PartCode, Hand>,
+    /// Each delivery stands under its part and its own number.
     pub(crate) delivery: BTreeMap<DeliveryPlace, Delivery>,
 }
 
@@ -113,7 +117,8 @@ impl Maps {
         Ok(())
     }
 
-    /// These tables with one more change.
+    /// These tables with one more change. `NoMemory` means that a growth was really refused; the
+    /// tables are given up then.
     pub fn with(mut self, change: &RowChange) -> Result<Maps, NoMemory>
         ensures { IfOk result (λ next. next ≡ changed self change.now) }
     {
@@ -121,7 +126,8 @@ impl Maps {
         Ok(self)
     }
 
-    /// The record under a key of the register, if there is one.
+    /// A copy of the record under a key of the register, if there is one. `NoMemory` means that a
+    /// growth was really refused.
     pub fn record_at(&self, key: &RegisterKey<'_>) -> Result<Option<RegisterRecord>, NoMemory>
         ensures row { FindsAt self.now (place_of key.now) result }
         ensures within { IfOk result (λ found. IfSome found (IsOfPlace (place_of key.now))) }

@@ -7,7 +7,7 @@ use Rattle.office_tables_shelf.specs.Cells.{Cell, TableRows, number, cell_cmp, r
 use Rattle.office_tables_shelf.specs.declared.rows.Table.{Table}
 use Rattle.office_tables_shelf.specs.declared.rows.Table.TheVariants as table
 
--- the rows of each table; that of the stored version is no part of it
+-- the rows of the eight tables; the table of the stored version is none of them
 pub record Content : Type 0 where
   pub intersection : TableRows
   pub timing : TableRows
@@ -44,7 +44,7 @@ rows_at tables table.Part = tables.part
 rows_at tables table.Delivery = tables.delivery
 rows_at tables table.UsedPart = tables.used_part
 
--- the place of a table among the eight
+-- the place of a table among the eight, counted from 0
 abbrev pub place_at : Table → ℕ
 place_at table.Intersection = 0
 place_at table.Timing = 1
@@ -72,11 +72,11 @@ with_rows tables t rows = record {
   used_part = cond (is_same_table t table.UsedPart) rows tables.used_part;
 }
 
--- a row stands in it
+-- the tables with a row put into one of them: these columns under this key
 abbrev pub put_in : Content → Table → List Cell → List Cell → Content
 put_in tables t key columns = with_rows tables t (insert (rows_at tables t) key columns)
 
--- the row under the key is gone from it
+-- the tables without the row under this key in one of them
 abbrev pub remove_in : Content → Table → List Cell → Content
 remove_in tables t key = with_rows tables t (remove (rows_at tables t) key)
 
@@ -89,7 +89,7 @@ is_of id (cell ∷ cells) = eq_by_cmp cell_cmp (number (pos id)) cell
 abbrev pub rows_but : ℕ → TableRows → TableRows
 rows_but id rows = retain_keys rows (λ key. not (is_of id key))
 
--- the rows of the intersection are gone from it
+-- the tables without the rows of an intersection in one of them
 abbrev pub drop_in : Content → Table → ℕ → Content
 drop_in tables t id = with_rows tables t (rows_but id (rows_at tables t))
 

@@ -9,23 +9,24 @@ use Rattle.office_tables_statements.specs.Schema.{office_schema}
 use Rattle.office_tables_statements.specs.Stored.{content_now, content_of}
 use Rattle.office_tables_sql.specs.Version.{version_in, current_version}
 
--- a step of a transaction that succeeds on a clean disk found it honest
+-- a step of a transaction that succeeds on a clean disk found the disk clean and the database open
 abbrev pub WasHonest : {A E : Type 0} → Result A E → State → State → Type 0
 WasHonest result old new = HasCleanDisk new → OnOk result (IsHonest old)
 
--- it leaves the transaction as ready as it was
+-- a step that succeeds on a clean disk leaves the transaction ready, if it found it ready
 abbrev pub StaysReady : {A E : Type 0} → Result A E → State → State → Type 0
 StaysReady result old new = HasCleanDisk new → OnOk result (IsReady old → IsReady new)
 
--- the eight tables hold what they held
+-- a step of a ready transaction that succeeds on a clean disk leaves what the eight tables hold
 abbrev pub StaysSame : {A E : Type 0} → Result A E → State → State → Type 0
 StaysSame result old new = HasCleanDisk new → OnOk result (IsReady old → content_now new ≡ content_now old)
 
--- today's version is stored
+-- a step of a ready transaction that succeeds on a clean disk leaves today's version stored
 abbrev pub StoresToday : {A E : Type 0} → Result A E → State → State → Type 0
 StoresToday result old new = HasCleanDisk new → OnOk result (IsReady old → version_in new.now.trees ≡ Some current_version)
 
--- a stop leaves what it could leave before the call
+-- A crash after the call leaves only what a crash before it could leave; the call forgets no fault, and only
+-- a fault shuts the connection.
 abbrev pub LeavesNoMore : State → State → Type 0
 LeavesNoMore old new = Survives old new (λ _. ⊥)
 
@@ -33,13 +34,13 @@ LeavesNoMore old new = Survives old new (λ _. ⊥)
 abbrev pub KeepsVersion : State → State → Type 0
 KeepsVersion old new = IsHonest new → version_in new.now.trees ≡ version_in old.now.trees
 
--- trees are those of the office's tables and hold this, under the version that others store
+-- the trees are those of the office's tables, hold this content, and store the version of the old trees
 pub record HoldUnder (tables : Content) (old trees : Trees) : Type 0 where
   pub sound : IsDatabase (record { schema = office_schema; trees = trees })
   pub content : content_of trees ≡ tables
   pub version : version_in trees ≡ version_in old
 
--- where the call fails, all that can be read is as it was
+-- a call that fails leaves all that can be read as it was, if the database is open after it
 abbrev pub KeepsTrees : {A E : Type 0} → Result A E → State → State → Type 0
 KeepsTrees result old new = IsHonest new → OnErr result (new.now.trees ≡ old.now.trees)
 
@@ -47,14 +48,14 @@ KeepsTrees result old new = IsHonest new → OnErr result (new.now.trees ≡ old
 abbrev pub KeepsCommitted : {A E : Type 0} → Result A E → State → State → Type 0
 KeepsCommitted result old new = IsHonest new → OnErr result (new.committed.trees ≡ old.committed.trees)
 
--- where it succeeds, all is committed
+-- a call that succeeds leaves all that can be read committed, if the database is open after it
 abbrev pub Commits : {A E : Type 0} → Result A E → State → Type 0
 Commits result new = IsHonest new → OnOk result (new.committed.trees ≡ new.now.trees)
 
--- after a call that succeeds, a stop leaves what the database then holds, if it is open
+-- after a call that succeeds, a crash leaves what the database then holds, if it is open
 abbrev pub Settles : {A E : Type 0} → Result A E → State → Type 0
 Settles result new = IsHonest new → OnOk result ((trees : Trees) → new.may_leave trees → trees ≡ new.now.trees)
 
--- what is seen is what was committed
+-- all that can be read is committed, if the database is open
 abbrev pub IsSettled : State → Type 0
 IsSettled s = IsHonest s → s.now ≡ s.committed

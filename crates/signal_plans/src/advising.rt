@@ -34,7 +34,7 @@ pub fn warnings(alloc: Global, set: &TimingSet) -> Result<Vec<Warning>, NoMemory
 }
 
 /// The warnings of a pattern: those of the rows of its split plan by ascending phase, then its own.
-/// None, where the set has no such pattern. What it costs grows with no other pattern or split.
+/// There are none where the set has no such pattern. Other patterns and splits add no cost.
 ///
 /// `NoMemory` means that a growth was really refused.
 #[tactic(auto, unfolding(crate::specs::Warnings::warnings_of_pattern))]
@@ -156,7 +156,7 @@ fn warn_pattern(
     }
 }
 
-/// Adds of some cases, in their order, those that are so.
+/// Adds a warning for each case that is so, in the order of the cases.
 fn tell(scope: &Scope, cases: &[(bool, Advice)], found: &mut Vec<Warning>) -> Result<(), NoMemory>
     ensures { OnOk result (found.new.items ≡ found.old.items ++ told_cases scope.now cases.now) }
 {

@@ -26,7 +26,8 @@ impl<const MAX: usize> Model for Words<MAX> {
 }
 
 impl<const MAX: usize> Words<MAX> {
-    /// The text that the bytes are, if it may be one of these. It takes no memory.
+    /// The bytes as a text, if they are 1 to `MAX` bytes of UTF-8 without control characters. It
+    /// takes no memory.
     pub fn parse(bytes: &[u8]) -> Option<&str>
         ensures accepts { IsSome result ↔ AreWords MAX bytes.now }
         ensures keeps { IfSome result (λ text. text.now ≡ bytes.now) }
@@ -44,7 +45,8 @@ impl<const MAX: usize> Words<MAX> {
         Some(text)
     }
 
-    /// A text that `parse` gave, in memory of its own.
+    /// A text that `parse` gave, in memory of its own. `NoMemory` means that a growth was really
+    /// refused.
     pub fn from_parsed(alloc: Global, text: &str) -> Result<Self, NoMemory>
         requires { AreWords MAX text.now }
         ensures { IfOk result (λ words. words ≡ text.now) }
@@ -54,7 +56,8 @@ impl<const MAX: usize> Words<MAX> {
         })
     }
 
-    /// The text, if the bytes are one. Memory is taken for a text alone.
+    /// A text of these bytes, if they are 1 to `MAX` bytes of UTF-8 without control characters.
+    /// `NoMemory` means that a growth was really refused; only such a text takes memory.
     pub fn new(alloc: Global, bytes: &[u8]) -> Result<Option<Self>, NoMemory>
         ensures accepts { IfOk result (λ words. IsSome words ↔ AreWords MAX bytes.now) }
         ensures keeps { IfOk result (λ words. IfSome words (λ text. text ≡ bytes.now)) }
@@ -66,7 +69,7 @@ impl<const MAX: usize> Words<MAX> {
         Ok(Some(Self::from_parsed(alloc, text)?))
     }
 
-    /// The text.
+    /// The text as a `str` of 1 to `MAX` bytes.
     pub fn as_str(&self) -> &str
         ensures text { result.now ≡ self.now }
         ensures words { AreWords MAX self.now }
