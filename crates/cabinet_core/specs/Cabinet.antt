@@ -15,7 +15,7 @@ use Rattle.cabinet_core.specs.declared.decide.CabinetChange.TheVariants.{PutOrde
 use Rattle.cabinet_core.specs.declared.decide.Recorded.{Recorded}
 use Rattle.cabinet_core.specs.declared.decide.Recorded.TheVariants.{Added, Same}
 
--- what becomes of a command
+-- what becomes of a command: it adds, or what it asks for is there already, or it is refused
 pub data Line : Type 0 where
   added same : Line
   refused : CabinetRefusal → Line
@@ -52,22 +52,22 @@ abbrev pub is_same_delivery : Delivery → Delivery → Bool
 is_same_delivery there asked =
     bytes_eq there.part asked.part && (there.number == asked.number && (there.day == asked.day && there.count == asked.count))
 
--- the order was opened so, whether it is open or closed
+-- an order has the number, day, clerk and text of this opening, whether it is open or closed
 abbrev pub is_opened_so : Order → Opening → Bool
 is_opened_so there asked =
     there.number == asked.number && (there.opened == asked.day && (bytes_eq there.clerk asked.clerk && bytes_eq there.text asked.text))
 
--- an inspection is recorded
+-- the line of a command that records an inspection, by the inspection that is there under its number
 abbrev pub inspect_line : Option Inspection → Inspection → Line
 inspect_line None asked = added
 inspect_line (Some there) asked = if is_same_inspection there asked then same else refused InspectionDiffers
 
--- an order is opened
+-- the line of a command that opens an order, by the order that is there under its number
 abbrev pub open_line : Option Order → Opening → Line
 open_line None asked = added
 open_line (Some there) asked = if is_opened_so there asked then same else refused OrderDiffers
 
--- a part is used for an order: the line that is there, the order, the part's number on hand
+-- the line of a command that uses a part, by the used part that is there under its order and line, the order, and how many of the part are on hand
 abbrev pub use_line : Option UsedLine → Option Order → Option ℕ → UsedLine → Line
 use_line (Some there) order hand asked = if is_same_line there asked then same else refused LineDiffers
 use_line None None hand asked = refused UnknownOrder
@@ -75,17 +75,17 @@ use_line None (Some order) hand asked =
     if is_some order.closing then refused OrderClosed
     else (if nat_lt (on_hand hand) asked.count then refused NoStock else added)
 
--- an order is closed that is there: how it was closed before
+-- the line of a command that closes an order which is there, by how it was closed before, if it was
 abbrev pub close_order_line : Order → Option Closing → Closing → Line
 close_order_line order (Some there) asked = if is_same_closing there asked then same else refused CloseDiffers
 close_order_line order None asked = if nat_lt asked.day order.opened then refused DayBeforeOpening else added
 
--- an order is closed
+-- the line of a command that closes an order, by the order that is there
 abbrev pub close_line : Option Order → Closing → Line
 close_line None asked = refused UnknownOrder
 close_line (Some order) asked = close_order_line order order.closing asked
 
--- a delivery is received: the delivery that is there, the part's number on hand
+-- the line of a command that receives a delivery, by the delivery that is there under its part and number, and how many of the part are on hand
 abbrev pub receive_line : Option Delivery → Option ℕ → Delivery → Line
 receive_line (Some there) hand asked = if is_same_delivery there asked then same else refused DeliveryDiffers
 receive_line None hand asked = if nat_lt MOST_ON_HAND (on_hand hand + asked.count) then refused StockFull else added

@@ -15,7 +15,7 @@ use Rattle.cabinet_core.specs.declared.decide.Recorded.TheVariants.{Added, Same}
 use Rattle.cabinet_core.specs.declared.refusal.CabinetRefusal.{CabinetRefusal}
 use Rattle.cabinet_core.specs.declared.refusal.CabinetRefusal.TheVariants.{NoMemory}
 
--- the register after a change on an intersection; a count on hand is a sum of records, and none itself
+-- the register after a change on an intersection; a count on hand is a sum of records and no record, so it changes nothing
 abbrev pub with_change : ℕ → Register → CabinetChange → Register
 with_change id r (PutInspection inspection) = record r { inspections = insert r.inspections (id, inspection.number) inspection }
 with_change id r (PutOrder order) = record r { orders = insert r.orders (id, order.number) order }
@@ -28,12 +28,12 @@ abbrev pub with_changes : ℕ → Register → List CabinetChange → Register
 with_changes id r [] = r
 with_changes id r (change ∷ changes) = with_changes id (with_change id r change) changes
 
--- a part's number on hand after a change: what the change puts, if it is of this part
+-- how many of a part are on hand after a change: what the change puts, if it puts a count of this part
 abbrev pub hand_told : List ℕ → Option ℕ → CabinetChange → Option ℕ
 hand_told code before (PutPart part hand) = if bytes_eq part code then Some hand else before
 hand_told code before _ = before
 
--- a part's number on hand after changes, in their order: that of the last change that puts it
+-- how many of a part are on hand after changes, in their order: what the last one puts that puts a count of this part
 abbrev pub hand_after : List ℕ → Option ℕ → List CabinetChange → Option ℕ
 hand_after code before [] = before
 hand_after code before (change ∷ changes) = hand_after code (hand_told code before change) changes

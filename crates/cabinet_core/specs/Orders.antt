@@ -8,7 +8,7 @@ use Rattle.cabinet_core.specs.declared.record.Order.{Order}
 abbrev pub is_open : Order → Bool
 is_open order = not (is_some order.closing)
 
--- the numbers of the orders on an intersection that are open
+-- the numbers of the orders on an intersection that are open, ascending
 abbrev pub open_at : Register → ℕ → List ℕ
 open_at r id = map (λ (order : Order). order.number) (filter is_open (records_at id r.orders))
 
@@ -17,6 +17,6 @@ abbrev pub is_open_order : Option Order → Bool
 is_open_order None = false
 is_open_order (Some order) = is_open order
 
--- the order of this number is there and open
+-- the order with this number on an intersection is there and open
 abbrev pub is_open_at : Register → ℕ → ℕ → Bool
 is_open_at r id n = is_open_order (get r.orders (id, n))

@@ -53,6 +53,6 @@ pub record Register : Type 0 where
 abbrev pub no_register : Register
 no_register = record { inspections = empty; orders = empty; lines = empty; deliveries = empty }
 
--- the records of an intersection, in the order of their numbers
+-- the records of an intersection, in the order of their keys
 abbrev pub records_at : {K X : Type 0} {R : ℕ × K → ℕ × K → Ordering} → ℕ → FinMap R X → List X
 records_at {R = R} id records = map (λ e. e.1) (where_key R (λ key. key.0 == id) (entries records))

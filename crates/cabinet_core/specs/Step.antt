@@ -1,4 +1,4 @@
--- One step of the register: what becomes of a command, and the register after it. Of an intersection that is there; who tests that is the office.
+-- One step of the register: what becomes of a command, and the register after it. That the command's intersection is there, the office tests.
 use Rattle.std.specs.Prelude.{ℕ, Option, Some, None}
 use Rattle.std.specs.FinMap.{get, insert}
 use Rattle.cabinet_core.specs.Cabinet.{Line, added, same, refused, inspect_line, open_line, use_line, close_line, receive_line, record_of, with_closing}
@@ -20,7 +20,7 @@ Standing (UsePart id line) = Option UsedLine × Option Order × Option ℕ
 Standing (CloseOrder id order closing) = Option Order
 Standing (Receive delivery) = Option Delivery × Option ℕ
 
--- what a command on the register has to look at, as it is in a register
+-- what stands in a register under a command's keys, and how many of its part are on hand
 abbrev pub standing_in : Register → (command : RecordCommand) → Standing command
 standing_in r (Inspect id inspection) = get r.inspections (id, inspection.number)
 standing_in r (OpenOrder id opening) = get r.orders (id, opening.number)
@@ -38,7 +38,7 @@ line_on (UsePart id line) (there, order, hand) = use_line there order hand line
 line_on (CloseOrder id order closing) there = close_line there closing
 line_on (Receive delivery) (there, hand) = receive_line there hand delivery
 
--- the line of a command in a register
+-- the line of a command in the table, by what stands in a register
 abbrev pub line_at : Register → RecordCommand → Line
 line_at r command = line_on command (standing_in r command)
 

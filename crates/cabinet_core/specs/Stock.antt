@@ -30,7 +30,7 @@ pieces_used r code = sum_by (pieces_taken code) (entries r.lines)
 abbrev pub was_delivered : Register → List ℕ → Bool
 was_delivered r code = list_any (λ e. bytes_eq e.1.part code) (entries r.deliveries)
 
--- the pieces on hand: the deliveries less the used lines
+-- the pieces of a part on hand: those of its deliveries less those of its used lines
 abbrev pub pieces : Register → List ℕ → ℕ
 pieces r code = pieces_delivered r code - pieces_used r code
 

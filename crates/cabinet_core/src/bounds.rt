@@ -7,7 +7,7 @@ ghost use Rattle.cabinet_core.specs.Within.{IsInspectionWithin, IsOpeningWithin,
 use crate::command::RecordCommand;
 use crate::record::{Closing, Delivery, Inspection, Opening, Order, UsedLine};
 
-/// Every inspection is within its limits.
+/// Shows that an inspection is within its limits, which its types ensure.
 pub fn inspection_is_within(inspection: &Inspection)
     ensures { IsInspectionWithin inspection.now }
 {
@@ -16,7 +16,7 @@ pub fn inspection_is_within(inspection: &Inspection)
     let _text = inspection.text.as_str();
 }
 
-/// What opens an order is within its limits.
+/// Shows that what opens an order is within its limits, which its types ensure.
 pub(crate) fn opening_is_within(opening: &Opening)
     ensures { IsOpeningWithin opening.now }
 {
@@ -25,7 +25,7 @@ pub(crate) fn opening_is_within(opening: &Opening)
     let _text = opening.text.as_str();
 }
 
-/// What closes an order is within its limits.
+/// Shows that what closes an order is within its limits, which its types ensure.
 pub(crate) fn closing_is_within(closing: &Closing)
     ensures { IsClosingWithin closing.now }
 {
@@ -33,6 +33,7 @@ pub(crate) fn closing_is_within(closing: &Closing)
     let _closer = closing.closer.as_str();
 }
 
+/// Shows that what closed an order, if anything did, is within its limits.
 fn any_closing_is_within(closing: &Option<Closing>)
     ensures { IfSome closing.now IsClosingWithin }
 {
@@ -41,7 +42,7 @@ fn any_closing_is_within(closing: &Option<Closing>)
     }
 }
 
-/// Every order is within its limits.
+/// Shows that an order is within its limits, which its types ensure.
 pub fn order_is_within(order: &Order)
     ensures { IsOrderWithin order.now }
 {
@@ -51,7 +52,7 @@ pub fn order_is_within(order: &Order)
     any_closing_is_within(&order.closing);
 }
 
-/// Every line of an order is within its limits.
+/// Shows that a line of an order is within its limits, which its types ensure.
 pub fn used_line_is_within(used: &UsedLine)
     ensures { IsUsedLineWithin used.now }
 {
@@ -59,7 +60,7 @@ pub fn used_line_is_within(used: &UsedLine)
     let _part = used.part.as_str();
 }
 
-/// Every delivery is within its limits.
+/// Shows that a delivery is within its limits, which its types ensure.
 pub fn delivery_is_within(delivery: &Delivery)
     ensures { IsDeliveryWithin delivery.now }
 {
@@ -71,7 +72,7 @@ pub fn delivery_is_within(delivery: &Delivery)
     let _part = delivery.part.as_str();
 }
 
-/// Every command is within its limits.
+/// Shows that a command is within its limits, which its types ensure.
 pub fn record_is_within(command: &RecordCommand)
     ensures { IsRecordWithin command.now }
 {

@@ -43,7 +43,7 @@ impl Day {
         Some(Day { number: n })
     }
 
-    /// The days since 1970-01-01.
+    /// The days since 1970-01-01, 0 to 84,005.
     pub fn number(self) -> u32
         ensures value { result ≡ self }
         ensures bound { IsDay self }
@@ -51,7 +51,7 @@ impl Day {
         self.number
     }
 
-    /// The date.
+    /// The day as a `Date`, a type that has also days past 2199-12-31.
     pub fn date(self) -> Date
         ensures value { result ≡ self }
         ensures bound { IsDay self }
@@ -100,7 +100,7 @@ impl Date {
     }
 }
 
-/// The number that two digits spell.
+/// The number that two bytes spell, if they are digits: 0 to 99.
 fn two_digits(tens: u8, ones: u8) -> Option<u8>
     ensures value { IfSome result (λ n. (n < 100) × (tens ≡ 48 + n / 10) × (ones ≡ 48 + n % 10)) }
     ensures none { IfNone result ((n : ℕ) → n < 100 → tens ≡ 48 + n / 10 → ¬ (ones ≡ 48 + n % 10)) }
@@ -111,7 +111,8 @@ fn two_digits(tens: u8, ones: u8) -> Option<u8>
     Some((tens - b'0') * 10 + (ones - b'0'))
 }
 
-/// The date with these numbers, the year being given by its century and its place there.
+/// The date with these numbers, if the calendar has one. `century` is what the year's first two
+/// digits spell, and `year` what its last two spell.
 fn date_of(century: u8, year: u8, month: u8, day: u8) -> Option<CivilDate>
     requires century_in { century < 100 }
     requires year_in { year < 100 }
@@ -140,7 +141,7 @@ pub fn read_day(bytes: &[u8]) -> Option<Day>
     Day::from_date(date_of(century, year, month, day)?)
 }
 
-/// Appends a date as `YYYY-MM-DD`.
+/// Appends a date as `YYYY-MM-DD`. The error means that a growth was refused.
 pub fn push_date(text: &mut String, date: Date) -> Result<(), AllocError>
     ensures { OnOk result (string_bytes text.new ≡ string_bytes text.old ++ day_text date) }
 {
@@ -148,7 +149,7 @@ pub fn push_date(text: &mut String, date: Date) -> Result<(), AllocError>
     write!(text, "{civil}")
 }
 
-/// The spelling `YYYY-MM-DD` of a date.
+/// The spelling `YYYY-MM-DD` of a date. `NoMemory` means that a growth was refused.
 pub fn write_date(alloc: Global, date: Date) -> Result<String, NoMemory>
     ensures { IfOk result (λ text. string_bytes text ≡ day_text date) }
 {
@@ -157,7 +158,7 @@ pub fn write_date(alloc: Global, date: Date) -> Result<String, NoMemory>
     Ok(text)
 }
 
-/// The spelling `YYYY-MM-DD` of a day.
+/// The spelling `YYYY-MM-DD` of a day. `NoMemory` means that a growth was refused.
 pub fn write_day(alloc: Global, day: Day) -> Result<String, NoMemory>
     ensures { IfOk result (λ text. string_bytes text ≡ day_text day) }
 {

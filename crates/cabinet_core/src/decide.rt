@@ -1,5 +1,4 @@
-//! What becomes of a command on the register. Each decision is given the records that stand under
-//! the command's keys, and changes nothing itself.
+//! What becomes of a command on the register, by the records under its keys. Nothing is changed.
 
 ghost use Rattle.std.specs.Prelude.{◌≡◌, ℕ, ◌+◌, ◌-◌, ◌≤◌, [], ◌∷◌, nat_lt, IfOk, if◌then◌else◌, Some, None};
 ghost use Rattle.cabinet_core.specs.declared.part.TheConstants.{MOST_ON_HAND};
@@ -18,14 +17,14 @@ use crate::refusal::CabinetRefusal;
 use signal_values::Amount;
 use std::alloc::{AllocError, Global};
 
-/// A row of the register to be written, in place of the one under its key.
+/// A row of the register to be written, in place of the one under its key, if there is one.
 #[derive(Drop)]
 pub enum CabinetChange {
     PutInspection(Inspection),
     PutOrder(Order),
     PutLine(UsedLine),
     PutDelivery(Delivery),
-    /// The part's number on hand.
+    /// How many of the part are then on hand.
     PutPart(PartCode, Hand),
 }
 
@@ -34,13 +33,13 @@ pub enum CabinetChange {
 pub enum Recorded {
     /// It puts these rows, in this order.
     Added(Vec<CabinetChange>),
-    /// Nothing: what it asks for is there already.
+    /// It changes nothing: what it asks for is there already.
     Same,
 }
 
-/// Records an inspection. `there` is the one of its number.
+/// Records an inspection. `there` is the inspection that has its number, if one has.
 ///
-/// `InspectionDiffers` where `there` is another one.
+/// `InspectionDiffers` where `there` is another one; `NoMemory` where a growth was refused.
 pub fn inspect(
     alloc: Global,
     there: &Option<Inspection>,
@@ -61,7 +60,7 @@ pub fn inspect(
     }
 }
 
-/// Whether an order was opened so, be it open or closed.
+/// Whether an order has the number, day, clerk and text of an opening, be it open or closed.
 fn is_opened_so(there: &Order, asked: &Opening) -> bool
     ensures { result ≡ is_opened_so there.now asked.now }
 {
@@ -71,6 +70,7 @@ fn is_opened_so(there: &Order, asked: &Opening) -> bool
         && there.text == asked.text
 }
 
+/// The open order that an opening makes.
 fn new_order(asked: &Opening) -> Result<Order, AllocError>
     ensures { IfOk result (λ order. order ≡ record_of asked.now) }
 {
@@ -83,9 +83,9 @@ fn new_order(asked: &Opening) -> Result<Order, AllocError>
     })
 }
 
-/// Opens an order. `there` is the one of its number.
+/// Opens an order. `there` is the order that has its number, if one has.
 ///
-/// `OrderDiffers` where `there` was opened on another day, by another clerk or with another text.
+/// `OrderDiffers` where day, clerk or text of `there` differ; `NoMemory` if a growth was refused.
 pub fn open_order(
     alloc: Global,
     there: &Option<Order>,
@@ -106,7 +106,7 @@ pub fn open_order(
     }
 }
 
-/// How many are on hand: none where nothing is stored.
+/// How many of a part are on hand: 0 where nothing is stored of it.
 fn on_hand(hand: Option<Hand>) -> u32
     ensures value { result ≡ on_hand hand }
     ensures bound { result ≤ MOST_ON_HAND }
@@ -117,14 +117,14 @@ fn on_hand(hand: Option<Hand>) -> u32
     }
 }
 
-/// How many are left when these are used, unless they are more than are on hand.
+/// How many of a part are left when these are used, unless they are more than are on hand.
 fn left_on_hand(hand: Option<Hand>, used: Amount) -> Option<Hand>
     ensures { result ≡ (if nat_lt (on_hand hand) used then None else Some (on_hand hand - used)) }
 {
     Hand::new(on_hand(hand).checked_sub(used.get())?)
 }
 
-/// How many are on hand when these have come, unless there is no room for them.
+/// How many of a part are on hand when these have come, unless that is more than 999,999,999.
 fn raised_on_hand(hand: Option<Hand>, delivered: Amount) -> Option<Hand>
     ensures { result ≡ (if nat_lt MOST_ON_HAND (on_hand hand + delivered)
         then None else Some (on_hand hand + delivered)) }
@@ -132,11 +132,11 @@ fn raised_on_hand(hand: Option<Hand>, delivered: Amount) -> Option<Hand>
     Hand::new(on_hand(hand) + delivered.get())
 }
 
-/// Takes a part from stock for an order. `there` is the line of its number, `order` the order, and
-/// `hand` the part's number on hand, nothing where the part is not known.
+/// Takes a part from stock for an order. `there` is the used part that has its order and line,
+/// `order` the order, and `hand` how many of the part are on hand; each may be missing.
 ///
 /// The first that holds: `LineDiffers` where `there` is another line; `UnknownOrder` without an
-/// order; `OrderClosed`; `NoStock` where fewer are on hand.
+/// order; `OrderClosed`; `NoStock` where fewer are on hand; `NoMemory` where a growth was refused.
 pub fn use_part(
     alloc: Global,
     there: &Option<UsedLine>,
@@ -171,10 +171,10 @@ pub fn use_part(
     Ok(Recorded::Added(vec![in alloc; line, part]?))
 }
 
-/// Closes an order. `order` is the order that is there.
+/// Closes an order. `order` is the order that is there, if one is.
 ///
-/// The first that holds: `UnknownOrder` without an order; `CloseDiffers` where it was closed on
-/// another day or by another clerk; `DayBeforeOpening` where it was opened later.
+/// In this order: `UnknownOrder` without an order; `CloseDiffers` where it was closed on another
+/// day or by another clerk; `DayBeforeOpening` if opened later; `NoMemory` for want of memory.
 pub fn close_order(
     alloc: Global,
     order: &Option<Order>,
@@ -205,11 +205,11 @@ pub fn close_order(
     Ok(Recorded::Added(vec![in alloc; order]?))
 }
 
-/// Takes a delivery into stock. `there` is the delivery of its part and number, and `hand` the
-/// part's number on hand, nothing where the part is not known.
+/// Takes a delivery into stock. `there` is the delivery that has its part and number, if one has,
+/// and `hand` how many of the part are on hand, nothing where there never was a delivery of it.
 ///
 /// The first that holds: `DeliveryDiffers` where `there` is another one; `StockFull` where more
-/// than 999,999,999 would be on hand.
+/// than 999,999,999 would be on hand; `NoMemory` where a growth was refused.
 pub fn receive(
     alloc: Global,
     there: &Option<Delivery>,

@@ -47,7 +47,7 @@ fn is_in_order<T: Placed>(list: &[T]) -> bool
     true
 }
 
-/// The records of a list, by their places.
+/// The records of a list, in the ascending order of their places.
 fn put_in_order<T: Placed>(mut list: Vec<T>) -> Vec<T>
     ensures in_order { IsNonDecreasingBy T.place result.items }
     ensures all { IsPermutation list.items result.items }
@@ -59,7 +59,8 @@ fn put_in_order<T: Placed>(mut list: Vec<T>) -> Vec<T>
 impl<T: Placed> Ordered<T> {
     ghost use Rattle.std.specs.Prelude.{◌≡◌};
 
-    /// The records of a list, in the order of their places. A list in that order stays as it is.
+    /// The records of a list, in the ascending order of their places. A list in that order stays as
+    /// it is; else records with equal places may come in any order.
     pub fn new(list: Vec<T>) -> Ordered<T>
         ensures in_order { IsNonDecreasingBy T.place result }
         ensures all { IsPermutation list.items result }
@@ -72,7 +73,7 @@ impl<T: Placed> Ordered<T> {
         Ordered { list }
     }
 
-    /// The records.
+    /// The records, in the ascending order of their places.
     pub fn as_slice(&self) -> &[T]
         ensures records { result.now ≡ self.now }
         ensures in_order { IsNonDecreasingBy T.place self.now }
@@ -80,7 +81,7 @@ impl<T: Placed> Ordered<T> {
         self.list.as_slice()
     }
 
-    /// The list of them, without memory.
+    /// The records as a list of its own, in their order, which takes no further memory.
     pub fn into_vec(self) -> Vec<T>
         ensures records { result.items ≡ self }
         ensures in_order { IsNonDecreasingBy T.place self }

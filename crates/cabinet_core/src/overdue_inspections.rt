@@ -28,7 +28,7 @@ pub struct OverdueRow {
     pub due: Option<Date>,
 }
 
-/// The later of a day and what there is besides.
+/// The later of a day and another one, if there is another.
 pub fn later(day: Day, last: Option<Day>) -> Day
     ensures { result ≡ greater day last }
 {
@@ -38,7 +38,7 @@ pub fn later(day: Day, last: Option<Day>) -> Day
     }
 }
 
-/// The latest day of some inspections, if there is one.
+/// The latest day of some inspections; none where there are no inspections.
 pub fn latest(inspections: &[Inspection]) -> Option<Day>
     ensures { result ≡ latest_day inspections.now }
 {
@@ -49,7 +49,7 @@ pub fn latest(inspections: &[Inspection]) -> Option<Day>
     latest
 }
 
-/// The day on which the next inspection falls due: so many days after the last one. It may lie
+/// The day on which the next inspection falls due: the interval after the last one. It may lie
 /// past 2199-12-31.
 pub fn due(last: Day, interval: Interval) -> Date
     ensures { result ≡ last + interval }
@@ -60,7 +60,8 @@ pub fn due(last: Day, interval: Interval) -> Date
 }
 
 /// The row of an intersection that is overdue on the day: that was never inspected, or whose
-/// inspection fell due before the day. There is none where it is not overdue.
+/// inspection fell due before the day. There is none where it is not overdue. `NoMemory` means
+/// that a growth was refused.
 pub fn overdue_row(day: Day, seen: &Seen) -> Result<Option<OverdueRow>, NoMemory>
     ensures { IfOk result (λ row. lateness day seen.now ≡ option_map listed_of row) }
 {
@@ -82,7 +83,8 @@ pub fn overdue_row(day: Day, seen: &Seen) -> Result<Option<OverdueRow>, NoMemory
 }
 
 /// The intersections that are overdue on the day: those that were never inspected, and those
-/// whose inspection fell due before the day. They come in the order of the rows.
+/// whose inspection fell due before the day. They come in the order of the rows. `NoMemory` means
+/// that a growth was refused.
 pub fn overdue(alloc: Global, day: Day, rows: &[Seen]) -> Result<Vec<OverdueRow>, NoMemory>
     ensures { IfOk result (λ found. map listed_of found.items ≡ overdue_list day rows.now) }
 {

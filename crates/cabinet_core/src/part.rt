@@ -8,13 +8,13 @@ use std::alloc::{AllocError, Global};
 use std::cmp::Ordering;
 use std::marker::Model;
 
-/// The most of a part that can be on hand.
+/// The most pieces of a part that can be on hand.
 pub const MOST_ON_HAND: u32 = 999_999_999;
 
-/// What `Hand` counts.
+/// Marks the numbers of the type `Hand`; this mark has no values.
 pub enum Stocked {}
 
-/// How many of a part are on hand.
+/// How many pieces of a part are on hand: 0 to 999,999,999.
 pub type Hand = Number<Stocked, 0, MOST_ON_HAND>;
 
 /// The code of a part: 1 to 20 of the bytes `A` to `Z`, `0` to `9` and `-`. It is seen as the
@@ -36,7 +36,7 @@ impl Model for PartCode {
 }
 
 impl PartCode {
-    /// The code that the bytes are, if they are one. It takes no memory.
+    /// The bytes as a text, if they are a part's code. It takes no memory.
     pub fn parse(bytes: &[u8]) -> Option<&str>
         ensures accepts { IsSome result ↔ IsPartCode bytes.now }
         ensures keeps { IfSome result (λ text. text.now ≡ bytes.now) }
@@ -54,7 +54,7 @@ impl PartCode {
         Some(text)
     }
 
-    /// A code that `parse` gave, in memory of its own.
+    /// A code that `parse` gave, in memory of its own. `NoMemory` means that a growth was refused.
     pub fn from_parsed(alloc: Global, text: &str) -> Result<PartCode, NoMemory>
         requires { IsPartCode text.now }
         ensures { IfOk result (λ code. code ≡ text.now) }
@@ -64,7 +64,8 @@ impl PartCode {
         })
     }
 
-    /// The code, if the bytes are one. Memory is taken for a code alone.
+    /// A code of these bytes, if they are one. `NoMemory` means that a growth was refused; only a
+    /// code takes memory.
     pub fn new(alloc: Global, bytes: &[u8]) -> Result<Option<PartCode>, NoMemory>
         ensures accepts { IfOk result (λ code. IsSome code ↔ IsPartCode bytes.now) }
         ensures keeps { IfOk result (λ code. IfSome code (λ part. part ≡ bytes.now)) }
@@ -76,7 +77,7 @@ impl PartCode {
         Ok(Some(PartCode::from_parsed(alloc, text)?))
     }
 
-    /// The code.
+    /// The code as a `str` of 1 to 20 bytes.
     pub fn as_str(&self) -> &str
         ensures text { result.now ≡ self.now }
         ensures code { IsPartCode self.now }
@@ -85,7 +86,7 @@ impl PartCode {
     }
 }
 
-/// Whether a byte may stand in a code.
+/// Whether a byte may stand in a part's code: `A` to `Z`, `0` to `9` or `-`.
 fn is_code_byte(b: u8) -> bool
     ensures { result ≡ is_code_byte b }
 {

@@ -32,7 +32,7 @@ pub struct Opening {
 #[derive(Drop, PartialEq, Eq)]
 pub struct Closing {
     pub day: Day,
-    /// The clerk who closed it.
+    /// The clerk who closed the order.
     pub closer: Words<40>,
 }
 
@@ -40,13 +40,13 @@ pub struct Closing {
 #[derive(Drop, PartialEq, Eq)]
 pub struct Order {
     pub number: RecordNo,
-    /// The day on which it was opened.
+    /// The day on which the order was opened.
     pub opened: Day,
-    /// The clerk who opened it.
+    /// The clerk who opened the order.
     pub clerk: Words<40>,
     /// What is to be done.
     pub text: Words<500>,
-    /// When and by whom it was closed; nothing while it is open.
+    /// When and by whom the order was closed; nothing while it is open.
     pub closing: Option<Closing>,
 }
 
@@ -73,11 +73,11 @@ pub struct Delivery {
 /// What the register holds of an intersection.
 #[derive(Drop)]
 pub struct CabinetView {
-    /// By their numbers.
+    /// In the order of their numbers.
     pub inspections: Ordered<Inspection>,
-    /// By their numbers.
+    /// In the order of their numbers.
     pub orders: Ordered<Order>,
-    /// By their orders, and those of an order by their lines.
+    /// In the order of their orders' numbers, and those of an order in the order of their lines.
     pub lines: Ordered<UsedLine>,
 }
 
@@ -112,7 +112,7 @@ impl Placed for UsedLine {
 }
 
 impl Order {
-    /// The day on which it was closed, unless it is open.
+    /// The day on which the order was closed; none while it is open.
     pub fn closed(&self) -> Option<Day>
         ensures { result ≡ option_map (λ closing. closing.day) self.now.closing }
     {
@@ -122,7 +122,7 @@ impl Order {
         }
     }
 
-    /// The clerk who closed it, unless it is open.
+    /// The clerk who closed the order; none while it is open.
     pub fn closer(&self) -> Option<&Words<40>>
         ensures { option_map (λ closer. closer.now) result ≡ option_map
             (λ closing. closing.closer) self.now.closing }

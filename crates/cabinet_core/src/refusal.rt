@@ -16,9 +16,9 @@ pub enum CabinetRefusal {
     UnknownOrder,
     /// The order is closed.
     OrderClosed,
-    /// The order was opened on a later day.
+    /// The order was opened on a later day than that of the closing.
     DayBeforeOpening,
-    /// Fewer pieces are on hand.
+    /// Fewer pieces are on hand than are to be used.
     NoStock,
     /// More than 999,999,999 pieces would be on hand.
     StockFull,
@@ -28,12 +28,12 @@ pub enum CabinetRefusal {
     LineDiffers,
     /// The order was closed on another day or by another clerk.
     CloseDiffers,
-    /// A growth was refused. It may stand in place of any other answer.
+    /// A growth was refused. It comes only where a record would be added.
     NoMemory,
 }
 
 impl CabinetRefusal {
-    /// Its number and its name.
+    /// The refusal's number and name.
     fn line(self) -> (u32, &'static str)
         ensures number { result.0 ≡ (line_of self).0 }
         ensures name { result.1.now ≡ (line_of self).1 }
@@ -53,14 +53,14 @@ impl CabinetRefusal {
         }
     }
 
-    /// Its number, by which clients know it.
+    /// The refusal's number, by which clients know it: 20 to 29, or 90 for want of memory.
     pub fn number(self) -> u32
         ensures { result ≡ (line_of self).0 }
     {
         self.line().0
     }
 
-    /// Its name, as answers show it.
+    /// The refusal's name, as answers show it.
     pub fn name(self) -> &'static str
         ensures { result.now ≡ (line_of self).1 }
     {

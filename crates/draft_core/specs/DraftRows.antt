@@ -26,11 +26,11 @@ abbrev pub said_by : Change → Said
 said_by (Put row) = leaves row
 said_by (Remove key) = removes
 
--- what a change says of any key
+-- what a change says of any key: it is silent of each key but its own
 abbrev pub said_at : Change → Key → Said
 said_at change key = cond (eq_by_cmp key_cmp key (changed_key change)) (said_by change) silent
 
--- what the later of two changes says of a key, unless it is silent
+-- what two changes say of a key: what the later one says, or what the earlier one says where the later is silent
 abbrev pub later_of : Said → Said → Said
 later_of silent earlier = earlier
 later_of (leaves row) earlier = leaves row
@@ -56,7 +56,8 @@ RowStands committed said (Some draft) key = get draft.set key ≡ overlaid_row c
 abbrev pub RowsByKey : Type 0
 RowsByKey = Key → Said
 
--- what a step reads of a timing side beside its revision and its holder
+-- what a step read, beside revision and holder, is right as far as the step reaches: the draft rows that were
+-- read say of each key what these rows say, and the committed set is that of the timing side
 abbrev pub IsRead : Reach → Timing → RowsByKey → TimingSide → Type 0
 IsRead reach.Row timing rows side = Unit {0}
 IsRead reach.Drafts timing rows side = (key : Key) → row_at timing.delta key ≡ rows key

@@ -36,14 +36,15 @@ KeepsIfDiffers committed said kept =
     ((overlaid_row committed said ≢ committed) × (kept ≡ said))
     ⊎ ((overlaid_row committed said ≡ committed) × (kept ≡ silent))
 
--- ONLY WHAT CHANGES IS KEPT. What the draft rows say of a key, where they said something before and
--- changes then say something: as before where the changes say nothing.
+-- ONLY WHAT CHANGES IS KEPT. After an edit the draft rows say of a key what they said before, where the
+-- edit's changes say nothing of it; else what these say, where it differs from what is committed, or nothing.
 abbrev pub KeepsOnlyChange : Option Row → Said → Said → Said → Type 0
 KeepsOnlyChange committed before silent after = after ≡ before
 KeepsOnlyChange committed before (leaves row) after = KeepsIfDiffers committed (leaves row) after
 KeepsOnlyChange committed before removes after = KeepsIfDiffers committed removes after
 
--- an edit stores a draft row under each key that it names, where draft and committed set differ there, and leaves the others
+-- what an edit writes leaves, under each key that its changes name, a draft row only where draft and
+-- committed set differ there, and under each other key the draft row that was there
 abbrev pub KeepsOnlyChanges : Rows → List Change → List Change → List TimingChange → Type 0
 KeepsOnlyChanges committed delta changes written =
     (key : Key) → KeepsOnlyChange (get committed key) (row_at delta key) (row_at changes key)
@@ -54,11 +55,13 @@ abbrev pub drafted_as : Bool → Change → TimingChange
 drafted_as true change = DraftedNew change
 drafted_as false change = Drafted change
 
--- each of these changes is one of those
+-- each change of the first list is one of the second
 abbrev pub AreAmong : List Change → List Change → Type 0
 AreAmong some changes = (change : Change) → Contains some change → Contains changes change
 
--- WHAT AN EDIT WRITES for changes, over these committed rows and draft rows
+-- WHAT AN EDIT WRITES for changes, over these committed rows and draft rows: draft rows alone, at most one
+-- write for each change, so that only what changes is kept; each row that it stores keeps one of the changes, and
+-- each row that it adds is new
 pub record DraftsChanges (committed : Rows) (delta changes : List Change)
     (written : List TimingChange) : Type 0 where
   pub keeps : KeepsOnlyChanges committed delta changes written

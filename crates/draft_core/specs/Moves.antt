@@ -107,7 +107,7 @@ state_after Begun = InTransaction
 state_after (Kept stage) = in_stage stage
 state_after Dropped = Normal
 
--- the move to this holder, whose state follows from it
+-- the move to this revision, holder and verdict, by these changes of rows; its state follows from the holder
 abbrev pub move_to : ℕ → Holding → Verdict → List TimingChange → Move
 move_to revision holder verdict changes = record {
   revision = revision;
@@ -117,7 +117,8 @@ move_to revision holder verdict changes = record {
   changes = changes;
 }
 
--- a move shows the next timing side, and its changes make it of a side with these draft rows
+-- a clerk's move shows the next timing side, and its changes make that side and its draft rows of this side and
+-- these draft rows
 pub record Makes (rows : RowsByKey) (side : TimingSide) (clerk : List ℕ) (move : Move)
     (next : TimingSide) : Type 0 where
   pub same_revision : move.revision ≡ next.revision
@@ -133,7 +134,8 @@ pub record Makes (rows : RowsByKey) (side : TimingSide) (clerk : List ℕ) (move
   pub only_changes : HaveOnlyChanges side.committed rows →
       HaveOnlyChanges next.committed (λ key. row_after move.changes key (rows key))
 
--- a decision follows its line of the table, or found no memory
+-- a decision is the move to the next timing side of its line of the table, or the refusal of that line; or it is
+-- refused for want of memory, whatever the line
 abbrev pub Follows : RowsByKey → TimingSide → List ℕ → Result Move DraftRefusal
     → Result TimingSide DraftRefusal → Type 0
 Follows rows side clerk (Ok move) (Ok next) = Makes rows side clerk move next

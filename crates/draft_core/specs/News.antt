@@ -18,7 +18,7 @@ use Rattle.draft_core.specs.DraftRows.{Said, silent, row_at}
 use Rattle.signal_records.specs.ChangedRows.{changed_key}
 use Rattle.draft_core.specs.Moves.{committed_by, said_after}
 
--- draft rows in the order of their keys, of which each has one at most
+-- draft rows stand in ascending order of their keys, at most one for each key
 abbrev pub AreInOrder : List Change → Type 0
 AreInOrder changes = IsStrictlySortedBy key_cmp (map changed_key changes)
 
@@ -54,7 +54,7 @@ AddsNone (DraftGone gone) = Unit {0}
 AddsNone DraftDropped = Unit {0}
 
 -- ROWS THAT ARE ADDED ARE NEW. A step that reads the plan adds a row only where none stands under
--- its key, if it was read in the order of keys. Any other step adds none.
+-- its key, if it read the draft rows in the order of their keys. Any other step adds none.
 abbrev pub AddsOnlyNew : Reach → Timing → List TimingChange → Type 0
 AddsOnlyNew reach.Row timing changes = AllByRecursion AddsNone changes
 AddsOnlyNew reach.Drafts timing changes = AllByRecursion AddsNone changes

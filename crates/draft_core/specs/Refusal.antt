@@ -5,7 +5,7 @@ use Rattle.signal_rules.specs.declared.violation.Violation.{Violation}
 use Rattle.draft_core.specs.declared.refusal.DraftRefusal.{DraftRefusal}
 use Rattle.draft_core.specs.declared.refusal.DraftRefusal.TheVariants.{NotNormal, NotTransaction, NotOwner, NotVerify, NotDone, VerifyFailed, RevisionFull, NoMemory}
 
--- a refusal's number and name; want of memory has those of what the office answers for it
+-- a refusal's number and name; want of memory has those of Unavailable, which the office answers for it
 abbrev pub line_of : DraftRefusal → ℕ × List ℕ
 line_of NotNormal = (12, codes "NotNormal")
 line_of NotTransaction = (13, codes "NotTransaction")
@@ -16,7 +16,7 @@ line_of (VerifyFailed count) = (17, codes "VerifyFailed")
 line_of RevisionFull = (18, codes "RevisionFull")
 line_of NoMemory = (90, codes "Unavailable")
 
--- the next revision, or why a draft with these violations is not committed
+-- the next revision, or why a draft with these violations is not committed: it has some, else the revision is the last
 abbrev pub next_revision : ℕ → List Violation → Result ℕ DraftRefusal
 next_revision revision [] = if revision == LAST_REVISION then Err RevisionFull else Ok (revision + 1)
 next_revision revision (violation ∷ violations) = Err (VerifyFailed (length (violation ∷ violations)))

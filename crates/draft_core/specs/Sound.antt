@@ -29,7 +29,7 @@ today = record { limits = current_limits; violations = violations_of }
 abbrev pub version_1 : Version
 version_1 = record { limits = version_1_limits; violations = violations_before_lead }
 
--- each row is within its limits, and stands under its own key
+-- each row is within the limits of a version, and stands under its own key
 abbrev pub AreRecordsIn : Version → Rows → Type 0
 AreRecordsIn v set = (key : Key) → IfSome (get set key) (λ row. IsRowWithin v.limits row × (key_of row ≡ key))
 
@@ -37,11 +37,11 @@ AreRecordsIn v set = (key : Key) → IfSome (get set key) (λ row. IsRowWithin v
 abbrev pub AreRecords : Rows → Type 0
 AreRecords = AreRecordsIn today
 
--- the owner of a draft is a name, and its rows are records
+-- the owner of a draft is a name of at most 40 bytes, and its rows are records of a version
 pub record IsSoundDraftIn (v : Version) (draft : Draft) : Type 0 where
   pub owner : AreWords 40 draft.owner
   pub rows : AreRecordsIn v draft.set
 
--- the owner of a draft is a name, and its rows are records of today
+-- the owner of a draft is a name of at most 40 bytes, and its rows are records of today
 abbrev pub IsSoundDraft : Draft → Type 0
 IsSoundDraft = IsSoundDraftIn today

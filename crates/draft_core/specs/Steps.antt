@@ -35,7 +35,8 @@ ReliesOn _ side = Unit {0}
 
 -- ---- what it refuses, whichever timing side is stood for, or none
 
--- what the test of state and owner refuses is refused so, never for want of memory; what it passes is refused, if at all, for what comes after it
+-- a step that the test of state and owner refuses is refused for that reason, never for want of memory; a step that passes the test
+-- is refused, if at all, for a later reason
 abbrev pub RefusesFirst : Option DraftRefusal → (DraftRefusal → Type 0) → Result Move DraftRefusal → Type 0
 RefusesFirst (Some why) Later result = result ≡ Err why
 RefusesFirst None Later result = IfErr result Later
@@ -48,7 +49,7 @@ Never why = ⊥
 abbrev pub IsMemory : DraftRefusal → Type 0
 IsMemory why = why ≡ NoMemory
 
--- a draft that was checked is not committed
+-- the refusal is one of a checked draft whose owner commits it: it breaks rules, the revision is the last, or memory was refused
 abbrev pub IsUnsettled : DraftRefusal → Type 0
 IsUnsettled (VerifyFailed count) = Unit {0}
 IsUnsettled RevisionFull = Unit {0}
@@ -75,7 +76,7 @@ IsLater _ = Never
 
 -- ---- what it writes
 
--- the changes that a step brings
+-- the changes that a step asks for: those of an edit; none for any other step
 abbrev pub asked_changes : Step → List Change
 asked_changes (step.Edit changes) = changes
 asked_changes _ = []
@@ -85,22 +86,23 @@ abbrev pub most_committed : Step → ℕ → ℕ
 most_committed step.Commit rows = rows
 most_committed _ rows = 0
 
--- the most draft rows that a step writes
+-- the most draft rows that a step writes, of a draft with so many rows; to drop them all is one write
 abbrev pub most_drafted : Step → ℕ → ℕ
 most_drafted (step.Edit changes) rows = length changes
 most_drafted step.Commit rows = rows
 most_drafted step.Abandon rows = rows
 most_drafted _ rows = 0
 
--- the rows that a step adds are new, its draft rows are of the changes that it brings, and so many are written
+-- the rows that a step adds are new, it stores as draft rows only changes that it asks for, and it writes no more timing rows and no more
+-- draft rows than such a step may
 pub record StepWrites (step : Step) (timing : Timing) (move : Move) : Type 0 where
   pub news : AddsOnlyNew (reach_of step) timing move.changes
   pub drafts : AreAmong (drafted_in move.changes) (asked_changes step)
   pub committed : timing_writes move.changes ≤ most_committed step (length timing.delta)
   pub drafted : draft_writes move.changes ≤ most_drafted step (length timing.delta)
 
--- A STEP IS TAKEN. What is decided on as much as it reads follows its line of the table, for
--- whichever timing side that is read of, and whichever draft rows represent its draft.
+-- A STEP IS TAKEN. The decision follows the step's line of the table, for whichever timing side what
+-- the step read is part of, and whichever draft rows represent that side's draft.
 pub record Takes (step : Step) (timing : Timing) (clerk : List ℕ)
     (result : Result Move DraftRefusal) : Type 0 where
   pub line : (rows : RowsByKey) (side : TimingSide) → Stands (reach_of step) timing rows side

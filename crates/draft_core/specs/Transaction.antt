@@ -69,9 +69,9 @@ is_stage Verify Verify = true
 is_stage Done Done = true
 is_stage _ _ = false
 
--- A STEP OF THE OWNER, in one stage. Without a draft, or with one in another stage, the state
--- is wrong; for another clerk it is NotOwner; else the step is taken. It is decided on a draft,
--- or on its holder alone.
+-- A STEP OF THE OWNER, in one stage. Without a draft, or with one in another stage, the answer is
+-- the refusal for a wrong state; for another clerk it is NotOwner; else the step is taken. What is
+-- held is a draft, or its holder alone.
 abbrev pub owned : {Held T : Type 0} → (Held → Holder) → Option Held → Stage → DraftRefusal
     → List ℕ → (Held → Result T DraftRefusal) → Result T DraftRefusal
 owned holder None stage wrong clerk step = Err wrong
@@ -98,7 +98,7 @@ refused_if_free (Some holder) = None
 abbrev pub with_draft : TimingSide → Draft → TimingSide
 with_draft side draft = record side { draft = Some draft }
 
--- a draft begins as the committed set, where nobody owns one
+-- a draft begins as the committed set, where nobody owns one; else the refusal is NotNormal
 abbrev pub begun_from : TimingSide → List ℕ → Option Draft → Result TimingSide DraftRefusal
 begun_from side clerk None = Ok (with_draft side (record { stage = Transaction; owner = clerk; set = side.committed }))
 begun_from side clerk (Some draft) = Err NotNormal
@@ -108,7 +108,7 @@ abbrev pub committed_with : TimingSide → Draft → List Violation → Result T
 committed_with side draft [] = if side.revision == LAST_REVISION then Err RevisionFull else Ok (record { revision = side.revision + 1; committed = draft.set; draft = None })
 committed_with side draft (violation ∷ violations) = Err (VerifyFailed (length (violation ∷ violations)))
 
--- any clerk may abandon a draft
+-- any clerk may abandon a draft; where there is none, the refusal is NotTransaction
 abbrev pub abandoned_from : TimingSide → Option Draft → Result TimingSide DraftRefusal
 abandoned_from side None = Err NotTransaction
 abandoned_from side (Some draft) = Ok (record side { draft = None })

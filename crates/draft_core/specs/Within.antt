@@ -4,6 +4,6 @@ use Rattle.std.specs.List.{AllByRecursion}
 use Rattle.signal_records.specs.Within.{IsChangeWithin, current_limits}
 use Rattle.signal_records.specs.declared.record.Change.{Change}
 
--- each change is within its limits
+-- each change is within today's limits
 abbrev pub AreChangesWithin : List Change → Type 0
 AreChangesWithin = AllByRecursion (IsChangeWithin current_limits)

@@ -14,7 +14,7 @@ abbrev pub abandon_rows : List Change → List TimingChange
 abandon_rows [] = []
 abandon_rows (change ∷ changes) = DraftDropped ∷ []
 
--- a row that is put where another may be committed; it is new where none is
+-- the change that puts a row over what is committed under its key; the row is new where nothing is
 abbrev pub put_over : Option Row → Row → TimingChange
 put_over None row = CommittedNew row
 put_over (Some stands) row = Committed (Put row)
@@ -24,6 +24,7 @@ abbrev pub settled_by : Rows → Change → TimingChange
 settled_by committed (Put row) = put_over (get committed (key_of row)) row
 settled_by committed (Remove key) = Committed (Remove key)
 
--- a commit: the draft rows go, and each is made a change of the committed set
+-- what a commit writes: the draft rows go, where there are any, and then each is made, in order, a change
+-- of the committed set
 abbrev pub commit_rows : Rows → List Change → List TimingChange
 commit_rows committed changes = abandon_rows changes ++ map (settled_by committed) changes

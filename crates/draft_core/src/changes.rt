@@ -24,7 +24,7 @@ impl Model for Changes {
     ghost invariant = { λ c. AreChangesWithin c.list.items };
 }
 
-/// Every change is within its limits, as its type says.
+/// Shows of every change that it is within its limits, which its type ensures.
 fn are_within(changes: &[Change])
     ensures { AreChangesWithin changes.now }
 {
@@ -37,7 +37,7 @@ impl Changes {
     ghost use Rattle.std.specs.Prelude.{◌≡◌};
     ghost use Rattle.draft_core.specs.Within.{AreChangesWithin};
 
-    /// The changes of a list.
+    /// The changes of a list, in its order.
     pub fn new(list: Vec<Change>) -> Changes
         ensures list { result ≡ list.items }
         ensures within { AreChangesWithin result }
@@ -54,7 +54,7 @@ impl Changes {
         self.list.as_slice()
     }
 
-    /// The list of them, without memory.
+    /// The changes as a list of its own, which takes no further memory.
     pub fn into_vec(self) -> Vec<Change>
         ensures { result.items ≡ self }
     {

@@ -62,7 +62,8 @@ pub fn begin(alloc: Global, timing: &Timing, _clerk: &Words<40>) -> Result<Move,
 /// Makes changes to the draft. A draft row is kept of each key at which the draft then differs from
 /// what is committed, of those that the changes name; the others have what they had.
 ///
-/// `NotTransaction` in each state but Transaction, and then `NotOwner` for another clerk.
+/// `NotTransaction` in each state but Transaction, and then `NotOwner` for another clerk;
+/// `NoMemory` where a growth was refused.
 pub fn edit(
     alloc: Global,
     timing: &Timing,
@@ -96,9 +97,10 @@ pub fn verify(alloc: Global, timing: &Timing, clerk: &Words<40>) -> Result<Move,
     Ok(stays(alloc, timing, waiting, Verdict::NotDone))
 }
 
-/// Checks the draft: the verdict says whether it breaks rules.
+/// Checks the draft: the verdict says whether it breaks rules. The committed set must break none.
 ///
-/// `NotVerify` in each state but Verify, and then `NotOwner` for another clerk.
+/// `NotVerify` in each state but Verify, and then `NotOwner` for another clerk; `NoMemory` where a
+/// growth was refused.
 pub fn check(alloc: Global, timing: &Timing, clerk: &Words<40>) -> Result<Move, DraftRefusal>
     ensures { Takes Step.Check timing.now clerk.now result }
 {
@@ -111,10 +113,12 @@ pub fn check(alloc: Global, timing: &Timing, clerk: &Words<40>) -> Result<Move, 
     Ok(stays(alloc, timing, Holding::Kept(Stage::Done), verdict))
 }
 
-/// Makes the draft the committed set, and raises the revision by one.
+/// Makes the draft the committed set, and raises the revision by one. The set that was committed
+/// before must break no rule.
 ///
 /// `NotDone` in each state but Done, `NotOwner` for another clerk, `VerifyFailed` for a draft that
-/// breaks rules, and `RevisionFull` at the last revision, in this order.
+/// breaks rules, and `RevisionFull` at the last revision, in this order; `NoMemory` where a growth
+/// was refused, which comes after `NotOwner`.
 pub fn commit(alloc: Global, timing: &Timing, clerk: &Words<40>) -> Result<Move, DraftRefusal>
     ensures { Takes Step.Commit timing.now clerk.now result }
 {
@@ -136,7 +140,8 @@ fn next_revision(revision: Revision, found: &[Violation]) -> Result<Revision, Dr
     revision.next().ok_or(DraftRefusal::RevisionFull)
 }
 
-/// Commits a draft that its owner may commit.
+/// Commits a checked draft, once its state and its owner were tested. It is refused where it breaks
+/// rules, at the last revision, and for want of memory.
 fn commit_draft(alloc: Global, timing: &Timing) -> Result<Move, DraftRefusal>
     ensures line { (rows : RowsByKey) (side : TimingSide) (draft : Draft) (clerk : List ℕ) →
         Stands Reach.Plan timing.now rows side → side.draft ≡ Some draft →
@@ -167,7 +172,7 @@ pub fn reopen(alloc: Global, timing: &Timing, clerk: &Words<40>) -> Result<Move,
 
 /// Drops the draft. Any clerk may.
 ///
-/// `NotTransaction` in state Normal.
+/// `NotTransaction` in state Normal; `NoMemory` where a growth was refused.
 pub fn abandon(alloc: Global, timing: &Timing, _clerk: &Words<40>) -> Result<Move, DraftRefusal>
     ensures { Takes Step.Abandon timing.now _clerk.now result }
 {

@@ -21,7 +21,7 @@ impl Timing {
         }
     }
 
-    /// The clerk who holds the draft.
+    /// The clerk who holds the draft; none in state Normal.
     pub fn owner(&self) -> Option<&Words<40>>
         ensures { option_copied result ≡ option_map (λ holder. holder.owner) self.now.holder }
     {
@@ -32,7 +32,7 @@ impl Timing {
     }
 }
 
-/// The state in which a clerk holds the draft so far.
+/// The state of the transaction while a clerk holds the draft in this stage.
 fn in_stage(stage: Stage) -> DbState
     ensures { result ≡ table.in_stage stage }
 {
@@ -43,8 +43,8 @@ fn in_stage(stage: Stage) -> DbState
     }
 }
 
-/// Why a command of the owner, in one stage only, is refused. The state is tested first, then the
-/// owner.
+/// Why a command of the owner, in one stage only, is refused, if it is: first with `wrong`, where
+/// there is no draft or one in another stage, then with `NotOwner`, where another clerk holds it.
 pub(crate) fn refused_by(
     holder: &Option<Holder>,
     stage: Stage,
@@ -66,6 +66,7 @@ pub(crate) fn refused_by(
     }
 }
 
+/// Whether two stages are equal.
 fn is_stage(a: Stage, b: Stage) -> bool
     ensures { result ≡ table.is_stage a b }
 {
@@ -77,7 +78,7 @@ fn is_stage(a: Stage, b: Stage) -> bool
     }
 }
 
-/// The state after a step.
+/// The state of the transaction after a step, by what the step does to the draft's holder.
 pub(crate) fn state_after(step: Holding) -> DbState
     ensures { result ≡ moves.state_after step }
 {
@@ -88,8 +89,8 @@ pub(crate) fn state_after(step: Holding) -> DbState
     }
 }
 
-/// Who holds the draft after a step that this clerk asked for. Only a draft that begins wants
-/// memory.
+/// Who holds the draft after a step that this clerk asked for; none in state Normal. `NoMemory`
+/// comes only where a draft begins, which copies the clerk's name.
 pub fn next_holder(
     step: Holding,
     holder: Option<Holder>,

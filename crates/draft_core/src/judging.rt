@@ -14,8 +14,9 @@ use signal_records::NoMemory;
 use signal_rules::Violation;
 use std::alloc::Global;
 
-/// The verdict on the draft of an intersection whose committed set breaks no rule. It is read
-/// from the draft each time, and never kept; a draft that was not checked is not judged.
+/// The verdict on the draft of an intersection whose committed set breaks no rule. It is computed
+/// from the draft each time, and never stored. It is `NotDone` where there is no draft or the draft
+/// was not checked. `NoMemory` means that a growth was refused.
 pub fn verdict(alloc: Global, timing: &Timing) -> Result<Verdict, NoMemory>
     ensures { (rows : RowsByKey) (side : TimingSide) → Stands Reach.Plan timing.now rows side →
         violations_of side.committed ≡ [] →
@@ -34,7 +35,7 @@ pub fn verdict(alloc: Global, timing: &Timing) -> Result<Verdict, NoMemory>
     }
 }
 
-/// The verdict on a draft with these violations.
+/// The verdict on a checked draft with these violations.
 pub(crate) fn verdict_on(found: &[Violation]) -> Verdict
     ensures { result ≡ table.verdict_on stage.Done found.now }
 {

@@ -13,7 +13,8 @@ use signal_records::{Change, Key, NoMemory, TimingSet, changed_key};
 use signal_rules::{Judge, Tally, Violation, violations_touched};
 use std::alloc::Global;
 
-/// The set with changes made to it, in their order.
+/// A copy of the set with changes made to it, in their order. `NoMemory` means that a growth was
+/// refused.
 pub fn overlay(
     alloc: Global,
     committed: &TimingSet,
@@ -24,7 +25,7 @@ pub fn overlay(
     committed.copy(alloc)?.changed(changes)
 }
 
-/// An equal change.
+/// A copy of a change. `NoMemory` means that a growth was refused.
 pub fn copy_change(change: &Change) -> Result<Change, NoMemory>
     ensures { IfOk result (λ copy. copy ≡ change.now) }
 {
@@ -76,8 +77,8 @@ fn answers_after<J: Judge>(
     violations_touched(alloc, committed, &draft, keys.as_slice(), judge)
 }
 
-/// The violations of a set after changes. Where the set itself has none, only the subjects that
-/// a change touches need to be judged.
+/// The violations of a set after changes, if it has none before them: only the subjects that a
+/// change touches are judged.
 pub(crate) fn violations_after(
     alloc: Global,
     committed: &TimingSet,

@@ -18,16 +18,16 @@ pub enum DraftRefusal {
     NotVerify,
     /// The draft was not checked.
     NotDone,
-    /// The draft breaks rules: how many times.
+    /// The draft breaks rules: how many violations it has.
     VerifyFailed(usize),
-    /// The set was committed as often as can be counted.
+    /// The set was committed as often as can be counted: 999,999 times.
     RevisionFull,
     /// A growth was refused.
     NoMemory,
 }
 
 impl DraftRefusal {
-    /// Its number and its name.
+    /// The refusal's number and name.
     fn line(self) -> (u32, &'static str)
         ensures number { result.0 ≡ (line_of self).0 }
         ensures name { result.1.now ≡ (line_of self).1 }
@@ -44,14 +44,14 @@ impl DraftRefusal {
         }
     }
 
-    /// Its number, by which clients know it.
+    /// The refusal's number, by which clients know it: 12 to 18, or 90 for want of memory.
     pub fn number(self) -> u32
         ensures { result ≡ (line_of self).0 }
     {
         self.line().0
     }
 
-    /// Its name, as answers show it.
+    /// The refusal's name, as answers show it.
     pub fn name(self) -> &'static str
         ensures { result.now ≡ (line_of self).1 }
     {

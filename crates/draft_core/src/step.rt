@@ -48,7 +48,7 @@ impl<'a> Step<'a> {
         Step::Edit(Edits { changes })
     }
 
-    /// How much of a timing side it reads.
+    /// How much of a timing side the step reads.
     pub fn reach(&self) -> Reach
         ensures { result ≡ reach_of self.now }
     {
@@ -59,7 +59,8 @@ impl<'a> Step<'a> {
         }
     }
 
-    /// The decision on a timing side, of which no more is known than the step reads.
+    /// Decides on the step for a clerk. Of the timing, only what the step reads need be there. The
+    /// error is the first refusal of the step's line of the transaction table, or want of memory.
     pub fn decide(
         &self,
         alloc: Global,

@@ -49,14 +49,16 @@ pub enum TimingChange {
 /// Rows that a decision changes, in their order.
 pub type TimingChanges = Listing<TimingChange>;
 
-/// What a step of the transaction makes.
+/// What a step of the transaction makes of a timing side.
 #[derive(Drop)]
 pub struct Move {
+    /// The revision after the step.
     pub revision: Revision,
-    /// Who holds the draft now.
+    /// What becomes of who holds the draft.
     pub holder: Holding,
-    /// The state, which follows from the holder.
+    /// The state after the step, which follows from the holder.
     pub state: DbState,
+    /// The verdict on the draft after the step.
     pub verdict: Verdict,
     /// The rows to be changed, in their order.
     pub changes: TimingChanges,

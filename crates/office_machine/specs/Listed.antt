@@ -6,7 +6,7 @@ use Rattle.draft_core.specs.Transaction.{holder_of}
 use Rattle.office_machine.specs.declared.intersections.ListedIntersection.{ListedIntersection}
 use Rattle.office_machine.specs.Office.{Office, Intersection}
 
--- what it shows of the intersection with a number
+-- what the list of all intersections shows of an intersection, which stands under its number
 abbrev pub intersection_listed : ℕ × Intersection → ListedIntersection
 intersection_listed e = record {
   id = e.0;
@@ -17,6 +17,6 @@ intersection_listed e = record {
   rows = len e.1.timing.committed;
 }
 
--- all of them, in the order of their numbers
+-- the list of all intersections of an office, in ascending order of their numbers
 abbrev pub intersections_of : Office → List ListedIntersection
 intersections_of office = map intersection_listed (entries office.intersections)

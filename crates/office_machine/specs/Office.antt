@@ -10,7 +10,7 @@ use Rattle.cabinet_core.specs.Register.{Register}
 use Rattle.cabinet_core.specs.Sound.{IsSoundRegister}
 use Rattle.signal_records.specs.declared.revision.TheConstants.{LAST_REVISION}
 
--- an intersection of the office
+-- an intersection of the office: its name, the days from one inspection to the next, and its timing side
 pub record Intersection : Type 0 where
   pub name : List ℕ
   pub interval : ℕ
@@ -21,7 +21,7 @@ pub record Office : Type 0 where
   pub intersections : FinMap nat_cmp Intersection
   pub register : Register
 
--- the timing side of an intersection, or of none
+-- the timing side of an intersection; where there is none, the side with nothing committed and no draft
 abbrev pub side_of : Option Intersection → TimingSide
 side_of None = no_timing
 side_of (Some i) = i.timing
@@ -30,7 +30,8 @@ side_of (Some i) = i.timing
 abbrev pub side_at : Office → ℕ → TimingSide
 side_at office id = side_of (get office.intersections id)
 
--- an intersection is sound: its name is a name, its interval is 1 to 3650 days, and its committed set breaks no rule
+-- an intersection is sound in a version: its name has at most 120 bytes, its interval is 1 to 3650 days, its revision is at
+-- most 999,999, its committed set has only records and breaks no rule, and its draft is sound
 pub record IsSoundIntersectionIn (v : Version) (i : Intersection) : Type 0 where
   pub name : AreWords 120 i.name
   pub interval_low : 1 ≤ i.interval

@@ -6,11 +6,11 @@ use Rattle.office_machine.specs.declared.orders.NamedOrder.{NamedOrder}
 use Rattle.office_machine.specs.declared.orders.OpenOrder.{OpenOrder}
 use Rattle.office_machine.specs.declared.reply.CabinetShown.{CabinetShown}
 
--- an order on an intersection
+-- an order with the number of its intersection
 abbrev pub order_on : ℕ → Order → OpenOrder
 order_on id order = record { id = id; order = order }
 
--- the open orders of a cabinet, by their numbers
+-- the open orders of a cabinet, in its order, each with the number of its intersection
 abbrev pub open_orders : CabinetShown → List OpenOrder
 open_orders cabinet = map (order_on cabinet.id) (filter is_open cabinet.view.orders)
 
@@ -18,6 +18,6 @@ open_orders cabinet = map (order_on cabinet.id) (filter is_open cabinet.view.ord
 abbrev pub order_named : List ℕ → ℕ → Order → NamedOrder
 order_named name id order = record { name = name; listed = order_on id order }
 
--- the open orders of a cabinet by their numbers, with the name of its intersection
+-- the open orders of a cabinet, in its order, each with its intersection's number and this name
 abbrev pub named_orders : List ℕ → CabinetShown → List NamedOrder
 named_orders name cabinet = map (order_named name cabinet.id) (filter is_open cabinet.view.orders)

@@ -1,4 +1,4 @@
--- The table of refusals.
+-- The table of the office's refusals: for each its number, its name and its status code.
 use Rattle.std.specs.Prelude.{ℕ, List, codes}
 use Rattle.draft_core.specs.Refusal.{line_of as draft_line}
 use Rattle.draft_core.specs.declared.refusal.DraftRefusal.TheVariants as draft
@@ -7,13 +7,13 @@ use Rattle.cabinet_core.specs.declared.refusal.CabinetRefusal.TheVariants as cab
 use Rattle.office_machine.specs.declared.refusal.Refusal.{Refusal}
 use Rattle.office_machine.specs.declared.refusal.Refusal.TheVariants.{UnknownIntersection, IntersectionDiffers, Draft, Cabinet, ImportRow, Unavailable, Damaged}
 
--- number, name, and status code of an HTTP answer
+-- a line of the table: a refusal's number, its name, and the status code of an HTTP answer that shows it (RFC 9110)
 pub record RefusalLine : Type 0 where
   pub number : ℕ
   pub name : List ℕ
   pub status : ℕ
 
--- number and name: the transaction and the register have tables of their own
+-- a refusal's number and name; for those of the transaction and of the register, these have tables of their own
 abbrev pub number_and_name : Refusal → ℕ × List ℕ
 number_and_name UnknownIntersection = (10, codes "UnknownIntersection")
 number_and_name IntersectionDiffers = (11, codes "IntersectionDiffers")
@@ -23,7 +23,8 @@ number_and_name (ImportRow at cause) = (30, codes "ImportRow")
 number_and_name Unavailable = (90, codes "Unavailable")
 number_and_name Damaged = (91, codes "Damaged")
 
--- the status code: want of memory has that of Unavailable, wherever it is reported
+-- a refusal's status code: 404 where an intersection or an order is unknown, 503 for want of memory or of the store,
+-- 500 where a stored row is no record, and 409 for each other refusal
 abbrev pub status_of : Refusal → ℕ
 status_of UnknownIntersection = 404
 status_of (Cabinet cabinet.UnknownOrder) = 404

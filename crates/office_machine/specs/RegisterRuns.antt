@@ -20,7 +20,7 @@ use Rattle.office_machine.specs.declared.reply.Reply.TheVariants.{Added, Importe
 
 -- ---- the records that are accepted
 
--- by its line of the table a record is new, or was there
+-- the first list where a record is new by its line of the table, the second where it was there, and none where it is refused
 abbrev pub new_by : Line → (added same : List RecordCommand) → List RecordCommand
 new_by added_line added same = added
 new_by same_line added same = same
@@ -31,7 +31,7 @@ abbrev pub new_among : Register → List RecordCommand → List RecordCommand
 new_among r [] = []
 new_among r (c ∷ cs) = new_by (line_at r c) (c ∷ new_among (with_record r c) cs) (new_among r cs)
 
--- the reply accepts what was asked
+-- the reply accepts what was asked: it is Added or Imported
 abbrev pub is_accepted : Reply → Bool
 is_accepted Added = true
 is_accepted (Imported added same) = true
@@ -43,7 +43,7 @@ records_asked office (command.Record c) = c ∷ []
 records_asked office (command.Import records) = new_among office.register records
 records_asked office _ = []
 
--- the records that a command brought in
+-- the records that a command brought in, by its reply: none unless this accepts them
 abbrev pub accepted_of : Office → Command → Reply → List RecordCommand
 accepted_of office command reply = cond (is_accepted reply) (records_asked office command) []
 
@@ -54,13 +54,13 @@ records_accepted first (command ∷ commands) (reply ∷ replies) last run = acc
 records_accepted first [] (reply ∷ replies) last run = []
 records_accepted first (command ∷ commands) [] last run = []
 
--- ---- what they make of the register
+-- ---- what accepted records make of the register
 
--- an order stands there and is open
+-- an order of an office, by its intersection's number and its own, is there and open
 abbrev pub is_open_in : Office → ℕ → ℕ → Bool
 is_open_in office id n = is_open_at office.register id n
 
--- ---- what the replies show of it
+-- ---- what the replies show of the register
 
 -- the number is one of the list
 abbrev pub is_among_numbers : List ℕ → ℕ → Bool
@@ -70,8 +70,8 @@ is_among_numbers numbers n = list_any (λ m. m == n) numbers
 abbrev pub pieces_in : List (List ℕ × ℕ) → List ℕ → ℕ
 pieces_in stock code = on_hand (find (slice_cmp nat_cmp) code stock)
 
--- after records that were accepted from the first office on, the orders that a reply shows are those that they left open, and the pieces that
--- it shows and those that were used are those that were on hand and those that were received
+-- after records that were accepted from the first office on, a reply to OpenOrders shows the orders that they left open; and of each part, the pieces
+-- that a reply to Stock shows and those that were used are as many as were on hand in the first office and were received
 abbrev pub ShowsAccepted : Office → List RecordCommand → Command → Reply → Type 0
 ShowsAccepted first so_far (command.OpenOrders id) (OpenOrders numbers) =
     (n : ℕ) → is_among_numbers numbers n ≡ open_by id n (is_open_in first id n) so_far

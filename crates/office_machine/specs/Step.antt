@@ -41,28 +41,29 @@ with_intersection office id i = record office { intersections = insert office.in
 abbrev pub new_intersection : ℕ → List ℕ → Intersection
 new_intersection interval name = record { name = name; interval = interval; timing = no_timing }
 
--- an intersection may be added once, and again with the same name and interval
+-- an intersection is added where none has its number; where one has, the office stays: the reply is Same if name and interval are
+-- equal, else IntersectionDiffers
 abbrev pub add_step : Office → ℕ → ℕ → List ℕ → Option Intersection → Reply × Office
 add_step office id interval name None = (Added, with_intersection office id (new_intersection interval name))
 add_step office id interval name (Some i) = (if bytes_eq i.name name && (i.interval == interval) then Same else Refused refusal.IntersectionDiffers, office)
 
 -- ---- the transaction
 
--- a refusal of the transaction; want of memory is no line of its table
+-- a refusal of the transaction as one of the office: want of memory is Unavailable, any other keeps its number and name
 abbrev pub refusal_of_draft : DraftRefusal → Refusal
 refusal_of_draft draft.NoMemory = refusal.Unavailable
 refusal_of_draft why = refusal.Draft why
 
--- where the transaction stands
+-- the reply that tells where the transaction stands: its revision, its state and the verdict on its draft
 abbrev pub moved_to : TimingSide → Reply
 moved_to side = Moved side.revision (state_of side.draft) (verdict_of side.draft)
 
--- the line of the table, as reply and next office
+-- a line of the transaction's table as reply and next office; a refusal leaves the office
 abbrev pub moved : Office → ℕ → Intersection → Result TimingSide DraftRefusal → Reply × Office
 moved office id i (Ok next) = (moved_to next, with_intersection office id (record i { timing = next }))
 moved office id i (Err why) = (Refused (refusal_of_draft why), office)
 
--- a step of the transaction, by its line of the table
+-- a step of the transaction on an intersection, by its line of the table; where no intersection is there, it is UnknownIntersection
 abbrev pub transacted : Office → ℕ → (TimingSide → Result TimingSide DraftRefusal) → Option Intersection → Reply × Office
 transacted office id line None = (Refused refusal.UnknownIntersection, office)
 transacted office id line (Some i) = moved office id i (line i.timing)
@@ -82,7 +83,7 @@ state_shown id i = record {
   verify = verdict_of i.timing.draft;
 }
 
--- the set that runs, with the intersection's name
+-- what the query Timing shows: the committed set, how often a set was committed, and the intersection's name
 abbrev pub timing_shown : Intersection → RunningTiming
 timing_shown i = record {
   name = i.name;
@@ -90,19 +91,19 @@ timing_shown i = record {
   rows = i.timing.committed;
 }
 
--- what the query Draft shows of a draft, with the rules that it breaks, or where there is none
+-- what the query Draft shows of a draft, with the rules that it breaks; where there is none, it is refused as NotTransaction
 abbrev pub draft_shown : Option Draft → Reply
 draft_shown None = Refused (refusal.Draft draft.NotTransaction)
 draft_shown (Some d) = Drafted (record { owner = d.owner; rows = d.set; violations = violations_of d.set })
 
--- what a query shows of an intersection that is there, or not
+-- what a query shows of an intersection that is there; of one that is not, the refusal UnknownIntersection
 abbrev pub shown : Option Intersection → (Intersection → Reply) → Reply
 shown None show = Refused refusal.UnknownIntersection
 shown (Some i) show = show i
 
 -- ---- the register
 
--- a refusal of the register; want of memory is no line of its table
+-- a refusal of the register as one of the office: want of memory is Unavailable, any other keeps its number and name
 abbrev pub refusal_of_record : CabinetRefusal → Refusal
 refusal_of_record cabinet.NoMemory = refusal.Unavailable
 refusal_of_record why = refusal.Cabinet why
@@ -113,7 +114,7 @@ reply_of added_line = Added
 reply_of same_line = Same
 reply_of (refused_line why) = Refused (refusal_of_record why)
 
--- a command of the register
+-- the reply to a command of the register, and the next office, by the command's line of the register's table
 abbrev pub record_step : Office → RecordCommand → Reply × Office
 record_step office command = (reply_of (line_at office.register command), record office { register = after_record office.register command })
 
@@ -125,7 +126,7 @@ cabinet_of (register.UsePart id line) = Some id
 cabinet_of (register.CloseOrder id order closing) = Some id
 cabinet_of (register.Receive delivery) = None
 
--- the intersection that a command is about has to be there
+-- this answer, if the intersection that a command is about is there; else UnknownIntersection, which leaves the office
 abbrev pub step_if_known : Office → Option Intersection → Reply × Office → Reply × Office
 step_if_known office None answer = (Refused refusal.UnknownIntersection, office)
 step_if_known office (Some i) answer = answer
@@ -146,7 +147,7 @@ is_known office (Some id) = is_some (get office.intersections id)
 abbrev pub with_recorded : Office → RecordCommand → Office
 with_recorded office c = record office { register = with_record office.register c }
 
--- what comes of a record that has a number in its import: it is added, or was there, or ends the import with its refusal
+-- what comes of a record of an import, where it has this number, counted from 1: it is added, or was there, or ends the import with its refusal
 abbrev pub import_by : {X : Type 0} → (at : ℕ) (is_there : Bool) → Line → (added same : Result X Refusal) → Result X Refusal
 import_by at false line added same = Err (refusal.ImportRow at (line_of refusal.UnknownIntersection).number)
 import_by at true added_line added same = added
@@ -161,7 +162,7 @@ import_from at added same office (c ∷ cs) =
     (import_from (at + 1) (added + 1) same (with_recorded office c) cs)
     (import_from (at + 1) added (same + 1) office cs)
 
--- all of the records, or none
+-- the reply to an import, and the next office: all of the records are in it, or a refusal leaves the office
 abbrev pub import_step : Office → Result (ℕ × ℕ × Office) Refusal → Reply × Office
 import_step office (Ok done) = (Imported done.0 done.1, done.2)
 import_step office (Err why) = (Refused why, office)
@@ -189,7 +190,7 @@ overdue_on office day = overdue_list day (map (seen_of office.register) (entries
 
 -- ---- the machine
 
--- the reply and the next office
+-- the reply to a command, and the next office, as its own step has them
 abbrev pub answered : Office → Command → Reply × Office
 answered office (command.AddIntersection id interval name) = add_step office id interval name (get office.intersections id)
 answered office (command.Begin id clerk) = transacted office id (table_line step.Begin clerk) (get office.intersections id)
@@ -214,7 +215,7 @@ answered office (command.Overdue day) = (Overdue (overdue_on office day), office
 abbrev pub Step : Office → Command → Reply → Office → Type 0
 Step office command reply next = ((reply ≡ Refused refusal.Unavailable) × (next ≡ office)) ⊎ (answered office command ≡ (reply, next))
 
--- commands in turn
+-- commands in turn, each with its reply: each takes its step from the office that the one before it left, from the first office to the last
 abbrev pub Run : Office → List Command → List Reply → Office → Type 0
 Run office [] [] last = last ≡ office
 Run office (command ∷ commands) (reply ∷ replies) last = (mid : Office) × Step office command reply mid × Run mid commands replies last

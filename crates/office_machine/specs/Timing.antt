@@ -19,7 +19,7 @@ abbrev pub is_moved : Reply → Bool
 is_moved (Moved revision state verdict) = true
 is_moved _ = false
 
--- the draft of an intersection as it stands, or what is said in place of none
+-- the set of a draft; where there is no draft, the set that is given instead
 abbrev pub set_of_draft : Option Draft → Rows → Rows
 set_of_draft None instead = instead
 set_of_draft (Some draft) instead = draft.set

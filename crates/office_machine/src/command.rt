@@ -8,10 +8,10 @@ use draft_core::changes::Changes;
 use signal_records::{InterId, Interval, RecordNo, Words};
 
 /// What the office is asked. A clerk is who asks: only the one who began a transaction may go on
-/// with it.
+/// with it, but any clerk may abandon it.
 #[derive(Drop)]
 pub enum Command {
-    /// Adds an intersection; the same once more changes nothing.
+    /// Adds an intersection; the same number, name and interval once more change nothing.
     AddIntersection {
         id: InterId,
         /// Days from one inspection of its cabinet to the next.
@@ -68,7 +68,7 @@ pub enum Command {
     },
     /// Records what was done in a cabinet, or what came into stock.
     Record(RecordCommand),
-    /// Records several in turn, each after those before it: all of them, or none.
+    /// Takes records into the register in turn, each after those before it: all of them, or none.
     Import {
         records: Records,
     },

@@ -8,7 +8,7 @@ use crate::reply::CabinetShown;
 use cabinet_core::Order;
 use signal_records::{InterId, NoMemory, Words};
 
-/// An open order, with its intersection.
+/// An open order, with the number of its intersection.
 #[derive(Drop)]
 pub struct OpenOrder {
     pub id: InterId,
@@ -22,7 +22,8 @@ pub struct NamedOrder {
     pub listed: OpenOrder,
 }
 
-/// Appends the open orders of a cabinet, by their numbers.
+/// Appends the open orders of a cabinet, in its order. `NoMemory` means that a growth was refused;
+/// some may be appended by then.
 pub fn add_open_orders(found: &mut Vec<OpenOrder>, cabinet: &CabinetShown) -> Result<(), NoMemory>
     ensures { OnOk result (found.new.items ≡ found.old.items ++ open_orders cabinet.now) }
 {
@@ -50,7 +51,9 @@ fn order_named(name: &Words<120>, id: InterId, order: &Order) -> Result<NamedOrd
     })
 }
 
-/// Appends those of some orders on an intersection that are open, with its name.
+/// Appends those of an intersection's orders that are open, in their order, each with the number
+/// and the name of the intersection. `NoMemory` means that a growth was refused; some may be
+/// appended by then.
 pub fn add_named(
     found: &mut Vec<NamedOrder>,
     name: &Words<120>,
@@ -69,7 +72,8 @@ pub fn add_named(
     Ok(())
 }
 
-/// Appends the open orders of a cabinet, by their numbers, with the name of its intersection.
+/// Appends the open orders of a cabinet, in its order, each with the number and the name of its
+/// intersection. `NoMemory` means that a growth was refused; some may be appended by then.
 pub fn add_named_orders(
     found: &mut Vec<NamedOrder>,
     name: &Words<120>,

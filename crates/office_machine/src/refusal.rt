@@ -37,7 +37,7 @@ pub struct RefusalLine {
 }
 
 impl Refusal {
-    /// Its line of the table.
+    /// The refusal's line of the table.
     fn line(self) -> RefusalLine
         ensures number { result.number ≡ (line_of self).number }
         ensures name { result.name.now ≡ (line_of self).name }
@@ -59,21 +59,21 @@ impl Refusal {
         }
     }
 
-    /// Its number, by which clients know it.
+    /// The refusal's number, by which clients know it: 10 to 91.
     pub fn number(self) -> u32
         ensures { result ≡ (line_of self).number }
     {
         self.line().number
     }
 
-    /// Its name, as answers show it.
+    /// The refusal's name, as answers show it.
     pub fn name(self) -> &'static str
         ensures { result.now ≡ (line_of self).name }
     {
         self.line().name
     }
 
-    /// The status code of an HTTP answer that shows it.
+    /// The status code of an HTTP answer that shows the refusal: 404, 409, 500 or 503 (RFC 9110).
     pub fn status(self) -> u16
         ensures { result ≡ (line_of self).status }
     {

@@ -34,7 +34,7 @@ pub struct IntersectionState {
 pub struct RunningTiming {
     /// The intersection's name.
     pub name: Words<120>,
-    /// How often it was committed.
+    /// How often a set of the intersection was committed.
     pub revision: Revision,
     pub rows: TimingSet,
 }
@@ -57,11 +57,11 @@ pub type Violations = Listing<Violation>;
 /// A draft as the query Draft shows it.
 #[derive(Drop)]
 pub struct OpenDraft {
-    /// Who holds it.
+    /// The clerk who holds the draft.
     pub owner: Words<40>,
     /// The whole draft.
     pub rows: TimingSet,
-    /// The rules that it breaks.
+    /// The violations of rules in the draft.
     pub violations: Violations,
 }
 
@@ -98,21 +98,21 @@ impl OverdueList {
     ghost use Rattle.std.specs.Prelude.{◌≡◌, map};
     ghost use Rattle.cabinet_core.specs.Overdue.{listed_of};
 
-    /// The rows of a list.
+    /// The overdue intersections of these rows, in their order.
     pub fn new(rows: Vec<OverdueRow>) -> OverdueList
         ensures { result ≡ map listed_of rows.items }
     {
         OverdueList { rows }
     }
 
-    /// The rows.
+    /// The overdue intersections as rows, in their order.
     pub fn as_slice(&self) -> &[OverdueRow]
         ensures { map listed_of result.now ≡ self.now }
     {
         self.rows.as_slice()
     }
 
-    /// The list of them, without memory.
+    /// The overdue intersections as a list of its own, which takes no further memory.
     pub fn into_vec(self) -> Vec<OverdueRow>
         ensures { map listed_of result.items ≡ self }
     {
@@ -124,9 +124,9 @@ impl OverdueList {
 /// What the office answers.
 #[derive(Drop)]
 pub enum Reply {
-    /// The record was not there, and is now.
+    /// The record or the intersection was not there, and is now.
     Added,
-    /// An equal record was there.
+    /// An equal record, or an intersection with the same name and interval, was there.
     Same,
     /// A step of the transaction was made, and this is where it stands.
     Moved {

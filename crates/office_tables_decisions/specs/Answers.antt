@@ -17,7 +17,7 @@ pub record Answers (office : Office) (command : Command) (reply : Reply) (tables
 abbrev pub AnswersAny : Content → Command → Reply → Content → Type 0
 AnswersAny old command reply new = (office : Office) → StandForSound old office → Answers office command reply new
 
--- What is said of tables holds of some, which are those of the shelf where its database is open.
+-- What is said holds of some tables; where the shelf's database is open, these are the tables that it stores.
 abbrev pub EndsIn : Type 0 → Content → (Content → Type 0) → Type 0
 EndsIn is_open stored Holds = (tables : Content) × Holds tables × (is_open → stored ≡ tables)
 

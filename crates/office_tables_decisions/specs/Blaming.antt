@@ -20,28 +20,30 @@ use Rattle.office_machine.specs.declared.reply.Reply.TheVariants.{Refused}
 
 -- ---- records in turn, on tables with rows that are pending, whatever else is stored
 
--- the record's intersection is there, and its line of the table is this, on the rows under its keys
+-- the record's intersection is there, if it is about one; and on the stored rows, with the pending ones, the record has this line of the register's
+-- table and adds these rows
 abbrev pub FollowsRegisterLine : (stored : Content) (pending : List RowChange) → RecordCommand → Line → List RowChange → Type 0
 FollowsRegisterLine stored pending c line rows = TellsAbout stored (cabinet_of c) true × TellsLine (changed_by stored pending) c line rows
 
--- it is added, or it is there
+-- after the pending rows, the record is added by these rows, or an equal one is there
 abbrev pub IsTakenAfter : (stored : Content) (pending : List RowChange) → RecordCommand → List RowChange → Type 0
 IsTakenAfter stored pending c rows = FollowsRegisterLine stored pending c added rows ⊎ FollowsRegisterLine stored pending c same rows
 
--- it is refused: its intersection is not there, or the table refuses it
+-- after the pending rows, the record is refused, and the cause is the refusal's number: its intersection is not there (10), or the register's table
+-- refuses it
 abbrev pub IsRefusedAfter : (stored : Content) (pending : List RowChange) → RecordCommand → ℕ → Type 0
 IsRefusedAfter stored pending c cause =
     (TellsAbout stored (cabinet_of c) false × (cause ≡ 10))
     ⊎ ((why : CabinetRefusal) × FollowsRegisterLine stored pending c (refused why) [] × (cause ≡ number_of (refusal_of_record why)))
 
--- each is taken, after the rows of those before it
+-- each record is taken in its turn, after the rows of those before it; in the end these rows are pending
 abbrev pub AreTaken : (stored : Content) (pending : List RowChange) → List RecordCommand → (after : List RowChange) → Type 0
 AreTaken stored pending [] after = after ≡ pending
 AreTaken stored pending (c ∷ cs) after = (rows : List RowChange) × IsTakenAfter stored pending c rows × AreTaken stored (pending ++ rows) cs after
 
 -- ---- the record that is blamed
 
--- those before it were taken, it was refused, and no row that they read is damaged
+-- the records before the blamed one were taken, it was refused for this cause, and no row that one of them reads is damaged
 pub record IsFirstRefused (tables : Content) (before : List RecordCommand) (blamed : RecordCommand) (cause : ℕ) : Type 0 where
   pub pending : List RowChange
   pub taken : AreTaken tables [] before pending
@@ -59,7 +61,7 @@ pub record Blames (is_honest : Type 0) (tables : Content) (records : List Record
   pub named : IsOneOf (numbers_of (Record blamed)) cause
   pub first : is_honest → IsFirstRefused tables (take before records) blamed cause
 
--- where an import is refused for a record, that is blamed rightly
+-- where an import is refused for a record, that record is blamed rightly
 abbrev pub BlamesRightly : Type 0 → Content → Command → Reply → Type 0
 BlamesRightly is_honest tables command reply =
     (records : List RecordCommand) (at cause : ℕ) → command ≡ Import records

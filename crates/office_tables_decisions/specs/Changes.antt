@@ -18,7 +18,7 @@ abbrev pub IsRefused : Reply → Type 0
 IsRefused (Refused refusal) = Unit {0}
 IsRefused _ = ⊥
 
--- a query asks, and no more
+-- the command is a query: it changes nothing
 abbrev pub IsQueryCommand : Command → Type 0
 IsQueryCommand (command.State id) = Unit {0}
 IsQueryCommand (command.Timing id) = Unit {0}
@@ -47,7 +47,7 @@ most_intersection_writes (command.Record c) = 0
 most_intersection_writes (command.Import records) = 0
 most_intersection_writes _ = 1
 
--- those of the records of an import
+-- the most rows of a table of the register that the records of an import write together
 abbrev pub most_import_writes : List RecordCommand → Table → ℕ
 most_import_writes [] table = 0
 most_import_writes (c ∷ cs) table = most_record_writes c table + most_import_writes cs table

@@ -7,7 +7,8 @@ use Rattle.signal_records.specs.declared.record.Row.{Row}
 use Rattle.office_tables_shelf.specs.Content.{Content}
 use Rattle.office_tables_shelf.specs.Shelf.{ListsTiming}
 
--- it is made of the committed rows that stand, each of which is within its limits
+-- the set is made of the committed rows that the tables have of an intersection; each of them is
+-- within today's limits
 pub record IsCommittedSet (tables : Content) (id : ℕ) (set : Rows) : Type 0 where
   pub rows : List Row
   pub lists : ListsTiming tables id rows

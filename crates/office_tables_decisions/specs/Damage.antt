@@ -28,22 +28,22 @@ abbrev pub IsImport : Command → Type 0
 IsImport (command.Import records) = Unit {0}
 IsImport _ = ⊥
 
--- the reply to a command that meets such a row: it says so, unless memory or the shelf refused before; and an import is refused, if not so then for
--- a record before the row's
+-- the reply to a command that reads a row that is no record: Damaged, or Unavailable if memory or the shelf refused before; an import may also be
+-- refused for a record before that row's
 abbrev pub IsTurnedAway : Command → Reply → Type 0
 IsTurnedAway command reply = ((reply ≡ Refused refusal.Damaged) ⊎ (reply ≡ Refused refusal.Unavailable)) ⊎ (IsImport command × IsRefused reply)
 
--- the row of an intersection is no record; or it is there, and something that is read after it is none
+-- the row of an intersection is no record; or it is there, and what is read after it meets damage
 abbrev pub MeetsAfter : Content → ℕ → Type 0 → Type 0
 MeetsAfter tables id Later = HasDamagedIntersection tables id ⊎ (IsThere tables id × Later)
 
--- a row of the intersection's plan is no record, of those that are read
+-- a row of the intersection's plan is no record, of the rows that a step with this reach reads
 abbrev pub HasDamagedPlan : Reach → Content → ℕ → Type 0
 HasDamagedPlan reach.Row tables id = ⊥
 HasDamagedPlan reach.Drafts tables id = HasDamagedDraft tables id
 HasDamagedPlan reach.Plan tables id = HasDamagedTiming tables id ⊎ HasDamagedDraft tables id
 
--- a row of the intersection or of its plan is no record, of those that are read
+-- a row of the intersection or of its plan is no record, of the rows that a step with this reach reads
 abbrev pub HasDamageIn : Reach → Content → ℕ → Type 0
 HasDamageIn reach tables id = MeetsAfter tables id (HasDamagedPlan reach tables id)
 

@@ -48,7 +48,7 @@ abbrev pub Decides : Type 0 → Content → Command → Result Decided ShelfFaul
 Decides is_honest tables command (Ok decided) = IsDecision is_honest tables command decided
 Decides is_honest tables command (Err why) = why ≡ fault.Damaged → is_honest → MeetsDamage tables command
 
--- what an import of no records gives
+-- the decision is that on an import of no records: none was added, none was there, and no row is to be changed
 abbrev pub AddsNothing : Decided → Type 0
 AddsNothing decided = (decided.reply ≡ Imported 0 0) × (decided.changes.items ≡ [])
 
@@ -56,7 +56,7 @@ AddsNothing decided = (decided.reply ≡ Imported 0 0) × (decided.changes.items
 abbrev pub IsIdle : Command → Reply → Type 0
 IsIdle command reply = (reply ≡ Refused Unavailable) ⊎ ((command ≡ Import []) × (reply ≡ Imported 0 0))
 
--- such a reply, and no row is to be changed
+-- the reply needs no table, and no row is to be changed
 pub record DecidesIdly (command : Command) (decided : Decided) : Type 0 where
   pub idle : IsIdle command decided.reply
   pub no_changes : decided.changes.items ≡ []

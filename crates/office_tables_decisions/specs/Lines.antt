@@ -17,7 +17,7 @@ rows_for added rows = rows
 rows_for same rows = []
 rows_for (refused why) rows = []
 
--- what the tables have under the command's keys
+-- this is what the tables have under the command's keys
 abbrev pub ReadsKeys : Content → (command : RecordCommand) → Standing command → Type 0
 ReadsKeys tables (Inspect id asked) there = ReadsAt tables (place.Inspection id asked.number) there
 ReadsKeys tables (OpenOrder id asked) there = ReadsAt tables (place.Order id asked.number) there
@@ -36,7 +36,7 @@ rows_added (UsePart id asked) (there, order, hand) = row_changes_of id (use_chan
 rows_added (CloseOrder id number asked) there = row_changes_of id (close_changes there asked)
 rows_added (Receive asked) (there, hand) = stock_rows_of (receive_changes hand asked)
 
--- what stands under its keys, its line of the table on that, and the rows that it writes
+-- by what stands under the command's keys, it has this line of the register's table and writes these rows
 abbrev pub TellsLine : Content → RecordCommand → Line → List RowChange → Type 0
 TellsLine tables command line rows =
     (there : Standing command) × ReadsKeys tables command there

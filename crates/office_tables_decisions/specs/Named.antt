@@ -14,12 +14,12 @@ use Rattle.office_machine.specs.declared.reply.Reply.TheVariants.{Refused}
 abbrev pub number_of : Refusal → ℕ
 number_of why = (line_of why).number
 
--- the register's own, and where the command is about an intersection, that this is not there
+-- the numbers that are named for a command of the register: its own, and, where it is about an intersection, first 10 (UnknownIntersection)
 abbrev pub numbers_about : Option ℕ → List ℕ → List ℕ
 numbers_about None numbers = numbers
 numbers_about (Some id) numbers = 10 ∷ numbers
 
--- those of the command's line of its table
+-- the numbers of the refusals that are named for a command; 90 (Unavailable) and 91 (Damaged), which any may meet, are not among them
 abbrev pub numbers_of : Command → List ℕ
 numbers_of (command.AddIntersection id interval name) = 11 ∷ []
 numbers_of (command.Begin id clerk) = 10 ∷ 12 ∷ []

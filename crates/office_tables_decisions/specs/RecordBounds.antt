@@ -27,7 +27,7 @@ refusals_of (UsePart id line) = LineDiffers ∷ UnknownOrder ∷ OrderClosed ∷
 refusals_of (CloseOrder id order closing) = UnknownOrder ∷ CloseDiffers ∷ DayBeforeOpening ∷ []
 refusals_of (Receive delivery) = DeliveryDiffers ∷ StockFull ∷ []
 
--- it is one of the list
+-- this value is one of the list
 abbrev pub IsOneOf : {X : Type 0} → List X → X → Type 0
 IsOneOf [] x = ⊥
 IsOneOf (y ∷ ys) x = (x ≡ y) ⊎ IsOneOf ys x

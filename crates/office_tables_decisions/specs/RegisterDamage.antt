@@ -32,6 +32,6 @@ IsWhole stored pending command = ¬ MeetsRecordDamage (changed_by stored pending
 abbrev pub KeepsDamage : (tables after : Content) → Type 0
 KeepsDamage tables after = (place : Place) → DamagedAt tables place → DamagedAt after place
 
--- rows that are put after those that are pending overwrite none
+-- these rows, put after the pending ones, overwrite no row of the register that is no record
 abbrev pub SparesDamage : Content → (pending rows : List RowChange) → Type 0
 SparesDamage stored pending rows = KeepsDamage (changed_by stored pending) (changed_by (changed_by stored pending) rows)

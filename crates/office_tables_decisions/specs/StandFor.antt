@@ -15,7 +15,7 @@ use Rattle.office_tables_shelf.specs.declared.rows.IntersectionRow.{Intersection
 use Rattle.office_tables_shelf.specs.RegisterStands.{RegisterStands}
 use Rattle.office_machine.specs.Office.{Office, Intersection, Version, IsSoundIn, side_at, today}
 
--- the row of an intersection
+-- what the row of an intersection holds: its name, its interval, its revision and who owns its draft
 abbrev pub row_of : Intersection → IntersectionRow
 row_of i = record { name = i.name; interval = i.interval; revision = i.timing.revision; holder = option_map holder_of i.timing.draft }
 
@@ -27,11 +27,11 @@ columns_of i = intersection_columns (row_of i)
 abbrev pub standing_intersection_rows : Office → TableRows
 standing_intersection_rows office = tree_rows intersection_key columns_of (entries office.intersections)
 
--- the cells are the key of a row of some intersection
+-- the cells are the key of a timing row or a draft row of some intersection
 abbrev pub IsTimingKey : List Cell → Type 0
 IsTimingKey cells = (id : ℕ) × (key : Key) × (cells ≡ timing_key id key)
 
--- every row of the table stands under such a key
+-- every row of the table stands under the key of a timing row or a draft row of some intersection
 abbrev pub HasTimingKeys : TableRows → Type 0
 HasTimingKeys rows = (cells columns : List Cell) → get rows cells ≡ Some columns → IsTimingKey cells
 
@@ -55,7 +55,7 @@ said_columns_in limits removes = Some (left_columns_in limits None)
 abbrev pub said_columns : Said → Option (List Cell)
 said_columns = said_columns_in current_limits
 
--- what the draft row at a key says, in the form of a draft
+-- the draft table has at a key what the draft of an office says of it, as a version spells it
 pub record DraftRowStandsIn (v : Version) (tables : Content) (office : Office) (id : ℕ) (key : Key) : Type 0 where
   pub said : Said
   pub stored : get tables.draft (timing_key id key) ≡ said_columns_in v.limits said

@@ -55,7 +55,7 @@ part_rows = tree_rows part_key part_columns
 abbrev pub delivery_rows : List (DeliveryPlace × Delivery) → TableRows
 delivery_rows = tree_rows delivery_place_key delivery_columns
 
--- tables that have these rows, and no others
+-- tables that have these inspections, and nothing else
 abbrev pub with_inspections : List (RecordPlace × Inspection) → Content
 with_inspections es = record no_content { inspection = inspection_rows es }
 

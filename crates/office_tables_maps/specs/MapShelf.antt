@@ -42,7 +42,7 @@ timing_rows = tree_rows place_key timing_columns
 abbrev pub draft_rows : List (Place × Option Row) → TableRows
 draft_rows = tree_rows place_key left_columns
 
--- tables that have these rows, and no others
+-- tables that have these intersections, and nothing else
 abbrev pub with_intersections : List (ℕ × IntersectionRow) → Content
 with_intersections es = record no_content { intersection = intersection_rows es }
 
@@ -63,19 +63,19 @@ abbrev pub IsRowAt : Key → Row → Type 0
 IsRowAt key row =
     (key_of row ≡ key) × (IsKeyWithin current_limits key × IsRowWithin current_limits row)
 
--- a row that a draft row leaves, if it leaves one, stands under its own key, which is one of today's
+-- the row that a draft row leaves, if it leaves one, stands under its own key; the key is within today's limits
 abbrev pub IsLeftAt : Key → Option Row → Type 0
 IsLeftAt key left = IfSome left (λ row. key_of row ≡ key) × IsKeyWithin current_limits key
 
--- each row stands so
+-- each committed row of a map stands under its own key, both within today's limits
 abbrev pub AreRowsPlaced : List (Place × Row) → Type 0
 AreRowsPlaced = AllByRecursion (λ e. IsRowAt e.0.key e.1)
 
--- each row that a draft row leaves is within its limits, under its own key
+-- each draft row of a map stands under a key within today's limits, and the row that it leaves has that key
 abbrev pub AreLeftPlaced : List (Place × Option Row) → Type 0
 AreLeftPlaced = AllByRecursion (λ e. IsLeftAt e.0.key e.1)
 
--- the change that leaves this at a key
+-- the change that leaves this row at a key, or removes the row there where it leaves none
 abbrev pub change_at : Key → Option Row → Change
 change_at key (Some row) = Put row
 change_at key None = Remove key
@@ -87,7 +87,7 @@ pub record IsFreeOfStore {A : Type 0} (result : Result A ShelfFault) : Type 0 wh
   pub not_refused : result ≢ Err Store
   pub not_damaged : result ≢ Err Damaged
 
--- ---- how the logic stores it
+-- ---- how the logic stores what is seen
 
 -- what is seen of the maps, as codes that a proof can compare
 abbrev pub view_code : Coded ShelfView

@@ -57,7 +57,7 @@ place_exact a b tie =
     ap (λ (p : ℕ × Key). record { inter = p.0; key = p.1 })
     (exact_pairs ranged_cmp key_cmp number_exact key_exact (a.inter, a.key) (b.inter, b.key) tie)
 
--- ---- of an inspection, or an order
+-- ---- the place of an inspection, or an order
 
 -- places of inspections and orders are ordered by intersection, then by number
 abbrev pub record_place_cmp : RecordPlace → RecordPlace → Ordering
@@ -73,7 +73,7 @@ record_exact a b tie =
     ap (λ (p : ℕ × ℕ). record { inter = p.0; number = p.1 })
     (numbers_exact (a.inter, a.number) (b.inter, b.number) tie)
 
--- ---- of a used part
+-- ---- the place of a used part
 
 -- places of used parts are ordered by intersection, order and line
 abbrev pub line_place_cmp : LinePlace → LinePlace → Ordering
@@ -90,7 +90,7 @@ line_exact a b tie =
     (exact_pairs ranged_cmp (λ (x y : ℕ × ℕ). ordering_then (ranged_cmp x.0 y.0) (ranged_cmp x.1 y.1)) number_exact numbers_exact
     (a.inter, (a.order, a.line)) (b.inter, (b.order, b.line)) tie)
 
--- ---- of a part, or a delivery
+-- ---- the place of a part, or a delivery
 
 -- codes of parts tie only where they are equal
 pub part_exact : CmpEqualImpliesEq part_cmp

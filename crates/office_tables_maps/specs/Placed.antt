@@ -1,4 +1,4 @@
--- The tables that maps of records stand for, and what is known of these.
+-- The tables that maps of records stand for, and what is known of the records in the maps.
 use Rattle.office_tables_shelf.specs.Content.{Content}
 use Rattle.office_tables_maps.specs.MapCabinet.{inspection_rows, order_rows, used_rows, part_rows, delivery_rows, AreInspectionsPlaced, AreOrdersPlaced, AreUsedPlaced, ArePartsWithin, AreDeliveriesPlaced}
 use Rattle.office_tables_maps.specs.MapShelf.{intersection_rows, timing_rows, draft_rows, AreIntersectionsWithin, AreRowsPlaced, AreLeftPlaced}
@@ -17,7 +17,8 @@ tables_of maps = record {
   used_part = used_rows maps.used_part.entries;
 }
 
--- each record stands under its own key, within its limits
+-- each record of the maps stands under its own key, within its limits; of a row that a draft row leaves, only the
+-- key is known to be within them
 pub record AreMapsPlaced (maps : Inside) : Type 0 where
   pub intersections : AreIntersectionsWithin maps.intersection.entries
   pub rows : AreRowsPlaced maps.timing.entries

@@ -1,4 +1,5 @@
-//! Records kept in trees, each under its place: put and found by one text each.
+//! Records kept in trees, each under its place: one function puts a record of any kind, and one
+//! finds it.
 
 ghost use Rattle.std.specs.Prelude.{◌≡◌, List, OnOk, IfOk, IfSome};
 ghost use Rattle.std.specs.FinMap as finite;
@@ -10,37 +11,43 @@ ghost use Rattle.office_tables_shelf.specs.Cells.{Cell, cells_cmp, tree_rows};
 use signal_records::NoMemory;
 use std::collections::BTreeMap;
 
-/// A place in a tree.
+/// A place in a tree, which stands for the key of a row.
 pub(crate) trait TreePlace: Ord + Drop {
-    /// The cells of the key that it stands for.
+    /// The cells of the key that a place stands for.
     ghost cells: { Self → List Cell };
 
+    /// The cells of two places are ordered as the places are.
     ghost ordered: { (a b : Self) → cells_cmp (cells a) (cells b) ≡ Self.cmp a b };
 
+    /// Only equal places tie.
     ghost exact: { (a b : Self) → Self.cmp a b ≡ Equal → a ≡ b };
 }
 
 /// A record that a tree keeps under its place.
 pub(crate) trait Kept: Clone + Drop {
-    /// What it is kept of, beside what it names itself.
+    /// What a record is kept of, beside what it names itself: an intersection, or nothing.
     type Of;
 
+    /// Where a record is kept.
     type Place: TreePlace;
 
+    /// The place of a record that is kept of this.
     ghost place: { Self.Of → Self → Self.Place };
-    /// The other cells of its row.
+    /// The cells of a record's row beside its key.
     ghost columns: { Self → List Cell };
-    /// It stands under its own place, within its limits.
+    /// A record stands under its own place, within its limits.
     ghost stands: { Self.Place → Self → Type 0 };
 
+    /// The place of the record. `NoMemory` means that a growth was refused.
     fn place(&self, of: Self::Of) -> Result<Self::Place, NoMemory>
         ensures place { IfOk result (λ at. at ≡ place of self.now) }
         ensures stands { IfOk result (λ at. stands at self.now) };
 
+    /// A clone equals the record that was cloned.
     ghost copies: { (x copy : Self) → Self.is_clone x copy → copy ≡ x };
 }
 
-/// Puts a record under its place.
+/// Puts a record under its place, instead of the one that stands there, if there is one.
 pub(crate) fn put<T: Kept>(
     rows: &mut BTreeMap<T::Place, T>,
     of: T::Of,
@@ -57,7 +64,7 @@ pub(crate) fn put<T: Kept>(
     Ok(())
 }
 
-/// The record at a place, if there is one.
+/// A copy of the record at a place, if there is one.
 pub(crate) fn find<T: Kept>(
     rows: &BTreeMap<T::Place, T>,
     place: &T::Place,

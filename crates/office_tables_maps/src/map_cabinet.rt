@@ -65,7 +65,7 @@ pub(crate) fn lines_of(
     Ok(list)
 }
 
-/// Puts how many of a part are on hand.
+/// Stores how many of a part are on hand, instead of what was stored for it.
 pub(crate) fn put_part(
     rows: &mut BTreeMap<PartCode, Hand>,
     part: PartCode,

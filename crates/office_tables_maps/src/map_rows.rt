@@ -15,7 +15,7 @@ use signal_records::{Change, InterId, Key, NoMemory, Row, changed_key, key_is_wi
 use std::alloc::Global;
 use std::collections::BTreeMap;
 
-/// The rows of all intersections, by their numbers.
+/// The rows of all intersections, in the order of their numbers.
 pub(crate) fn all_intersections(
     alloc: Global,
     rows: &BTreeMap<InterId, IntersectionRow>,
@@ -84,7 +84,7 @@ pub(crate) fn count_of(rows: &BTreeMap<Place, Row>, inter: InterId) -> usize
     count
 }
 
-/// The row that a change leaves at its key.
+/// The row that a change leaves at its key; none where it removes one.
 fn left_by_change(change: &Change) -> Result<Option<Row>, NoMemory>
     ensures { IfOk result (λ left. left ≡ left_by change.now) }
 {
@@ -94,7 +94,7 @@ fn left_by_change(change: &Change) -> Result<Option<Row>, NoMemory>
     }
 }
 
-/// Puts a draft row that keeps the change: what it leaves at its key.
+/// Puts a draft row that keeps a change: the row that the change leaves at its key, or none.
 pub(crate) fn put_draft(
     rows: &mut BTreeMap<Place, Option<Row>>,
     inter: InterId,
@@ -129,7 +129,7 @@ pub(crate) fn drop_drafts(rows: &mut BTreeMap<Place, Option<Row>>, inter: InterI
     rows.retain(|place, _| place.inter != inter);
 }
 
-/// The change that leaves this at a key.
+/// The change that leaves this row at a key, or removes the row there where it leaves none.
 fn change_at(key: Key, left: &Option<Row>) -> Result<Change, NoMemory>
     ensures { IfOk result (λ change. change ≡ left_at key left.now) }
 {
@@ -139,7 +139,7 @@ fn change_at(key: Key, left: &Option<Row>) -> Result<Change, NoMemory>
     }
 }
 
-/// A copy of what draft rows leave.
+/// A copy of the draft rows: under each place, the row that it leaves, or none.
 pub(crate) fn copied_drafts(
     rows: &BTreeMap<Place, Option<Row>>,
 ) -> Result<BTreeMap<Place, Option<Row>>, NoMemory>

@@ -18,7 +18,7 @@ pub struct Place {
 }
 
 impl Place {
-    /// All places of an intersection: from the first to the last.
+    /// The bounds of all places of an intersection in a plan: phase 1 to pattern 48, with both.
     pub(crate) fn all_of(inter: InterId) -> (Bound<Place>, Bound<Place>)
         ensures { result ≡ all_places inter }
     {
@@ -50,7 +50,8 @@ pub struct RecordPlace {
 }
 
 impl RecordPlace {
-    /// All places of an intersection: from the first to the last.
+    /// The bounds of all places of an intersection for inspections, and for orders: number 1 to
+    /// 999,999, with both.
     pub(crate) fn all_of(inter: InterId) -> (Bound<RecordPlace>, Bound<RecordPlace>)
         ensures { result ≡ all_records inter }
     {
@@ -97,7 +98,8 @@ pub struct LinePlace {
 }
 
 impl LinePlace {
-    /// All places of an intersection: from the first to the last.
+    /// The bounds of all places of an intersection for used parts: line 1 of order 1 to line 99 of
+    /// order 999,999, with both.
     pub(crate) fn all_of(inter: InterId) -> (Bound<LinePlace>, Bound<LinePlace>)
         ensures { result ≡ all_lines inter }
     {

@@ -28,7 +28,7 @@ impl Kept for Inspection {
 
     fn place(&self, inter: InterId) -> Result<RecordPlace, NoMemory> {
         inspection_is_within(self);
-        // its range, by which the inspection stands there
+        // shows the range of the intersection's number, which the place of an inspection asks for
         let _inter = inter.get();
         let number = self.number;
         Ok(RecordPlace { inter, number })
@@ -53,7 +53,7 @@ impl Kept for Order {
 
     fn place(&self, inter: InterId) -> Result<RecordPlace, NoMemory> {
         order_is_within(self);
-        // its range, by which the order stands there
+        // shows the range of the intersection's number, which the place of an order asks for
         let _inter = inter.get();
         let number = self.number;
         Ok(RecordPlace { inter, number })
@@ -83,7 +83,7 @@ impl Kept for UsedLine {
     }
 }
 
-/// It names all of its place.
+/// A delivery names all of its place: its part and its number.
 impl Kept for Delivery {
     ghost use Rattle.office_tables_shelf.specs.CabinetRows.{delivery_columns};
     ghost use Rattle.office_tables_maps.specs.MapCabinet.{IsDeliveryAt};

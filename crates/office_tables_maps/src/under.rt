@@ -8,11 +8,12 @@ use signal_records::{InterId, NoMemory};
 use std::alloc::Global;
 use std::collections::btree_map::Range;
 
-/// A place of an intersection.
+/// A place that is one of an intersection.
 pub(crate) trait OfIntersection {
+    /// The number of the place's intersection.
     ghost inter: { Self → ℕ };
 
-    /// The intersection.
+    /// The number of the place's intersection.
     fn inter(&self) -> InterId
         ensures { result ≡ inter self.now };
 }

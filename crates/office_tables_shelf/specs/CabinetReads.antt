@@ -27,7 +27,7 @@ ListsParts tables parts = map (λ part. (part_key part.0, part_columns part.1)) 
 abbrev pub IsPartWithin : List ℕ × ℕ → Type 0
 IsPartWithin part = IsPartCode part.0 × IsHand part.1
 
--- cells stand in the table that are those of no code and count on hand
+-- a row of the part table is damaged: its cells are those of no part's code with a count that can be on hand
 abbrev pub HasDamagedPart : Content → Type 0
 HasDamagedPart tables =
     HasDamagedRow table.Part IsPartWithin (λ part. part_key part.0) (λ part. part_columns part.1)
@@ -39,7 +39,7 @@ HasDamagedPart tables =
 abbrev pub ListsInspections : Content → ℕ → List Inspection → Type 0
 ListsInspections tables id inspections = map (λ inspection. (inspection_key id inspection.number, inspection_columns inspection)) inspections ≡ rows_of id tables.inspection
 
--- a row of it stands among them that is no inspection within its limits
+-- a row of the inspections of an intersection is damaged: it is no inspection within its limits
 abbrev pub HasDamagedInspection : Content → ℕ → Type 0
 HasDamagedInspection tables id =
     HasDamagedRow table.Inspection IsInspectionWithin
@@ -49,7 +49,7 @@ HasDamagedInspection tables id =
 abbrev pub ListsUsed : Content → ℕ → List UsedLine → Type 0
 ListsUsed tables id lines = map (λ used. (used_key id used.order used.line, used_columns used)) lines ≡ rows_of id tables.used_part
 
--- a row of the used parts of an intersection is damaged
+-- a row of the used parts of an intersection is damaged: it is no used part within its limits
 abbrev pub HasDamagedUsed : Content → ℕ → Type 0
 HasDamagedUsed tables id =
     HasDamagedRow table.UsedPart IsUsedLineWithin (λ used. used_key id used.order used.line)
@@ -59,7 +59,7 @@ HasDamagedUsed tables id =
 abbrev pub ListsOrders : Content → ℕ → List Order → Type 0
 ListsOrders tables id orders = map (λ order. (order_key id order.number, order_columns order)) orders ≡ rows_of id tables.work_order
 
--- a row of the orders of an intersection is damaged
+-- a row of the orders of an intersection is damaged: it is no order within its limits
 abbrev pub HasDamagedOrder : Content → ℕ → Type 0
 HasDamagedOrder tables id =
     HasDamagedRow table.WorkOrder IsOrderWithin (λ order. order_key id order.number) order_columns
@@ -76,13 +76,13 @@ abbrev pub of_one : {X : Type 0} → ℕ → List (ℕ × X) → List X
 of_one id [] = []
 of_one id (e ∷ es) = cond (e.0 == id) (e.1 ∷ of_one id es) (of_one id es)
 
--- a row stands in the table that is no inspection of an intersection within its limits
+-- a row of the inspection table is damaged: it is no inspection of an intersection within its limits
 abbrev pub HasAnyDamagedInspection : Content → Type 0
 HasAnyDamagedInspection tables =
     HasDamagedRow table.Inspection (IsOfOne IsInspectionWithin)
     (λ e. inspection_key e.0 e.1.number) (λ e. inspection_columns e.1) tables None
 
--- a row of any order is damaged
+-- a row of the order table is damaged: it is no order on an intersection within its limits
 abbrev pub HasAnyDamagedOrder : Content → Type 0
 HasAnyDamagedOrder tables =
     HasDamagedRow table.WorkOrder (IsOfOne IsOrderWithin) (λ e. order_key e.0 e.1.number)

@@ -13,7 +13,7 @@ use Rattle.cabinet_core.specs.declared.record.Delivery.{Delivery}
 abbrev pub part_key : List ℕ → List Cell
 part_key code = text code ∷ []
 
--- how many are on hand
+-- the other cell of a part's row: how many pieces are on hand
 abbrev pub part_columns : ℕ → List Cell
 part_columns hand = number (pos hand) ∷ []
 
@@ -23,7 +23,7 @@ part_columns hand = number (pos hand) ∷ []
 abbrev pub delivery_key : List ℕ → ℕ → List Cell
 delivery_key part n = text part ∷ number (pos n) ∷ []
 
--- day, amount
+-- the other cells of a delivery's row: its day, as days since 1970-01-01, and how many pieces it brought
 abbrev pub delivery_columns : Delivery → List Cell
 delivery_columns delivery = number (pos delivery.day) ∷ number (pos delivery.count) ∷ []
 
@@ -33,7 +33,7 @@ delivery_columns delivery = number (pos delivery.day) ∷ number (pos delivery.c
 abbrev pub inspection_key : ℕ → ℕ → List Cell
 inspection_key id n = number (pos id) ∷ number (pos n) ∷ []
 
--- day, clerk, body
+-- the other cells of an inspection's row: its day, as days since 1970-01-01, its clerk and its text
 abbrev pub inspection_columns : Inspection → List Cell
 inspection_columns inspection = number (pos inspection.day) ∷ text inspection.clerk ∷ text inspection.text ∷ []
 
@@ -43,7 +43,7 @@ inspection_columns inspection = number (pos inspection.day) ∷ text inspection.
 abbrev pub used_key : ℕ → ℕ → ℕ → List Cell
 used_key id order line = number (pos id) ∷ number (pos order) ∷ number (pos line) ∷ []
 
--- part, amount
+-- the other cells of a used part's row: the part's code, and how many pieces were used
 abbrev pub used_columns : UsedLine → List Cell
 used_columns used = text used.part ∷ number (pos used.count) ∷ []
 
@@ -53,7 +53,7 @@ used_columns used = text used.part ∷ number (pos used.count) ∷ []
 abbrev pub order_key : ℕ → ℕ → List Cell
 order_key id n = number (pos id) ∷ number (pos n) ∷ []
 
--- the columns `closed` and `closer`: both null while the order is open
+-- the cell of the day on which an order was closed, as days since 1970-01-01: null while it is open
 abbrev pub closed_cell : Option Closing → Cell
 closed_cell None = null
 closed_cell (Some closing) = number (pos closing.day)
@@ -63,7 +63,7 @@ abbrev pub closer_cell : Option Closing → Cell
 closer_cell None = null
 closer_cell (Some closing) = text closing.closer
 
--- opened, clerk, body, closed, closer
+-- the other cells of an order's row: the day on which it was opened, its clerk and its text, then when and by whom it was closed
 abbrev pub order_columns : Order → List Cell
 order_columns order =
     number (pos order.opened) ∷ text order.clerk ∷ text order.text ∷ closed_cell order.closing ∷ closer_cell order.closing ∷ []

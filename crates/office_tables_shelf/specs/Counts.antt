@@ -23,7 +23,7 @@ count_of counts table.Part = counts.part
 count_of counts table.Delivery = counts.delivery
 count_of counts table.UsedPart = counts.used_part
 
--- a count after one more; at its largest value it stays
+-- a count after one more; at its largest value, 2 ^ 64 - 1, it stays
 abbrev pub next_count : ℕ → ℕ
 next_count n = min (n + 1) (2 ^ 64 - 1)
 
@@ -38,7 +38,7 @@ count_at counts table.Part = record counts { part = next_count counts.part }
 count_at counts table.Delivery = record counts { delivery = next_count counts.delivery }
 count_at counts table.UsedPart = record counts { used_part = next_count counts.used_part }
 
--- the counts after changes
+-- the counts after changes, each of which is one write of its table
 abbrev pub counts_after : WriteCounts → List RowChange → WriteCounts
 counts_after counts [] = counts
 counts_after counts (change ∷ changes) = counts_after (count_at counts (table_of change)) changes
@@ -48,7 +48,7 @@ abbrev pub writes_in : Table → List RowChange → ℕ
 writes_in table [] = 0
 writes_in table (change ∷ changes) = cond (is_same_table (table_of change) table) 1 0 + writes_in table changes
 
--- ---- how the logic stores them
+-- ---- how the logic stores counts
 
 -- eight numbers, one for each table
 abbrev pub Eight : Type 0

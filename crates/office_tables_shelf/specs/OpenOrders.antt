@@ -17,7 +17,8 @@ orders_kept (Some found) = found.items
 abbrev pub orders_in : {A : Type 0} → List (ℕ × Vec Order A) → ℕ → List Order
 orders_in orders id = orders_kept (lookup (λ n. n == id) orders)
 
--- what the tables hold of the orders on the intersection are orders, and these are the open ones of them
+-- each row of the intersection's orders is an order within its limits, and these are the open ones, in the
+-- order of their numbers
 pub record ReadsOpen (tables : Content) (id : ℕ) (found : List Order) : Type 0 where
   pub orders : List Order
   pub lists : ListsOrders tables id orders

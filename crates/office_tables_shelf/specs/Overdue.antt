@@ -13,7 +13,7 @@ use Rattle.office_tables_shelf.specs.Damage.{HasAnyDamagedIntersection}
 use Rattle.office_tables_shelf.specs.Shelf.{IsThere, ListsIntersections}
 use Rattle.office_tables_shelf.specs.declared.rows.IntersectionRow.{IntersectionRow}
 
--- what the tables hold of the intersection's inspections are inspections, and this is the latest day of them
+-- each row of the intersection's inspections is an inspection within its limits, and this is the latest day of them, if there are any
 pub record ReadsLast (tables : Content) (id : ℕ) (last : Option ℕ) : Type 0 where
   pub inspections : List Inspection
   pub lists : ListsInspections tables id inspections
@@ -30,7 +30,7 @@ last_day_in days id = lookup (λ n. n == id) days
 abbrev pub seen_row : ℕ → IntersectionRow → Option ℕ → Seen
 seen_row id row last = record { id = id; name = row.name; interval = row.interval; last = last }
 
--- with the day that a list has for it
+-- what is known of an intersection with this number and row, that was last inspected on the day that a list has for it
 abbrev pub seen_on : List (ℕ × ℕ) → ℕ × IntersectionRow → Seen
 seen_on days e = seen_row e.0 e.1 (last_day_in days e.0)
 
@@ -38,7 +38,7 @@ seen_on days e = seen_row e.0 e.1 (last_day_in days e.0)
 abbrev pub IsSeen : Content → ℕ × IntersectionRow → Seen → Type 0
 IsSeen tables e seen = (inspections : List Inspection) → ListsInspections tables e.0 inspections → seen ≡ seen_row e.0 e.1 (latest_day inspections)
 
--- row by row
+-- each is an intersection as it is seen, for the row at the same place of the list
 abbrev pub AreSeenOf : Content → List (ℕ × IntersectionRow) → List Seen → Type 0
 AreSeenOf tables [] [] = Unit {0}
 AreSeenOf tables (e ∷ rows) (one ∷ seen) = IsSeen tables e one × AreSeenOf tables rows seen
@@ -51,13 +51,14 @@ AreSeen tables seen = (rows : List (ℕ × IntersectionRow)) → ListsIntersecti
 
 -- ---- the list
 
--- The rows are the first so many of those that are overdue. What is known of a row that is no record may be anything, so they rest on no such row.
+-- The rows are the first so many of the intersections that are overdue on a day, whatever may be known of a row that is no record: they rest on
+-- no such row.
 abbrev pub ListsOverdue : Content → ℕ → ℕ → List OverdueRow → Type 0
 ListsOverdue tables day most found = (seen : List Seen) → AreSeen tables seen → map listed_of found ≡ take most (overdue_list day seen)
 
 -- ---- damage
 
--- the row of an intersection is no record; or an inspection of one is none
+-- a row of the intersection table is no record, or a row of the inspections of an intersection that is there is none
 abbrev pub HasOverdueDamage : Content → Type 0
 HasOverdueDamage tables =
     HasAnyDamagedIntersection tables

@@ -19,7 +19,8 @@ use Rattle.office_tables_shelf.specs.declared.shelf.ShelfFault.{ShelfFault}
 use Rattle.office_tables_shelf.specs.declared.shelf.ShelfFault.TheVariants.{Damaged}
 use Rattle.office_tables_shelf.specs.declared.rows.Table.TheVariants as table
 
--- where a row of the register stands
+-- where a row of the register stands: an inspection or an order by intersection and number, a used part by intersection, order and line, a part by
+-- its code, a delivery by its part's code and its number
 pub data Place : Type 0 where
   Inspection : ℕ → ℕ → Place
   Order : ℕ → ℕ → Place
@@ -43,7 +44,7 @@ key_cells (Line id order line) = used_key id order line
 key_cells (Part code) = part_key code
 key_cells (Delivery code n) = delivery_key code n
 
--- the kind of its record, the key that a record names, its other cells and its limits
+-- the kind of record that stands at a place; that of a part is how many are on hand
 abbrev pub RecordAt : Place → Type 0
 RecordAt (Inspection id n) = InspectionRecord
 RecordAt (Order id n) = OrderRecord
@@ -51,7 +52,7 @@ RecordAt (Line id order line) = UsedLine
 RecordAt (Part code) = ℕ
 RecordAt (Delivery code n) = DeliveryRecord
 
--- the key cells of a record, by its own fields
+-- the key cells of a record at a place, by the fields of the record where it has them, else by the place
 abbrev pub own_key : (place : Place) → RecordAt place → List Cell
 own_key (Inspection id n) = λ inspection. inspection_key id inspection.number
 own_key (Order id n) = λ order. order_key id order.number
@@ -75,11 +76,11 @@ WithinAt (Line id order line) = IsUsedLineWithin
 WithinAt (Part code) = IsHand
 WithinAt (Delivery code n) = IsDeliveryWithin
 
--- the cells that stand there are those of the record, which names its own key; or none stand there, and there is no record
+-- the cells that stand at a place are those of the record, which names its own key; or none stand there, and there is no record
 abbrev pub ReadsAt : Content → (place : Place) → Option (RecordAt place) → Type 0
 ReadsAt tables place = ReadsRow (table_at place) (own_key place) (columns_at place) tables (key_cells place)
 
--- cells stand there that are those of no record within its limits
+-- cells stand at a place that are those of no record within its limits
 abbrev pub DamagedAt : Content → Place → Type 0
 DamagedAt tables place = HasDamagedUnder (table_at place) (WithinAt place) (own_key place) (columns_at place) tables (key_cells place)
 
@@ -137,11 +138,11 @@ IsOfPlace _ _ = ⊥
 
 -- ---- what a call of a shelf answers of a place
 
--- a call that answers a record read what stands at a place
+-- a call that answers gives the record that stands at a place, or none where none stands there
 abbrev pub FindsAt : {E : Type 0} → Content → Place → Result (Option RegisterRecord) E → Type 0
 FindsAt tables place result = IfOk result (λ found. ReadsAt tables place (found_at place found))
 
--- a call that answers a record read what stands at a place, where the database is open
+-- a call that answers gives the record that stands at a place, or none where none stands there, if the database is open
 abbrev pub GivesAt : Type 0 → Content → Place → Result (Option RegisterRecord) ShelfFault → Type 0
 GivesAt is_honest tables place result =
     IfOk result (λ found. is_honest → ReadsAt tables place (found_at place found))

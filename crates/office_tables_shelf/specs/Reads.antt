@@ -15,7 +15,7 @@ is_among (Some id) key = is_of id key
 
 -- ---- records, by the cells of their keys, their other cells and their limits
 
--- nothing within its limits has these cells
+-- no record within its limits has these key cells and these other cells
 abbrev pub IsNoRow : {X : Type 0} → (X → Type 0) → (key_of columns_of : X → List Cell) → (key columns : List Cell) → Type 0
 IsNoRow {X} is_within key_of columns_of key columns = (x : X) → is_within x → key ≡ key_of x → columns ≢ columns_of x
 
@@ -24,13 +24,13 @@ pub record ReadsRow {X : Type 0} (t : Table) (key_of columns_of : X → List Cel
   pub stored : get (rows_at tables t) key ≡ option_map columns_of found
   pub keyed : IfSome found (λ x. key_of x ≡ key)
 
--- what stands under the key is nothing within its limits
+-- a row stands under the key that is no record within its limits
 pub record HasDamagedUnder {X : Type 0} (t : Table) (is_within : X → Type 0) (key_of columns_of : X → List Cell) (tables : Content) (key : List Cell) : Type 0 where
   pub columns : List Cell
   pub stored : get (rows_at tables t) key ≡ Some columns
   pub no_row : IsNoRow is_within key_of columns_of key columns
 
--- one of the rows of a list is nothing within its limits
+-- a row of the table, of one intersection or of any where none is given, is no record within its limits
 pub record HasDamagedRow {X : Type 0} (t : Table) (is_within : X → Type 0) (key_of columns_of : X → List Cell) (tables : Content) (whose : Option ℕ) : Type 0 where
   pub key : List Cell
   pub columns : List Cell

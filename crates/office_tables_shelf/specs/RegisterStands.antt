@@ -8,11 +8,11 @@ use Rattle.office_tables_shelf.specs.Cells.{Cell, tree_rows}
 use Rattle.office_tables_shelf.specs.Content.{Content}
 use Rattle.office_tables_shelf.specs.CabinetRows.{inspection_key, inspection_columns, order_key, order_columns, used_key, used_columns, delivery_key, delivery_columns, part_key, part_columns}
 
--- the cells of the register's keys
+-- the key cells of an inspection, by its key in the register
 abbrev pub inspection_cells : RecordKey → List Cell
 inspection_cells key = inspection_key key.0 key.1
 
--- the key cells of an order or an inspection, by its key in the register
+-- the key cells of an order, by its key in the register
 abbrev pub order_cells : RecordKey → List Cell
 order_cells key = order_key key.0 key.1
 

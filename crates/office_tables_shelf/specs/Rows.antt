@@ -17,7 +17,7 @@ use Rattle.signal_records.specs.ChangedRows.{changed_key, left_by}
 use Rattle.office_tables_shelf.specs.Cells.{Cell, null, number, text}
 use Rattle.office_tables_shelf.specs.declared.rows.IntersectionRow.{IntersectionRow}
 
--- the column `state`: 0 Normal, 1 Transaction, 2 Verify, 3 Done
+-- the number of a stage in the column `state`: 1 Transaction, 2 Verify, 3 Done
 abbrev pub stage_number : Stage → ℕ
 stage_number Transaction = 1
 stage_number Verify = 2
@@ -28,7 +28,7 @@ abbrev pub state_number : Option Holder → ℕ
 state_number None = 0
 state_number (Some holder) = stage_number holder.stage
 
--- the column `owner`: null in Normal
+-- the cell of the column `owner`: the name of the clerk who holds a draft, null in state Normal
 abbrev pub owner_cell : Option Holder → Cell
 owner_cell None = null
 owner_cell (Some holder) = text holder.owner
@@ -37,7 +37,7 @@ owner_cell (Some holder) = text holder.owner
 abbrev pub intersection_key : ℕ → List Cell
 intersection_key id = number (pos id) ∷ []
 
--- name, days, revision, state, owner
+-- the other cells of an intersection's row: its name, its interval in days, its revision, the number of its state, and the owner of its draft
 abbrev pub intersection_columns : IntersectionRow → List Cell
 intersection_columns row =
     text row.name ∷ number (pos row.interval) ∷ number (pos row.revision) ∷ number (pos (state_number row.holder)) ∷ owner_cell row.holder ∷ []
@@ -64,7 +64,7 @@ timing_columns_in limits row = text (body_in limits row) ∷ []
 abbrev pub timing_columns : Row → List Cell
 timing_columns = timing_columns_in current_limits
 
--- what a draft row leaves at its key; null is a removal
+-- the cells of a draft row beside its key, by the row that it leaves there, as the version with these limits spells it; null is a removal
 abbrev pub left_columns_in : Limits → Option Row → List Cell
 left_columns_in limits None = null ∷ []
 left_columns_in limits (Some row) = timing_columns_in limits row
@@ -83,7 +83,7 @@ draft_columns change = left_columns (left_by change)
 
 -- ---- limits
 
--- the limits of a row, which its cells alone would pass
+-- the row of an intersection is within its limits: name to 120 bytes, interval 1 to 3650 days, revision to 999,999, owner to 40 bytes
 pub record IsIntersectionRow (row : IntersectionRow) : Type 0 where
   pub name : AreWords 120 row.name
   pub interval_low : 1 ≤ row.interval

@@ -1,4 +1,4 @@
--- What the clauses of a shelf cite.
+-- What the contracts of a shelf say: what a call that reads keeps, and which intersections and rows of plans it answers.
 use Rattle.std.specs.Prelude.{◌≡◌, ℕ, List, map, length, Option, IsSome, Result, Ok, Err, ⊤}
 use Rattle.std.specs.Int.{IsInRange}
 use Rattle.std.specs.Option.{option_map}
@@ -34,23 +34,23 @@ pub record AnswersOpen {S A : Type 0} (is_clean is_honest : S → Type 0) (resul
   pub clean_before : is_clean new → is_clean old
   pub told : is_clean new → IsTold result → is_honest new
 
--- the cells that stand under a number are those of the row
+-- the cells that stand under an intersection's number are those of the row; where there is no row, none stand there
 abbrev pub ReadsIntersection : Content → ℕ → Option IntersectionRow → Type 0
 ReadsIntersection tables id row = get tables.intersection (intersection_key id) ≡ option_map intersection_columns row
 
--- the rows of an intersection in a table, by their keys
+-- the rows of an intersection in a table, in the order of their keys: the key cells of each, and its other cells
 abbrev pub rows_of : ℕ → TableRows → List (List Cell × List Cell)
 rows_of id rows = where_key cells_cmp (is_of id) (entries rows)
 
--- an intersection stands under the number
+-- a row of an intersection stands under the number, be it a record or not
 abbrev pub IsThere : Content → ℕ → Type 0
 IsThere tables id = IsSome (get tables.intersection (intersection_key id))
 
--- the number is one of intersections, and the row is one within its limits
+-- the number is one of an intersection, 1 to 9999, and the row is within its limits
 abbrev pub IsIntersectionWithin : ℕ × IntersectionRow → Type 0
 IsIntersectionWithin e = IsInRange 1 9999 e.0 × IsIntersectionRow e.1
 
--- the rows of the table, in the order of their keys, are those of the list
+-- the rows of all intersections, in the order of their numbers, are those of the list
 abbrev pub ListsIntersections : Content → List (ℕ × IntersectionRow) → Type 0
 ListsIntersections tables rows = map (λ e. (intersection_key e.0, intersection_columns e.1)) rows ≡ entries tables.intersection
 

@@ -7,7 +7,7 @@ use crate::rows::IntersectionRow;
 use cabinet_core::{Hand, PartCode};
 use signal_records::InterId;
 
-/// Every intersection's number and row are within their limits.
+/// Shows that an intersection's number and row are within their limits, which their types ensure.
 pub fn intersection_is_within(id: InterId, row: &IntersectionRow)
     ensures { IsIntersectionWithin (id, row.now) }
 {
@@ -18,7 +18,8 @@ pub fn intersection_is_within(id: InterId, row: &IntersectionRow)
     }
 }
 
-/// Every part's code, and how many are on hand, are within their limits.
+/// Shows that a part's code, and how many are on hand, are within their limits, which their types
+/// ensure.
 pub fn part_is_within(part: &PartCode, hand: Hand)
     ensures { IsPartWithin (part.now, hand) }
 {

@@ -18,7 +18,7 @@ pub struct WriteCounts {
 }
 
 impl WriteCounts {
-    /// No row was written yet.
+    /// The counts before any row is written: each is 0.
     pub fn new() -> WriteCounts
         ensures { result ≡ no_writes }
     {
@@ -66,7 +66,7 @@ impl WriteCounts {
         }
     }
 
-    /// Counts the writes of changes.
+    /// Counts one more write for each change, of the table that it writes.
     pub fn count_all(&mut self, changes: &[RowChange])
         ensures { self.new ≡ counts_after self.old changes.now }
     {

@@ -9,7 +9,7 @@ use signal_records::{InterId, NoMemory};
 use std::alloc::Global;
 use std::collections::BTreeMap;
 
-/// Takes the orders that are kept of an intersection, none where there is none.
+/// Takes the orders on an intersection out of the map; there are none where it has none.
 fn take_orders(alloc: Global, orders: &mut BTreeMap<InterId, Vec<Order>>, id: InterId) -> Vec<Order>
     ensures taken { result.items ≡ orders_in orders.old.entries id }
     ensures left { (n : ℕ) → orders_in orders.new.entries n ≡
@@ -21,7 +21,8 @@ fn take_orders(alloc: Global, orders: &mut BTreeMap<InterId, Vec<Order>>, id: In
     }
 }
 
-/// Keeps an order on an intersection after those that are kept of it, where it is open.
+/// Keeps an order on an intersection, if it is open, after those that the map keeps of it.
+/// `NoMemory` means that a growth was refused; the map may have lost that intersection's orders.
 pub fn add_open(
     alloc: Global,
     orders: &mut BTreeMap<InterId, Vec<Order>>,

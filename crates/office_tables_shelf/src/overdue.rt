@@ -34,7 +34,8 @@ pub(crate) fn add_overdue(
 }
 
 /// The first `most` of these intersections that are overdue for an inspection on a day, each last
-/// inspected on the day that the map has for it.
+/// inspected on the day that the map has for it, or never. `NoMemory` means that a growth was
+/// refused.
 pub fn overdue_among(
     alloc: Global,
     rows: &[(InterId, IntersectionRow)],
@@ -56,7 +57,8 @@ pub fn overdue_among(
     Ok(found)
 }
 
-/// Keeps the day of an inspection of an intersection, where none later is kept.
+/// Keeps the day of an inspection of an intersection, where none later is kept. `NoMemory` means
+/// that a growth was refused.
 pub fn add_day(days: &mut BTreeMap<InterId, Day>, id: InterId, day: Day) -> Result<(), NoMemory>
     ensures { OnOk result ((n : ℕ) → last_day_in days.new.entries n ≡
         (if n == id then Some (greater day (last_day_in days.old.entries id))

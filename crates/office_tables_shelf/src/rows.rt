@@ -41,8 +41,9 @@ impl Clone for IntersectionRow {
     }
 }
 
-/// A row to be written or removed. An intersection is never removed. A row that is added is new:
-/// where one stands under its key already, a shelf may refuse the changes.
+/// A row to be written or removed. A row that is added is new: where one stands under its key
+/// already, a shelf may refuse the changes. A row that is put may take the place of one. An
+/// intersection is never removed.
 #[derive(Drop)]
 pub enum RowChange {
     AddIntersection(InterId, IntersectionRow),
