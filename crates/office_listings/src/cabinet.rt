@@ -14,7 +14,8 @@ use signal_records::{InterId, Interval, NoMemory, RecordNo, Words};
 use std::alloc::{AllocError, Global};
 use std::fmt::Write;
 
-/// Appends the two lines at the top.
+/// Appends the first two lines of a register: the intersection's number and name, and the days from
+/// one inspection to the next.
 fn push_title(
     text: &mut String,
     id: InterId,
@@ -66,7 +67,7 @@ impl Listed for Inspection {
     }
 }
 
-/// Appends the line of a used part.
+/// Appends the line of a used part: the number of its line, its code, and how many.
 fn push_used(text: &mut String, used: &UsedLine) -> Result<(), AllocError>
     ensures { OnOk result (string_bytes text.new ≡ string_bytes text.old ++ used_line used.now) }
 {
@@ -79,7 +80,7 @@ fn push_used(text: &mut String, used: &UsedLine) -> Result<(), AllocError>
     push_line(text, &cells)
 }
 
-/// Appends the lines of the parts that were used for an order.
+/// Appends the lines of those parts of a cabinet that were used for an order.
 fn push_parts(text: &mut String, order: RecordNo, lines: &[UsedLine]) -> Result<(), AllocError>
     ensures { OnOk result (string_bytes text.new ≡
         string_bytes text.old ++ flat_map used_line (filter (is_line_of order) lines.now)) }
@@ -92,7 +93,7 @@ fn push_parts(text: &mut String, order: RecordNo, lines: &[UsedLine]) -> Result<
     Ok(())
 }
 
-/// Appends the line of a closing, where there is one.
+/// Appends the line of a closing, with its day and clerk; nothing where the order is open.
 fn push_closing(text: &mut String, closing: &Option<Closing>) -> Result<(), AllocError>
     ensures { OnOk result (string_bytes text.new ≡
         string_bytes text.old ++ closing_line closing.now) }
@@ -108,7 +109,8 @@ fn push_closing(text: &mut String, closing: &Option<Closing>) -> Result<(), Allo
     push_line(text, &cells)
 }
 
-/// Appends an order, its parts and its closing.
+/// Appends the lines of an order: its opening, its parts among those of its cabinet, and its
+/// closing.
 fn push_order(text: &mut String, lines: &[UsedLine], r: &Order) -> Result<(), AllocError>
     ensures { OnOk result (string_bytes text.new ≡
         string_bytes text.old ++ order_lines lines.now r.now) }
@@ -124,7 +126,7 @@ fn push_order(text: &mut String, lines: &[UsedLine], r: &Order) -> Result<(), Al
     push_closing(text, &r.closing)
 }
 
-/// Appends the orders.
+/// Appends the lines of each order, with its parts among those of the cabinet.
 fn push_orders(text: &mut String, lines: &[UsedLine], orders: &[Order]) -> Result<(), AllocError>
     ensures { OnOk result (string_bytes text.new ≡
         string_bytes text.old ++ flat_map (order_lines lines.now) orders.now) }
@@ -135,7 +137,7 @@ fn push_orders(text: &mut String, lines: &[UsedLine], orders: &[Order]) -> Resul
     Ok(())
 }
 
-/// Appends the last line.
+/// Appends the last line of a register: how many inspections, orders and open orders there are.
 fn push_counts(text: &mut String, view: &CabinetView) -> Result<(), AllocError>
     ensures { OnOk result (string_bytes text.new ≡
         string_bytes text.old ++ cabinet_count view.now) }
@@ -150,7 +152,7 @@ fn push_counts(text: &mut String, view: &CabinetView) -> Result<(), AllocError>
     )
 }
 
-/// Appends the inspections and the orders, each under their heading, and the last line.
+/// Appends the inspections and the orders, each under their heading, and the line that counts them.
 fn push_records(alloc: Global, text: &mut String, view: &CabinetView) -> Result<(), NoMemory>
     ensures { OnOk result (string_bytes text.new ≡
         string_bytes text.old ++ cabinet_records view.now) }
@@ -162,10 +164,12 @@ fn push_records(alloc: Global, text: &mut String, view: &CabinetView) -> Result<
     Ok(push_counts(text, view)?)
 }
 
-/// The register of a cabinet: the intersection's number and name, the days from one inspection to
-/// the next and the day on which the next is due, which follows the latest inspection, the next
-/// free numbers, then the inspections, and the orders, each with its used parts and its closing,
-/// and how many there are.
+/// The register of a cabinet, as lines of UTF-8: the intersection's number and name, the days from
+/// one inspection to the next and the day on which the next is due, which follows the latest
+/// inspection, the next free numbers, then the inspections, and the orders, each with its used
+/// parts and its closing, and how many there are. Days are `YYYY-MM-DD`.
+///
+/// `NoMemory` means that a growth was really refused.
 pub fn cabinet_text(
     alloc: Global,
     name: &Words<120>,

@@ -11,7 +11,7 @@ use signal_records::NoMemory;
 use signal_records::state::Holder;
 use std::alloc::Global;
 
-/// Who holds the draft; nothing where nobody does, since a clerk may be called by a dash.
+/// The clerk who holds the draft; nothing where nobody does, since a clerk may be called by a dash.
 fn owner_word(holder: &Option<Holder>) -> &str
     ensures { result.now ≡ owner_word holder.now }
 {
@@ -40,9 +40,11 @@ impl Listed for ListedIntersection {
     }
 }
 
-/// The list of intersections: the number of each, its revision, state, owner or `-`, number of
-/// committed rows, days from one inspection to the next, and name. As CSV a record for each, with
-/// the name before the days, and nothing for `-`.
+/// The list of intersections in UTF-8: the number of each, its revision, state, owner or `-`,
+/// number of committed rows, days from one inspection to the next, and name. As CSV a record for
+/// each, with the name before the days, nothing for `-`, and no heading.
+///
+/// `NoMemory` means that a growth was really refused.
 pub fn intersections_list(
     alloc: Global,
     csv: bool,

@@ -1,6 +1,6 @@
 //! What an office holds, as texts for its people: its intersections, its stock, the open orders,
-//! the used parts, and the register of a cabinet. All but the last also as CSV, and so the overdue
-//! inspections.
+//! the used parts, and the register of a cabinet. All but the register can also be CSV, and the
+//! overdue inspections are CSV alone.
 #![tactic(auto)]
 
 mod cabinet;

@@ -26,8 +26,9 @@ impl Listed for OpenOrder {
     }
 }
 
-/// The list of open orders: the intersection of each, its number, the day on which it was opened,
-/// the clerk who opened it, and what is to be done.
+/// The list of open orders, as lines of UTF-8: the number of each one's intersection, its own
+/// number, the day on which it was opened, as `YYYY-MM-DD`, the clerk who opened it, and what is to
+/// be done; then their count. `NoMemory` means that a growth was really refused.
 pub fn orders_text(alloc: Global, orders: &[OpenOrder]) -> Result<Vec<u8>, NoMemory>
     ensures { IfOk result (λ text. text.items ≡ orders_listing orders.now) }
 {
@@ -53,8 +54,11 @@ impl Listed for NamedOrder {
     }
 }
 
-/// The list of open orders of several intersections: the same with the name of the intersection
-/// before what is to be done. As CSV a record for each, with the name after its number.
+/// The list of open orders of several intersections, in UTF-8: the number of each one's
+/// intersection, its own number, the day on which it was opened, as `YYYY-MM-DD`, the clerk who
+/// opened it, the name of the intersection, and what is to be done. As CSV a record for each, with
+/// the name after the number of the intersection, and no heading. `NoMemory` means that a growth
+/// was really refused.
 pub fn orders_list(alloc: Global, csv: bool, orders: &[NamedOrder]) -> Result<Vec<u8>, NoMemory>
     ensures text { IfOk result (λ text. text.items ≡ table_text csv (orders_table orders.now)) }
     ensures utf8 { IfOk result (λ text. IsUtf8 text.items) }

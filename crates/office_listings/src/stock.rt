@@ -23,8 +23,8 @@ impl Listed for (PartCode, Hand) {
     }
 }
 
-/// What is on hand: how many there are of each part, and its code. As CSV a record for each, with
-/// the code first.
+/// What is on hand, in UTF-8: how many there are of each part, and its code. As CSV a record for
+/// each, with the code first, and no heading. `NoMemory` means that a growth was really refused.
 pub fn stock_list(alloc: Global, csv: bool, parts: &[(PartCode, Hand)]) -> Result<Vec<u8>, NoMemory>
     ensures text { IfOk result (λ text. text.items ≡ table_text csv (stock_table parts.now)) }
     ensures utf8 { IfOk result (λ text. IsUtf8 text.items) }

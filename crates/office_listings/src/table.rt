@@ -13,20 +13,21 @@ use signal_records::NoMemory;
 use std::alloc::{AllocError, Global};
 use std::fmt::Write;
 
-/// What stands in a row. Places count bytes.
+/// What stands in a row of a table. Places count bytes.
 #[derive(Clone, Copy)]
 pub(crate) enum Cell<'a> {
-    /// A number, right in so many places.
+    /// A number, at the right of so many places. A longer one stands whole.
     Number(usize, u64),
-    /// A word that begins a line, left in so many places. A longer one stands whole.
+    /// A word that begins a line, at the left of so many places. A longer one stands whole.
     First(usize, &'a str),
-    /// A word after two spaces, left in so many places. A line shows a dash where it is empty.
+    /// A word after two spaces, at the left of so many places. A longer one stands whole, and a
+    /// line shows a dash where the word is empty.
     Word(usize, &'a str),
     /// A day after two spaces.
     Day(Date),
 }
 
-/// What rows are printed to.
+/// What rows are printed to: a text, as lines, or records of CSV.
 pub(crate) trait Print {
     ghost use Rattle.office_listings.specs.Table.{Row, cell_of};
 
@@ -43,7 +44,7 @@ pub(crate) trait Print {
         ensures { OnOk result (adds order.now (map cell_of cells.now) self.old self.new) };
 }
 
-/// What is a row of a table.
+/// A value that is printed as one row of a table.
 pub(crate) trait Listed {
     ghost use Rattle.office_listings.specs.Table.{Row};
 
@@ -65,7 +66,7 @@ fn push_spaces(text: &mut String, count: usize) -> Result<(), AllocError>
     Ok(())
 }
 
-/// Appends a number right in so many places.
+/// Appends a number at the right of so many places, after spaces. A longer one stands whole.
 fn push_number(text: &mut String, width: usize, number: u64) -> Result<(), AllocError>
     ensures { OnOk result (string_bytes text.new ≡
         string_bytes text.old ++ right_aligned width (decimal number)) }
@@ -76,7 +77,8 @@ fn push_number(text: &mut String, width: usize, number: u64) -> Result<(), Alloc
     text.push_str(number)
 }
 
-/// Appends a gap, and a word left in so many places.
+/// Appends a gap, and a word at the left of so many places, before spaces. A longer one stands
+/// whole.
 #[tactic(auto, unfolding(crate::specs::Table::left_aligned))]
 fn push_word(text: &mut String, gap: &str, width: usize, word: &str) -> Result<(), AllocError>
     ensures { OnOk result (string_bytes text.new ≡
@@ -96,7 +98,7 @@ fn push_day(text: &mut String, day: Date) -> Result<(), AllocError>
     push_date(text, day)
 }
 
-/// Appends a cell.
+/// Appends a cell as a line shows it.
 fn push_cell(text: &mut String, cell: &Cell<'_>) -> Result<(), AllocError>
     ensures { OnOk result (string_bytes text.new ≡
         string_bytes text.old ++ cell_text (cell_of cell.now)) }
@@ -110,7 +112,7 @@ fn push_cell(text: &mut String, cell: &Cell<'_>) -> Result<(), AllocError>
     }
 }
 
-/// Appends the line of a row.
+/// Appends the line of a row: its cells, and a line feed.
 pub(crate) fn push_line(text: &mut String, cells: &[Cell<'_>]) -> Result<(), AllocError>
     ensures { OnOk result (string_bytes text.new ≡
         string_bytes text.old ++ line_text (map cell_of cells.now)) }
@@ -121,7 +123,7 @@ pub(crate) fn push_line(text: &mut String, cells: &[Cell<'_>]) -> Result<(), All
     text.push_str("\n")
 }
 
-/// Text is printed to by lines.
+/// A text takes each row as a line, whatever the order of a record.
 impl Print for String {
     ghost use Rattle.std.specs.Prelude.{string_bytes};
     ghost use Rattle.office_listings.specs.Table.{line_text};
@@ -153,7 +155,7 @@ pub(crate) fn push_lines<T: Listed>(
     Ok(())
 }
 
-/// A table as text: its heading, the line of each row, and their count.
+/// A table as lines of UTF-8: its heading, the line of each row, and their count.
 pub(crate) fn columns<T: Listed>(
     alloc: Global,
     heading: &str,
@@ -171,7 +173,7 @@ pub(crate) fn columns<T: Listed>(
     Ok(text.into_bytes())
 }
 
-/// The field of a cell.
+/// The field of a cell in a record: its number, its word, which may be empty, or its day.
 fn field_of(alloc: Global, cell: &Cell<'_>) -> Result<String, NoMemory>
     ensures { IfOk result (λ field. string_bytes field ≡ field_text (cell_of cell.now)) }
 {
@@ -182,7 +184,7 @@ fn field_of(alloc: Global, cell: &Cell<'_>) -> Result<String, NoMemory>
     }
 }
 
-/// The field of the cell at a place of a row; an empty one where there is none.
+/// The field of the cell at a place of a row, from 0; an empty one where there is none.
 #[tactic(auto, using(crate::proofs::TableLemmas::fields))]
 fn field_at(alloc: Global, cells: &[Cell<'_>], place: usize) -> Result<String, NoMemory>
     ensures { IfOk result (λ field. string_bytes field ≡ field_at (map cell_of cells.now) place) }
@@ -193,7 +195,7 @@ fn field_at(alloc: Global, cells: &[Cell<'_>], place: usize) -> Result<String, N
     }
 }
 
-/// The record of a row, with its cells in this order.
+/// The record of a row, which has its cells in this order of their places.
 fn record_of(alloc: Global, order: &[usize], cells: &[Cell<'_>]) -> Result<ByteRecord, NoMemory>
     ensures fields { IfOk result (λ row. fields_of row ≡
         record_fields order.now (map cell_of cells.now)) }
@@ -207,7 +209,8 @@ fn record_of(alloc: Global, order: &[usize], cells: &[Cell<'_>]) -> Result<ByteR
     Ok(row)
 }
 
-/// Records are printed to by records.
+/// A list of records takes each row as a record, which has the row's cells in the order that is
+/// asked for.
 impl Print for Vec<ByteRecord> {
     ghost use Rattle.office_listings.specs.Table.{AddsRecord};
 
@@ -223,7 +226,8 @@ impl Print for Vec<ByteRecord> {
     }
 }
 
-/// A table as CSV: the record of each row.
+/// A table as a CSV file in UTF-8: the record of each row, with its cells in this order, and no
+/// heading.
 pub(crate) fn records<T: Listed>(
     alloc: Global,
     order: &[usize],
@@ -242,7 +246,8 @@ pub(crate) fn records<T: Listed>(
     csv_file(alloc, &rows)
 }
 
-/// A table with this heading as text, or with its cells in this order as CSV.
+/// A table in UTF-8: as CSV, with the cells of each row in this order and no heading, or as lines
+/// of columns below this heading.
 pub(crate) fn print_table<T: Listed>(
     alloc: Global,
     csv: bool,

@@ -10,14 +10,16 @@ use office_machine::reply::CabinetShown;
 use signal_records::{InterId, NoMemory, Words};
 use std::alloc::Global;
 
-/// A part that was used for an order, with the order's intersection.
+/// A part that was used for an order, with the intersection and the opening of the order.
 #[derive(Drop)]
 pub struct UsedPart {
+    /// The number of the order's intersection.
     pub id: InterId,
     /// The day on which the order was opened.
     pub opened: Day,
-    /// The clerk who opened it.
+    /// The clerk who opened the order.
     pub clerk: Words<40>,
+    /// The line of the order: its number and the order's, the part, and how many pieces.
     pub used: UsedLine,
 }
 
@@ -31,14 +33,14 @@ fn is_asked_part(part: &Option<PartCode>, used: &UsedLine) -> bool
     }
 }
 
-/// Whether a line is one of an order, of a part that was asked for.
+/// Whether a line is one of this order, and its part was asked for.
 fn is_used_in(part: &Option<PartCode>, order: &Order, used: &UsedLine) -> bool
     ensures { result ≡ is_used_in part.now order.now used.now }
 {
     used.order == order.number && is_asked_part(part, used)
 }
 
-/// A line of an order with the number of its intersection.
+/// A line of an order as a used part, with the number of the intersection, and the order's opening.
 fn used_for(id: InterId, order: &Order, used: &UsedLine) -> Result<UsedPart, NoMemory>
     ensures { IfOk result (λ part. part ≡ used_for id order.now used.now) }
 {
@@ -52,7 +54,7 @@ fn used_for(id: InterId, order: &Order, used: &UsedLine) -> Result<UsedPart, NoM
     })
 }
 
-/// Appends those lines of a cabinet that are of an order and of a part that was asked for.
+/// Appends those of a cabinet's lines that are of this order and whose part was asked for.
 fn add_used_in(
     found: &mut Vec<UsedPart>,
     part: &Option<PartCode>,
@@ -72,8 +74,9 @@ fn add_used_in(
     Ok(())
 }
 
-/// Appends what was used for the orders of a cabinet, also for closed ones, by the numbers of these
-/// and of their lines: all of it, or what was used of a part.
+/// Appends what was used for the orders of a cabinet, open or closed, in the order of the orders
+/// and of their lines: all of it, or what was used of one part. `NoMemory` means that a growth was
+/// really refused; some of it may then be there.
 pub fn add_used(
     found: &mut Vec<UsedPart>,
     part: &Option<PartCode>,
@@ -107,9 +110,10 @@ impl Listed for UsedPart {
     }
 }
 
-/// The list of used parts: the part of each, the number of the intersection, the number of the
-/// order, the day on which that was opened, the number of the line, how many pieces, and the clerk
-/// who opened the order. As CSV a record for each, in this order.
+/// The list of used parts in UTF-8: the code of each part, the number of the intersection, the
+/// number of the order, the day on which the order was opened, as `YYYY-MM-DD`, the number of the
+/// line, how many pieces, and the clerk who opened the order. As CSV a record for each, in this
+/// order, and no heading. `NoMemory` means that a growth was really refused.
 pub fn used_list(alloc: Global, csv: bool, list: &[UsedPart]) -> Result<Vec<u8>, NoMemory>
     ensures text { IfOk result (λ text. text.items ≡ table_text csv (used_table list.now)) }
     ensures utf8 { IfOk result (λ text. IsUtf8 text.items) }

@@ -20,25 +20,25 @@ use Rattle.office_tables.specs.declared.open.OpenFault.TheVariants as fault
 use Rattle.office_tables.specs.declared.found.TheConstants.{OURS, KEEPER, COLUMNS}
 use Rattle.office_tables.specs.declared.gather.TheConstants.{CHILDREN_FIRST}
 
--- the name is one of these
+-- the name is in this list of names
 abbrev pub IsNameAmong : List ℕ → List (List ℕ) → Type 0
 IsNameAmong name [] = ⊥
 IsNameAmong name (first ∷ more) = (name ≡ first) ⊎ IsNameAmong name more
 
--- it is that of one of the office's tables
+-- the name is that of one of the office's nine tables
 abbrev pub IsOurs : List ℕ → Type 0
 IsOurs name = IsNameAmong name (map (λ text. text.now) OURS)
 
--- the table keeps a version beside the number `one`, which is its rowid
+-- the table has two columns: the number `one`, which is its rowid, and `version`
 pub record IsVersionKeeper (table : Table) : Type 0 where
   pub rowid : table.key ≡ Some 0
   pub columns : map (λ (c : Column). c.name) table.columns ≡ map (λ text. text.now) COLUMNS
 
--- each table of the version's name does so
+-- each table whose name is `office_version`, as SQL compares names, has the columns of a table that keeps a version
 abbrev pub KeepVersion : List Table → Type 0
 KeepVersion = AllByRecursion (λ t. same_name t.name KEEPER.now ≡ true → IsVersionKeeper t)
 
--- the rows store a number, and another one than today's version
+-- the rows of `office_version` store a number as the version, and not 2, which is today's
 pub record StoreOther (rows : List Row) : Type 0 where
   pub version : ℤ
   pub stored : version_of rows ≡ Some (number version ∷ [])
@@ -48,9 +48,9 @@ pub record StoreOther (rows : List Row) : Type 0 where
 abbrev pub HaveNoRow : List Part → Type 0
 HaveNoRow = AllByRecursion (λ part. part.1 ≡ [])
 
--- ---- what is reported of tables, by the rows of the version's and those of the eight
+-- ---- what is reported of tables, by the rows of `office_version` and those of the eight
 
--- another version than today's is stored
+-- the table `office_version` is made to keep a version, and stores another one than today's
 abbrev pub StoreAnother : List Table → List Row → Type 0
 StoreAnother tables keeper = KeepVersion tables × StoreOther keeper
 
@@ -62,30 +62,33 @@ HaveRowsAlone keeper eight = (version_of keeper ≡ None) × ¬ HaveNoRow eight
 abbrev pub AreUnclaimed : List Row → List Part → Type 0
 AreUnclaimed keeper eight = (version_of keeper ≡ None) × HaveNoRow eight
 
--- each is the office's but for its number, and today's version is stored; those that are missing were never made, or they were dropped
+-- each of these tables is one of the office's but for its number, and today's version is stored; tables that are
+-- missing were never made, or they were dropped
 abbrev pub Lack : List Table → List Row → Type 0
 Lack tables keeper = AllByRecursion IsOffices tables × (version_of keeper ≡ Some current_version)
 
--- such tables may be made anew
+-- the tables may be made anew: each is the office's but for its number, and today's version is stored, or no version
+-- is stored and no table has a row
 abbrev pub MayBeMade : List Table → List Row → List Part → Type 0
 MayBeMade tables keeper eight = Lack tables keeper ⊎ AreUnclaimed keeper eight
 
--- the fault tells what they hold
+-- the fault is true of these tables: Version says that another version is stored, Damaged that a table has a row and
+-- no version is stored
 pub record TellsHeld (why : OpenFault) (tables : List Table) (keeper : List Row) (eight : List Part) : Type 0 where
   pub version : why ≡ fault.Version → StoreAnother tables keeper
   pub damaged : why ≡ fault.Damaged → HaveRowsAlone keeper eight
 
--- ---- of trees that list them
+-- ---- what the trees of a file hold, by the tables that it lists
 
--- the rows of the table of the tables' version
+-- the rows of the table `office_version`; none where it is missing
 abbrev pub keeper_rows : List Table → Trees → List Row
 keeper_rows tables trees = rows_named tables trees KEEPER.now
 
--- the rows of the eight tables, by table
+-- the rows of the eight tables, each with its table, those first that refer to others; none where a table is missing
 abbrev pub eight_rows : List Table → Trees → List Part
 eight_rows tables trees = moved_from CHILDREN_FIRST (rows_named tables trees)
 
--- a fact about the tables of a file, the rows of the version's table, and those of the eight
+-- the fact holds of the tables that a file lists, the rows of `office_version`, and those of the eight tables
 abbrev pub InTables : (List Table → List Row → List Part → Type 0) → Trees → Type 0
 InTables Holds trees = (schema : Schema) × AreListed (trees catalog_tree) schema × Holds schema.tables (keeper_rows schema.tables trees) (eight_rows schema.tables trees)
 
@@ -93,7 +96,7 @@ InTables Holds trees = (schema : Schema) × AreListed (trees catalog_tree) schem
 abbrev pub HasOtherVersion : Trees → Type 0
 HasOtherVersion = InTables (λ tables keeper eight. StoreAnother tables keeper)
 
--- a file has rows and no version
+-- a file has rows in the eight tables and stores no version
 abbrev pub HasRowsAlone : Trees → Type 0
 HasRowsAlone = InTables (λ tables. HaveRowsAlone)
 
@@ -105,15 +108,16 @@ IsUnclaimed = InTables (λ tables. AreUnclaimed)
 abbrev pub IsLacking : Trees → Type 0
 IsLacking = InTables (λ tables keeper eight. Lack tables keeper)
 
--- what the tables hold by their names; one that is missing holds nothing
+-- the trees hold this content in the tables of the office's names; one that is missing holds nothing
 abbrev pub Hold : Trees → Content → Type 0
 Hold trees tables = (schema : Schema) × AreListed (trees catalog_tree) schema × (tables ≡ content_by (rows_named schema.tables trees))
 
--- today's version is stored, also where tables are missing; or none is, and no table has a row
+-- the tables of a file may be taken: today's version is stored, also where tables are missing, or no version is
+-- stored and no table has a row
 abbrev pub MayBeTaken : Trees → Type 0
 MayBeTaken trees = (version_in trees ≡ Some current_version) ⊎ (IsUnclaimed trees ⊎ IsLacking trees)
 
--- the office's tables took what tables held that may be taken, and store today's version
+-- the new trees are the office's tables with today's version, and hold what the old tables held, which may be taken
 pub record TakesOver (old new : Trees) : Type 0 where
   pub taken : MayBeTaken old
   pub kept : Hold old (content_of new)

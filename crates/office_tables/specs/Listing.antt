@@ -21,7 +21,7 @@ pub record ListsAll (t : Table) (sql : List ℕ) : Type 0 where
   pub keys : (layout_at t).keys ≡ 1 ∷ 2 ∷ 3 ∷ 4 ∷ []
   pub columns : (layout_at t).columns ≡ 5 ∷ []
 
--- what a call gives is what the table kept
+-- the rows and removals that a call gives are all that the table kept, if the database is open after it
 abbrev pub ListsKept : Result (Vec (ℕ × Change) Global) ShelfFault → State → TableRows → Type 0
 ListsKept result new rows = IfOk result (λ kept. IsHonest new → AreKept rows kept.items)
 
@@ -37,11 +37,11 @@ ListsEach result new sql rows = IfOk result (λ kept. IsHonest new → (t : Tabl
 abbrev pub TellsNoFormerOfEach : Result (Vec (ℕ × Change) Global) ShelfFault → State → List ℕ → (Table → TableRows) → Type 0
 TellsNoFormerOfEach result new sql rows = result ≡ Err fault.Damaged → IsHonest new → (t : Table) → ListsAll t sql → HasNoFormer (rows t)
 
--- the columns that both show
+-- the names of the columns that the queries of all of `timing` and of all of `draft` show
 abbrev shown_columns : List (List ℕ)
 shown_columns = codes "inter" ∷ codes "kind" ∷ codes "a" ∷ codes "b" ∷ codes "body" ∷ []
 
--- the query of all committed rows shows the whole table, by its keys
+-- the query of all committed rows shows the whole table, in the order of its keys
 pub lists_timing : ListsAll Timing TIMING.now
 unfolding understood everything
 lists_timing = record {
@@ -50,7 +50,7 @@ lists_timing = record {
   columns = refl;
 }
 
--- the query of all draft rows shows the whole table, by its keys
+-- the query of all draft rows shows the whole table, in the order of its keys
 pub lists_draft : ListsAll Draft DRAFT.now
 unfolding understood everything
 lists_draft = record {

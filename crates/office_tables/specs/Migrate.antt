@@ -24,12 +24,14 @@ use Rattle.office_tables.specs.declared.open.OpenFault.TheVariants as fault
 use Rattle.office_tables.specs.declared.version.TheConstants.{FIND}
 use Rattle.office_tables_sql.specs.Version.{AreToday, Completes, version_in, current_version, first_version}
 
--- the tables are those of version 1, spelled anew and stored as today's version
+-- the trees hold these tables of version 1, with each row spelled as today, and store today's
+-- version
 abbrev pub IsSpelledToday : Content → Trees → Type 0
 IsSpelledToday old trees =
     (count : Migrated) × IsMigrated old (content_of trees) count × AreToday trees
 
--- version 1 was stored, and this is what becomes of it
+-- the old trees stored version 1, and the new ones hold its tables, spelled as today, with today's
+-- version
 abbrev pub MayBecome : Trees → Trees → Type 0
 MayBecome old trees = (version_in old ≡ Some first_version) × IsSpelledToday (content_of old) trees
 
@@ -37,13 +39,14 @@ MayBecome old trees = (version_in old ≡ Some first_version) × IsSpelledToday 
 abbrev pub none_migrated : Migrated
 none_migrated = record { timing = 0; draft = 0 }
 
--- today's version was stored, and nothing changed
+-- today's version was stored, nothing changed, and no row is counted
 pub record IsToday (old new : Trees) (count : Migrated) : Type 0 where
   pub was : AreToday old
   pub same : new ≡ old
   pub none : count ≡ none_migrated
 
--- version 1 was stored, and each of its rows is spelled as today
+-- version 1 was stored, each of its rows is now spelled as today, under today's version, and those
+-- that were written anew are counted
 pub record IsAnew (old new : Trees) (count : Migrated) : Type 0 where
   pub was : version_in old ≡ Some first_version
   pub migrated : IsMigrated (content_of old) (content_of new) count
@@ -53,7 +56,7 @@ pub record IsAnew (old new : Trees) (count : Migrated) : Type 0 where
 abbrev pub IsBrought : Trees → Trees → Migrated → Type 0
 IsBrought old new count = IsToday old new count ⊎ IsAnew old new count
 
--- no table keeps a version
+-- none of these tables is named `office_version`
 abbrev pub KeepNoVersion : List Table → Type 0
 KeepNoVersion tables = AllByRecursion (λ t. t.name ≢ codes "office_version") tables
 
@@ -62,14 +65,15 @@ pub record HasNeitherVersion (trees : Trees) : Type 0 where
   pub not_current : version_in trees ≢ Some current_version
   pub not_first : version_in trees ≢ Some first_version
 
--- rows that a query of the version shows, and neither is the number that the first one shows
+-- rows that a query of the version shows: none, or a first one that shows a number other than 2,
+-- which is today's version, and 1
 abbrev pub AreNeither : List Row → Type 0
 AreNeither [] = Unit {0}
 AreNeither (row ∷ more) = (n : ℤ) × (column row 0 ≡ Int n) × (n ≢ pos 2) × (n ≢ pos 1)
 
 module _ {S : Type 0} (g : Ghosts S) where
-  -- SQL shows neither of the two where it is asked for the version, whatever the layout of the
-  -- tables
+  -- a query of the version, in tables of whatever layout, shows neither today's version nor version
+  -- 1
   pub record ShowsNeither (conn : Held S) : Type 0 where
     pub after : Held S
     pub rows : List Row
@@ -77,7 +81,7 @@ module _ {S : Type 0} (g : Ghosts S) where
         (state g after) rows
     pub neither : AreNeither rows
 
-  -- no table keeps a version, or neither of the two is stored
+  -- no table keeps a version, or neither today's version nor version 1 is stored or shown
   abbrev pub HasUnknownVersion : Held S → Type 0
   HasUnknownVersion conn =
       KeepNoVersion (state g conn).now.schema.tables
@@ -93,57 +97,65 @@ pub record HasDamagedFormer (trees : Trees) : Type 0 where
   pub was : version_in trees ≡ Some first_version
   pub damage : HasFormerDamage (content_of trees)
 
--- what the changes make of the tables, stored as today's version
+-- the trees hold what the changes make of the old tables, and store today's version
 abbrev pub IsChangedToday : State → List RowChange → Trees → Type 0
 IsChangedToday old changes trees = Completes (changed_by (content_now old) changes) trees
 
--- a step of a transaction writes that
+-- a step of a ready transaction that succeeds on a clean disk leaves the changed tables with
+-- today's version
 abbrev pub WritesToday : {A E : Type 0} → Result A E → List RowChange → State → State → Type 0
 WritesToday result changes old new =
     HasCleanDisk new → OnOk result (IsReady old → IsChangedToday old changes new.now.trees)
 
--- a whole call writes it
+-- a call that succeeds leaves the changed tables with today's version, if the database is open
+-- after it
 abbrev pub WritesAllToday : {A E : Type 0} → Result A E → List RowChange → State → State → Type 0
 WritesAllToday result changes old new =
     IsHonest new → OnOk result (IsChangedToday old changes new.now.trees)
 
--- each row is spelled as today, and they are counted
+-- a call that succeeds spells each row of version 1 as today, and gives how many it wrote anew, if
+-- the database is open after it
 abbrev pub Migrates : {E : Type 0} → Result Migrated E → State → State → Type 0
 Migrates result old new =
     IsHonest new → IfOk result (IsMigrated (content_now old) (content_now new))
 
--- today's version stays, or version 1 is brought to it
+-- a call that succeeds leaves tables of today's version as they were, or brings those of version 1
+-- to it, if the database is open after it
 abbrev pub Brings : {E : Type 0} → Result Migrated E → State → State → Type 0
 Brings result old new = IsHonest new → IfOk result (IsBrought old.committed.trees new.now.trees)
 
--- where no transaction was open, none is
+-- where no transaction was open before a call, none is after it
 abbrev pub StaysIdle : State → State → Type 0
 StaysIdle old new = old.in_transaction ≡ false → new.in_transaction ≡ false
 
--- version 1 is stored, and as it reads the tables they stand for the office, which is sound by its
--- rules
+-- version 1 is stored, and the tables, read as version 1 reads them, stand for the office, which is
+-- sound by the rules of version 1
 pub record StandFormerly (trees : Trees) (office : Office) : Type 0 where
   pub version : version_in trees ≡ Some first_version
   pub stand : StandForSoundIn version_1 (content_of trees) office
 
--- tables that stood formerly for an office stand for it today
+-- after a call that succeeds, tables of version 1 that stood for an office stand for it as today's
+-- version reads them, if the database is open
 abbrev pub StandsAnew : {A E : Type 0} → Result A E → State → State → Type 0
 StandsAnew result old new =
     IsHonest new → OnOk result (
     (office : Office) → StandFormerly old.committed.trees office
     → StandAnew (content_now new) office)
 
--- Version is reported only of tables without today's version and version 1
+-- on a clean disk, Version is reported only of tables that store neither today's version nor
+-- version 1
 abbrev pub TellsVersion : {A S : Type 0} → Ghosts S → Result A OpenFault → Held S → Held S → Type 0
 TellsVersion g result old new =
     result ≡ Err fault.Version → HasCleanDisk (state g new) → HasUnknownVersion g old
 
--- Damaged is reported inside the transaction only of rows that are none of version 1
+-- on a clean disk, Damaged is reported only where cells stand in the tables in which version 1 kept
+-- nothing
 abbrev pub TellsFormerDamage : {A : Type 0} → Result A OpenFault → State → State → Type 0
 TellsFormerDamage result old new =
     result ≡ Err fault.Damaged → HasCleanDisk new → HasFormerDamage (content_now old)
 
--- Damaged is reported of a call only where committed rows are none of version 1
+-- on a clean disk, Damaged is reported only where version 1 is committed with cells in which it
+-- kept nothing
 abbrev pub TellsDamage : {A : Type 0} → Result A OpenFault → State → State → Type 0
 TellsDamage result old new =
     result ≡ Err fault.Damaged → HasCleanDisk new → HasDamagedFormer old.committed.trees

@@ -1,4 +1,4 @@
--- Rows of the office's tables that are read by the names of these, and put into them again.
+-- Rows that are read from tables by the names of these, and put into the office's tables again.
 use Rattle.std.specs.Prelude.{List, [], ◌∷◌, map, if◌then◌else◌, ℕ, ◌&&◌, Bool, true}
 use Rattle.sqlite_schema.specs.Names.{same_name}
 use Rattle.sqlite_schema.specs.declared.schema.Kind.{Kind}
@@ -13,16 +13,16 @@ use Rattle.office_tables_statements.specs.Stored.{cells_at, rows_in}
 use Rattle.office_tables_statements.specs.Tables.{layout_at, schema_at, put_in, suits_kind}
 use Rattle.office_tables.specs.declared.gather.Moved.{Moved}
 
--- rows that are reported by the names of their tables
+-- the rows of each table, by the table's name
 abbrev pub Named : Type 0
 Named = List ℕ → List Row
 
--- the rows of the table of that name; none where it is missing
+-- the rows of the first table with the name, as SQL compares names; none where it is missing
 abbrev pub rows_named : List SqlTable → Trees → Named
 rows_named [] trees name = []
 rows_named (t ∷ ts) trees name = if same_name t.name name then trees t.tree else rows_named ts trees name
 
--- the rows of one of the eight tables, as it keeps them
+-- the rows that stand under the name of one of the eight tables, by the cells of their keys
 abbrev pub rows_kept : Table → Named → TableRows
 rows_kept t rows = rows_in (layout_at t) (rows (schema_at t).name)
 
@@ -39,9 +39,9 @@ content_by rows = record {
   used_part = rows_kept table.UsedPart rows;
 }
 
--- ---- on the way
+-- ---- rows on the way from old tables to new ones
 
--- the rows of one table
+-- one of the eight tables, and rows of it
 abbrev pub Part : Type 0
 Part = Table × List Row
 
@@ -49,25 +49,25 @@ Part = Table × List Row
 abbrev pub part_moved : Moved → Part
 part_moved moved = (moved.table, moved.rows.items)
 
--- the rows of these tables, in their order
+-- these tables, in their order, each with the rows that stand under its name
 abbrev pub moved_from : List Table → Named → List Part
 moved_from homes rows = map (λ t. (t, rows (schema_at t).name)) homes
 
--- a row put into its table
+-- what the tables hold after a stored row was put into one of them
 abbrev pub row_put : Table → Content → Row → Content
 row_put t tables row = put_in tables t (cells_at (layout_at t).keys row) (cells_at (layout_at t).columns row)
 
--- rows put into their table, the last one first
+-- what the tables hold after stored rows were put into one of them, the last row first
 abbrev pub rows_put : Table → Content → List Row → Content
 rows_put t tables [] = tables
 rows_put t tables (row ∷ rows) = row_put t (rows_put t tables rows) row
 
--- the rows of several tables, the last one first
+-- what the tables hold after the rows of several of them were put in, those of the last table first
 abbrev pub all_put : Content → List Part → Content
 all_put tables [] = tables
 all_put tables (part ∷ more) = rows_put part.0 (all_put tables more) part.1
 
--- columns of these kinds take the cells as they are
+-- columns of these kinds take the cells as they are, as far as both lists go
 abbrev pub suit_kinds : List Kind → List Cell → Bool
 suit_kinds [] cells = true
 suit_kinds (k ∷ ks) [] = true

@@ -23,40 +23,43 @@ use Rattle.office_tables.specs.declared.open.OpenFault.TheVariants as fault
 abbrev pub IsOpenIfClean : State → Type 0
 IsOpenIfClean s = HasCleanDisk s → IsHonest s
 
--- the office's tables stand where those were that were found
+-- the database has the office's tables and, if it is open, they took over what its last commit held
 pub record IsPrepared (old new : State) : Type 0 where
   pub office : IsOffice new
   pub opened : IsOpenIfClean new
   pub was_clean : IsHonest new → HasCleanDisk old
   pub taken : IsHonest new → TakesOver old.committed.trees new.now.trees
 
--- tables may be made anew, and these rows put into them are what they hold
+-- the tables of a file may be made anew, and hold this content
 pub record MayMake (tables : Content) (old : Trees) : Type 0 where
   pub may : IsUnclaimed old ⊎ IsLacking old
   pub held : Hold old tables
 
--- a database whose tables have the office's names
+-- a sound database without views, in which each table has one of the office's names
 pub record AreOurs (db : Database) : Type 0 where
   pub sound : IsDatabase db
   pub no_views : db.schema.views ≡ []
   pub named : AllByRecursion (λ t. IsOurs t.name) db.schema.tables
 
--- inside the transaction in which all tables were made, and hold this
+-- inside a transaction: all of the office's tables were made, hold this content, and store today's
+-- version
 pub record IsMade (tables : Content) (s : State) : Type 0 where
   pub ready : IsReady s
   pub completes : Completes tables s.now.trees
 
--- the fault tells what the tables hold
+-- the fault tells what the tables hold: it is Version or Damaged
 abbrev pub TellsOfTables : OpenFault → Type 0
 TellsOfTables why = (why ≡ fault.Version) ⊎ (why ≡ fault.Damaged)
 
 module _ {S : Type 0} (g : Ghosts S) where
-  -- the statements were run one after another in a transaction
+  -- these statements were run in their order in a transaction, and each succeeded
   abbrev pub AreRun : List (List ℕ) → Held S → Held S → Type 0
   AreRun [] old new = new ≡ old
   AreRun (sql ∷ more) old new = (mid : Held S) × (count : ℕ) × ExecutesInside 0 sql [] (state g old) (state g mid) (Ok count) × AreRun more mid new
 
-  -- what is known of the tables that were opened over a connection
+  -- What is known of a shelf that was opened over a connection. If its database is open, it holds
+  -- what the tables that were found held, they might be taken, and today's version is stored; no
+  -- write is counted.
   pub record IsOpened (conn : Held S) (shelf : SqlView S) : Type 0 where
     pub opened : IsOpenIfClean (state g shelf.conn)
     pub honest : IsHonest (state g shelf.conn) → HasCleanDisk (state g conn)
@@ -67,27 +70,29 @@ module _ {S : Type 0} (g : Ghosts S) where
     pub crash : IsHonest (state g shelf.conn) → (trees : Trees) → (state g shelf.conn).may_leave trees → content_of trees ≡ content_now (state g shelf.conn)
     pub unwritten : shelf.counts ≡ no_writes
 
-  -- the store of what comes back: of a connection, or itself where its database was not checked again
+  -- the store in what a refusal gives back: in a connection, or alone where its database was not
+  -- checked again
   abbrev pub store_left : Result (Held S) S → S
   store_left (Ok c) = c.store
   store_left (Err s) = s
 
-  -- the disk has returned what was written
+  -- the disk under the store has returned what was written
   abbrev pub IsCleanStore : S → Type 0
   IsCleanStore s = IsClean (g.view s)
 
-  -- and no failure of it has shut the store
+  -- the disk under the store has returned what was written, and no failure of it has shut the store
   abbrev pub IsHonestStore : S → Type 0
   IsHonestStore s = IsCleanStore s × IsTrue (g.view s).is_open
 
-  -- The last commit stands. A crash leaves what it could leave before, or one of these.
+  -- In the store that is left, the last commit stands, if it is open. A crash leaves trees that it
+  -- could leave before, or such as the old ones may become.
   pub record IsLeft (conn : Held S) (MayBecome : Trees → Type 0) (left : S) : Type 0 where
     pub clean : doubt (state g conn).is_clean ≤ doubt (g.view left).is_clean
     pub was_open : IsHonestStore left → IsTrue (state g conn).is_open
     pub committed : IsHonestStore left → (g.view left).committed ≡ (state g conn).committed.trees
     pub crash : IsCleanStore left → (trees : Trees) → g.recovers left trees → (state g conn).may_leave trees ⊎ MayBecome trees
 
-  -- nothing was written
+  -- the store is left as the connection had it: nothing was written
   abbrev pub IsAsFound : Held S → S → Type 0
   IsAsFound conn = IsLeft conn (λ _. ⊥)
 
@@ -106,6 +111,6 @@ module _ {S : Type 0} (g : Ghosts S) where
     pub left : IsLeft conn (TakesOver (state g conn).committed.trees) (store_left back)
     pub idle : IsIdleOrSame conn back
 
-  -- whatever store is left as it was found has returned what was written: so over memory
+  -- each store that is left as it was found has returned what was written: this holds over memory
   abbrev pub StaysClean : Held S → Type 0
   StaysClean conn = (left : S) → IsAsFound conn left → IsCleanStore left

@@ -20,7 +20,7 @@ use Rattle.office_tables_shelf.specs.declared.shelf.ShelfFault.{ShelfFault}
 use Rattle.office_tables_shelf.specs.declared.shelf.ShelfFault.TheVariants as fault
 use Rattle.office_tables_statements.specs.Listed.{shown_key, shown_body}
 
--- where a row of five columns is reported to be damaged, this holds of it
+-- where the result reports damage and the row has five columns, this holds
 abbrev pub OnDamage : {A : Type 0} → Result A ShelfFault → SqlRow → Type 0 → Type 0
 OnDamage result row holds = result ≡ Err fault.Damaged → length row ≡ 5 → holds
 
@@ -28,11 +28,11 @@ OnDamage result row holds = result ≡ Err fault.Damaged → length row ≡ 5 �
 abbrev pub former_cells : ℕ × Change → List Cell × List Cell
 former_cells kept = (draft_key kept.0 kept.1, left_columns_in version_1_limits (left_by kept.1))
 
--- the cells of a row that a query shows
+-- the key cells and the body of a row of `timing` or `draft`, as a query of five columns shows it
 abbrev pub shown_cells : SqlRow → List Cell × List Cell
 shown_cells row = (shown_key row, shown_body row)
 
--- rows and removals that version 1 could keep
+-- each of these is a row or a removal that version 1 could keep
 abbrev pub AreFormer : List (ℕ × Change) → Type 0
 AreFormer kept = AllByRecursion (λ k. IsChangeWithin version_1_limits k.1) kept
 
@@ -49,7 +49,7 @@ IsNoFormer key columns = (id : ℕ) → IsInRange 1 9999 id → (change : Change
 abbrev pub ShowNoFormer : List SqlRow → Type 0
 ShowNoFormer rows = (row : SqlRow) × Has rows row × IsNoFormer (shown_key row) (shown_body row)
 
--- rows of five columns
+-- each of these rows has five columns
 abbrev pub HaveFive : List SqlRow → Type 0
 HaveFive rows = AllByRecursion (λ row. length row ≡ 5) rows
 
@@ -67,7 +67,7 @@ pub record HasNoFormerRow (rows : TableRows) : Type 0 where
   pub stored : get rows key ≡ Some columns
   pub no_former : (id : ℕ) → IsInRange 1 9999 id → (r : Row) → IsRowWithin version_1_limits r → key ≡ timing_key id (key_of r) → columns ≢ timing_columns_in version_1_limits r
 
--- a row, and no removal
+-- the change puts a row, and is no removal
 abbrev pub is_row : Change → Bool
 is_row (Put r) = true
 is_row (Remove key) = false
@@ -76,26 +76,29 @@ is_row (Remove key) = false
 abbrev pub are_rows : List (ℕ × Change) → Bool
 are_rows kept = list_all (λ k. is_row k.1) kept
 
--- the row of a phase with a pedestrian part, which alone is spelled otherwise today
+-- the change puts the row of a phase with a pedestrian part: no other row is spelled otherwise
+-- today than in version 1
 abbrev pub has_ped : Change → Bool
 has_ped (Put (row.Phase p phase)) = is_some phase.ped
 has_ped _ = false
 
--- the row of `timing` that is put in the place of one
+-- what a migration writes for one row of `timing`: the row where it is spelled otherwise today,
+-- else nothing
 abbrev pub timing_put : ℕ → Change → List RowChange
 timing_put id (Put r) = if has_ped (Put r) then PutTiming id r ∷ [] else []
 timing_put id (Remove key) = []
 
--- the committed rows of a list that a migration writes anew
+-- what a migration writes for a list of rows of `timing`, in their order
 abbrev pub timing_puts : List (ℕ × Change) → List RowChange
 timing_puts [] = []
 timing_puts (k ∷ ks) = timing_put k.0 k.1 ++ timing_puts ks
 
--- the row of `draft` that is put in the place of one
+-- what a migration writes for one row or removal of `draft`: the row where it is spelled otherwise
+-- today, else nothing
 abbrev pub draft_put : ℕ → Change → List RowChange
 draft_put id change = if has_ped change then PutDraft id change ∷ [] else []
 
--- the draft rows of a list that a migration writes anew
+-- what a migration writes for a list of rows and removals of `draft`, in their order
 abbrev pub draft_puts : List (ℕ × Change) → List RowChange
 draft_puts [] = []
 draft_puts (k ∷ ks) = draft_put k.0 k.1 ++ draft_puts ks

@@ -11,7 +11,7 @@ use Rattle.office_tables_statements.specs.Calls.{IsHonest, IsOffice}
 use Rattle.office_tables_statements.specs.Stored.{content_of}
 use Rattle.office_tables_sql.specs.Version.{AreToday, version_in, current_version}
 
--- the connection, and how often the rows of each table were written
+-- what is seen of a shelf: the connection, and how many rows of each table were written over it
 pub record SqlView (S : Type 0) : Type 0 where
   pub conn : Held S
   pub counts : WriteCounts
@@ -26,7 +26,7 @@ pub record IsCurrent (s : State) : Type 0 where
 abbrev pub MayLeave : State → Content → Type 0
 MayLeave s tables = HasCleanDisk s × (trees : Trees) × s.may_leave trees × (content_of trees ≡ tables)
 
--- ---- how the logic stores it
+-- ---- how the logic stores what is seen of a shelf
 
 -- what is seen of a shelf in SQL, as codes that a proof can compare
 abbrev pub view_code : {S : Type 0} → Coded S → Coded (SqlView S)

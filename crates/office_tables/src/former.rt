@@ -13,7 +13,9 @@ use signal_records::{Change, InterId, is_key_v1};
 use sqlite::Row as SqlRow;
 use std::alloc::Global;
 
-/// The intersection, and the row that is kept of it, or without a body the removal of a key.
+/// Reads a row of `timing` or `draft` that a query shows in five columns, `inter`, `kind`, `a`, `b`
+/// and `body`: its intersection, and the row that version 1 kept there, or, where the body is NULL,
+/// the removal of the key. `Damaged` means that version 1 kept neither in these cells.
 pub(crate) fn read(alloc: Global, row: &SqlRow) -> Result<(InterId, Change), ShelfFault>
     ensures cells { IfOk result (λ kept. former_cells kept ≡ shown_cells row.now) }
     ensures within { IfOk result (λ kept. IsChangeWithin version_1_limits kept.1) }

@@ -30,7 +30,7 @@ use sqlite_value::row::Row;
 use sqlite_value::value::ValueRef;
 use std::alloc::Global;
 
-/// The names of the tables.
+/// The names of the office's nine tables.
 pub const OURS: [&str; 9] = [
     "intersection",
     "timing",
@@ -46,7 +46,7 @@ pub const OURS: [&str; 9] = [
 /// The name of the table that keeps the version.
 pub const KEEPER: &str = "office_version";
 
-/// Its columns: the number 1, which is its rowid, and the version.
+/// The columns of `office_version`: the number 1, which is its rowid, and the version.
 const COLUMNS: [&str; 2] = ["one", "version"];
 
 fn is_one_of(name: &[u8], names: &[&str]) -> bool
@@ -67,7 +67,8 @@ fn are_ours(tables: &[Table]) -> bool
     is_one_of(table.name.as_slice(), &OURS) && are_ours(tables)
 }
 
-/// Whether each table has one of the nine names, and there is no view.
+/// Whether each table of a database has one of the nine names of `OURS`, and there is no view.
+/// Tables may be missing, and their columns are not looked at.
 pub fn has_only_ours(schema: &Schema) -> bool
     ensures named { IsTrue result → AllByRecursion (λ t. IsOurs t.name) schema.now.tables }
     ensures no_views { IsTrue result → schema.now.views ≡ [] }
@@ -87,14 +88,15 @@ fn are_named(columns: &[Column], names: &[&str]) -> bool
     column.name.as_slice() == name.as_bytes() && are_named(columns, names)
 }
 
-/// Whether a table keeps a version as the office does.
+/// Whether a table has the two columns of `office_version`, of which `one` is the rowid.
 fn keeps_version(table: &Table) -> bool
     ensures { IsTrue result → IsVersionKeeper table.now }
 {
     table.key == Some(0) && are_named(table.columns.as_slice(), &COLUMNS)
 }
 
-/// Whether each table of the version's name does so.
+/// Whether each table that is named `office_version`, as SQL compares names, has the columns that
+/// keep a version.
 fn keep_version(tables: &[Table]) -> bool
     ensures { IsTrue result → KeepVersion tables.now }
 {
@@ -115,7 +117,7 @@ fn is_one(value: ValueRef<'_>) -> bool
     }
 }
 
-/// The number that a value is, if it is one.
+/// The number that a value is, if it is an integer.
 fn number_of(value: ValueRef<'_>) -> Option<i64>
     ensures { IfSome result (λ number. owned value.entry ≡ Int number) }
 {
@@ -125,7 +127,8 @@ fn number_of(value: ValueRef<'_>) -> Option<i64>
     }
 }
 
-/// The number that the rows store as the version, if it is one.
+/// The number that stored rows of `office_version` keep as the version: none where no row has the
+/// number 1 as its rowid, or the version of the first that has it is no integer.
 fn stored_number(rows: &[Row]) -> Option<i64>
     ensures { IfSome result (λ stored. version_of rows.now ≡ Some (number stored ∷ [])) }
 {
@@ -147,7 +150,10 @@ fn have_no_row(eight: &[Moved]) -> bool
     first.rows.is_empty() && have_no_row(eight)
 }
 
-/// Why tables are not made anew, by the rows of the version's and those of the eight.
+/// Why tables are not made anew, by the rows of `office_version` and those of the eight: `Damaged`
+/// where the eight have a row and there is no version, `Version` where another one is stored,
+/// `Store` where what is stored is no number, or the tables are not the office's. None where they
+/// may be made.
 fn refusal(tables: &[Table], version: &[Row], eight: &[Moved]) -> Option<OpenFault>
     ensures made { result ≡ None →
         MayBeMade tables.now version.now (map part_moved eight.now) }
@@ -178,7 +184,8 @@ fn refusal(tables: &[Table], version: &[Row], eight: &[Moved]) -> Option<OpenFau
 /// The rows of tables that may be made anew, or why they are not.
 pub(crate) type Looked = Result<Vec<Moved>, OpenFault>;
 
-/// Reads the rows of all tables.
+/// Reads the rows of `office_version` and of the eight tables: those of the eight, if they may be
+/// made anew, or why not. The error is the store's, or want of memory.
 fn look<S: Store>(alloc: Global, store: &mut S, tables: &[Table]) -> Result<Looked, StoreError>
     ensures made { IsClean (S.Store.view store.new) → IfOk result (λ looked. IfOk looked (λ eight.
         (map part_moved eight.items ≡ eight_rows tables.now (S.Store.view store.old).trees)
@@ -200,8 +207,8 @@ fn look<S: Store>(alloc: Global, store: &mut S, tables: &[Table]) -> Result<Look
     }
 }
 
-/// The store of a connection that is given up, as the last commit left it, if no failure has broken
-/// it.
+/// The store of a connection that is given up, as the last commit left it. It is the error where a
+/// failure has broken it.
 fn store_of<S: Alter + Drop>(conn: Connection<S>) -> Result<S, S>
     ensures taken { IfOk result (λ s. IsTaken (state S.Store conn) (S.Store.view s)) }
     ensures found { IfOk result (IsAsFound S.Store conn) }
@@ -214,8 +221,9 @@ fn store_of<S: Alter + Drop>(conn: Connection<S>) -> Result<S, S>
     Ok(store)
 }
 
-/// The database, which was checked again, so that each tree is known to hold what its list
-/// of objects says. Where it is refused its store comes back.
+/// Opens the store of a connection once more, which reads and checks the whole database, so that
+/// each tree is known to hold what the list of objects says. What was not committed is gone. Where
+/// this is refused, the fault comes with the store.
 pub fn check_again<S: Alter + Drop>(
     alloc: Global,
     conn: Connection<S>,
@@ -240,8 +248,9 @@ fn fault_of(error: StoreError) -> SqlFault {
     }
 }
 
-/// The database, checked again, and the rows of its tables if they may be made anew, or why
-/// not. Where it is refused its store comes back.
+/// Reads the rows of a connection's tables, and opens its store once more, which checks the whole
+/// database: the rows of the eight, if these may be made anew, or why not, with the new connection.
+/// Where the database is refused, the fault comes with the store.
 pub(crate) fn read_again<S: Alter + Drop>(
     alloc: Global,
     conn: Connection<S>,

@@ -1,4 +1,4 @@
-//! The rows of a database's tables, read by the names of these, whatever their numbers.
+//! The rows of a database's tables, which are found by their names, whatever their numbers.
 
 ghost use Rattle.std.specs.Prelude.{◌≡◌, ◌++◌, map, IfOk, OnOk};
 ghost use Rattle.sqlite_trees.specs.View.{IsClean, IsQuiet};
@@ -17,7 +17,7 @@ use sqlite_trees::store::Store;
 use sqlite_value::row::Row;
 use std::alloc::Global;
 
-/// The rows of one of the eight tables.
+/// One of the eight tables, and its rows as they are stored, each with its rowid first.
 #[derive(Drop)]
 pub struct Moved {
     pub table: Table,
@@ -51,7 +51,8 @@ fn name_of(table: Table) -> &'static str
     }
 }
 
-/// The rows of the table of that name; none where it is missing.
+/// The rows of the first table with this name, as SQL compares names, in the order of their rowids;
+/// none where it is missing. The error is the store's, or want of memory.
 pub(crate) fn read_named<S: Store>(
     alloc: Global,
     store: &mut S,
@@ -75,7 +76,7 @@ pub(crate) fn read_named<S: Store>(
     read_named(alloc, store, tables, name)
 }
 
-/// Adds the rows of these tables, one after another.
+/// Appends each of the tables `homes`, in order, with the rows that stand under its name.
 fn gather<S: Store>(
     alloc: Global,
     store: &mut S,
@@ -100,7 +101,8 @@ fn gather<S: Store>(
     gather(alloc, store, tables, homes, moved)
 }
 
-/// The rows of the eight tables.
+/// The rows of the eight tables, those first that refer to others; a table that is missing has
+/// none. The error is the store's, or want of memory.
 pub(crate) fn gather_eight<S: Store>(
     alloc: Global,
     store: &mut S,

@@ -20,7 +20,8 @@ const TIMING: &str = "SELECT inter, kind, a, b, body FROM timing ORDER BY inter,
 
 const DRAFT: &str = "SELECT inter, kind, a, b, body FROM draft ORDER BY inter, kind, a, b";
 
-/// What each of the shown rows stood for.
+/// The intersection and the row or removal of version 1 that each shown row stood for, in order.
+/// `Damaged` means that one stood for none.
 fn read_all(alloc: Global, rows: Vec<SqlRow>) -> Result<Vec<(InterId, Change)>, ShelfFault>
     ensures cells { IfOk result (λ kept. map former_cells kept.items ≡ map shown_cells rows.items) }
     ensures within { IfOk result (λ kept. AreFormer kept.items) }
@@ -37,7 +38,8 @@ fn read_all(alloc: Global, rows: Vec<SqlRow>) -> Result<Vec<(InterId, Change)>, 
     Ok(kept)
 }
 
-/// What the rows stood for that the query of a whole table shows, in the order of their keys.
+/// What the rows stood for in version 1 that the query of a whole table shows, in the order of
+/// their keys.
 fn list<S: Alter>(
     alloc: Global,
     conn: &mut Connection<S>,
@@ -57,7 +59,9 @@ fn list<S: Alter>(
     read_all(alloc, rows)
 }
 
-/// What all rows of `timing` stood for.
+/// The intersection and the change that each row of `timing` stood for in version 1, in the order
+/// of their keys. `Damaged` means that one stood for none, `Store` that the database refused,
+/// `NoMemory` that a growth was refused.
 pub fn timing_rows<S: Alter>(
     alloc: Global,
     conn: &mut Connection<S>,
@@ -74,7 +78,9 @@ pub fn timing_rows<S: Alter>(
     list(alloc, conn, TIMING)
 }
 
-/// What all rows of `draft` stood for.
+/// The intersection and the change that each row of `draft` stood for in version 1, in the order of
+/// their keys: it puts a row, or removes one. `Damaged` means that one stood for none, `Store` that
+/// the database refused, `NoMemory` that a growth was refused.
 pub fn draft_rows<S: Alter>(
     alloc: Global,
     conn: &mut Connection<S>,

@@ -23,7 +23,7 @@ use sqlite::{Alter, Connection, Row as SqlRow, Transaction, params};
 use sqlite_schema::schema::Table;
 use std::alloc::Global;
 
-/// Whether one of the tables keeps the version.
+/// Whether one of the tables is named `office_version`, and so keeps the version.
 fn keep_version(tables: &[Table]) -> bool
     ensures { ¬ IsTrue result → KeepNoVersion tables.now }
 {
@@ -33,7 +33,7 @@ fn keep_version(tables: &[Table]) -> bool
     table.name.as_slice() == b"office_version".as_slice() || keep_version(tables)
 }
 
-/// The changes of both lists.
+/// The changes of the first list, and then those of the second.
 fn join_changes(
     mut first: Vec<RowChange>,
     mut second: Vec<RowChange>,
@@ -89,7 +89,9 @@ fn write_anew<S: Alter>(
     Ok(())
 }
 
-/// Writes each row of version 1 as it is spelled today, where it is spelled otherwise.
+/// Writes each row of version 1 that is spelled otherwise today as it is spelled today, stores
+/// today's version, all or none, and counts these rows. `Damaged` means that a row of `timing` or
+/// `draft` is none of version 1.
 fn spell_anew<S: Alter>(alloc: Global, conn: &mut Connection<S>) -> Result<Migrated, OpenFault>
     requires { IsOffice (state S.Store conn.old) }
     ensures office { IsOffice (state S.Store conn.new) }
@@ -116,8 +118,8 @@ fn spell_anew<S: Alter>(alloc: Global, conn: &mut Connection<S>) -> Result<Migra
     Ok(Migrated { timing, draft })
 }
 
-/// Whether neither today's version nor version 1 stands in these rows, which are those of a version
-/// that is stored.
+/// Whether the first of these rows, which a query of the stored version shows, holds neither
+/// today's version nor version 1. It is so where there is no row.
 fn are_neither(rows: &[SqlRow]) -> Result<bool, SqlFault>
     ensures { IfOk result (λ neither. IsTrue neither → AreNeither rows.now) }
 {
@@ -144,8 +146,8 @@ fn shows_neither<S: Alter>(conn: &mut Connection<S>) -> Result<bool, SqlFault>
     are_neither(rows.as_slice())
 }
 
-/// Why tables in another layout are not migrated: Version where neither today's version is stored
-/// nor version 1.
+/// Why tables in another layout are not migrated: `Version` where neither today's version is stored
+/// nor version 1, else `Store`, or `NoMemory` where a growth was refused.
 fn fault_in<S: Alter>(conn: &mut Connection<S>) -> OpenFault
     requires { (state S.Store conn.old).in_transaction ≡ false }
     ensures version { result ≡ OpenFault.Version → HasCleanDisk (state S.Store conn.new) →
@@ -162,7 +164,10 @@ fn fault_in<S: Alter>(conn: &mut Connection<S>) -> OpenFault
     }
 }
 
-/// Brings tables of version 1 to today's version, all or none.
+/// Brings tables of version 1 to today's version, all or none, and counts the rows that it wrote
+/// anew; it leaves those of today's version as they are. `Version` means that neither is stored,
+/// `Damaged` that a row is none of version 1, `Store` that the database refused, that the tables
+/// have another layout, or that a transaction is under way, `NoMemory` that a growth was refused.
 pub(crate) fn migrate<S: Alter>(
     alloc: Global,
     conn: &mut Connection<S>,

@@ -23,15 +23,17 @@ use signal_records::NoMemory;
 use sqlite::{Alter, Connection, Transaction};
 use std::alloc::Global;
 
-/// Why the tables of a database were not opened.
+/// Why the tables of a database were not opened, or not brought from version 1 to today's version.
 #[derive(Clone, Copy, Debug, PartialEq, Eq)]
 pub enum OpenFault {
-    /// Another version is stored.
+    /// Another version than today's is stored. Of a migration: neither today's version nor version
+    /// 1 is stored.
     Version,
-    /// No version is stored, and a table has a row.
+    /// No version is stored, and a table has a row. Of a migration: a row of `timing` or `draft` is
+    /// none of version 1.
     Damaged,
-    /// The database refused, or it has other tables, or these in another layout with rows, or a
-    /// transaction is under way.
+    /// The database refused, or it has other tables or a view, or a version in tables of another
+    /// layout, or a transaction is under way.
     Store,
     /// A growth was refused.
     NoMemory,
@@ -79,7 +81,7 @@ impl From<NoMemory> for OpenFault {
     }
 }
 
-/// What drops the tables of the nine names, those first that refer to others.
+/// The statements that drop the office's nine tables, those first that refer to others.
 const DROPS: [&str; 9] = [
     "DROP TABLE IF EXISTS used_part",
     "DROP TABLE IF EXISTS delivery",
@@ -92,7 +94,7 @@ const DROPS: [&str; 9] = [
     "DROP TABLE IF EXISTS office_version",
 ];
 
-/// Runs the statements one after another.
+/// Runs the statements one after another, up to the first that fails.
 fn run_all<S: Alter>(tx: &mut Transaction<'_, S>, texts: &[&str]) -> Result<(), SqlFault>
     ensures same_reference { tx.new.conn.ghost_name ≡ tx.old.conn.ghost_name }
     ensures stands { StandsOn (state S.Store tx.old.conn.now) (state S.Store tx.new.conn.now) }
@@ -123,7 +125,8 @@ fn make_all<S: Alter>(tx: &mut Transaction<'_, S>) -> Result<(), SqlFault>
     put_version(tx)
 }
 
-/// Drops the tables, makes all of them and stores today's version, and puts the rows into them.
+/// Drops the office's tables, makes all of them, stores today's version, and puts the rows into
+/// them.
 fn make_again<S: Alter>(
     alloc: Global,
     tx: &mut Transaction<'_, S>,
@@ -144,7 +147,7 @@ fn make_again<S: Alter>(
     put_all(alloc, tx, eight)
 }
 
-/// Makes the tables again with these rows, in one transaction: all of it, or nothing.
+/// Makes the office's tables again with these rows, in one transaction: all of it, or nothing.
 fn make_tables<S: Alter>(
     alloc: Global,
     conn: &mut Connection<S>,
@@ -176,8 +179,9 @@ pub type Left<S> = Result<Connection<S>, S>;
 /// Why tables were refused, and what is left of the database.
 pub type Refused<S> = (OpenFault, Left<S>);
 
-/// The database, whose tables are made again with the rows that they have, and today's
-/// version, where that is stored in tables of the office's, or none is and there is no row.
+/// Makes the tables of a database again, with the rows that they have and today's version. It does
+/// so where today's version is stored in tables that are the office's but for their numbers, or
+/// where no version is stored and no table has a row; else it refuses.
 fn made_again<S: Alter + Drop>(
     alloc: Global,
     conn: Connection<S>,
@@ -203,7 +207,9 @@ fn made_again<S: Alter + Drop>(
     }
 }
 
-/// The database, whose tables are the office's: as they are where today's version is stored.
+/// Takes a database that has the office's tables: as it is where today's version is stored, and
+/// with tables that are made again where no version is stored and no table has a row. Else it
+/// refuses.
 fn take_tables<S: Alter + Drop>(
     alloc: Global,
     mut conn: Connection<S>,
@@ -220,8 +226,10 @@ fn take_tables<S: Alter + Drop>(
     }
 }
 
-/// The database with the tables of the office and today's version. They are made where there
-/// are none, some are missing, or no row is stored; those that are there keep their rows.
+/// The database with the tables of the office and today's version. All are made where there are
+/// none, where some are missing, or where no version and no row is stored; those that are there
+/// keep their rows. Where it refuses, `OpenFault` says why, and what is left of the database comes
+/// back, with its last commit as it was.
 pub fn prepare_tables<S: Alter + Drop>(
     alloc: Global,
     conn: Connection<S>,

@@ -52,7 +52,7 @@ fn insert_of(table: Table) -> &'static str
     }
 }
 
-/// The places of the key in a stored row.
+/// The places of a table's key in a stored row, whose rowid is at place 0.
 fn keys_of(table: Table) -> &'static [usize]
     ensures { result.now ≡ (layout_at table).keys }
 {
@@ -65,7 +65,8 @@ fn keys_of(table: Table) -> &'static [usize]
     }
 }
 
-/// The places of all columns in a stored row.
+/// The places of all columns of a table in a stored row, in their order. The rowid is at place 0:
+/// it is the key of an intersection, and no column of the other tables.
 fn places_of(table: Table) -> &'static [usize]
     ensures { result.now ≡ places_in table }
 {
@@ -106,7 +107,8 @@ fn suits(value: ValueRef<'_>, kind: Kind) -> bool
     }
 }
 
-/// Whether columns of these kinds take what stands at the places.
+/// Whether columns of these kinds take, as they are, the values that stand at these places of a
+/// row.
 fn suit(row: &Row, places: &[usize], kinds: &[Kind]) -> bool
     ensures { IsTrue result → suit_kinds kinds.now (cells_at places.now row.now) ≡ true }
 {
@@ -125,7 +127,7 @@ fn is_told(value: ValueRef<'_>) -> bool
     matches!(value, ValueRef::Int(_) | ValueRef::Text(_))
 }
 
-/// Whether there is a number or a text at each of the places.
+/// Whether there is an integer or a text at each of these places of a row.
 fn are_told(row: &Row, places: &[usize]) -> bool
     ensures { IsTrue result → are_sound places.now row.now ≡ true }
 {
@@ -135,7 +137,7 @@ fn are_told(row: &Row, places: &[usize]) -> bool
     is_told(row.get(*place)) && are_told(row, places)
 }
 
-/// What stands at the places.
+/// The values that stand at these places of a row, in the order of the places.
 fn values_of<'a>(
     alloc: Global,
     row: &'a Row,
@@ -151,7 +153,9 @@ fn values_of<'a>(
     Ok(values)
 }
 
-/// Puts a row as it was stored.
+/// Puts a stored row into its table again, with the values that it had. `Store` means that the
+/// database refused, or that a value of the key is neither integer nor text, or that a column does
+/// not take a value.
 fn put_row<S: Alter>(
     alloc: Global,
     tx: &mut Transaction<'_, S>,
@@ -174,7 +178,7 @@ fn put_row<S: Alter>(
     Ok(())
 }
 
-/// Puts the rows of one table, from the last one to the first.
+/// Puts stored rows into one table again, from the last one to the first.
 fn put_rows<S: Alter>(
     alloc: Global,
     tx: &mut Transaction<'_, S>,
@@ -194,7 +198,8 @@ fn put_rows<S: Alter>(
     Ok(())
 }
 
-/// Puts the rows of all tables, those of the last one first.
+/// Puts the rows of these tables into them again, those of the last table first: what others refer
+/// to stands at the end of the list.
 pub(crate) fn put_all<S: Alter>(
     alloc: Global,
     tx: &mut Transaction<'_, S>,

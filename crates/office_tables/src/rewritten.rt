@@ -1,4 +1,4 @@
-//! What is put in the place of the rows that are spelled otherwise today.
+//! The rows of version 1 that are spelled otherwise today, and what is put in their place.
 
 ghost use Rattle.std.specs.Prelude.{◌≡◌, true, false, IfOk, OnOk};
 ghost use Rattle.office_tables.specs.Rewritten.{has_ped, are_rows, timing_puts, draft_puts};
@@ -12,13 +12,14 @@ use std::alloc::Global;
 /// of phases with a pedestrian part.
 #[derive(Clone, Copy, Debug, PartialEq, Eq)]
 pub struct Migrated {
-    /// Rows of committed sets.
+    /// How many rows of `timing`, which are those of committed sets.
     pub timing: usize,
-    /// Drafted rows.
+    /// How many rows of `draft`.
     pub draft: usize,
 }
 
-/// Whether this is the row of a phase with a pedestrian part, which alone is spelled otherwise.
+/// Whether this puts the row of a phase with a pedestrian part: no other row is spelled otherwise
+/// today than in version 1.
 fn has_pedestrian_part(change: &Change) -> bool
     ensures { result ≡ has_ped change.now }
 {
@@ -28,8 +29,9 @@ fn has_pedestrian_part(change: &Change) -> bool
     }
 }
 
-/// The rows of `timing` with a pedestrian part, to be put in their place. A removal there is
-/// damage.
+/// The rows of phases with a pedestrian part among those of `timing`, in order, as changes that put
+/// them again. `Damaged` means that there is a removal, which `timing` cannot keep; `NoMemory`,
+/// that a growth was refused.
 pub fn timing_changes(
     alloc: Global,
     kept: Vec<(InterId, Change)>,
@@ -53,7 +55,8 @@ pub fn timing_changes(
     Ok(changes)
 }
 
-/// The drafted rows with a pedestrian part, to be put in their place.
+/// The rows of phases with a pedestrian part among those of `draft`, in order, as changes that put
+/// them again. `NoMemory` means that a growth was refused.
 pub fn draft_changes(
     alloc: Global,
     kept: Vec<(InterId, Change)>,

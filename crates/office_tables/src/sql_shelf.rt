@@ -1,4 +1,4 @@
-//! The tables in SQL.
+//! A shelf over the tables of the office in a database of SQL.
 
 ghost use Rattle.std.specs.Prelude.{◌≡◌, true, false, Ok, Err, IfOk, IfErr};
 ghost use Rattle.sqlite.specs.State.{Survives};
@@ -47,8 +47,7 @@ impl<S: Alter> Model for SqlShelf<S> {
     ghost invariant = { λ s. IsCurrent (state S.Store s.conn) };
 }
 
-/// Why tables were refused. What is left of their database is dropped, and as it is: code over any
-/// type can do nothing else with it.
+/// Why tables were refused. What is left of their database is dropped, as it is.
 fn open_fault<L: Drop>(refused: (OpenFault, L)) -> OpenFault
     ensures { result ≡ refused.0 }
 {
@@ -57,14 +56,17 @@ fn open_fault<L: Drop>(refused: (OpenFault, L)) -> OpenFault
 }
 
 impl<S: Alter> SqlShelf<S> {
-    /// Takes the tables of the office. Where no table has a row they are made, also where some are
-    /// missing or another layout has them. Version 2 is stored where none is and no table has a
-    /// row. Where it is stored and tables are missing, whichever, all are made, and those that were
-    /// there keep their rows. A transaction that is under way is refused. Where it
-    /// refuses, what `open_returning` gives back is dropped: no clause can say what a body does to
-    /// that, so the body is one call. When Version and Damaged are told is known where no disk can
-    /// fail, as in memory; over files nothing is known of a store that was dropped, and
-    /// `open_returning` says it.
+    /// Opens the tables of the office in a database whose tables all have the office's names. Those
+    /// of today's version are taken, and where some are missing all are made, and those that were
+    /// there keep their rows. Where no version is stored and no table has a row, all are made,
+    /// whatever their layout, and today's version is stored.
+    ///
+    /// `Version` means that another version is stored, `Damaged` that a table has a row and no
+    /// version is stored, `Store` that the database refused, that it has other tables or a view, or
+    /// a version in tables of another layout, or that a transaction is under way, `NoMemory` that a
+    /// growth was refused. What is left of a database that was refused is dropped: `open_returning`
+    /// gives it back. That `Version` and `Damaged` tell the truth is known where no disk can fail,
+    /// as in memory; over files, nothing is known of a store that was dropped.
     pub fn open(alloc: Global, conn: Connection<S>) -> Result<SqlShelf<S>, OpenFault>
     where
         S: Drop,
@@ -83,9 +85,16 @@ impl<S: Alter> SqlShelf<S> {
         }
     }
 
-    /// As `open`, and gives back what is left where it refuses: the connection, or its store where
-    /// the database was not checked again. A transaction that was under way goes on in it. The
-    /// database is checked again first, which shows that the rows of each table are in order.
+    /// Opens the tables of the office: takes those of today's version, and makes all where some are
+    /// missing, or where no version and no row is stored. The database is checked again first,
+    /// which shows that the rows of each table are in order. Where it refuses, what is left comes
+    /// back: the connection, in which a transaction that was under way goes on, or its store where
+    /// the database was not checked again.
+    ///
+    /// `Version` means that another version is stored, `Damaged` that a table has a row and no
+    /// version is stored, `Store` that the database refused, that it has other tables or a view, or
+    /// a version in tables of another layout, or that a transaction is under way, `NoMemory` that a
+    /// growth was refused.
     pub fn open_returning(
         alloc: Global,
         conn: Connection<S>,
@@ -109,9 +118,15 @@ impl<S: Alter> SqlShelf<S> {
         }
     }
 
-    /// As `open_returning`, over a database whose rows are known to be in order, as those of files
-    /// that were just opened: the open has read and checked the whole database, so that it is not
-    /// read again.
+    /// Opens the tables of the office in a database whose rows are known to be in order, as those
+    /// of files are that were just opened, and which is not read again: takes those of today's
+    /// version, and makes all where some are missing, or where no version and no row is stored.
+    /// Where it refuses, what is left comes back.
+    ///
+    /// `Version` means that another version is stored, `Damaged` that a table has a row and no
+    /// version is stored, `Store` that the database refused, that it has other tables or a view, or
+    /// a version in tables of another layout, or that a transaction is under way, `NoMemory` that a
+    /// growth was refused.
     pub fn open_arranged(
         alloc: Global,
         conn: Connection<S>,
@@ -135,11 +150,14 @@ impl<S: Alter> SqlShelf<S> {
 
     /// Brings the tables of a database from version 1 to today's version, all or none: each row of
     /// `timing` and `draft` is spelled as it is today, and today's version is stored. On tables of
-    /// today's version it changes nothing. It refuses with Version where another version is stored
-    /// or none, whatever the layout of the tables, with Damaged where a row of those two tables is
-    /// none of version 1, and with Store or NoMemory; the tables are then as they were. What is
-    /// stored in other tables is not looked at. The rows have to be known to be in order, as those
-    /// of files that were just opened are.
+    /// today's version it changes nothing. It gives how many rows it wrote anew.
+    ///
+    /// `Version` means that another version is stored or none, whatever the layout of the tables,
+    /// `Damaged` that a row of `timing` or `draft` is none of version 1, `Store` that the database
+    /// refused, that the tables have another layout, or that a transaction is under way, `NoMemory`
+    /// that a growth was refused; the tables are then as they were. What is stored in other tables
+    /// is not looked at. The rows have to be known to be in order, as those of files that were just
+    /// opened are.
     pub fn migrate(alloc: Global, conn: &mut Connection<S>) -> Result<Migrated, OpenFault>
         requires { IsArrangedIfClean (state S.Store conn.old) }
         ensures brought { Brings result (state S.Store conn.old) (state S.Store conn.new) }
@@ -158,7 +176,8 @@ impl<S: Alter> SqlShelf<S> {
         migrate(alloc, conn)
     }
 
-    /// Shows what holds of the tables at any time.
+    /// Does nothing. Its contract says what holds of a shelf at any time: its tables are the
+    /// office's, with today's version.
     pub fn known(&self)
         ensures { IsCurrent (state S.Store self.now.conn) }
     {

@@ -1,4 +1,4 @@
-//! The version that is stored, and whether the tables have rows.
+//! The version that a database stores: how it is read, told apart and written.
 
 ghost use Rattle.std.specs.Prelude.{◌≡◌, ◌≢◌, length, Some, IsTrue, IfOk, IfSome};
 ghost use Rattle.std.specs.Option.{option_map};
@@ -11,19 +11,21 @@ ghost use Rattle.office_tables_sql.specs.Promises.{WasHonest, StaysReady, StaysS
 use office_tables_statements::statement::{SqlFault, select_one, write};
 use sqlite::{Alter, Connection, Row, Transaction, params};
 
-/// The version of the tables, whose rows are those of today's grammar.
+/// Today's version of the tables, whose rows are those of today's grammar.
 pub const VERSION: u32 = 2;
 
 /// The first version, whose rows are those of the grammar without a lead.
 pub const FIRST_VERSION: u32 = 1;
 
+/// The query of the stored version, whose one parameter is the number 1.
 pub const FIND: &str = "SELECT version FROM office_version WHERE one = ?1";
 
 const DROP: &str = "DELETE FROM office_version WHERE one = ?1";
 
 const PUT: &str = "INSERT INTO office_version (one, version) VALUES (?1, ?2)";
 
-/// The version that is stored.
+/// The row of the stored version, in one column; none where no version is stored. `Store` means
+/// that the database refused, `NoMemory` that a growth was refused.
 pub fn stored_version<S: Alter>(conn: &mut Connection<S>) -> Result<Option<Row>, SqlFault>
     requires { IsOffice (state S.Store conn.old) }
     ensures found { IsHonest (state S.Store conn.new) →
@@ -37,7 +39,7 @@ pub fn stored_version<S: Alter>(conn: &mut Connection<S>) -> Result<Option<Row>,
     select_one(conn, FIND, params![1u32])
 }
 
-/// Whether this is the row of a version.
+/// Whether the first column of this row is this version. `Store` means that it is no integer.
 pub fn is_version(row: &Row, version: u32) -> Result<bool, SqlFault>
     ensures same { length row.now ≡ 1 →
         IfOk result (λ same. IsTrue same → cells row.now ≡ version_cells version) }
@@ -47,7 +49,7 @@ pub fn is_version(row: &Row, version: u32) -> Result<bool, SqlFault>
     Ok(number? == i64::from(version))
 }
 
-/// Stores no version any more.
+/// Removes the stored version, if there is one.
 fn drop_version<S: Alter>(tx: &mut Transaction<'_, S>) -> Result<(), SqlFault>
     ensures same_reference { tx.new.conn.ghost_name ≡ tx.old.conn.ghost_name }
     ensures honest { WasHonest result (state S.Store tx.old.conn.now)
@@ -81,7 +83,8 @@ pub(crate) fn put_version<S: Alter>(tx: &mut Transaction<'_, S>) -> Result<(), S
     Ok(())
 }
 
-/// Stores today's version in the place of another one.
+/// Stores today's version in the place of the one that is stored. `Store` means that the database
+/// refused, `NoMemory` that a growth was refused.
 pub fn renew_version<S: Alter>(tx: &mut Transaction<'_, S>) -> Result<(), SqlFault>
     ensures same_reference { tx.new.conn.ghost_name ≡ tx.old.conn.ghost_name }
     ensures honest { WasHonest result (state S.Store tx.old.conn.now)

@@ -13,11 +13,11 @@ use Rattle.office_tables_sql.specs.declared.delivery.TheConstants.{LIST, FIND, U
 abbrev pub table_texts : SqlTexts
 table_texts = record { list = LIST.now; find = FIND.now; update = UPDATE.now; insert = INSERT.now }
 
--- the columns that the queries show
+-- the names of the columns that the queries of deliveries show
 abbrev shown_columns : List (List ℕ)
 shown_columns = codes "part" ∷ codes "number" ∷ codes "day" ∷ codes "amount" ∷ []
 
--- the query of a list shows the deliveries, by their keys
+-- the query of a list shows all deliveries, in the order of their keys
 pub lists_rows : IsListText Delivery None LIST.now
 unfolding understood everything
 lists_rows = record {
@@ -26,7 +26,7 @@ lists_rows = record {
   query = record { plain = (refl, refl); unlisted = refl };
 }
 
--- the texts on the table find, change and add one delivery
+-- the texts find, change and add the delivery under a key
 pub means : AreTextsOf Delivery table_texts
 unfolding understood everything
 means = record {

@@ -14,11 +14,11 @@ use Rattle.office_tables_sql.specs.declared.draft.TheConstants.{LIST, FIND, UPDA
 abbrev pub table_texts : SqlTexts
 table_texts = record { list = LIST.now; find = FIND.now; update = UPDATE.now; insert = INSERT.now }
 
--- the columns that the queries show
+-- the names of the columns that the queries of draft rows show
 abbrev shown_columns : List (List ℕ)
 shown_columns = codes "inter" ∷ codes "kind" ∷ codes "a" ∷ codes "b" ∷ codes "body" ∷ []
 
--- the query of a list shows the draft rows of one intersection, by their keys
+-- the query of a list shows the draft rows of one intersection, in the order of their keys
 pub lists_rows : (id : ℕ) → IsListText Draft (Some id) LIST.now
 unfolding understood everything
 lists_rows id = record {
@@ -27,7 +27,7 @@ lists_rows id = record {
   query = record { plain = (refl, refl); unlisted = refl };
 }
 
--- the texts on the table find, change and add one draft row
+-- the texts find, change and add the draft row under a key
 pub means : AreTextsOf Draft table_texts
 unfolding understood everything
 means = record {
@@ -50,7 +50,7 @@ pub drops : IsDropText Draft DROP.now
 unfolding understood everything
 drops = record { is = refl; plain = (refl, refl) }
 
--- the cells of each draft row fit the columns of the table
+-- the cells of each draft row, whether it puts a row or removes one, fit the columns of the table
 pub fits : (id : ℕ) (change : Change) → Fits Draft (draft_key id change) (draft_columns change)
 fits id (Put row) = record {
   whole = refl;

@@ -1,4 +1,4 @@
--- What was gathered of the rows of a list.
+-- What was gathered of the rows that a list shows.
 use Rattle.std.specs.Prelude.{ℕ, List, Option}
 use Rattle.std.specs.List.{AllByRecursion}
 use Rattle.office_tables_shelf.specs.Cells.{Cell}
@@ -7,7 +7,7 @@ use Rattle.office_tables_shelf.specs.declared.rows.Table.{Table}
 use Rattle.office_tables_statements.specs.Tables.{ListsRows}
 
 -- the rows of the list in the table, in the order of their keys, are those of records, each within
--- its limits, and it holds what is to be known of these
+-- its limits, and what was gathered holds what is to be known of these records
 pub record Gathers {X G : Type 0} (holds : G → List X → Type 0) (t : Table)
     (IsWithin : X → Type 0) (key_of columns_of : X → List Cell) (tables : Content)
     (whose : Option ℕ) (found : G) : Type 0 where

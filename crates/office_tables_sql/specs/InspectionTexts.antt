@@ -13,15 +13,16 @@ use Rattle.office_tables_sql.specs.declared.inspection.TheConstants.{LIST, WALK,
 abbrev pub table_texts : SqlTexts
 table_texts = record { list = LIST.now; find = FIND.now; update = UPDATE.now; insert = INSERT.now }
 
--- the texts in SQL of the table of inspections, of which the list is that of all intersections
+-- the four texts in SQL of the table of inspections, where the list shows those of all
+-- intersections
 abbrev pub walk_texts : SqlTexts
 walk_texts = record table_texts { list = WALK.now }
 
--- the columns that the queries show
+-- the names of the columns that the queries of inspections show
 abbrev shown_columns : List (List ℕ)
 shown_columns = codes "inter" ∷ codes "number" ∷ codes "day" ∷ codes "clerk" ∷ codes "body" ∷ []
 
--- the query of a list shows the inspections of one intersection, by their keys
+-- the query of a list shows the inspections of one intersection, in the order of their keys
 pub lists_rows : (id : ℕ) → IsListText Inspection (Some id) LIST.now
 unfolding understood everything
 lists_rows id = record {
@@ -30,7 +31,7 @@ lists_rows id = record {
   query = record { plain = (refl, refl); unlisted = refl };
 }
 
--- the query of a walk shows the inspections of all intersections, by their keys
+-- the query of a walk shows the inspections of all intersections, in the order of their keys
 pub walks : IsListText Inspection None WALK.now
 unfolding understood everything
 walks = record {
@@ -39,7 +40,7 @@ walks = record {
   query = record { plain = (refl, refl); unlisted = refl };
 }
 
--- the texts on the table find, change and add one inspection
+-- the texts find, change and add the inspection under a key
 pub means : AreTextsOf Inspection table_texts
 unfolding understood everything
 means = record {
@@ -52,7 +53,7 @@ means = record {
   inserts = record { is = refl; plain = (refl, refl) };
 }
 
--- the texts beside the walk find, change and add one inspection
+-- the texts that stand beside the walk find, change and add the inspection under a key
 pub walk_means : AreTextsOf Inspection walk_texts
 walk_means = record { finds = means.finds; updates = means.updates; inserts = means.inserts }
 

@@ -14,11 +14,11 @@ use Rattle.office_tables_sql.specs.declared.intersection.TheConstants.{LIST, FIN
 abbrev pub table_texts : SqlTexts
 table_texts = record { list = LIST.now; find = FIND.now; update = UPDATE.now; insert = INSERT.now }
 
--- the columns that the queries show
+-- the names of the columns that the queries of intersections show
 abbrev shown_columns : List (List ℕ)
 shown_columns = codes "id" ∷ codes "name" ∷ codes "days" ∷ codes "revision" ∷ codes "state" ∷ codes "owner" ∷ []
 
--- the query of a list shows the intersections, by their keys
+-- the query of a list shows all intersections, in the order of their numbers
 pub lists_rows : IsListText Intersection None LIST.now
 unfolding understood everything
 lists_rows = record {
@@ -27,7 +27,7 @@ lists_rows = record {
   query = record { plain = (refl, refl); unlisted = refl };
 }
 
--- the texts on the table find, change and add one intersection
+-- the texts find, change and add the intersection under a number
 pub means : AreTextsOf Intersection table_texts
 unfolding understood everything
 means = record {
@@ -40,7 +40,7 @@ means = record {
   inserts = record { is = refl; plain = (refl, refl) };
 }
 
--- the cells of each intersection fit the columns of the table
+-- the cells of each intersection, with or without an owner, fit the columns of the table
 pub fits : (id : ℕ) (name : List ℕ) (days revision : ℕ) (holder : Option Holder)
     → Fits Intersection (intersection_key id) (text name ∷ number (pos days) ∷ number (pos revision) ∷ number (pos (state_number holder)) ∷ owner_cell holder ∷ [])
 fits id name days revision None = record {

@@ -14,15 +14,15 @@ use Rattle.office_tables_sql.specs.declared.order.TheConstants.{LIST, WALK, FIND
 abbrev pub table_texts : SqlTexts
 table_texts = record { list = LIST.now; find = FIND.now; update = UPDATE.now; insert = INSERT.now }
 
--- the texts in SQL of the table of orders, of which the list is that of all intersections
+-- the four texts in SQL of the table of orders, where the list shows those of all intersections
 abbrev pub walk_texts : SqlTexts
 walk_texts = record table_texts { list = WALK.now }
 
--- the columns that the queries show
+-- the names of the columns that the queries of orders show
 abbrev shown_columns : List (List ℕ)
 shown_columns = codes "inter" ∷ codes "number" ∷ codes "opened" ∷ codes "clerk" ∷ codes "body" ∷ codes "closed" ∷ codes "closer" ∷ []
 
--- the query of a list shows the orders of one intersection, by their keys
+-- the query of a list shows the orders of one intersection, in the order of their keys
 pub lists_rows : (id : ℕ) → IsListText WorkOrder (Some id) LIST.now
 unfolding understood everything
 lists_rows id = record {
@@ -31,7 +31,7 @@ lists_rows id = record {
   query = record { plain = (refl, refl); unlisted = refl };
 }
 
--- the query of a walk shows the orders of all intersections, by their keys
+-- the query of a walk shows the orders of all intersections, in the order of their keys
 pub walks : IsListText WorkOrder None WALK.now
 unfolding understood everything
 walks = record {
@@ -40,7 +40,7 @@ walks = record {
   query = record { plain = (refl, refl); unlisted = refl };
 }
 
--- the texts on the table find, change and add one order
+-- the texts find, change and add the order under a key
 pub means : AreTextsOf WorkOrder table_texts
 unfolding understood everything
 means = record {
@@ -53,11 +53,11 @@ means = record {
   inserts = record { is = refl; plain = (refl, refl) };
 }
 
--- the texts beside the walk find, change and add one order
+-- the texts that stand beside the walk find, change and add the order under a key
 pub walk_means : AreTextsOf WorkOrder walk_texts
 walk_means = record { finds = means.finds; updates = means.updates; inserts = means.inserts }
 
--- the cells of each order fit the columns of the table
+-- the cells of each order, open or closed, fit the columns of the table
 pub fits : (id n opened : ℕ) (clerk body : List ℕ) (closing : Option Closing) → Fits WorkOrder (order_key id n) (number (pos opened) ∷ text clerk ∷ text body ∷ closed_cell closing ∷ closer_cell closing ∷ [])
 fits id n opened clerk body None = record {
   whole = refl;

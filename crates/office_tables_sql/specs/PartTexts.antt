@@ -12,11 +12,11 @@ use Rattle.office_tables_sql.specs.declared.part.TheConstants.{LIST, FIND, UPDAT
 abbrev pub table_texts : SqlTexts
 table_texts = record { list = LIST.now; find = FIND.now; update = UPDATE.now; insert = INSERT.now }
 
--- the columns that the queries show
+-- the names of the columns that the queries of parts show
 abbrev shown_columns : List (List ℕ)
 shown_columns = codes "code" ∷ codes "hand" ∷ []
 
--- the query of a list shows the parts, by their keys
+-- the query of a list shows all parts, in the order of their codes
 pub lists_rows : IsListText Part None LIST.now
 unfolding understood everything
 lists_rows = record {
@@ -25,7 +25,7 @@ lists_rows = record {
   query = record { plain = (refl, refl); unlisted = refl };
 }
 
--- the texts on the table find, change and add one part
+-- the texts find, change and add the part under a code
 pub means : AreTextsOf Part table_texts
 unfolding understood everything
 means = record {
@@ -38,7 +38,7 @@ means = record {
   inserts = record { is = refl; plain = (refl, refl) };
 }
 
--- the cells of each part fit the columns of the table
+-- the cells of each part, its code and how many are on hand, fit the columns of the table
 pub fits : (code : List ℕ) (hand : ℕ) → Fits Part (part_key code) (part_columns hand)
 fits code hand = record {
   whole = refl;

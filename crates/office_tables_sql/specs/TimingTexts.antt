@@ -14,11 +14,11 @@ use Rattle.office_tables_sql.specs.declared.timing.TheConstants.{LIST, FIND, UPD
 abbrev pub table_texts : SqlTexts
 table_texts = record { list = LIST.now; find = FIND.now; update = UPDATE.now; insert = INSERT.now }
 
--- the columns that the queries show
+-- the names of the columns that the queries of committed rows show
 abbrev shown_columns : List (List ℕ)
 shown_columns = codes "inter" ∷ codes "kind" ∷ codes "a" ∷ codes "b" ∷ codes "body" ∷ []
 
--- the query of a list shows the committed rows of one intersection, by their keys
+-- the query of a list shows the committed rows of one intersection, in the order of their keys
 pub lists_rows : (id : ℕ) → IsListText Timing (Some id) LIST.now
 unfolding understood everything
 lists_rows id = record {
@@ -27,7 +27,7 @@ lists_rows id = record {
   query = record { plain = (refl, refl); unlisted = refl };
 }
 
--- the texts on the table find, change and add one committed row
+-- the texts find, change and add the committed row under a key
 pub means : AreTextsOf Timing table_texts
 unfolding understood everything
 means = record {

@@ -13,11 +13,11 @@ use Rattle.office_tables_sql.specs.declared.used.TheConstants.{LIST, FIND, UPDAT
 abbrev pub table_texts : SqlTexts
 table_texts = record { list = LIST.now; find = FIND.now; update = UPDATE.now; insert = INSERT.now }
 
--- the columns that the queries show
+-- the names of the columns that the queries of used parts show
 abbrev shown_columns : List (List ℕ)
 shown_columns = codes "inter" ∷ codes "ord" ∷ codes "line" ∷ codes "part" ∷ codes "amount" ∷ []
 
--- the query of a list shows the used parts of one intersection, by their keys
+-- the query of a list shows the used parts of one intersection, in the order of their keys
 pub lists_rows : (id : ℕ) → IsListText UsedPart (Some id) LIST.now
 unfolding understood everything
 lists_rows id = record {
@@ -26,7 +26,7 @@ lists_rows id = record {
   query = record { plain = (refl, refl); unlisted = refl };
 }
 
--- the texts on the table find, change and add one used part
+-- the texts find, change and add the used part under a key
 pub means : AreTextsOf UsedPart table_texts
 unfolding understood everything
 means = record {

@@ -1,4 +1,4 @@
--- The stored version.
+-- The version that an office's tables store, and what it is today and was first.
 use Rattle.std.specs.Prelude.{◌≡◌, ◌≢◌, ℕ, ℤ, List, [], ◌∷◌, pos, Option, Some}
 use Rattle.std.specs.FinMap.{get}
 use Rattle.sqlite.specs.Effect.{IsDatabase}
@@ -10,19 +10,19 @@ use Rattle.office_tables_statements.specs.Schema.{office_schema}
 use Rattle.office_tables_statements.specs.Layout as layout
 use Rattle.office_tables_statements.specs.Stored.{cells, content_of, rows_in}
 
--- the version that rows of its table store, if they store one: the cells under the number 1
+-- the version that rows of `office_version` store, if they store one: the cells under the number 1
 abbrev pub version_of : List Row → Option (List Cell)
 version_of rows = get (rows_in layout.office_version rows) (number (pos 1) ∷ [])
 
--- the version that an office stores
+-- the version that trees store in the place of `office_version`, if they store one
 abbrev pub version_in : Trees → Option (List Cell)
 version_in trees = version_of (trees layout.office_version.tree)
 
--- the cells of a version
+-- the cells in which a version is stored: its number
 abbrev pub version_cells : ℕ → List Cell
 version_cells version = number (pos version) ∷ []
 
--- version 2
+-- the cells of version 2, which is today's, and whose rows are those of today's grammar
 abbrev pub current_version : List Cell
 current_version = number (pos 2) ∷ []
 
@@ -31,17 +31,17 @@ pub record AreToday (trees : Trees) : Type 0 where
   pub sound : IsDatabase (record { schema = office_schema; trees = trees })
   pub stored : version_in trees ≡ Some current_version
 
--- version 1, whose rows are those of the grammar without a lead
+-- the cells of version 1, whose rows are those of the grammar without a lead
 abbrev pub first_version : List Cell
 first_version = number (pos 1) ∷ []
 
--- a row that tells another number than that of a version
+-- the row shows one number, and another one than this version
 pub record TellsOther (row : Row) (version : ℕ) : Type 0 where
   pub told : ℤ
   pub is : cells row ≡ number told ∷ []
   pub other : told ≢ pos version
 
--- the trees are those of the office's tables, which hold this, and today's version is stored
+-- the trees are those of the office's tables, hold this content, and store today's version
 pub record Completes (tables : Content) (trees : Trees) : Type 0 where
   pub content : content_of trees ≡ tables
   pub today : AreToday trees

@@ -15,7 +15,7 @@ use signal_records::{Change, Row};
 use sqlite::{Alter, Connection, Transaction};
 use std::alloc::Global;
 
-/// Makes one change.
+/// Makes one change of a row in a transaction.
 fn change_row<S: Alter>(
     alloc: Global,
     tx: &mut Transaction<'_, S>,
@@ -49,7 +49,8 @@ fn change_row<S: Alter>(
     }
 }
 
-/// Makes the changes one after another.
+/// Makes the changes in their order in a transaction, up to the first that fails. `Store` means
+/// that the database refused, `NoMemory` that a growth was refused.
 pub fn change_rows<S: Alter>(
     alloc: Global,
     tx: &mut Transaction<'_, S>,
@@ -70,7 +71,9 @@ pub fn change_rows<S: Alter>(
     Ok(())
 }
 
-/// Makes all changes in their order, or none.
+/// Makes all changes in their order in one transaction and commits them, or makes none; without
+/// changes it does nothing. `Store` means that the database refused, `NoMemory` that a growth was
+/// refused.
 pub fn apply<S: Alter>(
     alloc: Global,
     conn: &mut Connection<S>,

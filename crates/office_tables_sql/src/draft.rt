@@ -37,7 +37,8 @@ const REMOVE: &str = "DELETE FROM draft WHERE inter = ?1 AND kind = ?2 AND a = ?
 
 const DROP: &str = "DELETE FROM draft WHERE inter = ?1";
 
-/// What is kept for the change: the text that is made of a row, and NULL for a removal.
+/// What the column `body` keeps of a change: the text of the row that it puts, which is made in
+/// `text`, or NULL for a removal.
 fn left_body<'a>(
     alloc: Global,
     change: &Change,
@@ -90,7 +91,9 @@ impl StoredRow for Change {
         }
     }
 
-    /// Without a body it removes what is under its key.
+    /// Reads a draft row of five columns: one with a body puts that row, whose key the columns
+    /// before it are; one without removes what is under the key. `Damaged` means that it does
+    /// neither.
     fn read(alloc: Global, id: InterId, row: &SqlRow) -> Result<Change, ShelfFault> {
         let Some(found) = body_at(alloc, Version::Current, row, 4)? else {
             return Ok(Change::Remove(read_key(row, id)?));
@@ -126,7 +129,8 @@ impl TimingKeyed for Change {
     }
 }
 
-/// Removes all draft rows of the intersection.
+/// Removes all draft rows of the intersection, if there are any. `Store` means that the database
+/// refused, `NoMemory` that a growth was refused.
 pub fn drop_all<S: Alter>(tx: &mut Transaction<'_, S>, id: InterId) -> Result<(), SqlFault>
     ensures same_reference { tx.new.conn.ghost_name ≡ tx.old.conn.ghost_name }
     ensures dropped { TurnsTo result

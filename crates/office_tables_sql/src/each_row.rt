@@ -18,9 +18,9 @@ use sqlite::types::ValueRef;
 use sqlite::{Alter, Connection, Error, Statement, params};
 use std::alloc::Global;
 
-/// What gathers the records of a list, one after another.
+/// What gathers the records of a list, one after another, in the order of their keys.
 pub(crate) trait Gather<T>: Sized + Drop {
-    /// It holds what is to be known of these records.
+    /// What was gathered holds what is to be known of these records.
     ghost holds: { Self → List T → Type 0 };
 
     /// Gathers one more record. It refuses where a growth is refused.
@@ -38,14 +38,15 @@ impl<T: Drop> Gather<T> for Vec<T> {
     }
 }
 
-/// Why the database refused.
+/// The fault by which a shelf tells an error of the database: `NoMemory` or `Store`.
 fn shelf_fault(error: Error) -> ShelfFault
     ensures { result ≢ ShelfFault.Damaged }
 {
     ShelfFault::from(SqlFault::from(error))
 }
 
-/// The text prepared, which commits nothing and shows that the connection is open.
+/// The statement of this text. To prepare it commits nothing, and shows that the connection is
+/// open.
 fn prepare_list<S: Alter>(conn: &mut Connection<S>, sql: &str) -> Result<Statement, SqlFault>
     requires office { IsOffice (state S.Store conn.old) }
     requires query { IsQuery sql.now }
@@ -59,7 +60,9 @@ fn prepare_list<S: Alter>(conn: &mut Connection<S>, sql: &str) -> Result<Stateme
     Ok(statement)
 }
 
-/// The rows of the intersection, in the order of their keys.
+/// The rows that a table keeps of the intersection, in the order of their keys. `Damaged` means
+/// that one of them is no record, `Store` that the database refused, `NoMemory` that a growth was
+/// refused.
 pub fn list<T: StoredRow<Of = InterId>, S: Alter>(
     alloc: Global,
     conn: &mut Connection<S>,
@@ -82,7 +85,8 @@ pub fn list<T: StoredRow<Of = InterId>, S: Alter>(
     gather_rows::<T, Vec<T>, S>(alloc, conn, id, params![id.get()], Vec::new(alloc))
 }
 
-/// All rows of a table, in the order of their keys.
+/// All rows of a table, in the order of their keys. `Damaged` means that one of them is no record,
+/// `Store` that the database refused, `NoMemory` that a growth was refused.
 pub fn list_all<T: StoredRow<Of = ()>, S: Alter>(
     alloc: Global,
     conn: &mut Connection<S>,
@@ -104,8 +108,9 @@ pub fn list_all<T: StoredRow<Of = ()>, S: Alter>(
     gather_rows::<T, Vec<T>, S>(alloc, conn, (), params![], Vec::new(alloc))
 }
 
-/// The rows of a list, gathered in the order of their keys by one that has none yet. No row is
-/// kept after it is read.
+/// Gathers the rows of a list, in the order of their keys, into `begun`, which holds none yet. No
+/// row is kept after it is read. `Damaged` means that one of them is no record, `Store` that the
+/// database refused, `NoMemory` that a growth was refused.
 pub(crate) fn gather_rows<T: StoredRow, G: Gather<T>, S: Alter>(
     alloc: Global,
     conn: &mut Connection<S>,
@@ -130,7 +135,8 @@ pub(crate) fn gather_rows<T: StoredRow, G: Gather<T>, S: Alter>(
     gather_each::<T, G, S>(alloc, conn, &statement, of, params, begun)
 }
 
-/// Those rows, by the statement that is prepared for them.
+/// Gathers the rows that the prepared query of a list shows, in the order of their keys, into
+/// `begun`, which holds none yet.
 fn gather_each<T: StoredRow, G: Gather<T>, S: Alter>(
     alloc: Global,
     conn: &mut Connection<S>,

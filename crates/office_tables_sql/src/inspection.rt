@@ -100,7 +100,7 @@ impl StoredRow for Inspection {
     }
 }
 
-/// An inspection beside the number of its intersection: a list has those of all.
+/// An inspection with the number of its intersection: the list shows those of all intersections.
 impl StoredRow for (InterId, Inspection) {
     ghost use Rattle.cabinet_core.specs.Within.{IsInspectionWithin};
     ghost use Rattle.office_tables_shelf.specs.CabinetReads.{IsOfOne};
@@ -162,9 +162,9 @@ impl Gather<(InterId, Inspection)> for BTreeMap<InterId, Day> {
     }
 }
 
-/// The day of the latest inspection of each intersection that has one. It refuses with Damaged
-/// where an inspection is no record, and with Store or NoMemory. No inspection is kept after it is
-/// read.
+/// The day of the latest inspection of each intersection that has one, whichever was recorded last.
+/// `Damaged` means that an inspection is no record, `Store` that the database refused, `NoMemory`
+/// that a growth was refused. No inspection is kept after it is read.
 pub fn last_days<S: Alter>(
     alloc: Global,
     conn: &mut Connection<S>,

@@ -113,7 +113,8 @@ impl StoredRow for (InterId, IntersectionRow) {
     }
 }
 
-/// The row of an intersection, if there is one.
+/// The row of an intersection, if there is one. `Damaged` means that it is no record, `Store` that
+/// the database refused, `NoMemory` that a growth was refused.
 pub fn read<S: Alter>(
     alloc: Global,
     conn: &mut Connection<S>,
@@ -141,8 +142,8 @@ pub fn read<S: Alter>(
     }
 }
 
-/// The state, and the owner in the next column: one stands beside each state but Normal, and beside
-/// that none.
+/// Who holds the draft, by the state in column 4 and the owner in column 5. State 0 is Normal, and
+/// has no owner; each other state, 1 to 3, has one. Any other pair is `Damaged`.
 fn holder_at(alloc: Global, row: &Row) -> Result<Option<Holder>, ShelfFault>
     ensures state { IfOk result (λ holder.
         cell_of (column row.now 4) ≡ number (pos (state_number holder))) }
@@ -168,7 +169,7 @@ fn holder_at(alloc: Global, row: &Row) -> Result<Option<Holder>, ShelfFault>
     }
 }
 
-/// The stage that is stored as this number.
+/// The stage that is stored as this number, 1 to 3; none for any other number.
 fn stage_of(state: u32) -> Option<Stage>
     ensures some { IfSome result (λ stage. stage_number stage ≡ state) }
     ensures none { result ≡ None → (stage : Stage) → stage_number stage ≢ state }
@@ -187,7 +188,8 @@ fn copy_of(row: &IntersectionRow) -> Result<IntersectionRow, NoMemory>
     row.clone()
 }
 
-/// Puts the row of an intersection.
+/// Puts the row of an intersection under its number: changes the one that is there, or adds it.
+/// `Store` means that the database refused, `NoMemory` that a growth was refused.
 pub fn put<S: Alter>(
     alloc: Global,
     tx: &mut Transaction<'_, S>,
@@ -209,7 +211,8 @@ pub fn put<S: Alter>(
     stored_row::put(alloc, tx, (), &found)
 }
 
-/// Adds the row of a new intersection.
+/// Adds the row of a new intersection. `Store` means that the database refused, also where there is
+/// one with this number, `NoMemory` that a growth was refused.
 pub fn add<S: Alter>(
     alloc: Global,
     tx: &mut Transaction<'_, S>,
@@ -231,7 +234,7 @@ pub fn add<S: Alter>(
     stored_row::add(alloc, tx, (), &found)
 }
 
-/// The number that is stored for the state.
+/// The number that is stored for a state: 0 where nobody holds a draft, else 1 to 3 by its stage.
 fn state_of(holder: &Option<Holder>) -> u32
     ensures { result ≡ state_number holder.now }
 {
@@ -245,7 +248,7 @@ fn state_of(holder: &Option<Holder>) -> u32
     }
 }
 
-/// The clerk who is stored as the owner.
+/// What is stored as the owner: the clerk who holds the draft, or NULL where nobody does.
 fn owner_of(holder: &Option<Holder>) -> ValueRef<'_>
     ensures { bound_value (owned result) ≡ value_of (owner_cell holder.now) }
 {

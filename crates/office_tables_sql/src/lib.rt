@@ -1,5 +1,5 @@
-//! The rows of the tables of the office in SQL: found, listed, counted, put and removed, each table
-//! by its own texts.
+//! The rows of the office's tables in SQL: found, listed, counted, put and removed, each table by
+//! its own fixed texts.
 #![tactic(auto)]
 
 pub mod change;

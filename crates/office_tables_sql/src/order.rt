@@ -114,7 +114,7 @@ impl StoredRow for Order {
     }
 }
 
-/// An order beside the number of its intersection: a list has those on all.
+/// An order with the number of its intersection: the list shows those of all intersections.
 impl StoredRow for (InterId, Order) {
     ghost use Rattle.cabinet_core.specs.Within.{IsOrderWithin};
     ghost use Rattle.office_tables_shelf.specs.CabinetReads.{IsOfOne};
@@ -176,9 +176,9 @@ impl Gather<(InterId, Order)> for BTreeMap<InterId, Vec<Order>> {
     }
 }
 
-/// The open orders on each intersection that has any, in the order of their numbers. It refuses
-/// with Damaged where an order is no record, and with Store or NoMemory. No closed order is kept
-/// after it is read.
+/// The open orders on each intersection that has any, in the order of their numbers. `Damaged`
+/// means that an order is no record, `Store` that the database refused, `NoMemory` that a growth
+/// was refused. No closed order is kept after it is read.
 pub fn open_orders<S: Alter>(
     alloc: Global,
     conn: &mut Connection<S>,
@@ -203,7 +203,8 @@ pub fn open_orders<S: Alter>(
     )
 }
 
-/// The closing in the last two columns, which are both NULL while the order is open.
+/// The closing of an order, by the day in column 5 and the clerk in column 6, which are both NULL
+/// while the order is open. `Damaged` means that only one is, or that one is no day or no name.
 fn closing_at(alloc: Global, row: &Row) -> Result<Option<Closing>, ShelfFault>
     ensures day { IfOk result (λ closing. cell_of (column row.now 5) ≡ closed_cell closing) }
     ensures closer { IfOk result (λ closing. cell_of (column row.now 6) ≡ closer_cell closing) }
@@ -222,7 +223,7 @@ fn closing_at(alloc: Global, row: &Row) -> Result<Option<Closing>, ShelfFault>
     Ok(Some(Closing { day, closer }))
 }
 
-/// The day that is stored for the closing.
+/// What is stored as the day of a closing: its number, or NULL where the order is open.
 fn closed_of(closing: &Option<Closing>) -> ValueRef<'static>
     ensures { bound_value (owned result) ≡ value_of (closed_cell closing.now) }
 {
@@ -232,7 +233,7 @@ fn closed_of(closing: &Option<Closing>) -> ValueRef<'static>
     }
 }
 
-/// The clerk who is stored for the closing.
+/// What is stored as the clerk of a closing, or NULL where the order is open.
 fn closer_of(closing: &Option<Closing>) -> ValueRef<'_>
     ensures { bound_value (owned result) ≡ value_of (closer_cell closing.now) }
 {

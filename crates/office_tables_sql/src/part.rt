@@ -82,7 +82,8 @@ impl StoredRow for (PartCode, Hand) {
     }
 }
 
-/// How many of the part are on hand, if there is such a part.
+/// How many of the part are on hand; none where the table has no such part. `Damaged` means that
+/// its row is no record, `Store` that the database refused, `NoMemory` that a growth was refused.
 pub(crate) fn hand<S: Alter>(
     alloc: Global,
     conn: &mut Connection<S>,
@@ -116,7 +117,8 @@ fn copy_of(code: &PartCode) -> Result<PartCode, NoMemory>
     code.clone()
 }
 
-/// Puts how many of the part are on hand.
+/// Stores how many of the part are on hand, whether or not the table has it yet. `Store` means that
+/// the database refused, `NoMemory` that a growth was refused.
 pub fn put<S: Alter>(
     alloc: Global,
     tx: &mut Transaction<'_, S>,

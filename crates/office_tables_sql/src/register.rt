@@ -15,7 +15,8 @@ use office_tables_shelf::shelf::ShelfFault;
 use sqlite::{Alter, Connection, params};
 use std::alloc::Global;
 
-/// The record under a key of the register, if there is one.
+/// The record under a key of the register, if there is one. `Damaged` means that what is stored
+/// there is no record, `Store` that the database refused, `NoMemory` that a growth was refused.
 pub fn record_at<S: Alter>(
     alloc: Global,
     conn: &mut Connection<S>,

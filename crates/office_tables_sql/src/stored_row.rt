@@ -1,4 +1,4 @@
-//! Rows that a table of the office keeps, found and put by one text each.
+//! Rows of the office's tables as records: found, put, added and removed, each by one fixed text.
 
 ghost use Rattle.std.specs.Prelude.{◌≡◌, ◌++◌, ℕ, List, length, Option, IfOk, IfSome, OnOk};
 ghost use Rattle.sqlite.specs.State.{HasCleanDisk, Survives};
@@ -20,34 +20,38 @@ use sqlite::types::ValueRef;
 use sqlite::{Alter, Connection, Row, Transaction, params};
 use std::alloc::Global;
 
-/// The statements on one table, each one fixed text.
+/// The statements of SQL on one table, each one fixed text.
 #[derive(Clone, Copy)]
 pub struct Texts {
-    /// The query of the rows of a list, in the order of their keys.
+    /// The query of the rows of a list, in the order of their keys. Its one parameter is the
+    /// intersection, or it has none where it lists all rows.
     pub list: &'static str,
-    /// The query of the row under a whole key.
+    /// The query of the row under a key, whose parameters are the cells of the key.
     pub find: &'static str,
-    /// The statement that changes the row under a key.
+    /// The statement that changes the row under a key, if there is one. Its parameters are the
+    /// cells of the key, and then the others.
     pub update: &'static str,
-    /// The statement that adds a row.
+    /// The statement that adds a row, by the cells of its key and then the others. The database
+    /// refuses it where a row stands under the key.
     pub insert: &'static str,
 }
 
-/// A row in one table.
+/// A record that one table of the office keeps as a row.
 pub trait StoredRow: Sized + Drop {
-    /// What a row is kept of, and a list has the rows of: an intersection, or the whole office.
+    /// What a record is kept of, and of what a list shows all records: an intersection, or the
+    /// whole office.
     type Of: Copy;
-    /// The number of the intersection, none for the whole office.
+    /// The number of the intersection that records are kept of, none for the whole office.
     ghost whose: { Self.Of → Option ℕ };
-    /// The table that keeps it.
+    /// The table that keeps the record.
     ghost table: { Table };
-    /// The cells of its key, which begin with the intersection where it is kept of one.
+    /// The cells of the record's key, which begin with the intersection where it is kept of one.
     ghost key: { Self.Of → Self → List Cell };
-    /// Its other cells.
+    /// The cells of the record's other columns.
     ghost columns: { Self → List Cell };
-    /// It is within its limits.
+    /// The record is within its limits.
     ghost is_within: { Self → Type 0 };
-    /// The statements on the table.
+    /// The texts of the statements on the table.
     ghost texts: { SqlTexts };
 
     fn texts() -> Texts
@@ -56,7 +60,8 @@ pub trait StoredRow: Sized + Drop {
         ensures update { result.update.now ≡ texts.update }
         ensures insert { result.insert.now ≡ texts.insert };
 
-    /// What a row of the list stands for.
+    /// The record that a row stands for, which the list or the query of a key shows. `Damaged`
+    /// means that it stands for none, `NoMemory` that a growth was refused.
     fn read(alloc: Global, of: Self::Of, row: &Row) -> Result<Self, ShelfFault>
         ensures key { IfOk result (λ x. key of x ≡ key_shown table row.now) }
         ensures columns { IfOk result (λ x. columns x ≡ columns_shown table row.now) }
@@ -65,7 +70,9 @@ pub trait StoredRow: Sized + Drop {
             IsNoRow is_within (key of) columns (key_shown table row.now)
             (columns_shown table row.now) };
 
-    /// The parameters of the statements that put it; `text` is room for a text that is made for it.
+    /// The parameters of the statements that put the record: the cells of its key, and then the
+    /// others. `text` is room for a text that is made for them. The error means that a growth was
+    /// refused.
     fn bind<'a>(
         &'a self,
         alloc: Global,
@@ -82,9 +89,9 @@ pub trait StoredRow: Sized + Drop {
     ghost fits: { (of : Self.Of) (x : Self) → Fits table (key of x) (columns x) };
 }
 
-/// A row under a key of timing, which may be removed.
+/// A record under a key of timing (intersection, kind, and two numbers), which may be removed.
 pub trait TimingKeyed: StoredRow {
-    /// The statement that removes the row under a key.
+    /// The statement that removes the row under a key, if there is one.
     fn remove_text() -> &'static str
         ensures { IsRemoveText Self.table result.now };
 
@@ -92,7 +99,8 @@ pub trait TimingKeyed: StoredRow {
         × (key_given Self.table (key_values id key) ≡ timing_key id key) };
 }
 
-/// The row under a key, if there is one.
+/// The record under a key, if there is one. `Damaged` means that what is stored there is no record,
+/// `Store` that the database refused, `NoMemory` that a growth was refused.
 pub fn find<T: StoredRow, S: Alter>(
     alloc: Global,
     conn: &mut Connection<S>,
@@ -118,7 +126,7 @@ pub fn find<T: StoredRow, S: Alter>(
     }
 }
 
-/// What is stored under the key, whether or not it is a record.
+/// The row that is stored under the key, if there is one, whether or not it is a record.
 fn under<T: StoredRow, S: Alter>(
     conn: &mut Connection<S>,
     key: &[ValueRef<'_>],
@@ -135,7 +143,8 @@ fn under<T: StoredRow, S: Alter>(
     select_one(conn, T::texts().find, key)
 }
 
-/// Puts a row under its key: changes the row that is there, or adds one.
+/// Puts a record under its key: changes the row that is there, or adds one. `Store` means that the
+/// database refused, `NoMemory` that a growth was refused.
 pub fn put<T: StoredRow, S: Alter>(
     alloc: Global,
     tx: &mut Transaction<'_, S>,
@@ -165,7 +174,8 @@ pub fn put<T: StoredRow, S: Alter>(
     Ok(())
 }
 
-/// Adds a row that is new. Where one stands under its key, the database refuses.
+/// Adds a record that is new. `Store` means that the database refused, as it does where a row
+/// stands under the key, `NoMemory` that a growth was refused.
 pub fn add<T: StoredRow, S: Alter>(
     alloc: Global,
     tx: &mut Transaction<'_, S>,
@@ -191,7 +201,8 @@ pub fn add<T: StoredRow, S: Alter>(
     Ok(())
 }
 
-/// Removes the row of the intersection under the key, if there is one.
+/// Removes the row of the intersection under the key, if there is one. `Store` means that the
+/// database refused, `NoMemory` that a growth was refused.
 pub fn remove<T: TimingKeyed, S: Alter>(
     tx: &mut Transaction<'_, S>,
     id: InterId,

@@ -34,7 +34,8 @@ const INSERT: &str = "INSERT INTO timing (inter, kind, a, b, body) VALUES (?1, ?
 
 const REMOVE: &str = "DELETE FROM timing WHERE inter = ?1 AND kind = ?2 AND a = ?3 AND b = ?4";
 
-/// How many rows the intersection's set has, whether or not each of them is a record.
+/// How many rows the intersection's committed set has, whether or not each of them is a record.
+/// `Store` means that the database refused, `NoMemory` that a growth was refused.
 pub fn count<S: Alter>(conn: &mut Connection<S>, id: InterId) -> Result<usize, SqlFault>
     requires { IsOffice (state S.Store conn.old) }
     ensures count { IfOk result (λ count. IsHonest (state S.Store conn.new) →
@@ -88,7 +89,8 @@ impl StoredRow for Row {
         }
     }
 
-    /// Its body is a row, and the columns before it are that row's key.
+    /// Reads a committed row of five columns: the body is a row, and the columns before it are its
+    /// key. Any other row, also one whose body is NULL, is `Damaged`.
     fn read(alloc: Global, id: InterId, row: &SqlRow) -> Result<Row, ShelfFault> {
         let Some(found) = body_at(alloc, Version::Current, row, 4)? else {
             return Err(ShelfFault::Damaged);

@@ -31,11 +31,12 @@ IsHonest s = HasCleanDisk s × IsTrue s.is_open
 abbrev pub IsAlwaysHonest : {S : Type 0} → Ghosts S → Type 0
 IsAlwaysHonest {S} g = (h : Held S) → IsHonest (state g h)
 
--- each table's rows rise by their rowids
+-- each of the office's tables has its rows in the order of their rowids
 abbrev pub AreOrdered : Trees → Type 0
 AreOrdered trees = AllByRecursion (λ t. IsShaped shape.Table (trees t.tree)) office_schema.tables
 
--- no transaction is under way, and the tables are those of the office and obey their schema
+-- no transaction is under way and, if the database is open, all is committed, the tables are those of the office, and
+-- they obey their schema
 pub record IsOffice (s : State) : Type 0 where
   pub autocommit : s.in_transaction ≡ false
   pub schema : IsHonest s → s.now.schema ≡ office_schema
@@ -43,20 +44,21 @@ pub record IsOffice (s : State) : Type 0 where
   pub ordered : IsHonest s → AreOrdered s.now.trees
   pub sound : IsHonest s → IsDatabase s.now
 
--- inside a transaction over the tables of the office
+-- inside a transaction over the tables of the office, which obey their schema
 pub record IsReady (s : State) : Type 0 where
   pub inside : IsTrue s.in_transaction
   pub schema : s.now.schema ≡ office_schema
   pub ordered : AreOrdered s.now.trees
   pub sound : IsDatabase s.now
 
--- the tables are as they were, and the shelf goes on
+-- after a call the tables are those of the office and, if the database is open, it was open before, and they hold
+-- what they held
 pub record Keeps (old new : State) : Type 0 where
   pub office : IsOffice new
   pub honest : IsHonest new → IsHonest old
   pub same : IsHonest new → new.now ≡ old.now
 
--- on a clean disk, a call that answers leaves the database open; it was open before, as `Keeps` says
+-- on a clean disk, a call that answers leaves the database open
 abbrev pub StaysOpen : {A E : Type 0} → Result A E → State → Type 0
 StaysOpen result new = HasCleanDisk new → OnOk result (IsHonest new)
 
@@ -64,7 +66,7 @@ StaysOpen result new = HasCleanDisk new → OnOk result (IsHonest new)
 abbrev pub TellsOpen : {A : Type 0} → Result A ShelfFault → State → Type 0
 TellsOpen result new = HasCleanDisk new → IsTold result → IsHonest new
 
--- the command of a text, and the part of the text that says it
+-- the command of a text that was compiled; nothing where it was not
 abbrev pub command_of : Result Compiled CompileError → Command
 command_of (Ok c) = c.command
 command_of (Err e) = Nothing
@@ -74,36 +76,37 @@ abbrev pub statement_of : List ℕ → Result Compiled CompileError → List ℕ
 statement_of sql (Ok c) = text_of sql c
 statement_of sql (Err e) = []
 
--- the text is a query on the office's tables
+-- the text is understood over the office's tables and names no other, has no RETURNING, and does not read the time
 pub record IsQuery (sql : List ℕ) : Type 0 where
   pub plain : IsPlain (understood office_schema sql)
   pub unlisted : reads_listing office_schema sql ≡ false
 
--- the rows are the answer of that query
+-- the rows are what the query of the text answers, with these parameters, over the database
 abbrev pub Reads : List ℕ → Row → Database → List Row → Type 0
 Reads sql params db rows = effect.Reads (command_of (understood office_schema sql)) db params rows
 
--- the text is a write on the office's tables
+-- the text is understood over the office's tables, has no RETURNING, and does not read the time
 abbrev pub IsWriting : List ℕ → Type 0
 IsWriting sql = IsPlain (understood office_schema sql)
 
--- the write of the text was made, in a transaction that goes on
+-- the write of the text was made with these parameters on so many rows, in a transaction that goes on
 pub record Ran (sql : List ℕ) (params : Row) (old new : State) (count : ℕ) : Type 0 where
   pub was_open : IsTrue old.is_open
   pub inside : IsTrue new.in_transaction
   pub runs : old.now.schema ≡ office_schema → Runs old new None (command_of (understood office_schema sql)) (statement_of sql (understood office_schema sql)) params count
 
--- inside the transaction, the eight tables hold this now, and the version's is as it was
+-- inside a transaction, the eight tables hold this content, and `office_version` is as it was
 pub record IsTurned (tables : Content) (old new : State) : Type 0 where
   pub ready : IsReady new
   pub content : content_now new ≡ tables
   pub version : new.now.trees layout.office_version.tree ≡ old.now.trees layout.office_version.tree
 
--- a step that succeeds on a clean disk, in a transaction that was ready, leaves the eight tables with this content, and the version's as it was
+-- a step that succeeds on a clean disk, in a transaction that was ready, leaves the eight tables with this content,
+-- and `office_version` as it was
 abbrev pub TurnsTo : {A E : Type 0} → Result A E → Content → State → State → Type 0
 TurnsTo result tables old new = HasCleanDisk new → OnOk result (IsReady old → IsTurned tables old new)
 
--- the last commit stands
+-- if the database is open after a call, it was open before, and the last commit stands
 pub record StandsOn (old new : State) : Type 0 where
   pub honest : IsHonest new → IsHonest old
   pub committed : IsHonest new → new.committed ≡ old.committed

@@ -5,7 +5,8 @@ use Rattle.sqlite.specs.Tree.{Trees}
 use Rattle.sqlite_schema.specs.Rules.{agree}
 use Rattle.sqlite_value.specs.Keys.{plain}
 
--- the places in a stored row, whose rowid or INTEGER PRIMARY KEY is at place 0; and the places of a key by itself
+-- where a table keeps its rows: its tree, the places of its key and of its other columns in a stored row, whose
+-- rowid is at place 0, and the places of the cells of a key that stands by itself
 pub record Layout : Type 0 where
   pub tree : ℕ
   pub keys : List ℕ
@@ -44,7 +45,7 @@ delivery = record { tree = 11; keys = 1 ∷ 2 ∷ []; places = 0 ∷ 1 ∷ []; c
 abbrev pub used_part : Layout
 used_part = record { tree = 13; keys = 1 ∷ 2 ∷ 3 ∷ []; places = 0 ∷ 1 ∷ 2 ∷ []; columns = 4 ∷ 5 ∷ [] }
 
--- where the table of the tables' version has its key and column
+-- where the table `office_version` has its key and its column of the version
 abbrev pub office_version : Layout
 office_version = record { tree = 15; keys = 0 ∷ []; places = 0 ∷ []; columns = 2 ∷ [] }
 
@@ -52,14 +53,14 @@ office_version = record { tree = 15; keys = 0 ∷ []; places = 0 ∷ []; columns
 abbrev pub values_at : List ℕ → Row → Row
 values_at places row = map (column row) places
 
--- the row has this key, as SQL's = compares
+-- the row has this key in a table, as SQL's = compares
 abbrev pub has_key : Layout → Row → Row → Bool
 has_key t key row = agree plain t.keys row t.places key
 
--- the other columns of the row with this key
+-- the values beside the key of the first of these rows with this key, if there is one
 abbrev pub columns_in : Layout → List Row → Row → Option Row
 columns_in t rows key = option_map (values_at t.columns) (find (has_key t key) rows)
 
--- the columns of the row with a key, in a layout's table
+-- the values beside the key of the row with this key that trees hold of a table, if there is one
 abbrev pub columns_of : Layout → Trees → Row → Option Row
 columns_of t trees = columns_in t (trees t.tree)

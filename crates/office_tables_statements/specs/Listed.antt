@@ -1,13 +1,13 @@
--- The columns of a timing or draft row as a query shows it.
+-- The cells of a timing or draft row as a query of five columns shows it.
 use Rattle.std.specs.Prelude.{List, [], ◌∷◌}
 use Rattle.sqlite.specs.Order.{Row}
 use Rattle.office_tables_shelf.specs.Cells.{Cell}
 use Rattle.office_tables_statements.specs.Stored.{cells_at}
 
--- intersection, kind, and the two numbers of the key
+-- the key cells of a shown row: intersection, kind, and the two numbers of the key
 abbrev pub shown_key : Row → List Cell
 shown_key = cells_at (0 ∷ 1 ∷ 2 ∷ 3 ∷ [])
 
--- the body that a list of rows of a plan shows
+-- the cell of the body of a shown row, which is null in a draft row that removes
 abbrev pub shown_body : Row → List Cell
 shown_body = cells_at (4 ∷ [])

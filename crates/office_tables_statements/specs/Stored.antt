@@ -11,7 +11,7 @@ use Rattle.office_tables_shelf.specs.Content.{Content}
 use Rattle.office_tables_statements.specs.Layout as layout
 use Rattle.office_tables_statements.specs.Layout.{Layout, values_at}
 
--- a value of SQL as a cell
+-- a value of SQL as a cell: a real number and a blob are odd, which no office stores
 abbrev pub cell_of : Value → Cell
 cell_of Null = null
 cell_of (Int n) = number n
@@ -32,7 +32,7 @@ cells values = map cell_of values
 abbrev pub cells_at : List ℕ → Row → List Cell
 cells_at places row = cells (values_at places row)
 
--- the rows of a table, by the cells of their keys
+-- the stored rows of a table, by the cells of their keys, as it is laid out
 abbrev pub rows_in : Layout → List Row → TableRows
 rows_in t = rows_by (cells_at t.keys) (cells_at t.columns)
 
@@ -40,7 +40,7 @@ rows_in t = rows_by (cells_at t.keys) (cells_at t.columns)
 abbrev pub rows_stored : Layout → Trees → TableRows
 rows_stored t trees = rows_in t (trees t.tree)
 
--- what the trees of the eight tables hold
+-- what trees hold of the office's eight tables, as they are laid out
 abbrev pub content_of : Trees → Content
 content_of trees = record {
   intersection = rows_stored layout.intersection trees;
@@ -57,7 +57,7 @@ content_of trees = record {
 abbrev pub content_now : State → Content
 content_now s = content_of s.now.trees
 
--- a number or a text
+-- the value is an integer or a text
 abbrev pub is_sound : Value → Bool
 is_sound Null = false
 is_sound (Int n) = true
@@ -65,6 +65,6 @@ is_sound (Real x) = false
 is_sound (Text t) = true
 is_sound (Blob b) = false
 
--- the values of the row at these places are each a number or a text
+-- the values of the row at these places are each an integer or a text
 abbrev pub are_sound : List ℕ → Row → Bool
 are_sound places row = list_all (λ at. is_sound (column row at)) places

@@ -76,7 +76,7 @@ is_keyed table.Part = true
 is_keyed table.Delivery = true
 is_keyed table.UsedPart = true
 
--- the rows whose key columns are the parameters
+-- the filter of the rows whose columns at these places are the parameters at those places
 abbrev pub of_key : List ℕ → List ℕ → List Term
 of_key [] at = []
 of_key (p ∷ ps) [] = []
@@ -84,37 +84,37 @@ of_key (p ∷ ps) (q ∷ qs) = op2 (Compare Eq Binary) (col 1 p) (col 0 q) ∷ o
 
 -- ---- the rows of a list: those of an intersection, or all
 
--- the rows whose first key column is the parameter
+-- the filter of the rows whose first key column is the parameter
 abbrev pub of_first : Table → List Term
 of_first t = of_key (layout_at t).keys (0 ∷ [])
 
--- the filter of a query: rows of one intersection, or all
+-- the filter of a list: the rows of one intersection, which is the parameter, or all
 abbrev pub filter_of : Table → Option ℕ → List Term
 filter_of t None = []
 filter_of t (Some id) = of_first t
 
--- the parameters of a query: the intersection, or none
+-- the parameters of a list: the number of the intersection, or none
 abbrev pub params_of : Option ℕ → Row
 params_of None = []
 params_of (Some id) = Int (pos id) ∷ []
 
--- the rows of one intersection, or all, in the order of their keys
+-- the rows of a table that a list has, in the order of their keys: those of one intersection, or all
 abbrev pub rows_among : Option ℕ → TableRows → List (List Cell × List Cell)
 rows_among None rows = entries rows
 rows_among (Some id) rows = rows_of id rows
 
 -- ---- a row as a list shows it: the columns of the key, and then the others
 
--- places that follow each other from one on, as many as a list has
+-- as many places as the list has members, one after another from this one on
 abbrev pub places_from : ℕ → List ℕ → List ℕ
 places_from n [] = []
 places_from n (p ∷ ps) = n ∷ places_from (suc n) ps
 
--- the places that a query of all columns shows: keys, then columns
+-- the places in a stored row that a query of all columns shows: those of the key, and then the others
 abbrev pub places_of : Table → List ℕ
 places_of t = (layout_at t).keys ++ (layout_at t).columns
 
--- how many columns a table has
+-- how many columns a query of all columns shows of a table
 abbrev pub width_of : Table → ℕ
 width_of t = length (places_of t)
 
@@ -132,16 +132,16 @@ row_shown t row = (key_shown t row, columns_shown t row)
 
 -- ---- what the contracts of a table's rows say
 
--- what is stored for it
+-- what is stored for a record: the cells of its key, and its other cells
 abbrev pub stored_for : {X : Type 0} → (X → List Cell) → (X → List Cell) → X → List Cell × List Cell
 stored_for key columns x = (key x, columns x)
 
--- the rows of the list in the table, in the order of their keys
+-- the records are those that a table stores of one intersection, or all, in the order of their keys
 abbrev pub ListsRows : {X : Type 0} → Table → (X → List Cell) → (X → List Cell) → Content → Option ℕ → List X → Type 0
 ListsRows t key columns tables whose xs =
     map (stored_for key columns) xs ≡ rows_among whose (rows_at tables t)
 
--- the row shows what stands under the key, if anything does
+-- the row that was found shows what stands under the key of a table; none was found where nothing does
 pub record IsUnder (t : Table) (tables : Content) (key : List Cell) (found : Option Row) : Type 0 where
   pub stored : option_map (columns_shown t) found ≡ get (rows_at tables t) key
   pub keyed : IfSome found (λ row. key_shown t row ≡ key)
@@ -163,14 +163,14 @@ listed_by t filter = record {
   offset = lit (Int (pos 0));
 }
 
--- the text lists the rows, in the order of their keys
+-- the text lists the rows of a table, of one intersection or all, in the order of their keys
 pub record IsListText (t : Table) (whose : Option ℕ) (sql : List ℕ) : Type 0 where
   pub names : List (List ℕ)
   pub is : command_of (understood office_schema sql)
       ≡ Select (record { lets = []; body = listed_by (layout_at t) (filter_of t whose) }) names
   pub query : IsQuery sql
 
--- how many rows pass
+-- the grouping that counts the rows that pass a filter
 abbrev pub count_grouping : Grouping
 count_grouping = record { keys = []; collations = []; aggregates = record { op = CountRows; distinct = false; collation = Binary; argument = lit Null } ∷ []; having = [] }
 
@@ -188,7 +188,7 @@ counted_by t filter = record {
   offset = lit (Int (pos 0));
 }
 
--- the text counts the rows of an intersection
+-- the text counts the rows of one intersection, which is its parameter, in a table
 pub record IsCountText (t : Table) (sql : List ℕ) : Type 0 where
   pub names : List (List ℕ)
   pub is : command_of (understood office_schema sql)
@@ -213,21 +213,21 @@ picked_where t filter shown = record {
 abbrev pub picked_by : Layout → List Term → Query
 picked_by t = picked_where t (of_key t.keys t.places)
 
--- the query that finds the row of a table with a key
+-- the query that shows these columns of the row whose key columns are the parameters
 abbrev pub found_by : Layout → List ℕ → Query
 found_by t shown = picked_by t (map (col 1) shown)
 
--- the text finds the row whose key is the parameters
+-- the text shows the row whose key is the parameters, with the columns of the key first
 pub record IsFindText (t : Table) (sql : List ℕ) : Type 0 where
   pub names : List (List ℕ)
   pub is : command_of (understood office_schema sql) ≡ Select (record { lets = []; body = found_by (layout_at t) (places_of t) }) names
   pub query : IsQuery sql
 
--- values for the columns of a key, each a number or a text
+-- the values are parameters for the columns of a key, each an integer or a text
 abbrev pub IsKeyOf : Table → Row → Type 0
 IsKeyOf t values = are_sound (layout_at t).places values ≡ true
 
--- the key of these values
+-- the key cells that parameters give
 abbrev pub key_given : Table → Row → List Cell
 key_given t = cells_at (layout_at t).places
 
@@ -235,24 +235,25 @@ key_given t = cells_at (layout_at t).places
 abbrev pub beside_rowid : {X : Type 0} → Table → X → List X → List X
 beside_rowid t nothing key = cond (is_keyed t) key (nothing ∷ [])
 
--- the parameters that follow the key
+-- the terms of the parameters that follow those of the key, one for each other column
 abbrev pub others_given : Table → List Term
 others_given t = map (col 0) (places_from (length (layout_at t).keys) (layout_at t).columns)
 
--- a row of the parameters, its rowid to be chosen where it is not the key
+-- the source of a new row, by the parameters: its rowid is the key of an intersection, and to be chosen in other
+-- tables
 abbrev pub source_at : Table → Source
 source_at t = Values (cond (is_keyed t) (lit Null) (col 0 0) ∷ (beside_rowid t (lit Null) (map (col 0) (layout_at t).places) ++ others_given t)) (suc (length (schema_at t).columns))
 
--- the row as it stands, but for the columns beside the key, which the parameters give
+-- the terms of a changed row: as it stands, but for the columns beside the key, which the parameters give
 abbrev pub renewed_at : Table → List Term
 renewed_at t = col 1 0 ∷ col 1 0 ∷ (beside_rowid t (lit Null) (map (col 1) (layout_at t).keys) ++ others_given t)
 
--- the text gives the row under the key of the parameters the other columns of the parameters
+-- the text changes the row whose key is the first parameters: its other columns take the parameters that follow
 pub record IsUpdateText (t : Table) (sql : List ℕ) : Type 0 where
   pub is : command_of (understood office_schema sql) ≡ Update (place_at t) (record { lets = []; body = picked_by (layout_at t) (renewed_at t) })
   pub plain : IsWriting sql
 
--- the text adds a row of the parameters
+-- the text adds a row whose key and other columns are the parameters
 pub record IsInsertText (t : Table) (sql : List ℕ) : Type 0 where
   pub is : command_of (understood office_schema sql) ≡ Insert (place_at t) (source_at t)
   pub plain : IsWriting sql
@@ -262,7 +263,7 @@ pub record IsRemoveText (t : Table) (sql : List ℕ) : Type 0 where
   pub is : command_of (understood office_schema sql) ≡ Delete (place_at t) (record { lets = []; body = found_by (layout_at t) (0 ∷ []) })
   pub plain : IsWriting sql
 
--- the text removes the rows of an intersection
+-- the text removes all rows of one intersection, which is its parameter
 pub record IsDropText (t : Table) (sql : List ℕ) : Type 0 where
   pub is : command_of (understood office_schema sql)
       ≡ Delete (place_at t) (record {
@@ -271,13 +272,13 @@ pub record IsDropText (t : Table) (sql : List ℕ) : Type 0 where
       })
   pub plain : IsWriting sql
 
--- a key of timing as its columns are bound
+-- a key of a timing or draft row, with its intersection, as the parameters of a statement
 abbrev pub key_values : ℕ → Key → Row
 key_values id key = Int (pos id) ∷ Int (pos (kind_of key)) ∷ Int (pos (first_of key)) ∷ Int (pos (second_of key)) ∷ []
 
 -- ---- what is bound for cells
 
--- a cell as a value of SQL
+-- a cell as a value of SQL; an odd one, which no statement binds, as NULL
 abbrev pub value_of : Cell → Value
 value_of null = Null
 value_of (number n) = Int n
@@ -302,7 +303,7 @@ suits_kind kind.Real c = false
 suits_kind kind.Blob c = false
 suits_kind kind.Any c = false
 
--- columns take cells as they are
+-- columns take cells as they are, as far as both lists go
 abbrev pub suit : List Column → List Cell → Bool
 suit [] cells = true
 suit (c ∷ cs) [] = true
@@ -312,15 +313,15 @@ suit (c ∷ cs) (x ∷ xs) = suits_kind c.kind x && suit cs xs
 abbrev pub id_given : Table → List Cell → Cell
 id_given t key = cond (is_keyed t) null (unwrap_or (slice_get key 0) null)
 
--- what is stored beside the rowid
+-- the values that are stored beside the rowid of a row with these cells
 abbrev pub stored_beside : Table → List Cell → List Cell → Row
 stored_beside t key columns = values_of (beside_rowid t null key ++ columns)
 
--- the row that is given for the cells
+-- the values that an insertion gives for a row with these cells, its rowid first
 abbrev pub row_given : Table → List Cell → List Cell → Row
 row_given t key columns = value_of (id_given t key) ∷ stored_beside t key columns
 
--- the table takes the cells as they are
+-- the table takes a row with these key cells and other cells, as they are, and shows them again
 pub record Fits (t : Table) (key columns : List Cell) : Type 0 where
   -- the cells are what the statements read of the parameters
   pub whole : IsKeyOf t (values_of (key ++ columns))
@@ -330,7 +331,7 @@ pub record Fits (t : Table) (key columns : List Cell) : Type 0 where
   -- the columns take the cells
   pub numbered : suits_kind kind.Integer (id_given t key) ≡ true
   pub suits : suit (schema_at t).columns (beside_rowid t null key ++ columns) ≡ true
-  -- a row of them that is added, and one that took them, show them
+  -- a row of these cells shows them when it was added, and when it was changed to them
   pub placed : (rows : List Row) → (cells_at (layout_at t).keys (with_rowid Chosen rows (row_given t key columns)) ≡ key) × (cells_at (layout_at t).columns (with_rowid Chosen rows (row_given t key columns)) ≡ columns)
   pub kept : (n : ℤ) (row : Row) → cells_at (layout_at t).keys (Int n ∷ row) ≡ key → cells_at (layout_at t).keys (Int n ∷ stored_beside t key columns) ≡ key
   pub shows : (n : ℤ) → cells_at (layout_at t).columns (Int n ∷ stored_beside t key columns) ≡ columns

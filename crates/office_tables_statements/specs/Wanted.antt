@@ -28,7 +28,7 @@ column_wanted want = column_of want.0.now want.1 want.2
 abbrev pub reference_wanted : WantedReference → Reference
 reference_wanted want = refers_to want.0.now want.1.now
 
--- the node at that place compares a column of the row with a number
+-- the node at this place is the comparison of a column with a number that a check wants
 abbrev pub ComparesAt : List Op → ℕ → WantedCheck → Type 0
 ComparesAt nodes root want =
     (left : ℕ) × (right : ℕ) × (slice_get nodes root ≡ Some (op.Binary (Compare want.0 Binary) left right))
@@ -39,12 +39,12 @@ abbrev pub checks_wanted : Option WantedCheck → List Term
 checks_wanted None = []
 checks_wanted (Some want) = op2 (Compare want.0 Binary) (col 1 want.1) (lit (Int want.2)) ∷ []
 
--- the column that is the number of a row, where the key is that
+-- the place of the column that is the rowid, where the rowid is the key
 abbrev pub key_of : WantedKey → Option ℕ
 key_of Rowid = Some 0
 key_of (Places places index) = None
 
--- the columns of the primary key
+-- the places of the columns of the primary key
 abbrev pub primary_of : WantedKey → List ℕ
 primary_of Rowid = 0 ∷ []
 primary_of (Places places index) = places.now
@@ -54,7 +54,7 @@ abbrev pub uniques_of : WantedKey → List (List ℕ)
 uniques_of Rowid = []
 uniques_of (Places places index) = places.now ∷ []
 
--- how the keys beside the number of a row are ordered
+-- how the keys are ordered that are no rowid
 abbrev pub orders_of : WantedKey → List Order
 orders_of Rowid = []
 orders_of (Places places index) = plain ∷ []
@@ -76,11 +76,11 @@ table_wanted want = record {
   is_counted = false;
 }
 
--- the index that keeps a PRIMARY KEY comes after its table
+-- the index that keeps the PRIMARY KEY of a table, whose number is the one before its own
 abbrev pub index_wanted : List ℕ → ℕ → List ℕ → Index
 index_wanted name table places = record { name = name; tree = table + 1; table = table; columns = places; order = plain; is_unique = true }
 
--- the index of a key, before others; none where the key is the number of a row
+-- the index of a key, before others; none where the key is the rowid
 abbrev pub indexes_of : WantedKey → ℕ → List Index → List Index
 indexes_of Rowid table more = more
 indexes_of (Places places index) table more = index_wanted index.now table places.now ∷ more

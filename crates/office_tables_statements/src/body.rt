@@ -7,7 +7,8 @@ ghost use Rattle.office_tables_shelf.specs.Rows.{body_of};
 use signal_records::{NoMemory, Row, write_row};
 use std::alloc::Global;
 
-/// The fields of the row with a comma between.
+/// The text that a table keeps of a row: its fields with a comma between, as today's version spells
+/// them. `NoMemory` means that a growth was refused.
 pub fn write_body(alloc: Global, row: &Row) -> Result<String, NoMemory>
     ensures { IfOk result (λ text. string_bytes text ≡ body_of row.now) }
 {

@@ -15,11 +15,13 @@ use std::alloc::Global;
 /// A version of the tables, which says how rows are spelled.
 #[derive(Clone, Copy)]
 pub enum Version {
+    /// Version 1, whose grammar has no lead.
     First,
+    /// Today's version, which is 2.
     Current,
 }
 
-/// The row of a version that the fields spell, or the first fault.
+/// The row that the fields spell in this version, or the first fault.
 fn read_row_of(alloc: Global, version: Version, fields: &[&[u8]]) -> Result<Row, RowFault>
     ensures found { IfOk result (λ row. texts fields.now ≡ spelling (limits_of version) row) }
     ensures within { IfOk result (λ row. IsRowWithin (limits_of version) row) }
@@ -31,7 +33,8 @@ fn read_row_of(alloc: Global, version: Version, fields: &[&[u8]]) -> Result<Row,
     }
 }
 
-/// The row of a version whose fields, with a comma between, are these bytes, if there is one.
+/// The row whose fields, with a comma between, are these bytes in this version; none where there is
+/// no such row. `NoMemory` means that a growth was refused.
 pub(crate) fn row_of_body(
     alloc: Global,
     version: Version,
@@ -52,7 +55,7 @@ pub(crate) fn row_of_body(
     }
 }
 
-/// The fields between commas; there is one at least.
+/// The fields of a body, which stand between its commas; there is one at least.
 fn fields_of(alloc: Global, body: &[u8]) -> Result<Vec<&[u8]>, NoMemory>
     ensures { IfOk result (λ fields. texts fields.items ≡ slice_split (λ b. b == 44) body.now) }
 {

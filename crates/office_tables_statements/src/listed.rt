@@ -1,5 +1,5 @@
-//! The columns of a shown timing or draft row: intersection, kind, the two numbers of the key, and
-//! the body.
+//! The columns of a shown timing or draft row as what they stand for: intersection, kind, the two
+//! numbers of the key, and the body.
 
 ghost use Rattle.std.specs.Prelude.{◌≡◌, ◌≢◌, ◌<◌, ◌≤◌, pos, length, Option, None, Some, IfOk, IfSome, OnOk, Ok};
 ghost use Rattle.sqlite.specs.Order.{column};
@@ -21,7 +21,8 @@ use signal_records::{InterId, Key, PatternNo, PhaseNo, RingNo, Row, SeqNo, Split
 use sqlite::Row as SqlRow;
 use std::alloc::Global;
 
-/// The row of a version in the column of the bodies, where it is not NULL.
+/// The row that the column at this place, from 0, spells in this version; none where it is NULL.
+/// `Damaged` means that it is not NULL and spells none, `NoMemory` that a growth was refused.
 pub fn body_at(
     alloc: Global,
     version: Version,
@@ -47,7 +48,7 @@ pub fn body_at(
     }
 }
 
-/// Tests that the column has this number.
+/// Tests that the column at this place, from 0, has this number. `Damaged` means that it has not.
 pub fn check_number(row: &SqlRow, at: usize, n: u32) -> Result<(), ShelfFault>
     ensures ok { OnOk result (cell_of (column row.now at) ≡ number (pos n)) }
     ensures damaged { result ≡ Err ShelfFault.Damaged → at < length row.now →
@@ -60,7 +61,8 @@ pub fn check_number(row: &SqlRow, at: usize, n: u32) -> Result<(), ShelfFault>
     }
 }
 
-/// Tests that the first columns are those of the key.
+/// Tests that the first four columns are the intersection, the kind, and the two numbers of the
+/// key. `Damaged` means that they are not.
 pub fn check_key(row: &SqlRow, id: InterId, key: &Key) -> Result<(), ShelfFault>
     ensures ok { OnOk result (shown_key row.now ≡ timing_key id key.now) }
     ensures damaged { result ≡ Err ShelfFault.Damaged → 4 ≤ length row.now →
@@ -72,7 +74,8 @@ pub fn check_key(row: &SqlRow, id: InterId, key: &Key) -> Result<(), ShelfFault>
     check_number(row, 3, key.second())
 }
 
-/// The key in the first columns.
+/// The key whose intersection, kind and two numbers are in the first four columns, of which the
+/// first has to be this intersection. `Damaged` means that they are no key of it.
 pub fn read_key(row: &SqlRow, id: InterId) -> Result<Key, ShelfFault>
     ensures ok { IfOk result (λ key. shown_key row.now ≡ timing_key id key) }
     ensures within { IfOk result (IsKeyWithin current_limits) }
@@ -89,7 +92,8 @@ pub fn read_key(row: &SqlRow, id: InterId) -> Result<Key, ShelfFault>
     Ok(key)
 }
 
-/// The key of a kind with these numbers; a kind with one number passes over the second.
+/// The key of this kind, 1 to 4, with these numbers, if there is one; a kind with one number passes
+/// over the second.
 fn key_of_numbers(kind: u32, first: u32, second: u32) -> Option<Key>
     ensures some { IfSome result (λ key. key ≡ key_at kind first second) }
     ensures within { IfSome result (IsKeyWithin current_limits) }

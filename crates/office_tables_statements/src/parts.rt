@@ -1,4 +1,4 @@
-//! The parts of a schema, compared with what they have to be.
+//! The parts of a database's schema, compared with what the tables of the office have to be.
 
 ghost use Rattle.std.specs.Prelude.{◌≡◌, ◌<◌, ◌^◌, None, Some, [], ◌∷◌, false, map, slice_get, IsTrue};
 ghost use Rattle.std.specs.List.{AllByRecursion};
@@ -18,21 +18,24 @@ use sqlite_value::value::Value;
 /// What a column has to be: its name, its kind, and whether it refuses NULL.
 pub(crate) struct WantedColumn<'a>(pub(crate) &'a str, pub(crate) Kind, pub(crate) bool);
 
-/// What a foreign key has to be: the table that it names, and the places of its columns.
+/// What a foreign key has to be: the table that it names, and the places of its columns in a stored
+/// row, whose rowid is at place 0.
 pub(crate) struct WantedReference<'a>(pub(crate) &'a str, pub(crate) &'a [usize]);
 
-/// What a CHECK has to be: the column at that place is compared with a number.
+/// What a CHECK has to be: this comparison of the column at this place of a stored row with a
+/// number.
 pub(crate) struct WantedCheck(pub(crate) CompareOp, pub(crate) usize, pub(crate) i64);
 
 /// How the rows of a table are found.
 pub(crate) enum WantedKey<'a> {
     /// By one INTEGER PRIMARY KEY, the first column.
     Rowid,
-    /// By a PRIMARY KEY of the columns at these places, which the index of that name keeps.
+    /// By a PRIMARY KEY of the columns at these places of a stored row, which the index of that
+    /// name keeps.
     Places(&'a [usize], &'a str),
 }
 
-/// What a table has to be.
+/// What a table has to be. `tree` is its number, a place in the catalog.
 pub(crate) struct WantedTable<'a> {
     pub(crate) name: &'a str,
     pub(crate) tree: u32,
@@ -112,7 +115,7 @@ fn is_number(nodes: &[Op], at: usize, number: i64) -> bool
     }
 }
 
-/// Whether the node compares the column at that place with a number.
+/// Whether the node at this place is the wanted comparison of a column with a number.
 fn compares(nodes: &[Op], root: usize, want: &WantedCheck) -> bool
     ensures is { IsTrue result → ComparesAt nodes.now root want.now }
     ensures other { ComparesAt nodes.now root want.now → IsTrue result }
@@ -125,7 +128,7 @@ fn compares(nodes: &[Op], root: usize, want: &WantedCheck) -> bool
     }
 }
 
-/// Whether this is the one CHECK.
+/// Whether the checks of a table are the one that is wanted.
 fn is_comparison(checks: &Terms, want: &WantedCheck) -> bool
     ensures is { IsTrue result → checks.now ≡ checks_wanted (Some want.now) }
     ensures other { checks.now ≡ checks_wanted (Some want.now) → IsTrue result }
@@ -174,7 +177,7 @@ fn is_plain_order(orders: &[Order]) -> bool
     *order == Order::PLAIN
 }
 
-/// Whether the rows are found so.
+/// Whether the rows of the table are found by the wanted key.
 fn is_keyed(table: &Table, want: &WantedKey<'_>) -> bool
     ensures key { IsTrue result → table.now.key ≡ key_of want.now }
     ensures primary { IsTrue result → table.now.primary ≡ primary_of want.now }
@@ -200,7 +203,7 @@ fn is_keyed(table: &Table, want: &WantedKey<'_>) -> bool
     }
 }
 
-/// Whether nothing of a new row is computed.
+/// Whether the table computes nothing of a new row, and has no AUTOINCREMENT.
 fn is_plain(table: &Table) -> bool
     ensures computed { IsTrue result → table.now.computed ≡ [] }
     ensures stamps { IsTrue result →
@@ -217,7 +220,7 @@ fn is_plain(table: &Table) -> bool
         && !table.is_counted
 }
 
-/// Whether this is the table, whatever its number.
+/// Whether the table is the wanted one, whatever its number.
 fn is_alike(table: &Table, want: &WantedTable<'_>) -> bool
     ensures is { IsTrue result → table.now ≡ with_tree (table_wanted want.now) table.now.tree }
     ensures other { table.now ≡ with_tree (table_wanted want.now) table.now.tree → IsTrue result }
@@ -230,7 +233,7 @@ fn is_alike(table: &Table, want: &WantedTable<'_>) -> bool
         && is_plain(table)
 }
 
-/// Whether this is one of the wanted tables, whatever its number.
+/// Whether the table is one of the wanted ones, whatever its number.
 pub(crate) fn is_one_of(table: &Table, wanted: &[WantedTable<'_>]) -> bool
     ensures { IsTrue result → IsAlikeOne (map table_wanted wanted.now) table.now }
 {
@@ -247,6 +250,7 @@ fn is_table(table: &Table, want: &WantedTable<'_>) -> bool
     table.tree == want.tree && is_alike(table, want)
 }
 
+/// Whether the tables are the wanted ones, in their order and under their numbers.
 pub(crate) fn are_tables(tables: &[Table], wanted: &[WantedTable<'_>]) -> bool
     ensures is { IsTrue result → tables.now ≡ map table_wanted wanted.now }
     ensures other { tables.now ≡ map table_wanted wanted.now → IsTrue result }
@@ -260,7 +264,8 @@ pub(crate) fn are_tables(tables: &[Table], wanted: &[WantedTable<'_>]) -> bool
     is_table(table, want) && are_tables(tables, wanted)
 }
 
-/// Whether this is the index of that table's PRIMARY KEY.
+/// Whether the index keeps the PRIMARY KEY of the table with this number, whose columns are at
+/// these places.
 fn is_index(index: &Index, name: &str, table: u32, places: &[usize]) -> bool
     requires { table < 2 ^ 31 }
     ensures is { IsTrue result → index.now ≡ index_wanted name.now table places.now }
@@ -274,7 +279,7 @@ fn is_index(index: &Index, name: &str, table: u32, places: &[usize]) -> bool
         && index.is_unique
 }
 
-/// Whether these are the indexes of the tables' PRIMARY KEYs.
+/// Whether the indexes are those of the wanted tables' PRIMARY KEYs, in the order of the tables.
 pub(crate) fn are_indexes(indexes: &[Index], wanted: &[WantedTable<'_>]) -> bool
     requires { AllByRecursion (λ w. w.tree < 2 ^ 31) wanted.now }
     ensures is { IsTrue result → indexes.now ≡ indexes_wanted wanted.now }

@@ -9,7 +9,8 @@ use crate::parts::{are_indexes, are_tables, is_one_of};
 use crate::tables::{self, all_tables};
 use sqlite_schema::schema::{Schema, Table};
 
-/// The texts that make the tables, in the order of their numbers.
+/// The statements of SQL that make the office's nine tables, in the order of their numbers. No
+/// table refers to a later one.
 pub const CREATES: [&str; 9] = [
     tables::INTERSECTION,
     tables::TIMING,
@@ -22,7 +23,8 @@ pub const CREATES: [&str; 9] = [
     tables::OFFICE_VERSION,
 ];
 
-/// Whether these are the tables of the office and nothing else.
+/// Whether a database has the nine tables of the office under their numbers, with the indexes of
+/// their keys, and nothing else.
 pub fn is_office(schema: &Schema) -> bool
     ensures is { IsTrue result → schema.now ≡ office_schema }
     ensures other { schema.now ≡ office_schema → IsTrue result }
@@ -33,7 +35,7 @@ pub fn is_office(schema: &Schema) -> bool
         && are_tables(schema.tables.as_slice(), tables)
 }
 
-/// Whether each is a table of the office, whatever its number.
+/// Whether each of these is a table of the office, whatever its number. Tables may be missing.
 pub fn are_of_office(tables: &[Table]) -> bool
     ensures { IsTrue result → AllByRecursion IsOffices tables.now }
 {

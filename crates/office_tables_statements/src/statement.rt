@@ -17,7 +17,7 @@ use sqlite::{Alter, Connection, Error, ErrorCode, Row, Transaction};
 pub enum SqlFault {
     /// A growth was refused.
     NoMemory,
-    /// The database refused.
+    /// The database refused, for whatever other reason.
     Store,
 }
 
@@ -50,8 +50,9 @@ impl From<SqlFault> for ShelfFault {
     }
 }
 
-/// All rows of the answer. The empty text is prepared first, which commits nothing and shows that
-/// the connection is open.
+/// All rows of the answer to a query, in its order. The empty text is prepared first, which commits
+/// nothing and shows that the connection is open. `Store` means that the database refused,
+/// `NoMemory` that a growth was refused.
 pub fn select<S: Alter>(
     conn: &mut Connection<S>,
     sql: &str,
@@ -70,7 +71,8 @@ pub fn select<S: Alter>(
     Ok(rows)
 }
 
-/// The one row of the answer, where there is one.
+/// The row of the answer to a query, if there is one. `Store` means that the database refused, or
+/// that there are more, `NoMemory` that a growth was refused.
 pub fn select_one<S: Alter>(
     conn: &mut Connection<S>,
     sql: &str,
@@ -91,7 +93,8 @@ pub fn select_one<S: Alter>(
     Ok(rows.pop())
 }
 
-/// Runs one write, and answers how many rows it changed.
+/// Runs one write in a transaction, and answers how many rows it changed. `Store` means that the
+/// database refused, `NoMemory` that a growth was refused.
 pub fn write<S: Alter>(
     tx: &mut Transaction<'_, S>,
     sql: &str,

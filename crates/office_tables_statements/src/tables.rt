@@ -1,4 +1,5 @@
-//! The tables of the office: the text that makes each, and what it has to be.
+//! The tables of the office: the statement of SQL that makes each, and what it has to be in a
+//! schema.
 
 ghost use Rattle.std.specs.Prelude.{◌≡◌, ◌<◌, ◌^◌, map};
 ghost use Rattle.std.specs.List.{AllByRecursion};
@@ -52,8 +53,8 @@ pub(crate) const OFFICE_VERSION: &str = "\
     CREATE TABLE office_version (one INTEGER PRIMARY KEY CHECK (one = 1), \
     version INTEGER NOT NULL) STRICT";
 
-/// Each table in the order of the numbers. A number is a place in the catalog, where each PRIMARY
-/// KEY that is no rowid takes the next one for its index.
+/// What each table has to be, in the order of the numbers. A number is a place in the catalog,
+/// where each PRIMARY KEY that is no rowid takes the next one for its index.
 static TABLES: [WantedTable<'static>; 9] = [
     WantedTable {
         name: "intersection",
@@ -183,7 +184,7 @@ static TABLES: [WantedTable<'static>; 9] = [
     },
 ];
 
-/// What all tables have to be, in the order of their numbers.
+/// What the office's nine tables have to be, in the order of their numbers.
 pub(crate) fn all_tables() -> &'static [WantedTable<'static>]
     ensures tables { map table_wanted result.now ≡ office_schema.tables }
     ensures indexes { indexes_wanted result.now ≡ office_schema.indexes }

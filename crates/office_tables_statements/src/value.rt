@@ -1,4 +1,4 @@
-//! The values of a stored row, as what they stand for.
+//! The values of a stored row, as what they stand for. A column is named by its place, from 0.
 
 ghost use Rattle.std.specs.Prelude.{◌≡◌, ◌≢◌, ◌≤◌, ◌<◌, ◌^◌, ℕ, pos, length, List, Option, option_map, IfOk, IfSome, OnOk};
 ghost use Rattle.sqlite.specs.Order.{column};
@@ -18,7 +18,8 @@ use sqlite::types::{FromSql, ValueRef};
 use sqlite::{Error, ErrorCode, Row};
 use std::alloc::Global;
 
-/// The value of a column, as a `T`.
+/// The value of a column, as a `T`. `Damaged` means that it is no `T`, or that there is no such
+/// column, `NoMemory` that a growth was refused.
 fn value_at<T: FromSql>(row: &Row, at: usize) -> Result<T, ShelfFault>
     ensures ok { IfOk result (λ x. T.FromSql.reads_as (column row.now at) x) }
     ensures damaged { result ≡ Err ShelfFault.Damaged → at < length row.now →
@@ -31,7 +32,7 @@ fn value_at<T: FromSql>(row: &Row, at: usize) -> Result<T, ShelfFault>
     }
 }
 
-/// The number in a column.
+/// The number in a column, 0 to 2^32 - 1. `Damaged` means that it has none.
 pub fn number_at(row: &Row, at: usize) -> Result<u32, ShelfFault>
     ensures ok { IfOk result (λ n. cell_of (column row.now at) ≡ number (pos n)) }
     ensures damaged { result ≡ Err ShelfFault.Damaged → at < length row.now → (n : ℕ) →
@@ -40,7 +41,7 @@ pub fn number_at(row: &Row, at: usize) -> Result<u32, ShelfFault>
     value_at(row, at)
 }
 
-/// The number in a column, which has to be in the range.
+/// The number in a column, from `LOW` to `HIGH`. `Damaged` means that it has none.
 pub fn ranged_at<Of, const LOW: u32, const HIGH: u32>(
     row: &Row,
     at: usize,
@@ -57,7 +58,7 @@ pub fn ranged_at<Of, const LOW: u32, const HIGH: u32>(
     }
 }
 
-/// The revision in a column.
+/// The revision in a column, 0 to `LAST_REVISION`. `Damaged` means that it has none.
 pub fn revision_at(row: &Row, at: usize) -> Result<Revision, ShelfFault>
     ensures ok { IfOk result (λ n. cell_of (column row.now at) ≡ number (pos n)) }
     ensures range { IfOk result (λ n. n ≤ LAST_REVISION) }
@@ -71,7 +72,7 @@ pub fn revision_at(row: &Row, at: usize) -> Result<Revision, ShelfFault>
     }
 }
 
-/// The text in a column.
+/// The bytes of the text in a column. `Damaged` means that it has no text.
 pub fn text_at(row: &Row, at: usize) -> Result<&[u8], ShelfFault>
     ensures ok { IfOk result (λ found. cell_of (column row.now at) ≡ text found.now) }
     ensures damaged { result ≡ Err ShelfFault.Damaged → at < length row.now →
@@ -83,7 +84,7 @@ pub fn text_at(row: &Row, at: usize) -> Result<&[u8], ShelfFault>
     }
 }
 
-/// The text in a column, where it is not NULL.
+/// The bytes of the text in a column; none where it is NULL. `Damaged` means that it has neither.
 pub fn text_or_null_at(row: &Row, at: usize) -> Result<Option<&[u8]>, ShelfFault>
     ensures ok { IfOk result (λ found. cell_of (column row.now at)
         ≡ text_or_null (option_map (λ t. t.now) found)) }
@@ -97,7 +98,8 @@ pub fn text_or_null_at(row: &Row, at: usize) -> Result<Option<&[u8]>, ShelfFault
     }
 }
 
-/// The words in a column.
+/// The words in a column, 1 to `MAX` bytes. `Damaged` means that it has none, `NoMemory` that a
+/// growth was refused.
 pub fn words_at<const MAX: usize>(
     alloc: Global,
     row: &Row,
@@ -114,7 +116,8 @@ pub fn words_at<const MAX: usize>(
     }
 }
 
-/// The words in a column, where it is not NULL.
+/// The words in a column; none where it is NULL. `Damaged` means that it has neither, `NoMemory`
+/// that a growth was refused.
 pub fn words_or_null_at<const MAX: usize>(
     alloc: Global,
     row: &Row,
@@ -135,7 +138,7 @@ pub fn words_or_null_at<const MAX: usize>(
     }
 }
 
-/// The day in a column.
+/// The day in a column, by its number, 0 to 84,005. `Damaged` means that it has none.
 pub fn day_at(row: &Row, at: usize) -> Result<Day, ShelfFault>
     ensures ok { IfOk result (λ day. cell_of (column row.now at) ≡ number (pos day)) }
     ensures day { IfOk result IsDay }
@@ -149,7 +152,8 @@ pub fn day_at(row: &Row, at: usize) -> Result<Day, ShelfFault>
     }
 }
 
-/// The code of a part in a column.
+/// The code of a part in a column. `Damaged` means that it has none, `NoMemory` that a growth was
+/// refused.
 pub fn code_at(alloc: Global, row: &Row, at: usize) -> Result<PartCode, ShelfFault>
     ensures ok { IfOk result (λ code. cell_of (column row.now at) ≡ text code) }
     ensures code { IfOk result IsPartCode }
@@ -162,7 +166,7 @@ pub fn code_at(alloc: Global, row: &Row, at: usize) -> Result<PartCode, ShelfFau
     }
 }
 
-/// Tests that the column is NULL.
+/// Tests that the column is NULL. `Damaged` means that it is not.
 pub fn check_null(row: &Row, at: usize) -> Result<(), ShelfFault>
     ensures ok { OnOk result (cell_of (column row.now at) ≡ null) }
     ensures damaged { result ≡ Err ShelfFault.Damaged → at < length row.now →

@@ -14,7 +14,7 @@ use Rattle.signal_diagram.specs.Lane.{RingLane}
 
 -- ---- the lanes
 
--- a phase of some seconds from a second on, if it has any
+-- the bar of a phase that lasts so many seconds from a second on; none where it has no time
 abbrev pub bar_of : ℕ → ℕ → ℕ → List Bar
 bar_of zero from p = []
 bar_of (suc time) from p = record { phase = p; from = from; to = from + suc time } ∷ []
@@ -29,20 +29,20 @@ abbrev pub lane_of : Rows → Pattern → ℕ → RingLane
 lane_of set pattern ring =
     record { ring = ring; bars = bars_from (times set pattern.split) 0 (ring_row set pattern.seq ring) }
 
--- the lanes of the rings that are used
+-- the lanes of the rings that have a phase, in the order of their numbers
 abbrev pub lanes_of : Rows → Pattern → List RingLane
 lanes_of set pattern = map (lane_of set pattern) (used_rings set)
 
--- the second at which the last phase ends
+-- the second at which the last of these phases ends; where there is none, the given one
 abbrev pub end_of : ℕ → List Bar → ℕ
 end_of second [] = second
 end_of second (bar ∷ bars) = end_of bar.to bars
 
--- the lanes end with the cycle
+-- each lane ends at the second at which the cycle ends
 abbrev pub lanes_end : ℕ → List RingLane → Bool
 lanes_end cycle lanes = list_all (λ shown. end_of 0 shown.bars == cycle) lanes
 
--- the longest of some seconds and the lanes
+-- the largest of a number of seconds and the seconds at which lanes end
 abbrev pub longest : ℕ → List RingLane → ℕ
 longest seconds [] = seconds
 longest seconds (shown ∷ more) = longest (max seconds (end_of 0 shown.bars)) more
@@ -54,7 +54,8 @@ abbrev pub changes : ℕ → ℕ → RingLane → Bool
 changes ends begins shown =
     list_any (λ bar. bar.to == ends) shown.bars && list_any (λ bar. bar.from == begins) shown.bars
 
--- all rings change phase; where there is no ring nothing changes
+-- each ring has a phase that ends at one second, and one that begins at another; where there is no
+-- ring nothing changes
 abbrev pub all_change : ℕ → ℕ → List RingLane → Bool
 all_change ends begins lanes = nat_lt 0 (length lanes) && list_all (changes ends begins) lanes
 
@@ -67,7 +68,8 @@ has_line cycle lanes second = second == cycle || all_change second second lanes
 abbrev pub line_seconds : ℕ → List RingLane → List ℕ
 line_seconds cycle lanes = filter (has_line cycle lanes) (numbers cycle 1)
 
--- the second at which the phases behind a line begin: behind the end of the cycle the first ones
+-- the second at which the phases behind a line begin: 0 behind the end of the cycle, where the
+-- first ones follow
 abbrev pub behind : ℕ → ℕ → ℕ
 behind cycle second = if second == cycle then 0 else second
 
@@ -75,7 +77,7 @@ behind cycle second = if second == cycle then 0 else second
 abbrev pub conflicts_with_lane : Rows → ℕ → ℕ → RingLane → Bool
 conflicts_with_lane set begins p shown = list_all (λ bar. not (bar.from == begins && list_each_other set p bar.phase)) shown.bars
 
--- a phase may time together with none that begins at a second
+-- a phase may time together with none of any lane that begins at a second
 abbrev pub conflicts_with_all : Rows → ℕ → ℕ → List RingLane → Bool
 conflicts_with_all set begins p lanes = list_all (conflicts_with_lane set begins p) lanes
 
@@ -91,21 +93,21 @@ is_barrier set cycle lanes second =
 
 -- ---- what holds of the lanes
 
--- the first begins at this second, and each other one where the one before it ends
+-- the first phase begins at this second, and each other one where the one before it ends
 abbrev pub Follow : ℕ → List Bar → Type 0
 Follow second [] = ⊤
 Follow second (bar ∷ bars) = (bar.from ≡ second) × Follow bar.to bars
 
--- a phase stands at a second
+-- a phase stands at a second: it begins there or before, and ends later
 abbrev pub covers : ℕ → Bar → Bool
 covers second bar = nat_le bar.from second && nat_lt second bar.to
 
--- the phase that stands at a second
+-- the phase of a lane that stands at a second, if one does
 abbrev pub phase_at_second : List Bar → ℕ → Option ℕ
 phase_at_second bars second = option_map (λ bar. bar.phase) (find (covers second) bars)
 
 -- The phases that have time, in the order of the sequence, stand one after the other from second 0
--- on, each for the seconds of its split; so each second has the phase that V13 compares there.
+-- on, each for the seconds of its split; so each second has the phase that rule V13 compares there.
 pub record IsLane (set : Rows) (pattern : Pattern) (shown : RingLane) : Type 0 where
   pub order : map (λ bar. bar.phase) shown.bars
       ≡ filter (λ p. nat_lt 0 (times set pattern.split p)) (ring_row set pattern.seq shown.ring)
@@ -114,8 +116,8 @@ pub record IsLane (set : Rows) (pattern : Pattern) (shown : RingLane) : Type 0 w
   pub seconds : (second : ℕ) → phase_at_second shown.bars second
       ≡ slice_get (lane set pattern.seq pattern.split shown.ring) second
 
--- Each ring that is used has a lane; the lanes end with the cycle exactly where the pattern meets
--- V12.
+-- Each ring that has a phase has a lane; the lanes end with the cycle exactly where the pattern
+-- meets rule V12, by which they have to.
 pub record IsChart (set : Rows) (pattern : Pattern) (lanes : List RingLane) : Type 0 where
   pub rings : map (λ shown. shown.ring) lanes ≡ used_rings set
   pub each : All (IsLane set pattern) lanes

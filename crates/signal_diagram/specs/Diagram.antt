@@ -13,7 +13,8 @@ use Rattle.signal_diagram.specs.Svg.{width_of, height_of, svg_of}
 use Rattle.signal_diagram.specs.Head.{head}
 use Rattle.signal_diagram.specs.Foot.{told_below, foot, foot_height}
 
--- the opening of a picture of so many units, which prints on one page, and its white ground
+-- the opening of a picture so many units wide and high, which prints on one page, and its white
+-- ground
 unfoldable pub sheet_opening : ℕ → ℕ → List ℕ
 sheet_opening width height =
     codes "<svg xmlns='http://www.w3.org/2000/svg' width='260mm' height='180mm' viewBox='0 0 "
@@ -21,7 +22,8 @@ sheet_opening width height =
     ++ codes "' preserveAspectRatio='xMidYMin' font-family='sans-serif' font-size='20'>\n"
     ++ codes "<rect width='100%' height='100%' fill='white'/>\n"
 
--- what a picture that stands in a page shows, in words
+-- the beginning of a picture that stands in a page: it says in words what the picture of a pattern
+-- shows, for those who don't see it
 unfoldable pub figure_words : ℕ → List ℕ
 figure_words n =
     codes "<svg xmlns='http://www.w3.org/2000/svg' role='img' aria-label='Pattern " ++ decimal n
@@ -37,7 +39,8 @@ figure_opening n width height =
     ++ codes "' font-family='sans-serif' font-size='20'>\n"
     ++ codes "<rect width='100%' height='100%' fill='white'/>\n"
 
--- a picture is drawn for a sheet of paper, or to stand in a page
+-- the opening of the picture of a pattern, so many units wide and high: on a sheet of paper, or in
+-- a page
 abbrev pub opening : Sizing → ℕ → ℕ → ℕ → List ℕ
 opening Sheet n width height = sheet_opening width height
 opening Figure n width height = figure_opening n width height
@@ -50,26 +53,29 @@ drawing sizing set n pattern lanes found =
     ++ head set n pattern ++ flat_map svg_of (shapes_of set pattern lanes)
     ++ foot (height_of (length lanes)) found ++ codes "</svg>\n"
 
--- the picture of a pattern
+-- the picture of a pattern with this number, with the lanes of its rings, and the warnings that
+-- such a picture tells
 abbrev pub picture : Sizing → Rows → ℕ → Pattern → List ℕ
 picture sizing set n pattern =
     drawing sizing set n pattern (lanes_of set pattern) (told_below sizing set n)
 
--- the picture of a pattern that there may be
+-- the picture of a pattern with this number; nothing where there is no pattern
 abbrev pub picture_of : Sizing → Rows → ℕ → Option Pattern → List ℕ
 picture_of sizing set n None = []
 picture_of sizing set n (Some pattern) = picture sizing set n pattern
 
--- the picture of the pattern of a number on a sheet
+-- the picture, on a sheet, of the pattern with this number; nothing where the set has no such
+-- pattern
 abbrev pub diagram_text : Rows → ℕ → List ℕ
 diagram_text set n = picture_of Sheet set n (pattern_at set n)
 
--- the picture of the pattern of a number in a page
+-- the picture, in a page, of the pattern with this number; nothing where the set has no such
+-- pattern
 abbrev pub figure_text : Rows → ℕ → List ℕ
 figure_text set n = picture_of Figure set n (pattern_at set n)
 
--- the picture shows the chart of the pattern of a number and, below it, exactly the warnings that
--- are told there, in their order
+-- the set has a pattern with this number, and the picture shows its chart and, below it, exactly
+-- the warnings that are told there, in their order
 pub record DrawsChart (sizing : Sizing) (set : Rows) (n : ℕ) (text : List ℕ) : Type 0 where
   pub pattern : Pattern
   pub found : pattern_at set n ≡ Some pattern

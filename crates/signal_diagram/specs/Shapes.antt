@@ -21,52 +21,55 @@ use Rattle.signal_diagram.specs.Chart.{is_barrier, line_seconds, longest}
 
 -- ---- a phase
 
--- splitMode calls for the walk: both pedestrian recalls do
+-- a split mode calls the walk of its phase: both pedestrian recalls do
 abbrev pub calls : SplitMode → Bool
 calls mode.PedestrianRecall = true
 calls mode.MaximumVehicleAndPedestrianRecall = true
 calls _ = false
 
--- the split of a phase calls for its walk; one without a row does not
+-- the split of a phase calls its walk, by its mode; nothing calls it where the phase has no split
+-- row
 abbrev pub calls_walk : Option Split → Bool
 calls_walk None = false
 calls_walk (Some split) = calls split.mode
 
--- the tenth so many seconds after a phase begins, or a limit
+-- the tenth so many seconds after a phase begins, or a limit, whichever comes first
 abbrev pub tenth_after : Bar → ℕ → ℕ → ℕ
 tenth_after bar limit seconds = min (10 * (bar.from + seconds)) limit
 
--- the tenth so many tenths before a phase ends, or the one at which it begins
+-- the tenth so many tenths before a phase ends, or the one at which it begins, whichever comes last
 abbrev pub tenth_before : Bar → ℕ → ℕ
 tenth_before bar tenths = max (10 * bar.from) (10 * bar.to - tenths)
 
--- yellow and red are the last tenths of a phase; its green ends where yellow begins
+-- the tenth at which the yellow of a phase begins and its green ends: yellow and red are its last
+-- tenths
 abbrev pub yellow_from : Bar → Phase → ℕ
 yellow_from bar phase = tenth_before bar (phase.yellow + phase.red)
 
--- a lead that comes without a button is before the green
+-- the tenth at which the green of a phase begins: after a lead that comes without a button, else
+-- where the phase begins
 abbrev pub green_from : Bar → ℕ → Bool → Option Ped → ℕ
 green_from bar limit comes (Some ped) = if comes then tenth_after bar limit ped.lead else 10 * bar.from
 green_from bar limit comes None = 10 * bar.from
 
--- an interval from one tenth to another, if it has any
+-- an interval of a phase in a lane, from one tenth to another; none where it would be empty
 abbrev pub interval : ℕ → Band → Bool → ℕ → ℕ → List Shape
 interval lane band comes from to =
     if nat_lt from to then shape.Interval lane band comes from to ∷ [] else []
 
--- yellow, and red to the end of the phase
+-- the yellow of a phase, and its red, which lasts to the end of the phase
 abbrev pub yellow_and_red : ℕ → Bar → Phase → List Shape
 yellow_and_red lane bar phase =
     interval lane Yellow true (yellow_from bar phase) (tenth_before bar phase.red)
     ++ interval lane Red true (tenth_before bar phase.red) (10 * bar.to)
 
--- the mark of a walk whose clearance is not over at a limit
+-- the mark of a walk whose clearance is not over at a limit; none where it is
 abbrev pub cut : ℕ → Bar → ℕ → Ped → List Shape
 cut lane bar limit ped =
     if nat_lt limit (10 * (bar.from + ped.walk + ped.clear)) then shape.Cut lane limit ∷ [] else []
 
--- the lead before the green, and the clearance after the walk, of a phase that has them; none of
--- them goes past a limit
+-- the lead, the walk and the clearance after it of a phase that has them, of which none goes past a
+-- limit, and the mark of a walk that is cut there
 abbrev pub walk_intervals : ℕ → Bool → Bar → ℕ → Option Ped → List Shape
 walk_intervals lane comes bar limit None = []
 walk_intervals lane comes bar limit (Some ped) =
@@ -75,7 +78,7 @@ walk_intervals lane comes bar limit (Some ped) =
     ++ interval lane Clearance comes (tenth_after bar limit ped.walk) (tenth_after bar limit (ped.walk + ped.clear))
     ++ cut lane bar limit ped
 
--- the intervals of a phase: green for its green alone, walk and clearance up to its yellow, yellow
+-- the intervals of a phase: its green, lead, walk and clearance, none past its yellow, then yellow
 -- and red; a phase that is not in the set has none
 abbrev pub intervals : ℕ → Bool → Bar → Option Phase → List Shape
 intervals lane comes bar None = []
@@ -84,7 +87,7 @@ intervals lane comes bar (Some phase) =
     interval lane Green true (green_from bar limit comes phase.ped) limit
     ++ walk_intervals lane comes bar limit phase.ped ++ yellow_and_red lane bar phase
 
--- a phase with its intervals, its edge and its words, as its split row has it
+-- the intervals, the edge and the words of a phase, as its split row has it
 abbrev pub phase_shapes : Rows → Pattern → ℕ → Bar → List Shape
 phase_shapes set pattern lane bar =
     let split = split_at set pattern.split bar.phase in
@@ -95,18 +98,18 @@ phase_shapes set pattern lane bar =
 
 -- ---- the lanes, the lines over them and the scale below them
 
--- a lane: the name of its ring, and its phases
+-- the shapes of a lane: the name of its ring, and its phases
 abbrev pub lane_shapes : Rows → Pattern → ℕ → RingLane → List Shape
 lane_shapes set pattern index lane =
     shape.Ring index lane.ring ∷ flat_map (phase_shapes set pattern index) lane.bars
 
--- some lanes, the first at an index
+-- the shapes of some lanes, the first of which has this number, from the top
 abbrev pub lanes_shapes : Rows → Pattern → ℕ → List RingLane → List Shape
 lanes_shapes set pattern index [] = []
 lanes_shapes set pattern index (lane ∷ lanes) =
     lane_shapes set pattern index lane ++ lanes_shapes set pattern (index + 1) lanes
 
--- the lines, each a barrier or none
+-- the lines over all lanes, each drawn as a barrier where it is one
 abbrev pub line_shapes : Rows → ℕ → List RingLane → List Shape
 line_shapes set cycle lanes =
     map (λ second. shape.Line (length lanes) (10 * second) (is_barrier set cycle lanes second)) (line_seconds cycle lanes)
@@ -117,7 +120,8 @@ scale_shapes seconds lanes =
     shape.Scale lanes (10 * seconds)
     ∷ map (λ tens. shape.Tick lanes (100 * tens)) (numbers (seconds / 10 + 1) 0)
 
--- the shapes of a pattern with these lanes
+-- the shapes of a pattern with these lanes: the lanes, the lines over them, and the scale below
+-- them
 abbrev pub shapes_of : Rows → Pattern → List RingLane → List Shape
 shapes_of set pattern lanes =
     lanes_shapes set pattern 0 lanes ++ line_shapes set pattern.cycle lanes

@@ -7,23 +7,24 @@ use Rattle.signal_diagram.specs.declared.shapes.Shape.TheVariants as shape
 
 -- ---- where things stand
 
--- second 0 stands at 120, and each tenth of a second a unit further
+-- where a tenth of a second stands across: the first one at 120, and each other one a unit further
 abbrev pub x_of : ℕ → ℕ
 x_of tenth = 120 + tenth
 
--- the first lane begins at 140, and each other one 120 below the one before
+-- where a lane begins, from the top: the first at 140, and each other one 120 units below the one
+-- before
 abbrev pub top_of : ℕ → ℕ
 top_of lane = 140 + 120 * lane
 
--- how wide a picture of so many seconds is, with room for its title
+-- how wide a picture of so many seconds is, in units, with room for its title
 abbrev pub width_of : ℕ → ℕ
 width_of seconds = 120 + max 900 (10 * seconds) + 60
 
--- how high a picture of so many lanes is
+-- how high a picture of so many lanes is, in units, with its scale
 abbrev pub height_of : ℕ → ℕ
 height_of lanes = top_of lanes + 60
 
--- how far below the top of its lane an interval stands
+-- how far below the top of its lane an interval begins, in units
 abbrev pub top_in : Band → ℕ
 top_in Green = 34
 top_in Lead = 34
@@ -32,7 +33,7 @@ top_in Red = 34
 top_in Walk = 70
 top_in Clearance = 70
 
--- how high an interval is
+-- how high an interval is, in units
 abbrev pub height_in : Band → ℕ
 height_in Green = 30
 height_in Lead = 30
@@ -43,7 +44,8 @@ height_in Clearance = 16
 
 -- ---- how things look
 
--- a colour and its edge; yellow is light and red dark, so that they differ in black and white too
+-- the colour of an interval and its edge; yellow is light and red dark, so that they differ in
+-- black and white too
 abbrev pub fill_style : Band → List ℕ
 fill_style Green = codes "fill='#dcefd8' stroke='black' stroke-width='1'"
 fill_style Lead = codes "fill='#9fb4c7' stroke='black' stroke-width='1'"
@@ -52,13 +54,13 @@ fill_style Red = codes "fill='#b3261e' stroke='black' stroke-width='1'"
 fill_style Walk = codes "fill='#ffffff' stroke='black' stroke-width='1'"
 fill_style Clearance = codes "fill='#f2a65a' stroke='black' stroke-width='1'"
 
--- of an interval that only a button may call the edge alone, in dashes
+-- the style of an interval; of one that only a button may call, the edge alone, in dashes
 abbrev pub style_of : Band → Bool → List ℕ
 style_of band comes =
     if comes then fill_style band
     else codes "fill='none' stroke='black' stroke-width='1' stroke-dasharray='6 4'"
 
--- the edge of a phase, thick if it is coordinated
+-- the style of the edge of a phase, thick if it is coordinated
 abbrev pub edge_style : Bool → List ℕ
 edge_style coordinated =
     if coordinated then codes "fill='none' stroke='black' stroke-width='5'"
@@ -66,13 +68,13 @@ edge_style coordinated =
 
 -- ---- the elements
 
--- a rectangle
+-- a rectangle with its left upper corner at x and y, so wide and high, in this style
 unfoldable pub rect : ℕ → ℕ → ℕ → ℕ → List ℕ → List ℕ
 rect x y width height style =
     codes "<rect x='" ++ decimal x ++ codes "' y='" ++ decimal y ++ codes "' width='"
     ++ decimal width ++ codes "' height='" ++ decimal height ++ codes "' " ++ style ++ codes "/>\n"
 
--- a black line
+-- a black line from one point to another, of this width
 unfoldable pub stroke : ℕ → ℕ → ℕ → ℕ → ℕ → List ℕ
 stroke x1 y1 x2 y2 width =
     codes "<line x1='" ++ decimal x1 ++ codes "' y1='" ++ decimal y1 ++ codes "' x2='"
@@ -99,17 +101,17 @@ words_around x y =
 unfoldable pub words_end : List ℕ
 words_end = codes "</text>\n"
 
--- a star of a coordinated phase
+-- a star where a phase is coordinated, else nothing
 abbrev pub star : Bool → List ℕ
 star coordinated = if coordinated then codes "*" else []
 
--- `: 30 s`, from 10 seconds on, for which there is room
+-- the seconds of a phase, `: 30 s`; nothing below 10 seconds, for which there is no room
 abbrev pub seconds_words : ℕ → List ℕ
 seconds_words seconds = if nat_lt seconds 10 then [] else (codes ": " ++ decimal seconds ++ codes " s")
 
 -- ---- the shapes
 
--- what is written of a shape, where it stands
+-- a shape as SVG, at the place where it stands
 abbrev pub svg_of : Shape → List ℕ
 svg_of (shape.Ring lane ring) =
     words_from 12 (top_of lane + 40) ++ codes "Ring " ++ decimal ring ++ words_end

@@ -10,7 +10,8 @@ use signal_rules::{ring_row, split_at, time_of};
 use std::alloc::Global;
 use std::marker::Model;
 
-/// A phase, from the second of the cycle at which it begins to the one at which it ends.
+/// A phase, from the second of the cycle at which it begins to the one at which it ends; a lane
+/// that is too long has seconds past the cycle.
 #[derive(Clone, Copy)]
 pub(crate) struct Bar {
     pub phase: PhaseNo,
@@ -33,8 +34,8 @@ impl Model for Lane {
     ghost view = { λ lane. record { ring = lane.ring; bars = lane.bars.items } };
 }
 
-/// The phases of the row of a ring that have time, the first from second 0 on, each from where the
-/// one before ends.
+/// The phases that have time in the ring's row of the pattern's sequence, the first from second 0
+/// on, each other one from where the one before ends.
 fn bars_of(
     alloc: Global,
     set: &TimingSet,
@@ -60,7 +61,8 @@ fn bars_of(
     Ok(bars)
 }
 
-/// The lane of a ring.
+/// The lane of a ring: the phases of its row in the pattern's sequence, each as long as the
+/// pattern's split.
 fn lane_of(
     alloc: Global,
     set: &TimingSet,
@@ -73,7 +75,7 @@ fn lane_of(
     Ok(Lane { ring, bars })
 }
 
-/// The lanes of some rings.
+/// The lanes of these rings, in their order.
 pub(crate) fn lanes_of(
     alloc: Global,
     set: &TimingSet,
@@ -89,7 +91,7 @@ pub(crate) fn lanes_of(
     Ok(lanes)
 }
 
-/// The second at which the last phase of a lane ends.
+/// The second at which the last phase of a lane ends; 0 where it has none.
 fn end_of(lane: &Lane) -> u16
     ensures { result ≡ end_of 0 lane.now.bars }
 {
@@ -100,7 +102,7 @@ fn end_of(lane: &Lane) -> u16
     second
 }
 
-/// The longest of some seconds and the lanes.
+/// The largest of a number of seconds and the seconds at which the lanes end.
 pub(crate) fn longest(seconds: u16, lanes: &[Lane]) -> u16
     ensures { result ≡ longest seconds lanes.now }
 {

@@ -1,4 +1,4 @@
-//! The diagram of a pattern.
+//! The diagram of a pattern, as an SVG text for a sheet of paper or for a page of HTML.
 
 ghost use Rattle.std.specs.Prelude.{◌≡◌, ◌++◌, ◌<◌, ◌≤◌, ◌^◌, ◌↔◌, OnOk, IfOk, IfSome, IsSome, length, string_bytes};
 ghost use Rattle.signal_rules.specs.Lookup.{pattern_at};
@@ -21,13 +21,13 @@ use std::fmt::Write;
 /// What a picture is drawn for.
 #[derive(Clone, Copy)]
 pub(crate) enum Sizing {
-    /// A sheet of paper, landscape, which it fills whatever the cycle.
+    /// A sheet of paper, landscape, which the picture fills whatever the cycle.
     Sheet,
-    /// A place in a page: it is as wide and as high as its units.
+    /// A place in a page: the picture is as wide and as high as its units.
     Figure,
 }
 
-/// Appends the opening of a picture on a sheet, and its white ground.
+/// Appends the opening of a picture on a sheet, so many units wide and high, and its white ground.
 fn push_sheet_opening(text: &mut String, width: u32, height: u64) -> Result<(), AllocError>
     ensures { OnOk result (string_bytes text.new
         ≡ string_bytes text.old ++ sheet_opening width height) }
@@ -41,7 +41,7 @@ fn push_sheet_opening(text: &mut String, width: u32, height: u64) -> Result<(), 
     )
 }
 
-/// Appends what a picture in a page shows, in words.
+/// Appends the beginning of a picture in a page, with words for those who don't see it.
 fn push_figure_words(text: &mut String, n: PatternNo) -> Result<(), AllocError>
     ensures { OnOk result (string_bytes text.new ≡ string_bytes text.old ++ figure_words n) }
 {
@@ -53,7 +53,7 @@ fn push_figure_words(text: &mut String, n: PatternNo) -> Result<(), AllocError>
     )
 }
 
-/// Appends the opening of a picture in a page, and its white ground.
+/// Appends the opening of a picture in a page, so many units wide and high, and its white ground.
 fn push_figure_opening(
     text: &mut String,
     n: PatternNo,
@@ -75,7 +75,7 @@ fn push_figure_opening(
     )
 }
 
-/// Appends the opening of a picture of so many units.
+/// Appends the opening of the picture of a pattern, so many units wide and high.
 fn push_opening(
     text: &mut String,
     sizing: Sizing,
@@ -93,7 +93,7 @@ fn push_opening(
     }
 }
 
-/// The shapes of a pattern.
+/// The shapes of a pattern: its lanes, the lines over them, and the scale below them.
 fn shapes_of(
     alloc: Global,
     set: &TimingSet,
@@ -115,7 +115,7 @@ fn shapes_of(
     Ok(shapes)
 }
 
-/// The picture of a pattern.
+/// The picture of a pattern with this number, as SVG.
 fn picture(
     alloc: Global,
     sizing: Sizing,
@@ -140,7 +140,7 @@ fn picture(
     Ok(text)
 }
 
-/// The picture of the pattern of a number. Nothing, where the set has no such pattern.
+/// The picture of the pattern with this number; none where the set has no such pattern.
 fn picture_of(
     alloc: Global,
     sizing: Sizing,
@@ -161,15 +161,16 @@ fn picture_of(
 }
 
 /// The diagram of a pattern: its rings and barriers as an SVG text, in ASCII, which prints on one
-/// page, landscape. Nothing, where the set has no such pattern.
+/// page, landscape. Nothing, where the set has no such pattern. `NoMemory` means that a growth was
+/// really refused.
 ///
 /// Each ring that is used has a lane with its phases in the order of the pattern's sequence, each
-/// as long as its split time. A phase shows its number and seconds (a star and a thick edge where
-/// it is coordinated), a lead before its green, yellow and red at its end, and below it walk and
-/// clearance. A line stands over all lanes where all rings change phase together, and at the end
-/// of the cycle; a scale has a tick each 10 seconds. Where the pattern breaks V9, V12 or V13, the
-/// picture says so and its lanes end where they end. Below stands a line for each warning of the
-/// pattern and of the rows of its split plan.
+/// as long as its split time. A phase shows its number and, from 10 seconds on, its seconds (a star
+/// and a thick edge where it is coordinated), a lead before its green, yellow and red at its end,
+/// and below it walk and clearance. A line stands over all lanes where all rings change phase
+/// together, and at the end of the cycle; a scale has a tick each 10 seconds. Where the pattern
+/// breaks V9, V12 or V13, the picture says so and its lanes end where they end. Below stands a line
+/// for each warning of the pattern and of the rows of its split plan.
 pub fn diagram(
     alloc: Global,
     set: &TimingSet,
@@ -188,9 +189,10 @@ pub fn diagram(
     }
 }
 
-/// The picture of a pattern to stand in a page of HTML: it is as wide and as high as its units, so
-/// that the page may scale it, and has words for those who don't see it. The page has the warnings.
-/// Nothing, where the set has no such pattern.
+/// The picture of a pattern as an SVG text, in ASCII, to stand in a page of HTML: it is as wide and
+/// as high as its units, so that the page may scale it, and has words for those who don't see it.
+/// The page tells the warnings, and the picture none. Nothing, where the set has no such pattern.
+/// `NoMemory` means that a growth was really refused.
 pub fn figure(alloc: Global, set: &TimingSet, number: PatternNo) -> Result<Option<String>, NoMemory>
     ensures found { IfOk result (λ shown. IsSome shown ↔ IsSome (pattern_at set.now number)) }
     ensures text { IfOk result (λ shown. IfSome shown

@@ -10,10 +10,10 @@ use signal_records::{NoMemory, PatternNo, TimingSet};
 use std::alloc::{AllocError, Global};
 use std::fmt::Write;
 
-/// How far a line stands below the one before.
+/// How far a line stands below the one before, in units.
 const PITCH: u64 = 22;
 
-/// The warnings that a picture tells of a pattern: a page has them below its rows.
+/// The warnings that the picture of a pattern tells: none in a page, which has them below its rows.
 pub(crate) fn told_below(
     alloc: Global,
     sizing: Sizing,
@@ -28,7 +28,7 @@ pub(crate) fn told_below(
     }
 }
 
-/// How high the lines of some warnings are.
+/// How high the lines of some warnings are, in units.
 pub(crate) fn foot_height(found: &[Warning]) -> u64
     ensures exact { result ≡ foot_height found.now }
     ensures small { result < 2 ^ 63 }
@@ -36,7 +36,7 @@ pub(crate) fn foot_height(found: &[Warning]) -> u64
     PITCH * found.len() as u64
 }
 
-/// Opens a line of small words, from the left edge.
+/// Opens a line of small words at the left edge, so many units down.
 #[tactic(auto, unfolding(crate::specs::Foot::small_words_at))]
 fn open_small_words(text: &mut String, y: u64) -> Result<(), AllocError>
     ensures { OnOk result (string_bytes text.new ≡ string_bytes text.old ++ small_words_at y) }
@@ -44,7 +44,7 @@ fn open_small_words(text: &mut String, y: u64) -> Result<(), AllocError>
     write!(text, "<text x='12' y='{y}' font-size='15'>")
 }
 
-/// Appends a warning, which has no character of markup.
+/// Appends the line of a warning, so many units down. A warning has no character of markup.
 fn push_line(text: &mut String, y: u64, warning: &Warning) -> Result<(), AllocError>
     ensures { OnOk result (string_bytes text.new
         ≡ string_bytes text.old ++ line_below y warning.now) }
@@ -54,7 +54,7 @@ fn push_line(text: &mut String, y: u64, warning: &Warning) -> Result<(), AllocEr
     close_words(text)
 }
 
-/// Appends a line for each warning, the first at a height.
+/// Appends a line for each warning, the first so many units down.
 pub(crate) fn push_foot(text: &mut String, top: u64, found: &[Warning]) -> Result<(), AllocError>
     requires { top < 2 ^ 41 }
     ensures { OnOk result (string_bytes text.new ≡ string_bytes text.old ++ foot top found.now) }

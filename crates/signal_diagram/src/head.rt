@@ -9,7 +9,8 @@ use signal_rules::{Explained, Rule, Subject, reasons_at};
 use std::alloc::{AllocError, Global};
 use std::fmt::Write;
 
-/// Appends the title.
+/// Appends the title: the pattern's number, its cycle and offset in seconds, its split and its
+/// sequence.
 fn push_title(text: &mut String, n: PatternNo, pattern: &Pattern) -> Result<(), AllocError>
     ensures { OnOk result (string_bytes text.new ≡ string_bytes text.old ++ title n pattern.now) }
 {
@@ -25,7 +26,7 @@ fn push_title(text: &mut String, n: PatternNo, pattern: &Pattern) -> Result<(), 
     )
 }
 
-/// Whether a picture names the rule: V9, V12 and V13 are of what it shows.
+/// Whether a picture names a breach of the rule: V9, V12 and V13 are of what it shows.
 fn is_noted(rule: Rule) -> bool
     ensures { result ≡ is_noted rule }
 {
@@ -47,7 +48,7 @@ fn first_noted(broken: &[Explained]) -> Option<Explained>
     None
 }
 
-/// Appends which rule is broken, and why.
+/// Appends the line that says which rule is broken, and why; nothing where none is.
 fn push_note(text: &mut String, broken: Option<Explained>) -> Result<(), AllocError>
     ensures { OnOk result (string_bytes text.new ≡ string_bytes text.old ++ note broken) }
 {
@@ -87,7 +88,7 @@ fn push_lane_legend(text: &mut String) -> Result<(), AllocError>
     )
 }
 
-/// Appends what is drawn below a lane, and the mark of a walk that is cut.
+/// Appends what the intervals below a lane mean, and the mark of a walk that is cut.
 #[tactic(auto, unfolding(crate::specs::Head::walk_legend))]
 fn push_walk_legend(text: &mut String) -> Result<(), AllocError>
     ensures { OnOk result (string_bytes text.new ≡ string_bytes text.old ++ walk_legend) }
@@ -107,7 +108,8 @@ fn push_walk_legend(text: &mut String) -> Result<(), AllocError>
     )
 }
 
-/// Appends what stands above the lanes.
+/// Appends what stands above the lanes: the title, the first broken rule that a picture names, and
+/// what the marks mean.
 pub(crate) fn push_head(
     alloc: Global,
     text: &mut String,

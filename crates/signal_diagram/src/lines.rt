@@ -1,4 +1,4 @@
-//! The lines over the lanes, and the scale below them.
+//! The lines over the lanes of a picture, and the scale below them.
 
 ghost use Rattle.std.specs.Prelude.{◌≡◌, ◌==◌, ◌++◌, ◌≤◌, ◌&&◌, OnOk, length};
 ghost use Rattle.std.specs.List.{list_any, list_all};
@@ -24,7 +24,7 @@ fn begins_at(second: u32, bars: &[Bar]) -> bool
     bars.iter().any(|bar| u32::from(bar.from) == second)
 }
 
-/// Whether a ring changes phase: one ends at a second, and one begins at another.
+/// Whether a ring changes phase: one of its phases ends at a second, and one begins at another.
 fn changes(ends: u32, begins: u32, lane: &Lane) -> bool
     ensures { result ≡ changes ends begins lane.now }
 {
@@ -37,7 +37,8 @@ fn each_changes(ends: u32, begins: u32, lanes: &[Lane]) -> bool
     lanes.iter().all(|lane| changes(ends, begins, lane))
 }
 
-/// Whether all rings change phase; where there is no ring nothing changes.
+/// Whether each ring has a phase that ends at one second, and one that begins at another; where
+/// there is no ring nothing changes.
 fn all_change(ends: u32, begins: u32, lanes: &[Lane]) -> bool
     ensures { result ≡ all_change ends begins lanes.now }
 {
@@ -51,14 +52,15 @@ fn has_line(cycle: u32, lanes: &[Lane], second: u32) -> bool
     second == cycle || all_change(second, second, lanes)
 }
 
-/// The second at which the phases behind a line begin: behind the end of the cycle the first ones.
+/// The second at which the phases behind a line begin: 0 behind the end of the cycle, where the
+/// first ones follow.
 fn behind(cycle: u32, second: u32) -> u32
     ensures { result ≡ behind cycle second }
 {
     if second == cycle { 0 } else { second }
 }
 
-/// Whether two phases may time together.
+/// Whether two phases list each other, and so may time together.
 fn list_each_other(set: &TimingSet, p: PhaseNo, q: PhaseNo) -> bool
     ensures { result ≡ list_each_other set.now p q }
 {
@@ -79,7 +81,7 @@ fn conflicts_with_lane(set: &TimingSet, begins: u32, p: PhaseNo, lane: &Lane) ->
     lane.bars.iter().all(|bar| !meets(set, begins, p, bar))
 }
 
-/// Whether a phase may time together with none that begins at a second.
+/// Whether a phase may time together with none of any lane that begins at a second.
 fn conflicts_with_all(set: &TimingSet, begins: u32, p: PhaseNo, lanes: &[Lane]) -> bool
     ensures { result ≡ conflicts_with_all set.now begins p lanes.now }
 {
@@ -114,7 +116,8 @@ fn is_barrier(set: &TimingSet, cycle: u32, lanes: &[Lane], second: u32) -> bool
     all_change(second, begins, lanes) && all_conflict(set, second, begins, lanes)
 }
 
-/// Adds a line at each second at which all rings change phase, and at the end of the cycle.
+/// Adds a line at each second from 1 up to the cycle at which all rings change phase, and at the
+/// end of the cycle. Each is a barrier or none.
 pub(crate) fn add_lines(
     shapes: &mut Vec<Shape>,
     set: &TimingSet,

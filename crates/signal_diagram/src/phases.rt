@@ -10,7 +10,8 @@ use signal_records::{Pattern, Ped, Phase, Split, SplitMode, TimingSet};
 use signal_rules::{is_coordinated, phase_at, split_at};
 use std::alloc::AllocError;
 
-/// Whether the split mode calls the walk of the phase: both pedestrian recalls do.
+/// Whether the split mode calls the walk of the phase: both pedestrian recalls do. Nothing calls it
+/// where the phase has no split row.
 fn calls_walk(split: Option<Split>) -> bool
     ensures { result ≡ calls_walk split }
 {
@@ -23,7 +24,7 @@ fn calls_walk(split: Option<Split>) -> bool
     }
 }
 
-/// The tenth so many seconds after a phase begins, or a limit.
+/// The tenth so many seconds after a phase begins, or a limit, whichever comes first.
 fn tenth_after(bar: &Bar, limit: u32, seconds: u16) -> u32
     ensures { result ≡ tenth_after bar.now limit seconds }
 {
@@ -31,7 +32,8 @@ fn tenth_after(bar: &Bar, limit: u32, seconds: u16) -> u32
     limit.min(10 * (u32::from(from) + u32::from(seconds)))
 }
 
-/// The tenth so many tenths before a phase ends, or the one at which it begins.
+/// The tenth so many tenths before a phase ends, or the one at which it begins, whichever comes
+/// last.
 fn tenth_before(bar: &Bar, tenths: u16) -> u32
     ensures { result ≡ tenth_before bar.now tenths }
 {
@@ -47,7 +49,8 @@ fn yellow_from(bar: &Bar, phase: &Phase) -> u32
     tenth_before(bar, u16::from(phase.yellow) + u16::from(phase.red))
 }
 
-/// The tenth at which the green of a phase begins: after a lead that comes without a button.
+/// The tenth at which the green of a phase begins: after a lead that comes without a button, else
+/// where the phase begins.
 fn green_from(bar: &Bar, limit: u32, comes: bool, ped: Option<Ped>) -> u32
     ensures { result ≡ green_from bar.now limit comes ped }
 {
@@ -58,7 +61,7 @@ fn green_from(bar: &Bar, limit: u32, comes: bool, ped: Option<Ped>) -> u32
     }
 }
 
-/// Adds an interval; an empty one is not drawn.
+/// Adds an interval of a phase in a lane, from a tenth to another; an empty one is not drawn.
 fn add_interval(
     shapes: &mut Vec<Shape>,
     lane: u32,
@@ -76,7 +79,7 @@ fn add_interval(
     Ok(())
 }
 
-/// Adds yellow and red, the last tenths of a phase.
+/// Adds the yellow and the red of a phase, which are its last tenths.
 fn add_yellow_and_red(
     shapes: &mut Vec<Shape>,
     lane: u32,
@@ -100,7 +103,7 @@ fn add_yellow_and_red(
     add_interval(shapes, lane, Band::Red, true, red_from, end)
 }
 
-/// Adds the mark of a walk whose clearance is not over at a limit.
+/// Adds the mark of a walk whose clearance is not over at a limit; none where it is.
 fn add_cut(
     shapes: &mut Vec<Shape>,
     lane: u32,
@@ -118,8 +121,8 @@ fn add_cut(
     Ok(())
 }
 
-/// Adds lead, walk and clearance of a phase that has them up to a limit, by whether the split mode
-/// calls them.
+/// Adds the lead, the walk and the clearance of a phase that has them, up to a limit, by whether
+/// the split mode calls them, and the mark of a walk that is cut there.
 fn add_walking(
     shapes: &mut Vec<Shape>,
     lane: u32,
@@ -145,8 +148,8 @@ fn add_walking(
     add_cut(shapes, lane, bar, limit, ped)
 }
 
-/// Adds the intervals of a phase: its green up to its yellow, walk and clearance beside it, yellow
-/// and red.
+/// Adds the intervals of a phase: its green, lead, walk and clearance, none past its yellow, then
+/// yellow and red. A phase that is not in the set has none.
 fn add_intervals(
     shapes: &mut Vec<Shape>,
     lane: u32,
@@ -167,7 +170,7 @@ fn add_intervals(
     add_yellow_and_red(shapes, lane, bar, phase)
 }
 
-/// Adds a phase, as its split row has it.
+/// Adds the intervals, the edge and the words of a phase, as its split row has it.
 fn add_phase(
     shapes: &mut Vec<Shape>,
     set: &TimingSet,
@@ -190,7 +193,7 @@ fn add_phase(
     Ok(())
 }
 
-/// Adds a lane: the name of its ring, and its phases.
+/// Adds a lane, by its number from the top: the name of its ring, and its phases.
 fn add_lane(
     shapes: &mut Vec<Shape>,
     set: &TimingSet,
@@ -208,7 +211,7 @@ fn add_lane(
     Ok(())
 }
 
-/// Adds the lanes, from the top.
+/// Adds the lanes of a pattern, from the top.
 pub(crate) fn add_lanes(
     shapes: &mut Vec<Shape>,
     set: &TimingSet,

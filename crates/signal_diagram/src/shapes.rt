@@ -1,4 +1,4 @@
-//! What a picture is made of. Times are in tenths of a second from the beginning of the cycle, and
+//! What a picture is made of. A time is in tenths of a second from the beginning of the cycle, and
 //! a lane is numbered from the top, from 0.
 
 use signal_records::{PhaseNo, RingNo};
@@ -14,7 +14,7 @@ pub(crate) enum Band {
     Clearance,
 }
 
-/// One thing that is drawn.
+/// One thing that is drawn. A lane is given by its number; a tenth is one of a second.
 #[derive(Clone, Copy)]
 pub(crate) enum Shape {
     /// A lane, with the name of its ring.

@@ -8,7 +8,7 @@ use signal_records::{PhaseNo, RingNo};
 use std::alloc::AllocError;
 use std::fmt::Write;
 
-/// Where a tenth of a second stands across.
+/// Where a tenth of a second stands across, in units.
 fn x_of(tenth: u32) -> u64
     ensures exact { result ≡ x_of tenth }
     ensures small { result < 2 ^ 40 }
@@ -16,7 +16,7 @@ fn x_of(tenth: u32) -> u64
     120 + u64::from(tenth)
 }
 
-/// The top of a lane; the first has the index 0.
+/// The top of a lane, in units; the first has the number 0.
 fn top_of(lane: u32) -> u64
     ensures exact { result ≡ top_of lane }
     ensures small { result < 2 ^ 40 }
@@ -24,7 +24,7 @@ fn top_of(lane: u32) -> u64
     140 + 120 * u64::from(lane)
 }
 
-/// How wide a picture of so many seconds is: its title has room.
+/// How wide a picture of so many seconds is, in units: its title has room.
 pub(crate) fn width_of(seconds: u16) -> u32
     ensures exact { result ≡ width_of seconds }
     ensures small { result < 2 ^ 20 }
@@ -32,7 +32,7 @@ pub(crate) fn width_of(seconds: u16) -> u32
     120 + (10 * u32::from(seconds)).max(900) + 60
 }
 
-/// How high a picture of so many lanes is, with its scale.
+/// How high a picture of so many lanes is, in units, with its scale.
 pub(crate) fn height_of(lanes: u32) -> u64
     ensures exact { result ≡ height_of lanes }
     ensures small { result < 2 ^ 41 }
@@ -41,7 +41,7 @@ pub(crate) fn height_of(lanes: u32) -> u64
 }
 
 impl Band {
-    /// How far below the top of its lane it begins.
+    /// How far below the top of its lane the interval begins, in units.
     fn top(self) -> u64
         ensures exact { result ≡ top_in self }
         ensures small { result ≤ 70 }
@@ -52,7 +52,7 @@ impl Band {
         }
     }
 
-    /// How high it is.
+    /// How high the interval is, in units.
     fn height(self) -> u64
         ensures { result ≡ height_in self }
     {
@@ -62,8 +62,8 @@ impl Band {
         }
     }
 
-    /// Its colour and edge; yellow is light and red dark, so that they differ in black and white
-    /// too.
+    /// The colour of the interval and its edge; yellow is light and red dark, so that they differ
+    /// in black and white too.
     fn style(self) -> &'static str
         ensures { result.now ≡ fill_style self }
     {
@@ -78,7 +78,7 @@ impl Band {
     }
 }
 
-/// The style of an interval, by whether it comes without a button.
+/// The style of an interval, by whether it comes without a button: else its edge alone, in dashes.
 fn style_of(band: Band, comes: bool) -> &'static str
     ensures { result.now ≡ style_of band comes }
 {
@@ -132,7 +132,8 @@ fn push_stroke(
     )
 }
 
-/// Appends a black wedge whose point is at `x` and half way down from `y`.
+/// Appends a black wedge, 10 units long and 16 high, whose point is at `x` and half way down from
+/// `y`.
 fn push_wedge(text: &mut String, x: u64, y: u64) -> Result<(), AllocError>
     requires beside { 10 ≤ x }
     requires near { y < 2 ^ 41 }
@@ -147,7 +148,7 @@ fn push_wedge(text: &mut String, x: u64, y: u64) -> Result<(), AllocError>
     )
 }
 
-/// Opens words that begin at a point.
+/// Opens words that begin at a point, in units from the left and the top.
 #[tactic(auto, unfolding(crate::specs::Svg::words_from))]
 pub(crate) fn open_words(text: &mut String, x: u64, y: u64) -> Result<(), AllocError>
     ensures { OnOk result (string_bytes text.new ≡ string_bytes text.old ++ words_from x y) }
@@ -155,7 +156,7 @@ pub(crate) fn open_words(text: &mut String, x: u64, y: u64) -> Result<(), AllocE
     write!(text, "<text x='{x}' y='{y}'>")
 }
 
-/// Opens words whose middle stands at a point.
+/// Opens words whose middle stands at a point, in units from the left and the top.
 fn open_words_around(text: &mut String, x: u64, y: u64) -> Result<(), AllocError>
     ensures { OnOk result (string_bytes text.new ≡ string_bytes text.old ++ words_around x y) }
 {
@@ -230,7 +231,7 @@ fn push_star(text: &mut String, coordinated: bool) -> Result<(), AllocError>
     }
 }
 
-/// Appends the seconds of a phase, if there is room.
+/// Appends the seconds of a phase; nothing below 10 seconds, for which there is no room.
 fn push_seconds(text: &mut String, seconds: u16) -> Result<(), AllocError>
     ensures { OnOk result (string_bytes text.new ≡ string_bytes text.old ++ seconds_words seconds) }
 {
@@ -259,7 +260,7 @@ fn push_label(
     close_words(text)
 }
 
-/// Appends a line over some lanes, thick where it is a barrier.
+/// Appends a line over so many lanes at a tenth, thick where it is a barrier.
 fn push_line(text: &mut String, lanes: u32, at: u32, barrier: bool) -> Result<(), AllocError>
     ensures { OnOk result (string_bytes text.new
         ≡ string_bytes text.old ++ svg_of (Shape.Line lanes at barrier)) }
@@ -293,7 +294,7 @@ fn push_tick(text: &mut String, lanes: u32, at: u32) -> Result<(), AllocError>
     close_words(text)
 }
 
-/// Appends a shape.
+/// Appends a shape as SVG, at the place where it stands.
 fn push_shape(text: &mut String, shape: Shape) -> Result<(), AllocError>
     ensures { OnOk result (string_bytes text.new ≡ string_bytes text.old ++ svg_of shape) }
 {
@@ -313,7 +314,7 @@ fn push_shape(text: &mut String, shape: Shape) -> Result<(), AllocError>
     }
 }
 
-/// Appends some shapes, in their order.
+/// Appends some shapes as SVG, in their order.
 pub(crate) fn push_shapes(text: &mut String, shapes: &[Shape]) -> Result<(), AllocError>
     ensures { OnOk result (string_bytes text.new
         ≡ string_bytes text.old ++ flat_map svg_of shapes.now) }
