@@ -13,21 +13,24 @@ use Rattle.office_desk_cabinet.specs.RegisterDamage.{IsWhole, SparesDamage}
 use Rattle.office_desk_cabinet.specs.Registers.{IsNamed, LeavesTiming, Registers, line_told, most_record_writes, rows_told}
 use Rattle.office_desk_cabinet.specs.declared.registered.Registered.{Registered}
 
--- a command of the register is decided on what the shelf holds once the pending rows are written
+-- what is promised of the result of a decision: it is made on what the shelf holds once the pending
+-- rows are written
 pub record DecidesRecord (honest : Type 0) (stored : Content) (pending : List RowChange)
     (command : RecordCommand) (result : Result Registered ShelfFault) : Type 0 where
-  -- it is the step of the register that the tables stand for
+  -- the decision is the step of the register that the tables stand for
   pub step : honest → Registers stored pending command result
-  -- it is answered only where each row that it reads is a record, and overwrites none that is not
+  -- a command is answered only where each row that it reads is a record, and no row that is no
+  -- record is overwritten
   pub whole : IfOk result (λ _. honest → IsWhole stored pending command)
   pub spares : IfOk result (λ told. honest → SparesDamage stored pending (rows_told told))
-  -- where it adds a row, none stands under its key
+  -- where the decision adds a row, none stands under that row's key
   pub news : IfOk result (λ told. honest → AddNew (changed_by stored pending) (rows_told told))
-  -- it writes rows of the register alone, and no more than the command may
+  -- the decision writes rows of the register alone, and of each table no more than the command may
   pub leaves : IfOk result (λ told. (tables : Content) → LeavesTiming tables (rows_told told))
   pub writes : IfOk result (λ told. (table : Table)
       → writes_in table (rows_told told) ≤ most_record_writes command table)
-  -- it refuses as the table has it for the command, on the rows under its keys
+  -- a refusal is one that the register's table of decisions has for the command; and line and rows
+  -- are those of that table, by the records under the command's keys
   pub named : IfOk result (λ told. IsNamed command (line_told told))
   pub line : IfOk result (λ told. honest
       → TellsLine (changed_by stored pending) command (line_told told) (rows_told told))

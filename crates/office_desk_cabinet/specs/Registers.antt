@@ -16,24 +16,24 @@ use Rattle.office_desk_cabinet.specs.RegisterStands.{RegisterStandsSound}
 use Rattle.office_desk_cabinet.specs.declared.registered.Registered.{Registered}
 use Rattle.office_desk_cabinet.specs.declared.registered.Registered.TheVariants.{Added, Same, Refused}
 
--- the line that is reported
+-- the line of the register's table of decisions that is told: added, the same, or a refusal
 abbrev pub line_told : Registered → Line
 line_told (Added changes) = added
 line_told Same = same
 line_told (Refused refusal) = refused refusal
 
--- the rows to be written
+-- the rows to be written, in order: none where nothing is added
 abbrev pub rows_told : Registered → List RowChange
 rows_told (Added changes) = changes.items
 rows_told Same = []
 rows_told (Refused refusal) = []
 
--- from a register: the line is the command's, and the tables stand for a sound register after it
+-- what is told of a command on this register: the command's line, and rows that make the tables stand for a sound register after the command
 pub record RegistersFrom (tables : Content) (command : RecordCommand) (told : Registered) (r : Register) : Type 0 where
   pub line : line_told told ≡ line_at r command
   pub stand : RegisterStandsSound (changed_by tables (rows_told told)) (after_record r command)
 
--- whichever sound register the tables stand for once the pending changes are made; and Damaged comes only where a stored row that is read is no record
+-- a command is decided from each sound register that the tables stand for once the pending changes are made; and Damaged comes only where a stored row that the command reads is no record
 abbrev pub Registers : Content → List RowChange → RecordCommand → Result Registered ShelfFault → Type 0
 Registers stored pending command (Ok told) = (r : Register) → RegisterStandsSound (changed_by stored pending) r → RegistersFrom (changed_by stored pending) command told r
 Registers stored pending command (Err Damaged) = MeetsRecordDamage stored command
@@ -46,7 +46,7 @@ pub record LeavesTiming (tables : Content) (changes : List RowChange) : Type 0 w
   pub timing : (changed_by tables changes).timing ≡ tables.timing
   pub draft : (changed_by tables changes).draft ≡ tables.draft
 
--- what the register holds of an intersection
+-- the view has what the register holds of an intersection: its inspections, its orders and its used parts, each in the order of their keys
 pub record ShowsCabinet (r : Register) (id : ℕ) (view : CabinetView) : Type 0 where
   pub inspections : view.inspections ≡ records_at id r.inspections
   pub orders : view.orders ≡ records_at id r.orders

@@ -1,4 +1,4 @@
--- What becomes of a decision of the register: its changes as rows, under the intersection that they are of.
+-- How a decision of the register is told, with its changes as rows of an intersection.
 use Rattle.std.specs.Prelude.{◌≡◌, ◌≢◌, ℕ, Result, Ok, Err}
 use Rattle.cabinet_core.specs.Cabinet.{added}
 use Rattle.cabinet_core.specs.declared.decide.Recorded.{Recorded}
@@ -10,13 +10,13 @@ use Rattle.office_desk_cabinet.specs.declared.registered.Registered.{Registered}
 use Rattle.office_desk_cabinet.specs.declared.registered.Registered.TheVariants.{Same, Refused}
 use Rattle.office_desk_cabinet.specs.Registers.{line_told, rows_told}
 
--- only what is added wants memory, unless the decision itself found none
+-- to tell this decision may fail for want of memory: it adds records, or was itself refused memory
 abbrev pub WantsMemory : Result Recorded CabinetRefusal → Type 0
 WantsMemory (Ok (recorded.Added changes)) = Unit {0}
 WantsMemory (Ok recorded.Same) = ⊥
 WantsMemory (Err refusal) = refusal ≡ NoMemory
 
--- a decision as it is reported: what is added in rows, and a refusal unless it is for want of memory
+-- how a decision is told: what it adds as rows of the intersection, and a refusal as it is, which is never for want of memory
 abbrev pub Tells : ℕ → Result Recorded CabinetRefusal → Registered → Type 0
 Tells id (Ok (recorded.Added changes)) told = (line_told told ≡ added) × (rows_told told ≡ row_changes_of id changes.items)
 Tells id (Ok recorded.Same) told = told ≡ Same

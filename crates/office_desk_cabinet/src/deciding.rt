@@ -12,7 +12,9 @@ use office_tables_shelf::shelf::{Shelf, ShelfFault};
 use std::alloc::Global;
 
 /// Decides a command of the register, on what the shelf will hold once the pending rows are
-/// written, in their order. That the intersection is there is for the office to test.
+/// written, in their order. The caller tests that the intersection is there. The fault is `Damaged`
+/// where a stored row under a key of the command is no record, `Store` where the database refused,
+/// and `NoMemory` where a growth was refused.
 pub fn decide_record<S: Shelf>(
     shelf: &mut S,
     alloc: Global,

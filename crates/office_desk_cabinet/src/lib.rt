@@ -1,4 +1,4 @@
-//! The cabinet register over any shelf: its commands decided, and its queries.
+//! The cabinet register over any shelf: it decides commands and answers queries.
 #![tactic(auto)]
 
 mod deciding;

@@ -11,11 +11,11 @@ use std::alloc::Global;
 use std::marker::Model;
 
 /// Rows that are to be written, in their order, with the last put under each key of the register.
-/// They are seen as a list.
+/// Contracts see them as the list of those rows.
 #[derive(Drop)]
 pub struct Pending {
     changes: Vec<RowChange>,
-    /// What the changes make of tables without a row.
+    /// What the changes make of empty tables.
     puts: Maps,
 }
 
@@ -33,7 +33,7 @@ impl Model for Pending {
 }
 
 impl Pending {
-    /// No rows.
+    /// No rows are to be written.
     pub fn new(alloc: Global) -> Pending
         ensures { result ≡ [] }
     {
@@ -43,7 +43,8 @@ impl Pending {
         }
     }
 
-    /// These rows, and others after them.
+    /// The rows to be written until now, and others after them, in order. `NoMemory` means that a
+    /// growth was refused.
     pub fn with(self, mut rows: Vec<RowChange>) -> Result<Pending, NoMemory>
         ensures { IfOk result (λ next. next ≡ self ++ rows.items) }
     {
@@ -58,7 +59,7 @@ impl Pending {
         Ok(Pending { changes, puts })
     }
 
-    /// The rows.
+    /// The rows that are to be written, in their order.
     pub fn into_changes(self) -> Vec<RowChange>
         ensures { result.items ≡ self }
     {
@@ -66,7 +67,7 @@ impl Pending {
         changes
     }
 
-    /// The record that is put under a key of the register, if one is.
+    /// The record that the rows put last under a key of the register, if they put one.
     pub(crate) fn record_at(
         &self,
         key: &RegisterKey<'_>,

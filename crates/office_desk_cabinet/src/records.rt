@@ -1,4 +1,4 @@
-//! Inspections and orders: their commands decided.
+//! The commands Inspect, OpenOrder and CloseOrder, decided.
 ghost use Rattle.std.specs.Prelude.{◌≡◌, []};
 ghost use Rattle.cabinet_core.specs.declared.command.RecordCommand.{RecordCommand};
 ghost use Rattle.office_tables_decisions.specs.Reads.{OnlyReads};
@@ -14,7 +14,8 @@ use office_tables_shelf::shelf::{Shelf, ShelfFault};
 use signal_records::{InterId, RecordNo};
 use std::alloc::Global;
 
-/// Decides whether an inspection is recorded.
+/// Decides whether an inspection of an intersection's cabinet is recorded: `InspectionDiffers`
+/// where another one stands under its number.
 pub(crate) fn decide_inspect<S: Shelf>(
     shelf: &mut S,
     alloc: Global,
@@ -33,7 +34,8 @@ pub(crate) fn decide_inspect<S: Shelf>(
     report_record(alloc, id, decision)
 }
 
-/// Decides whether an order is opened.
+/// Decides whether an order on an intersection is opened: `OrderDiffers` where one of its number
+/// was opened otherwise.
 pub(crate) fn decide_open_order<S: Shelf>(
     shelf: &mut S,
     alloc: Global,
@@ -52,7 +54,8 @@ pub(crate) fn decide_open_order<S: Shelf>(
     report_record(alloc, id, decision)
 }
 
-/// Decides whether an order is closed.
+/// Decides whether this order on an intersection is closed: the first that holds of
+/// `UnknownOrder`, `CloseDiffers` and `DayBeforeOpening` refuses it.
 pub(crate) fn decide_close_order<S: Shelf>(
     shelf: &mut S,
     alloc: Global,

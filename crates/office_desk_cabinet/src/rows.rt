@@ -1,4 +1,4 @@
-//! A decision of the register, with its changes as rows.
+//! How a decision of the register is told, with its changes as rows.
 ghost use Rattle.std.specs.Prelude.{◌≡◌, IfOk, OnErr};
 ghost use Rattle.office_desk_cabinet.specs.Telling.{Tells, WantsMemory, order_row_of, row_change_of, row_changes_of};
 
@@ -19,7 +19,7 @@ fn order_row(id: InterId, order: Order) -> RowChange
     }
 }
 
-/// A change of the register as a row.
+/// A change of the register as a row of this intersection; parts and deliveries are of none.
 fn row_change(id: InterId, change: CabinetChange) -> RowChange
     ensures { result ≡ row_change_of id change }
 {
@@ -32,7 +32,7 @@ fn row_change(id: InterId, change: CabinetChange) -> RowChange
     }
 }
 
-/// Changes of the register as rows, in their order.
+/// Changes of the register as rows of this intersection, in their order.
 fn row_changes(
     alloc: Global,
     id: InterId,
@@ -47,7 +47,8 @@ fn row_changes(
     Ok(made)
 }
 
-/// What is reported of a decision on the register of an intersection. Want of memory is a fault.
+/// How a decision on an intersection's records is told, with its changes as rows. Want of memory is
+/// the fault `NoMemory`.
 pub(crate) fn report_record(
     alloc: Global,
     id: InterId,

@@ -1,4 +1,4 @@
-//! What is asked of the register: the records of a cabinet, its open orders.
+//! Queries of the register: the records of a cabinet, and its open orders.
 ghost use Rattle.std.specs.Prelude.{◌≡◌, IfOk, filter, map, ⊤};
 ghost use Rattle.cabinet_core.specs.Orders.{is_open, open_at};
 ghost use Rattle.cabinet_core.specs.Register.{Register};
@@ -14,8 +14,9 @@ use office_tables_shelf::shelf::{Shelf, ShelfFault};
 use signal_records::{InterId, NoMemory, RecordNo};
 use std::alloc::Global;
 
-/// All that the register holds of an intersection's cabinet. An error is the shelf's, or want of
-/// memory.
+/// All that the register holds of an intersection's cabinet: inspections and orders by their
+/// numbers, used parts by order and line. The fault is `Damaged` where one of these rows is no
+/// record, `Store` where the database refused, and `NoMemory` where a growth was refused.
 pub fn cabinet_view<S: Shelf>(
     shelf: &mut S,
     alloc: Global,
@@ -37,7 +38,7 @@ pub fn cabinet_view<S: Shelf>(
     })
 }
 
-/// The numbers of the orders that are open.
+/// The numbers of those of the orders that are open, in the order given.
 fn open_numbers(alloc: Global, orders: &[Order]) -> Result<Vec<RecordNo>, NoMemory>
     ensures { IfOk result (λ numbers. numbers.items ≡ map
         (λ (order : Order). order.number) (filter is_open orders.now)) }
@@ -51,8 +52,9 @@ fn open_numbers(alloc: Global, orders: &[Order]) -> Result<Vec<RecordNo>, NoMemo
     Ok(numbers)
 }
 
-/// The numbers of the orders on an intersection that are open, in their order. An error is the
-/// shelf's, or want of memory.
+/// The numbers of the orders on an intersection that are open, in ascending order. The fault is
+/// `Damaged` where a row of any order on it is no record, `Store` where the database refused, and
+/// `NoMemory` where a growth was refused.
 pub fn open_orders<S: Shelf>(
     shelf: &mut S,
     alloc: Global,

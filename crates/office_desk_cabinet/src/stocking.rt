@@ -24,7 +24,8 @@ use office_tables_shelf::shelf::{Shelf, ShelfFault};
 use signal_records::{InterId, NoMemory};
 use std::alloc::Global;
 
-/// Decides whether a part is used for an order.
+/// Decides whether a part is used for an order on an intersection: the first that holds of
+/// `LineDiffers`, `UnknownOrder`, `OrderClosed` and `NoStock` refuses it.
 pub(crate) fn decide_use_part<S: Shelf>(
     shelf: &mut S,
     alloc: Global,
@@ -46,7 +47,7 @@ pub(crate) fn decide_use_part<S: Shelf>(
     report_record(alloc, id, decision)
 }
 
-/// A change of a part or a delivery as a row; the others are of an intersection.
+/// A change of a part or a delivery as a row; none for other changes, which are of an intersection.
 fn stock_row(change: CabinetChange) -> Option<RowChange>
     ensures { result ≡ stock_row_of change }
 {
@@ -57,7 +58,7 @@ fn stock_row(change: CabinetChange) -> Option<RowChange>
     }
 }
 
-/// The changes of parts and deliveries as rows, in their order.
+/// The changes of parts and deliveries as rows, in their order; other changes are left out.
 fn stock_rows(alloc: Global, changes: Vec<CabinetChange>) -> Result<Vec<RowChange>, NoMemory>
     ensures { IfOk result (λ made. made.items ≡ stock_rows_of changes.items) }
 {
@@ -70,7 +71,8 @@ fn stock_rows(alloc: Global, changes: Vec<CabinetChange>) -> Result<Vec<RowChang
     Ok(made)
 }
 
-/// What is reported of a decision on a delivery. Want of memory is a fault.
+/// How a decision on a delivery is told, with its changes as rows. Want of memory is the fault
+/// `NoMemory`.
 fn report_delivery(
     alloc: Global,
     decision: Result<Recorded, CabinetRefusal>,
@@ -90,7 +92,8 @@ fn report_delivery(
     }
 }
 
-/// Decides whether a delivery is received.
+/// Decides whether a delivery is received: the first that holds of `DeliveryDiffers` and
+/// `StockFull` refuses it.
 pub(crate) fn decide_receive<S: Shelf>(
     shelf: &mut S,
     alloc: Global,
@@ -110,7 +113,8 @@ pub(crate) fn decide_receive<S: Shelf>(
 }
 
 /// The parts that were ever delivered, with how many are on hand of each, in the order of their
-/// codes.
+/// codes. The fault is `Damaged` where a row of a part is no record, `Store` where the database
+/// refused, and `NoMemory` where a growth was refused.
 pub fn stock<S: Shelf>(shelf: &mut S, alloc: Global) -> Result<Vec<(PartCode, Hand)>, ShelfFault>
     ensures shows { ReportsWhole (S.is_honest shelf.new) result
         (λ parts. (r : Register) →

@@ -15,7 +15,8 @@ use office_tables_shelf::shelf::{Shelf, ShelfFault};
 use signal_records::{InterId, Interval, NoMemory, Words};
 use std::alloc::Global;
 
-/// The answer for an intersection of which this row was read.
+/// The answer to AddIntersection, by the row that was read under the number: `Added`, with the new
+/// row, where none stands; `Same` where name and interval are equal; else `IntersectionDiffers`.
 fn answer_add(
     alloc: Global,
     id: InterId,
@@ -48,7 +49,9 @@ fn answer_add(
     Ok(decided)
 }
 
-/// Decides AddIntersection.
+/// Decides the command AddIntersection, with the days from one inspection to the next. The fault is
+/// `Damaged` where the row of that number is no record, `Store` where the database refused, and
+/// `NoMemory` where a growth was refused.
 pub fn decide_add<S: Shelf>(
     shelf: &mut S,
     alloc: Global,

@@ -1,4 +1,4 @@
-//! The transaction and the timing side of an intersection, over any shelf.
+//! The commands and queries of intersections and their timing, decided over any shelf.
 #![tactic(auto)]
 
 mod adding;

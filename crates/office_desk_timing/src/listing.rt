@@ -1,4 +1,4 @@
-//! All intersections, as they are listed.
+//! The list of all intersections.
 ghost use Rattle.std.specs.Prelude.{◌≡◌, [], ◌∷◌, ◌++◌, ⊤, OnOk};
 ghost use Rattle.office_tables_shelf.specs.Damage.{HasAnyDamagedIntersection};
 ghost use Rattle.office_tables_decisions.specs.Reads.{OnlyReads, ReportsWhole};

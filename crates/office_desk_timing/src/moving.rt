@@ -13,7 +13,7 @@ use office_tables_shelf::shelf::ShelfFault;
 use signal_records::{Change, InterId, NoMemory, Words};
 use std::alloc::Global;
 
-/// A change of an intersection's timing side, as a row.
+/// A change of an intersection's timing side, as a change of a row of the tables.
 fn row_change(id: InterId, change: TimingChange) -> RowChange
     ensures { result ≡ row_change_of id change }
 {
@@ -28,7 +28,8 @@ fn row_change(id: InterId, change: TimingChange) -> RowChange
     }
 }
 
-/// The intersection's row, and then those of a move, in its order.
+/// The changes of rows that a move writes: the intersection's own row, and then those of its timing
+/// side, in order.
 fn row_changes(
     alloc: Global,
     id: InterId,
@@ -46,7 +47,7 @@ fn row_changes(
     Ok(made)
 }
 
-/// The answer to a move.
+/// The answer to a move that this clerk made: the reply `Moved`, and the changes of rows.
 fn answer_move(
     alloc: Global,
     id: InterId,
@@ -85,7 +86,7 @@ fn answer_move(
     Ok(Decided { reply, changes })
 }
 
-/// A refusal of the transaction as one of the office.
+/// A refusal of the transaction as one of the office, which tells want of memory as `Unavailable`.
 fn draft_refusal(refusal: DraftRefusal) -> Refusal
     ensures { result ≡ refusal_of_draft refusal }
 {
@@ -95,7 +96,8 @@ fn draft_refusal(refusal: DraftRefusal) -> Refusal
     }
 }
 
-/// The answer to a decision of the transaction.
+/// The answer to a decision of the transaction: a move with its rows, or a refusal without any. A
+/// refusal for want of memory is the fault `NoMemory`.
 pub(crate) fn answer(
     alloc: Global,
     id: InterId,

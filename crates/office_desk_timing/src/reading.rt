@@ -1,4 +1,4 @@
-//! What is read of an intersection.
+//! The reading of an intersection and, as far as is asked for, of its timing.
 ghost use Rattle.std.specs.Prelude.{IfOk, IfSome, ⊤, ◌≢◌};
 ghost use Rattle.office_tables_shelf.specs.Damage.{HasDamagedIntersection};
 ghost use Rattle.office_tables_shelf.specs.Shelf.{ReadsIntersection};
@@ -13,7 +13,8 @@ use office_tables_shelf::shelf::{Shelf, ShelfFault};
 use signal_records::{Change, InterId, Interval, NoMemory, Row, TimingSet, Words};
 use std::alloc::Global;
 
-/// An intersection as it is kept.
+/// An intersection as it was read. Its timing lacks the committed set, or the draft rows too, where
+/// these were not asked for.
 #[derive(Drop)]
 pub struct Found {
     pub name: Words<120>,
@@ -22,7 +23,7 @@ pub struct Found {
     pub timing: Timing,
 }
 
-/// The intersection of which these rows were read.
+/// The intersection with this row of its own, these committed rows and these draft rows.
 fn made_of(
     alloc: Global,
     row: IntersectionRow,
@@ -51,7 +52,8 @@ fn made_of(
     })
 }
 
-/// The row of an intersection, if there is one. A row that is no record is neither.
+/// The row of an intersection, if there is one. The fault is `Damaged` where that row is no record,
+/// `Store` where the database refused, and `NoMemory` where a growth was refused.
 pub fn intersection_row<S: Shelf>(
     shelf: &mut S,
     alloc: Global,
@@ -66,8 +68,8 @@ pub fn intersection_row<S: Shelf>(
     Ok(row)
 }
 
-/// The committed rows and the draft rows of an intersection, as far as is asked for; none past
-/// that.
+/// The committed rows and the draft rows of an intersection: both by `Plan`, only the draft rows by
+/// `Drafts`, none by `Row`. What is not asked for is not read, and empty.
 fn plan_rows<S: Shelf>(
     shelf: &mut S,
     alloc: Global,
@@ -90,7 +92,8 @@ fn plan_rows<S: Shelf>(
     Ok((rows, changes))
 }
 
-/// Reads an intersection, and of its plan as much as is asked for; the rest of it is left out.
+/// Reads an intersection, if there is one, and of its plan as much as is asked for; the rest of the
+/// plan is left empty. The fault is `Damaged` where a row that is read is no record.
 pub(crate) fn find<S: Shelf>(
     shelf: &mut S,
     alloc: Global,

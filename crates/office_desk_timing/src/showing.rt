@@ -36,7 +36,8 @@ fn state_of(holder: &Option<Holder>) -> DbState
     }
 }
 
-/// What State shows of an intersection of which this row was read.
+/// What the query State shows of an intersection, by its row, how many committed rows it has, and
+/// the verdict on its draft.
 fn state_reply(id: InterId, row: IntersectionRow, rows: usize, verify: Verdict) -> Reply
     ensures { result ≡ Reply.State (row_shown id row rows verify) }
 {
@@ -54,8 +55,8 @@ fn state_reply(id: InterId, row: IntersectionRow, rows: usize, verify: Verdict) 
     })
 }
 
-/// The verdict on the draft of an intersection of which this row was read: only in Done is there
-/// anything to judge.
+/// The verdict on the draft of an intersection of which this row was read. Only in state Done is
+/// the plan read and judged; else it is `NotDone`.
 fn verdict_at<S: Shelf>(
     shelf: &mut S,
     alloc: Global,
@@ -80,7 +81,9 @@ fn verdict_at<S: Shelf>(
     Ok(verdict(alloc, &found.timing)?)
 }
 
-/// Decides State.
+/// Decides the query State about an intersection; `UnknownIntersection` where there is none. The
+/// fault is `Damaged` where a row that is read is no record, `Store` where the database refused,
+/// and `NoMemory` where a growth was refused. The committed rows are read only in state Done.
 pub fn decide_state<S: Shelf>(
     shelf: &mut S,
     alloc: Global,
@@ -98,7 +101,9 @@ pub fn decide_state<S: Shelf>(
     Ok(Decided::from_reply(alloc, state_reply(id, row, rows, verify)))
 }
 
-/// Decides Timing.
+/// Decides the query Timing, which shows an intersection's committed rows; `UnknownIntersection`
+/// where there is none. The fault is `Damaged` where the intersection's row or a committed row is
+/// no record, `Store` where the database refused, and `NoMemory` where a growth was refused.
 pub fn decide_timing<S: Shelf>(
     shelf: &mut S,
     alloc: Global,
@@ -120,7 +125,8 @@ pub fn decide_timing<S: Shelf>(
     Ok(Decided::from_reply(alloc, Reply::Timing(timing)))
 }
 
-/// What Draft shows of an intersection that was found.
+/// What the query Draft shows of an intersection whose whole plan was read: the owner, the rows of
+/// the draft and the rules that they break; `NotTransaction` where nobody holds a draft.
 fn draft_of(alloc: Global, found: Found) -> Result<Reply, NoMemory>
     ensures shows { IfOk result (λ reply. ShowsDraft found reply) }
     ensures named { IfOk result (λ reply. RefusesBy (13 ∷ []) reply) }
@@ -145,7 +151,9 @@ fn draft_of(alloc: Global, found: Found) -> Result<Reply, NoMemory>
     }))
 }
 
-/// Decides Draft.
+/// Decides the query Draft; `UnknownIntersection` where the intersection is not there, and
+/// `NotTransaction` where nobody holds a draft of it. The fault is `Damaged` where its row or a row
+/// of its plan is no record, `Store` for a refusal of the database, `NoMemory` for one of a growth.
 pub fn decide_draft<S: Shelf>(
     shelf: &mut S,
     alloc: Global,

@@ -1,4 +1,4 @@
-//! The steps of the transaction.
+//! The steps of the transaction, by which a clerk changes an intersection's timing.
 ghost use Rattle.std.specs.Prelude.{⊤};
 ghost use Rattle.office_tables_decisions.specs.Reads.{OnlyReads};
 ghost use Rattle.office_tables_decisions.specs.Deciding.{Decides};
@@ -13,7 +13,9 @@ use office_tables_shelf::shelf::{Shelf, ShelfFault};
 use signal_records::{InterId, Words};
 use std::alloc::Global;
 
-/// Decides a step of the transaction.
+/// Decides a step of the transaction that this clerk asks for; `UnknownIntersection` where the
+/// intersection is not there. The fault is `Damaged` where a row that the step reads is no record,
+/// `Store` where the database refused, and `NoMemory` where a growth was refused.
 pub fn transact<S: Shelf>(
     shelf: &mut S,
     alloc: Global,

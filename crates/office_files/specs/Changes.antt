@@ -8,14 +8,14 @@ use Rattle.office_files.specs.declared.fault.CsvFault.{CsvFault}
 use Rattle.office_files.specs.Csv.{csv_records}
 use Rattle.office_files.specs.CsvRow.{csv_rows}
 
--- the changes that a CSV file spells: each record is a row, or the removal of a key
+-- the changes of a timing set that a CSV file spells, in order, or the first bad record: each record is a row, or the removal of a key
 abbrev pub changes_of : List ℕ → Result (List Change) CsvFault
 changes_of text = csv_rows (change_at current_limits) (csv_records text)
 
--- the one spelling of each change
+-- the one spelling of each change, as a record
 abbrev pub spellings : List Change → List (List (List ℕ))
 spellings changes = map (change_spelling current_limits) changes
 
--- changes whose numbers are in their ranges
+-- each change has its numbers in their ranges of today
 abbrev pub AreWithin : List Change → Type 0
 AreWithin changes = All (IsChangeWithin current_limits) changes

@@ -8,26 +8,26 @@ use Rattle.office_files.specs.declared.fault.BadRow.{BadRow}
 use Rattle.office_files.specs.declared.fault.CsvFault.{CsvFault}
 use Rattle.office_files.specs.declared.fault.CsvFault.TheVariants as file
 
--- the record with this number, and its fault
+-- a bad record, by its number, counted from 1, and its fault
 abbrev pub bad_row : ℕ → RowFault → BadRow
 bad_row at fault = record { at = at; fault = fault }
 
--- the fault of the record with this number
+-- the fault of a file whose record with this number has the fault: the bad record, or want of memory
 abbrev pub fault_at : ℕ → RowFault → CsvFault
 fault_at at row.NoMemory = file.NoMemory
 fault_at at fault = file.Row (bad_row at fault)
 
--- the record with this number as it was read, or its fault
+-- what was read of the record with this number, or its fault as the file's
 abbrev pub told_at : {T : Type 0} → ℕ → Result T RowFault → Result T CsvFault
 told_at at (Ok row) = Ok row
 told_at at (Err fault) = Err (fault_at at fault)
 
--- the fault of a record that is named is never want of memory
+-- where the fault of a file names a bad record, that record's fault is not want of memory
 abbrev pub NamesFault : CsvFault → Type 0
 NamesFault (file.Row bad) = bad.fault ≢ row.NoMemory
 NamesFault file.NoMemory = Unit
 
--- how the field of a fault is written: ` 3` for field 3
+-- how the field of a fault, counted from 1, is written: ` 3` for field 3, nothing for none
 abbrev pub field_text : Option ℕ → List ℕ
 field_text None = []
 field_text (Some field) = codes " " ++ decimal field

@@ -5,13 +5,13 @@ use Rattle.office_files.specs.CsvFault.{bad_row}
 use Rattle.office_files.specs.declared.fault.CsvFault.{CsvFault}
 use Rattle.office_files.specs.declared.fault.CsvFault.TheVariants as file
 
--- what a record of this number adds to what the records after it spell
+-- what the record with this number and the records after it spell: its own fault, else theirs, else its value before theirs
 abbrev pub add_row : {T : Type 0} → ℕ → Result T RowFault → Result (List T) CsvFault → Result (List T) CsvFault
 add_row at (Err fault) rest = Err (file.Row (bad_row at fault))
 add_row at (Ok row) (Ok rows) = Ok (row ∷ rows)
 add_row at (Ok row) (Err fault) = Err fault
 
--- what records spell, of which the first has this number
+-- what records spell, of which the first has this number, or the first that spells nothing
 unfoldable pub rows_from : {T : Type 0} → (List (List ℕ) → Result T RowFault) → ℕ → List (List (List ℕ)) → Result (List T) CsvFault
 rows_from reading at [] = Ok []
 rows_from reading at (fields ∷ records) = add_row at (reading fields) (rows_from reading (at + 1) records)

@@ -17,7 +17,7 @@ use Rattle.office_files.specs.RecordReading.{record_at}
 use Rattle.office_files.specs.RecordSpelling.{record_spelling}
 use Rattle.cabinet_core.specs.Within.{IsRecordWithin}
 
--- the commands that a CSV file spells, one in each record
+-- the commands of the register that a CSV file spells, one in each record, or the first bad record
 abbrev pub commands_of : List ℕ → Result (List RecordCommand) CsvFault
 commands_of text = csv_rows record_at (csv_records text)
 
@@ -25,11 +25,11 @@ commands_of text = csv_rows record_at (csv_records text)
 abbrev pub AreRecordsWithin : List RecordCommand → Type 0
 AreRecordsWithin commands = All IsRecordWithin commands
 
--- what opened the order
+-- the opening by which an order was opened
 abbrev pub opening_of : Order → Opening
 opening_of order = record { number = order.number; day = order.opened; clerk = order.clerk; text = order.text }
 
--- the line is of this order
+-- the used part is of the order with this number
 abbrev pub is_line_of : ℕ → UsedLine → Bool
 is_line_of order line = line.order == order
 
@@ -38,23 +38,23 @@ abbrev pub close_commands : ℕ → ℕ → Option Closing → List RecordComman
 close_commands id order None = []
 close_commands id order (Some closing) = command.CloseOrder id order closing ∷ []
 
--- what made an order as it stands: its opening, its lines, its closing
+-- the commands that made an order as it stands: its opening, those of the lines that are its own, its closing if it is closed
 abbrev pub order_commands : ℕ → List UsedLine → Order → List RecordCommand
 order_commands id lines order =
     command.OpenOrder id (opening_of order) ∷ (map (command.UsePart id) (filter (is_line_of order.number) lines) ++ close_commands id order.number order.closing)
 
--- the order of the file: inspections and orders stand by their numbers, and used parts by their
--- orders, and those of an order by their lines
+-- the view is in the order of its file: inspections and orders stand by their numbers, used parts by
+-- their orders, and those of an order by their lines
 pub record IsInFileOrder (view : CabinetView) : Type 0 where
   pub inspections : IsNonDecreasingBy inspection_place view.inspections
   pub orders : IsNonDecreasingBy order_place view.orders
   pub lines : IsNonDecreasingBy line_place view.lines
 
--- what made a cabinet as it stands: its inspections, and then order by order
+-- the commands that made a cabinet as it stands: its inspections, and then order by order
 abbrev pub view_commands : ℕ → CabinetView → List RecordCommand
 view_commands id view = map (command.Inspect id) view.inspections ++ flat_map
     (order_commands id view.lines) view.orders
 
--- the CSV file of commands: a record for each
+-- the CSV file of a cabinet: a record for each command that made it as it stands
 abbrev pub records_csv_text : ℕ → CabinetView → List ℕ
 records_csv_text id view = csv_text (map record_spelling (view_commands id view))

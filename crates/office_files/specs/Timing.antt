@@ -13,10 +13,10 @@ use Rattle.office_files.specs.Csv.{csv_text}
 abbrev pub timing_csv_text : Rows → List ℕ
 timing_csv_text set = csv_text (map (spelling current_limits) (values set))
 
--- the changes that put the rows of a set, in key order
+-- the changes that put the rows of a timing set, in key order
 abbrev pub puts_of : Rows → List Change
 puts_of set = map Put (values set)
 
--- the CSV file of changes: a record for each
+-- the CSV file of changes of a timing set: a record for each, in order
 abbrev pub changes_csv_text : List Change → List ℕ
 changes_csv_text changes = csv_text (spellings changes)

@@ -13,7 +13,7 @@ abbrev pub violations_text : List Violation → List ℕ
 violations_text [] = codes "no violations\n"
 violations_text (first ∷ others) = flat_map violation_line (first ∷ others)
 
--- `pattern 1 V10: offset 60 s, cycle 60 s` and a line feed
+-- the line of a violation with its reason: `pattern 1 V10: offset 60 s, cycle 60 s` and a line feed
 abbrev pub explained_line : Explained → List ℕ
 explained_line e = explained_text e ++ codes "\n"
 

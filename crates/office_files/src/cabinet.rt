@@ -1,4 +1,4 @@
-//! Records of the cabinet register as CSV files.
+//! Records of the cabinet register, read from CSV files and written into them.
 
 ghost use Rattle.std.specs.Prelude.{◌≡◌, ◌≢◌, ◌++◌, map, flat_map, List, IfOk, IfErr, OnOk, Ok, Err, IsUtf8, MatchResult};
 ghost use Rattle.std.specs.List.{filter};
@@ -27,8 +27,9 @@ impl CsvRow for RecordCommand {
 }
 
 /// The commands that the records of a CSV file spell, in their order, or the first record that
-/// spells none. No record is a header, records may differ in length, and empty lines are no
-/// records. An empty file has no commands. A byte order mark is taken off.
+/// spells none, counted from 1. No record is a header, records may differ in length, and empty
+/// lines are no records. An empty file has no commands. A byte order mark is taken off. `NoMemory`
+/// means that a growth was refused.
 pub fn read_records_csv(alloc: Global, bytes: &[u8]) -> Result<Vec<RecordCommand>, CsvFault>
     ensures commands { IfOk result (λ commands. commands_of bytes.now ≡ Ok commands.items) }
     ensures fault { IfErr result
@@ -63,7 +64,7 @@ fn push_inspections(
     Ok(())
 }
 
-/// Appends what used the lines of an order.
+/// Appends the commands that used parts for an order: those of the lines that name it.
 fn push_uses(
     commands: &mut Vec<RecordCommand>,
     id: InterId,
@@ -84,7 +85,7 @@ fn push_uses(
     Ok(())
 }
 
-/// Appends what closed an order, where it is closed.
+/// Appends the command that closed an order, where it is closed.
 fn push_closing(
     commands: &mut Vec<RecordCommand>,
     id: InterId,
@@ -115,7 +116,7 @@ fn opening_of(order: &Order) -> Result<Opening, NoMemory>
     })
 }
 
-/// Appends what made an order as it stands.
+/// Appends the commands that made an order as it stands: its opening, its uses, its closing.
 fn push_order(
     commands: &mut Vec<RecordCommand>,
     id: InterId,
@@ -133,7 +134,7 @@ fn push_order(
     push_closing(commands, id, order.number, &order.closing)
 }
 
-/// Appends what made the orders as they stand.
+/// Appends the commands that made these orders as they stand, order by order.
 fn push_orders(
     commands: &mut Vec<RecordCommand>,
     id: InterId,
@@ -149,7 +150,7 @@ fn push_orders(
     Ok(())
 }
 
-/// What made a cabinet as it stands, in the order of its file.
+/// The commands that made a cabinet as it stands: its inspections, and then order by order.
 fn view_commands(
     alloc: Global,
     id: InterId,
@@ -169,10 +170,10 @@ fn view_commands(
     Ok(commands)
 }
 
-/// The CSV file of an intersection's cabinet: its inspections, and then for each order what
-/// opened it, the parts that were used for it, and what closed it. Inspections and orders stand by
-/// their numbers, and the parts of an order by their lines. It is UTF-8. Read, it gives the
-/// commands that made the cabinet so.
+/// The CSV file of an intersection's cabinet, in UTF-8: its inspections, and then for each order
+/// what opened it, the parts that were used for it, and what closed it. Inspections and orders
+/// stand by their numbers, and the parts of an order by their lines. `read_records_csv` reads it as
+/// the commands that made the cabinet as it stands. `NoMemory` means that a growth was refused.
 pub fn records_csv(alloc: Global, id: InterId, view: &CabinetView) -> Result<Vec<u8>, NoMemory>
     ensures text { IfOk result (λ text. text.items ≡ records_csv_text id view.now) }
     ensures in_order { IfOk result (λ _. IsInFileOrder view.now) }

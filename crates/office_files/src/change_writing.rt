@@ -1,4 +1,4 @@
-//! Changes of a timing set into CSV files.
+//! Changes of a timing set, written into CSV files.
 
 ghost use Rattle.std.specs.Prelude.{◌≡◌, ◌∷◌, codes, IfOk, Ok, IsUtf8};
 ghost use Rattle.signal_records.specs.Spelling.{key_spelling, Writes};
@@ -11,7 +11,7 @@ use csv::ByteRecord;
 use signal_records::{Change, Key, NoMemory, change_is_within};
 use std::alloc::Global;
 
-/// The fields that remove the row under a key.
+/// The fields of a record that removes the row under a key: `remove`, the kind and its numbers.
 fn removal_fields(alloc: Global, key: Key) -> Result<Vec<String>, NoMemory>
     ensures { Writes result (codes "remove" ∷ key_spelling key) }
 {
@@ -51,9 +51,10 @@ impl CsvRecord for Change {
     }
 }
 
-/// The CSV file of changes: a record for each, in order, with a line feed after it. A row is
-/// spelled as `write_row` does, and the removal of a key as `remove` and the key. It is UTF-8, and
-/// `read_timing_csv` reads it as these changes.
+/// The CSV file of changes of a timing set, in UTF-8: a record for each, in order, with a line feed
+/// after it. A record is the fields of the row that is put, or `remove` and those of the key that
+/// is removed. `read_timing_csv` reads it as these changes. `NoMemory` means that a growth was
+/// refused.
 pub fn changes_csv(alloc: Global, changes: &[Change]) -> Result<Vec<u8>, NoMemory>
     ensures text { IfOk result (λ text. text.items ≡ changes_csv_text changes.now) }
     ensures utf8 { IfOk result (λ text. IsUtf8 text.items) }

@@ -12,7 +12,7 @@ use std::fmt;
 pub struct BadRow {
     /// Which record, counted from 1. Empty lines are no records.
     pub at: usize,
-    /// What is wrong with it, which is never `NoMemory`.
+    /// What is wrong with the record, which is never `NoMemory`.
     pub fault: RowFault,
 }
 
@@ -25,8 +25,8 @@ pub enum CsvFault {
     NoMemory,
 }
 
-/// What was read of the record with that number, counted from 1, or its fault with the number
-/// beside it. Out of memory is reported exactly where the reader of the record reported it.
+/// What was read of the record with the number `at`, counted from 1, or its fault with the number
+/// beside it. Want of memory is reported exactly where the reader of the record reported it.
 pub fn told_of_record<T>(at: usize, read: Result<T, RowFault>) -> Result<T, CsvFault>
     ensures { result ≡ told_at at read }
 {
@@ -59,7 +59,8 @@ impl<T: Drop> From<AllocFailed<T>> for CsvFault {
     }
 }
 
-/// Writes the record and its fault with the field that it names, as `record 4: Number 3`.
+/// Writes a bad record's number and its fault, with the field that this names if any, as
+/// `record 4: Number 3` or `record 4: Count`. Both count from 1.
 impl fmt::Display for BadRow {
     ghost use Rattle.std.specs.Prelude.{Some};
     ghost use Rattle.office_files.specs.CsvFault.{bad_row_text};
@@ -77,7 +78,7 @@ impl fmt::Display for BadRow {
     }
 }
 
-/// Writes the bad record, or `memory`.
+/// Writes the bad record, as `record 4: Number 3`, or `memory`.
 impl fmt::Display for CsvFault {
     ghost use Rattle.std.specs.Prelude.{Some};
     ghost use Rattle.office_files.specs.CsvFault.{fault_text};

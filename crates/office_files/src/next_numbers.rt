@@ -22,7 +22,7 @@ fn greatest<T: Placed>(records: &[T]) -> u32
     greatest
 }
 
-/// The number that follows the greatest, unless that is the last one.
+/// The number that follows the greatest, or none where that is the last one.
 fn next_after(greatest: u32) -> Option<u32>
     ensures { result ≡ next_after greatest }
 {
@@ -33,7 +33,7 @@ fn next_after(greatest: u32) -> Option<u32>
     }
 }
 
-/// Appends a number, or that there is none.
+/// Appends a next free number, or `none` where there is none.
 fn push_next(text: &mut String, next: Option<u32>) -> Result<(), AllocError>
     ensures { OnOk result (string_bytes text.new ≡ string_bytes text.old ++ next_word next) }
 {
@@ -43,8 +43,9 @@ fn push_next(text: &mut String, next: Option<u32>) -> Result<(), AllocError>
     }
 }
 
-/// Appends the next free numbers of an inspection and of an order of a cabinet: each is one more
-/// than the greatest there is, 1 where there is none, and `none` where that is 999999, the last.
+/// Appends the next free numbers of an inspection and of an order of a cabinet, as `next free
+/// numbers: inspection 5, order 3`: each is one more than the greatest there is, 1 where there is
+/// none, and `none` where the greatest is 999999, the last. The error is want of memory.
 pub fn push_next_numbers(text: &mut String, view: &CabinetView) -> Result<(), AllocError>
     ensures { OnOk result (string_bytes text.new ≡
         string_bytes text.old ++ next_numbers_words view.now) }

@@ -1,4 +1,4 @@
-//! One field of a record row: a day, a short text or the code of a part.
+//! One field of a record: a day, a short text or the code of a part. Fields are counted from 1.
 
 ghost use Rattle.std.specs.Prelude.{◌≡◌, ◌≤◌, ◌-◌, length, IfOk};
 ghost use Rattle.signal_records.specs.Reading.{Gives, texts};
@@ -14,7 +14,7 @@ fn day_in(text: &[u8]) -> Option<Day>
     read_day(text)
 }
 
-/// The day at a place.
+/// The day, `YYYY-MM-DD`, that the field at a place spells, or the fault `Day` of that place.
 #[tactic(auto, unfolding(crate::specs::RecordReading::day_at))]
 pub(crate) fn day(fields: &[&[u8]], place: u8) -> Result<Day, RowFault>
     requires some { 1 ≤ place }
@@ -30,7 +30,7 @@ fn words_in<const MAX: usize>(alloc: Global, text: &[u8]) -> Result<Option<Words
     Words::new(alloc, text)
 }
 
-/// The short text at a place.
+/// The words of at most `MAX` bytes in the field at a place, or the fault `Text` of that place.
 #[tactic(auto, unfolding(crate::specs::RecordReading::words_at))]
 pub(crate) fn words<const MAX: usize>(
     alloc: Global,
@@ -51,7 +51,7 @@ fn part_in(alloc: Global, text: &[u8]) -> Result<Option<PartCode>, NoMemory>
     PartCode::new(alloc, text)
 }
 
-/// The code of a part at a place.
+/// The code of a part in the field at a place, or the fault `Text` of that place.
 #[tactic(auto, unfolding(crate::specs::RecordReading::part_at))]
 pub(crate) fn part(alloc: Global, fields: &[&[u8]], place: u8) -> Result<PartCode, RowFault>
     requires some { 1 ≤ place }

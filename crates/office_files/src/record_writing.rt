@@ -1,4 +1,4 @@
-//! Commands of the register into records of a CSV file.
+//! Commands of the register, written as records of a CSV file.
 
 ghost use Rattle.std.specs.Prelude.{◌≡◌, IfOk, decimal, string_bytes};
 ghost use Rattle.csv.specs.Records.{fields_of};

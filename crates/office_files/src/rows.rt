@@ -15,14 +15,15 @@ use std::alloc::Global;
 
 /// A value that the fields of a record spell.
 pub(crate) trait CsvRow: Sized + Drop {
-    /// What the fields spell, or the first fault.
+    /// The value that the fields of a record spell, or the first fault.
     ghost reading: { List (List ℕ) → Result Self Fault };
 
     fn read_fields(alloc: Global, fields: &[&[u8]]) -> Result<Self, RowFault>
         ensures { Gives result (reading (texts fields.now)) };
 }
 
-/// What the records of a file spell, or the first that spells nothing.
+/// The values that the records of a CSV file spell, in order, or the first record that spells none,
+/// counted from 1. `NoMemory` may stand in place of either.
 pub(crate) fn read_rows<T: CsvRow>(alloc: Global, text: &[u8]) -> Result<Vec<T>, CsvFault>
     ensures rows { IfOk result (λ rows. csv_rows T.reading (csv_records text.now) ≡ Ok rows.items) }
     ensures fault { IfErr result (λ fault. fault ≢ CsvFault.NoMemory →

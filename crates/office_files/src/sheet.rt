@@ -10,7 +10,7 @@ use signal_records::{InterId, NoMemory, Ped, Phase, PhaseNo, Row, TimingSet, Wor
 use std::alloc::Global;
 use std::fmt::Write;
 
-/// Appends the six columns of a pedestrian part.
+/// Appends the six columns of a pedestrian part, or a dash in each where a phase has none.
 fn push_ped(text: &mut String, ped: &Option<Ped>) -> Result<(), NoMemory>
     ensures { OnOk result (string_bytes text.new ≡ string_bytes text.old ++ ped_columns ped.now) }
 {
@@ -25,7 +25,7 @@ fn push_ped(text: &mut String, ped: &Option<Ped>) -> Result<(), NoMemory>
     push_number(text, ped.lead.get())
 }
 
-/// Appends the columns of a phase up to its pedestrian part.
+/// Appends the columns of a phase before those of its pedestrian part. Tenths have a point.
 fn push_intervals(text: &mut String, p: PhaseNo, phase: &Phase) -> Result<(), NoMemory>
     ensures { OnOk result (string_bytes text.new ≡ string_bytes text.old
         ++ interval_columns p phase.now) }
@@ -142,7 +142,7 @@ fn push_patterns(text: &mut String, rows: &[Row]) -> Result<(), NoMemory>
     Ok(())
 }
 
-/// Appends the four sections.
+/// Appends the four sections of a sheet: phases, sequences, splits and patterns.
 fn push_sections(text: &mut String, rows: &[Row]) -> Result<(), NoMemory>
     ensures { OnOk result (string_bytes text.new ≡ string_bytes text.old ++ sections rows.now) }
 {
@@ -152,7 +152,7 @@ fn push_sections(text: &mut String, rows: &[Row]) -> Result<(), NoMemory>
     push_patterns(text, rows)
 }
 
-/// Appends the two lines at the top.
+/// Appends the two lines at the top of a sheet: the intersection's number and name, the revision.
 fn push_title(
     text: &mut String,
     id: InterId,
@@ -168,10 +168,12 @@ fn push_title(
     write!(text, "Intersection {id}: {name}\nRevision {revision}\n")
 }
 
-/// The timing sheet of an intersection: its number, name and revision, and then its phases,
-/// sequences, splits and patterns, a line for each row in key order. Numbers stand right in six
-/// places, tenths with a point, and a list after one space. A phase without a pedestrian part has
-/// a dash in each of its six columns, and an empty list is a dash.
+/// The timing sheet of an intersection, in UTF-8: its number, name and revision, and then its
+/// phases, sequences, splits and patterns, a line for each row in key order. A number stands at the
+/// right of six places, tenths with a point, and each number of a list after a space. A phase
+/// without a pedestrian part has a dash in each of its six columns, and an empty list is a dash.
+///
+/// `NoMemory` means that a growth was refused.
 pub fn timing_sheet(
     alloc: Global,
     id: InterId,

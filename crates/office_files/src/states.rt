@@ -5,7 +5,7 @@ ghost use Rattle.office_files.specs.States.{stage_word, state_word};
 
 use signal_records::state::{Holder, Stage};
 
-/// The word for a state in which a clerk holds the draft.
+/// The word for a state of a transaction in which a clerk holds the draft.
 fn stage_word(stage: Stage) -> &'static str
     ensures { result.now ≡ stage_word stage }
 {
@@ -16,7 +16,8 @@ fn stage_word(stage: Stage) -> &'static str
     }
 }
 
-/// The word for the state of a transaction: `normal` where nobody holds a draft.
+/// The word for the state of an intersection's transaction, by who holds its draft: `normal` where
+/// nobody does, else `transaction`, `verify` or `done`.
 pub fn state_word(holder: &Option<Holder>) -> &'static str
     ensures { result.now ≡ state_word holder.now }
 {

@@ -1,4 +1,4 @@
-//! Timing sets into CSV files.
+//! Timing sets, written into CSV files.
 
 ghost use Rattle.std.specs.Prelude.{◌≡◌, map, IfOk, OnOk, Ok, IsUtf8, string_bytes};
 ghost use Rattle.std.specs.FinMap as finmap;
@@ -12,7 +12,7 @@ use csv::ByteRecord;
 use signal_records::{NoMemory, Row, TimingSet, row_is_within, write_row};
 use std::alloc::Global;
 
-/// The record of these fields.
+/// The CSV record that has these texts as its fields, in order.
 pub(crate) fn record_of(alloc: Global, texts: &[String]) -> Result<ByteRecord, NoMemory>
     ensures { IfOk result (λ row. fields_of row ≡ map string_bytes texts.now) }
 {
@@ -38,9 +38,9 @@ impl CsvRecord for Row {
     }
 }
 
-/// The CSV file of a timing set: its rows in key order, each spelled as `write_row` does, with a
-/// line feed after it. It is UTF-8. Read, it puts the rows one after the other, which makes the set
-/// of the empty one.
+/// The CSV file of a timing set, in UTF-8: a record of the fields of each row, in key order, with a
+/// line feed after it. `read_timing_csv` reads it as changes that put these rows, which make the
+/// set of the empty one. `NoMemory` means that a growth was refused.
 pub fn timing_csv(alloc: Global, set: &TimingSet) -> Result<Vec<u8>, NoMemory>
     ensures text { IfOk result (λ text. text.items ≡ timing_csv_text set.now) }
     ensures utf8 { IfOk result (λ text. IsUtf8 text.items) }

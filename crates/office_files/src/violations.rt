@@ -8,8 +8,8 @@ use signal_rules::{Explained, Violation};
 use std::alloc::Global;
 use std::fmt::Write;
 
-/// A line for each violation, as `pattern 1 V13`, or the one line `no violations`. Each line ends
-/// in a line feed.
+/// A line for each violation, in order, as `pattern 1 V13`, or the one line `no violations`. Each
+/// line ends in a line feed. `NoMemory` means that a growth was refused.
 pub fn violation_text(alloc: Global, violations: &[Violation]) -> Result<Vec<u8>, NoMemory>
     ensures { IfOk result (λ text. text.items ≡ violations_text violations.now) }
 {
@@ -23,8 +23,9 @@ pub fn violation_text(alloc: Global, violations: &[Violation]) -> Result<Vec<u8>
     Ok(text.into_bytes())
 }
 
-/// A line for each violation with its reason, as `pattern 1 V10: offset 60 s, cycle 60 s`, or the
-/// one line `no violations`. Each line ends in a line feed.
+/// A line for each violation with its reason, in order, as `pattern 1 V10: offset 60 s, cycle 60
+/// s`, or the one line `no violations`. Each line ends in a line feed. `NoMemory` means that a
+/// growth was refused.
 pub fn explained_text(alloc: Global, found: &[Explained]) -> Result<Vec<u8>, NoMemory>
     ensures { IfOk result (λ text. text.items ≡ explained_text_of found.now) }
 {

@@ -1,5 +1,5 @@
--- What the requests of a whole stream make of the office: the run of the commands that they ask,
--- and its laws.
+-- What the requests of a whole stream make of the office: a run of the commands that they ask, and
+-- the laws of that run.
 use Rattle.std.specs.Prelude.{◌≡◌, ◌⊎◌, ℕ, List, [], ◌∷◌, ◌++◌, Result, Ok, Err}
 use Rattle.office_machine.specs.Office.{Office, side_at}
 use Rattle.office_machine.specs.RegisterRuns.{RegisterRuns}
@@ -23,7 +23,7 @@ use Rattle.signal_plans.specs.StreetLaws.{StreetLaws}
 
 -- ---- the commands
 
--- the command that was read, if one was
+-- the command that a request was read as, if it was read as one
 abbrev pub command_read : Result Asked AskFault → List Command
 command_read (Ok asked) = asked.command ∷ []
 command_read (Err fault) = []
@@ -39,14 +39,15 @@ asked_in (request ∷ requests) = asked_of request ++ asked_in requests
 
 -- ---- their replies, and the answers
 
--- the reply is written in the form asked; or it is Unavailable, and the answer says so
+-- the answer tells the reply in the form that was asked for; or the reply is Unavailable, and the answer is
+-- that of 503
 abbrev pub TellsReply : Asked → Reply → List ℕ → Type 0
 TellsReply asked reply answer =
     (answer ≡ answer_bytes reply asked.form)
     ⊎ ((reply ≡ Refused Unavailable) × (answer ≡ unavailable_bytes))
 
--- The answer to a command tells the first of the replies, and leaves the others; one to no command
--- tells its fault, or that memory was refused, and leaves all.
+-- The answer to a request that is a command tells the first of the replies, and leaves the others;
+-- the answer to any other tells its fault, or that memory was refused, and leaves all.
 abbrev pub TellsRead : Result Asked AskFault → List ℕ → (replies left : List Reply) → Type 0
 TellsRead (Ok asked) answer replies left =
     (reply : Reply) × TellsReply asked reply answer × (replies ≡ reply ∷ left)

@@ -20,24 +20,24 @@ use Rattle.office_tables_shelf.specs.Content.{Content}
 abbrev pub connection_limit : ℕ
 connection_limit = 10000
 
--- the counts after a call that gave a connection; at its largest value a count stays
+-- the counts of a listener after a call that gave a connection; at its largest value a count stays
 abbrev pub one_accepted : ListenCounts → ListenCounts
 one_accepted c = record { accepted = raised_count c.accepted; failures = c.failures }
 
--- the counts after a call that failed
+-- the counts of a listener after a call that failed; at its largest value a count stays
 abbrev pub one_failed : ListenCounts → ListenCounts
 one_failed c = record { accepted = c.accepted; failures = raised_count c.failures }
 
--- the counts after a call with this outcome
+-- the counts of a listener after a call with this outcome
 abbrev pub listen_counts_after : {C E : Type 0} → Result C E → ListenCounts → ListenCounts
 listen_counts_after (Ok connection) c = one_accepted c
 listen_counts_after (Err e) c = one_failed c
 
--- the counts before the first call
+-- the counts of a listener before its first call
 abbrev pub no_listening : ListenCounts
 no_listening = record { accepted = 0; failures = 0 }
 
--- the counts after so many more connections
+-- the counts of a listener after it gave so many more connections
 abbrev pub more_accepted : ℕ → ListenCounts → ListenCounts
 more_accepted zero c = c
 more_accepted (suc n) c = one_accepted (more_accepted n c)
@@ -54,7 +54,7 @@ pub record Listening : Type 0 where
 abbrev pub counts_alone : ListenCounts → Listening
 counts_alone counts = record { counts = counts; given = None; returned = None }
 
--- a known list grew by these
+-- a list of ends, where it is known, grew by these; one that is known stays known
 abbrev pub GrewBy : Option (List Ends) → Option (List Ends) → List Ends → Type 0
 GrewBy None new more = Unit {0}
 GrewBy (Some xs) None more = ⊥
@@ -65,11 +65,12 @@ pub record Connected : Type 0 where
   pub start : Ends
   pub end : Ends
 
--- a connection that was given so, and given back so
+-- a connection, by its ends when it was given and its ends when it was given back
 abbrev pub connection_between : Ends → Ends → Connected
 connection_between start end = record { start = start; end = end }
 
--- the listener gave these connections and got them back, and counted so many calls
+-- between two moments the listener gave these connections and got them back, in this order, and in the end
+-- it counts so many calls
 pub record Turns
     (old new : Listening) (connections : List Connected) (counts : ListenCounts) : Type 0 where
   pub counted : new.counts ≡ counts
@@ -95,7 +96,8 @@ abbrev pub ServesAsMany : ℕ → List Connected → Result ⊤ ServeStop → Ty
 ServesAsMany count served result =
     MatchResult result (λ _. length served ≡ count) (λ _. length served ≤ count)
 
--- the source was called only while a request of the connection was awaited, not again after a call that gave no byte, and so often at most
+-- the source was called only while a request of the connection was awaited, not again after a call that failed or gave no byte, and at most
+-- once for each byte of the longest requests, one more of these than the limit, and once more
 pub record AsksConnection (start end : Ends) : Type 0 where
   pub asks : OnlyAsks (λ told. told) connection_limit start.source end.source
   pub reads : end.source.counts.calls ≤ longest_request * (connection_limit + 1) + 1
@@ -128,8 +130,8 @@ ServesEach {Shelf} storage first held before (connection ∷ connections) last k
     × ServesConnection storage first held before mid tables middle connection
     × ServesEach storage mid tables middle connections last kept after
 
--- What was done for the connections that were served: what is kept at the end stands for the office
--- after the last one.
+-- What was done for the connections that were served: each was served in turn, and what is kept at
+-- the end stands for the office after the last one.
 pub record Listens
     {Shelf : Type 0} (storage : Storage Shelf Office Content) (first : Shelf) (held : Content)
     (before : Office) (last : Shelf) (served : List Connected) : Type 0 where

@@ -1,4 +1,4 @@
--- How the office answers requests.
+-- How the office answers the requests of a stream, and what rows it writes for them.
 use Rattle.std.specs.Prelude.{◌≡◌, ◌⊎◌, ℕ, List, Result, Ok, Err}
 use Rattle.office_desk.specs.Changes.{IsQueryCommand, IsRefused, RiseAtMost}
 use Rattle.office_machine.specs.Office.{Office}
@@ -18,13 +18,13 @@ use Rattle.office_http_responses.specs.Faults.{ask_fault_text, framing_fault_tex
 use Rattle.office_http_requests.specs.declared.command.Asked.{Asked}
 use Rattle.office_http_requests.specs.declared.fault.AskFault.{AskFault}
 
--- the command takes its step of the office machine, and its reply is written
+-- the command takes its step of the office machine, and the answer tells its reply in the form that was asked for
 pub record AnswersAsked (before : Office) (asked : Asked) (answer : List ℕ) (after : Office) : Type 0 where
   pub reply : Reply
   pub step : answered before asked.command ≡ (reply, after)
   pub text : answer ≡ answer_bytes reply asked.form
 
--- what was asked takes its step; a request that asks nothing is answered with its fault, and leaves the office
+-- a command that was read takes its step; a request that was read as a fault is answered with that, and leaves the office
 abbrev pub AnswersRead : Result Asked AskFault → Office → List ℕ → Office → Type 0
 AnswersRead (Ok asked) before answer after = AnswersAsked before asked answer after
 AnswersRead (Err fault) before answer after = (answer ≡ ask_fault_text fault) × (after ≡ before)
@@ -33,11 +33,11 @@ AnswersRead (Err fault) before answer after = (answer ≡ ask_fault_text fault) 
 abbrev pub read_of : PlainRequest → Result Asked AskFault
 read_of request = command_at request.method request.path request.body
 
--- a request is answered as what it is read as
+-- a request is answered as the command or the fault that it is read as
 abbrev pub AnswersRequest : Office → PlainRequest → List ℕ → Office → Type 0
 AnswersRequest before request answer after = AnswersRead (read_of request) before answer after
 
--- from this office the command asks, or is refused
+-- the command is a query, or this office refuses it
 abbrev pub ChangesNothing : Office → Command → Type 0
 ChangesNothing before command = IsQueryCommand command ⊎ IsRefused (answered before command).0
 
@@ -48,13 +48,13 @@ pub record WritesAsked
   pub bounds : RiseAtMost held command old new
   pub nothing : ChangesNothing before command → (kept ≡ held) × (new ≡ old)
 
--- a request that asks nothing wrote no row, and the tables are the same
+-- a command that was read wrote what it may; a request that was read as a fault wrote no row, and the tables are the same
 abbrev pub WritesRead :
     Result Asked AskFault → Office → (held kept : Content) → (old new : WriteCounts) → Type 0
 WritesRead (Ok asked) before held kept old new = WritesAsked before asked.command held kept old new
 WritesRead (Err fault) before held kept old new = (kept ≡ held) × (new ≡ old)
 
--- a request wrote as what it is read as
+-- a request wrote no more than may the command or the fault that it is read as
 abbrev pub WritesRequest :
     Office → PlainRequest → (held kept : Content) → (old new : WriteCounts) → Type 0
 WritesRequest before request = WritesRead (read_of request) before
@@ -73,7 +73,7 @@ office_storage is_honest content written may_leave = record {
   may_write = WritesRequest;
 }
 
--- the answers of the office
+-- the answers that the office may give to requests and to faults of the framing, and the offices that they leave
 abbrev pub office_protocol : Protocol Office
 office_protocol = record {
   step = AnswersRequest;

@@ -3,12 +3,13 @@
 use std::io::Read;
 use std::net::TcpStream;
 
-/// How many connections that were ended stay open for what their clients still send.
+/// How many connections that the server has ended stay open for what their clients still send.
 const OPEN: usize = 8;
 
-/// The most pieces of what a client still sends that are taken at a time, and the bytes of one.
+/// The most pieces of what a client still sends that are taken at a time.
 const PIECES: usize = 64;
 
+/// How many bytes of what a client still sends are taken at most in one piece.
 const PIECE_LEN: usize = 4_096;
 
 /// Takes what has come over a connection that was ended, and lets it go: a stream that is closed
@@ -26,8 +27,8 @@ fn discard(stream: &mut TcpStream) {
     }
 }
 
-/// The connections that were ended last. Each stays open until so many others have followed it, so
-/// that a request that its client sends at that moment is met by the end, and not by a reset.
+/// The connections that were ended last. Each stays open until `OPEN` others have followed it, so
+/// that a request that its client still sends is met by the end, and not by a reset.
 #[derive(Drop)]
 pub(crate) struct Ended {
     streams: [Option<TcpStream>; OPEN],
@@ -42,7 +43,8 @@ impl Ended {
         }
     }
 
-    /// Takes a connection whose sending side was ended, and closes the one that it follows.
+    /// Takes a connection whose sending side was ended, and closes the one that was taken `OPEN`
+    /// before it.
     pub(crate) fn add(&mut self, mut stream: TcpStream) {
         discard(&mut stream);
         let place = &mut self.streams[self.turn % OPEN];

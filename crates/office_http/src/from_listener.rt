@@ -43,6 +43,7 @@ impl Model for FromListener {
 }
 
 impl FromListener {
+    /// The listener before its first counted call.
     pub fn new(listener: TcpListener) -> FromListener
         ensures { result ≡ no_listening }
     {
@@ -53,6 +54,7 @@ impl FromListener {
         }
     }
 
+    /// How the calls went so far.
     pub fn counts(&self) -> ListenCounts
         ensures { result ≡ self.now }
     {
@@ -60,9 +62,10 @@ impl FromListener {
     }
 }
 
-/// The two ends of a connection, of which no read and no write waits longer than `LONGEST_WAIT`. It
-/// sends each answer at once, however short it is; where the system refuses that, answers may be
-/// held back for a moment, and no more.
+/// The two ends of a connection that this listener accepted. No read and no write waits longer than
+/// `LONGEST_WAIT`. Each answer is sent at once, however short; where the system refuses that, it
+/// may hold an answer back for a moment. The error is the system's, which set no wait or gave no
+/// second handle.
 fn open_ends(
     stream: TcpStream,
     listener: RawFd,
@@ -113,9 +116,10 @@ impl Listen for FromListener {
     }
 }
 
-/// Serves so many connections of a listener of the system, one after the other, each at most 10,000
-/// requests, as `serve_each` does. `Accept` also where the system gives no second handle of the
-/// listener. Connections that were ended are closed at the end.
+/// Serves `count` connections of a listener of the system, one after the other, each at most 10,000
+/// requests. A connection whose ends fail counts too. `Accept` where one could not be accepted, or
+/// the system gives no second handle of the listener; `NoMemory` where the buffer of one was
+/// refused. Connections that were ended are closed at the end.
 pub fn serve_on<S: Shelf>(
     alloc: Global,
     listener: &TcpListener,

@@ -30,13 +30,14 @@ const CONNECTION_LIMIT: u32 = 10_000;
 /// How the calls of a listener went. Each count stays at `u64::MAX` once it is there.
 #[derive(Clone, Copy, Default)]
 pub struct ListenCounts {
-    /// The calls that gave a connection.
+    /// How many calls gave a connection.
     pub accepted: u64,
+    /// How many calls failed.
     pub failures: u64,
 }
 
 impl ListenCounts {
-    /// Counts one more call.
+    /// Counts one more call, by its outcome.
     pub fn count<C>(&mut self, outcome: &io::Result<C>)
         ensures { self.new ≡ listen_counts_after outcome.now self.old }
     {
@@ -47,7 +48,7 @@ impl ListenCounts {
     }
 }
 
-/// The two ends of a connection. It can't be dropped, but is given back to its listener.
+/// The two ends of a connection, which can't be dropped, but is given back to its listener.
 pub struct Connection<R, W> {
     pub reader: R,
     pub writer: W,
@@ -65,10 +66,11 @@ pub trait Listen {
 
     type Writer: Sink;
 
-    // How its calls went so far, and what it gave and got back.
+    // How the listener's calls went so far, and what it gave and got back.
     ghost told: { Self → Listening };
 
-    /// Waits for the next connection, of which nothing was read or written yet.
+    /// Waits for the next connection, of which nothing was read or written yet. An error means that
+    /// none could be accepted, and counts as a failure.
     fn accept(&mut self) -> io::Result<Connection<Self::Reader, Self::Writer>>
         ensures counts { (told self.new).counts
             ≡ listen_counts_after result (told self.old).counts }
@@ -80,7 +82,8 @@ pub trait Listen {
             × ((Self.Writer.told c.writer).counts ≡ no_calls)) }
         ensures returned { GrewBy (told self.old).returned (told self.new).returned [] };
 
-    /// Takes a connection back, and closes it.
+    /// Takes a connection back and ends it. It may stay open for a while for what its client still
+    /// sends.
     fn take_back(&mut self, connection: Connection<Self::Reader, Self::Writer>)
         ensures counts { (told self.new).counts ≡ (told self.old).counts }
         ensures given { GrewBy (told self.old).given (told self.new).given [] }
@@ -92,9 +95,9 @@ pub trait Listen {
 /// Why a listener was not served to the last connection.
 #[derive(Clone, Copy)]
 pub enum ServeStop {
-    /// The listener failed.
+    /// The next connection could not be accepted.
     Accept,
-    /// The buffer of a connection was refused, and nothing was read from it.
+    /// The buffer of a connection was refused, and nothing was read from that connection.
     NoMemory,
 }
 
@@ -105,7 +108,8 @@ fn wants_memory(outcome: &Result<Served, ServeFault>) -> bool
     matches!(outcome, Err(ServeFault::NoMemory))
 }
 
-/// Serves one connection. A fault of its ends is its end.
+/// Serves one connection, from its first call on, at most `CONNECTION_LIMIT` requests. Where its
+/// ends fail it ends, which is no error. The error means that its buffer was refused.
 fn serve_connection<S: Shelf, R: Source, W: Sink>(
     alloc: Global,
     office: &mut Office<S>,
@@ -138,8 +142,9 @@ fn serve_connection<S: Shelf, R: Source, W: Sink>(
     Ok(())
 }
 
-/// Serves so many connections, one after the other, each at most 10,000 requests. A connection that
-/// ends in a fault of its ends counts, and the next one follows it.
+/// Serves `count` connections, one after the other, each at most 10,000 requests. A connection
+/// whose ends fail counts too, and the next one follows it. `Accept` where the next connection
+/// could not be accepted, `NoMemory` where the buffer of one was refused.
 pub fn serve_each<S: Shelf, L: Listen>(
     alloc: Global,
     listener: &mut L,

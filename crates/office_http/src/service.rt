@@ -20,11 +20,13 @@ use office_http_requests::RouteCache;
 use office_tables_shelf::shelf::Shelf;
 use std::alloc::Global;
 
-/// Serves the requests that the reader gives, until it ends, a fault of the framing, the last
-/// request, or the limit. Each answer is written before the next read. A request for which memory
-/// or the tables were refused is answered unavailable, and changes nothing.
+/// Serves the requests that the reader gives, until it ends, or a fault of the framing or the last
+/// request was answered, or `max_requests` were. Each answer is written before the next read. A
+/// request for which memory or the tables were refused is answered unavailable, and no later answer
+/// shows it, though a crash may leave its step.
 ///
-/// It takes its buffer first: where that is refused, nothing was read.
+/// The error is `Read` where the reader failed, `Write` where the writer failed or took no byte,
+/// and `NoMemory` where the buffer was refused, which is taken before anything is read.
 pub fn serve<S: Shelf, R: Source, W: Sink>(
     alloc: Global,
     office: &mut Office<S>,

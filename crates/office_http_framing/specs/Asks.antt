@@ -7,7 +7,7 @@ use Rattle.office_http_framing.specs.declared.ends.Counts.{Counts}
 use Rattle.office_http_framing.specs.Front.{PlainRequest}
 use Rattle.office_http_framing.specs.Stream.{unfinished, AreRequests, BeginsWith}
 
--- a request is awaited after these bytes: none was the last, and they end in no fault
+-- a request is awaited after these bytes: they hold fewer requests than the limit, none of these is the last, and they end in no fault
 abbrev pub IsAwaited : ℕ → List ℕ → Type 0
 IsAwaited limit given = (requests : List PlainRequest) × AreRequests limit given requests unfinished
 

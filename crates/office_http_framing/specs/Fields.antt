@@ -9,7 +9,7 @@ use Rattle.office_http_framing.specs.declared.front.Fault.{Fault}
 use Rattle.office_http_framing.specs.declared.front.Fault.TheVariants as fault
 use Rattle.office_http_framing.specs.Limits.{body_limit}
 
--- a name, and a value without the white space around it
+-- a field of a head: its name, and its value without the white space around that
 abbrev pub Field : Type 0
 Field = List ℕ × List ℕ
 
@@ -25,24 +25,26 @@ is_named name field = eq_ignore_case field.0 name
 abbrev pub values_named : List ℕ → List Field → List (List ℕ)
 values_named name fields = map (λ field. field.1) (filter (is_named name) fields)
 
--- 1*DIGIT
+-- the value is one or more digits and nothing else
 abbrev pub is_digits : List ℕ → Bool
 is_digits value = nat_lt 0 (length value) && list_all is_ascii_digit value
 
--- the length that one value gives, leading zeros allowed
+-- the length in bytes that one value gives: digits alone, leading zeros allowed, else the fault
+-- Length; above the limit the fault is BodyTooLarge
 abbrev pub length_of : List ℕ → Result ℕ Fault
 length_of value =
     let n = digits_value 10 value in
     if is_digits value then (if nat_le n body_limit then Ok n else Err fault.BodyTooLarge)
     else Err fault.Length
 
--- the length that the values of all Content-Length fields give; two are refused, equal ones too
+-- the length in bytes that the values of all Content-Length fields give: 0 without one; two are
+-- refused, equal ones too
 abbrev pub length_among : List (List ℕ) → Result ℕ Fault
 length_among [] = Ok 0
 length_among (value ∷ []) = length_of value
 length_among (value ∷ second ∷ more) = Err fault.Length
 
--- the length of the body, or the fault: a Transfer-Encoding is tested first
+-- the length of the body in bytes, or the fault of the fields: a Transfer-Encoding is tested first
 unfoldable pub body_length : List Field → Result ℕ Fault
 body_length fields =
     if list_any (is_named (codes "transfer-encoding")) fields then Err fault.Coded

@@ -11,7 +11,7 @@ use Rattle.office_http_framing.specs.declared.front.Front.TheVariants as front
 use Rattle.office_http_framing.specs.Fields.{Field, body_length, closes}
 use Rattle.office_http_framing.specs.Limits.{head_limit, field_limit, question_mark}
 
--- a request without where it lies in memory; the stream ends after the answer to the last one
+-- a request, as bytes, wherever they lie in memory; the stream ends after the answer to one that is last
 pub record PlainRequest : Type 0 where
   pub method : List ℕ
   pub path : List ℕ
@@ -26,15 +26,15 @@ fields_of head = map name_and_value head.fields
 abbrev pub head_length : RequestHead → ℕ
 head_length head = length (print_request head)
 
--- the bytes in which a head has to be whole
+-- the first bytes, in which a head has to be whole
 unfoldable pub window : List ℕ → List ℕ
 window bytes = take head_limit bytes
 
--- the target up to its first question mark
+-- the path of a request's target: what comes before its first question mark
 abbrev pub path_of : List ℕ → List ℕ
 path_of target = before_first (λ b. b == question_mark) target
 
--- HTTP/1.0, or `close` in a Connection field
+-- the request is the last of its stream: by HTTP/1.0, or by `close` in a Connection field
 abbrev pub is_last : RequestHead → Bool
 is_last head = (head.minor == 0) || closes (fields_of head)
 
@@ -86,7 +86,7 @@ IsUnfinished bytes = HasNoRequest bytes × MayBecomeRequest bytes
 abbrev pub IsIncomplete : List ℕ → Type 0
 IsIncomplete bytes = ((length bytes < head_limit) × IsUnfinished (window bytes)) ⊎ AwaitsBody bytes
 
--- the fields of the head at the front give the fault
+-- a whole head is at the front, and its fields give the fault
 abbrev pub HasFaultyFields : List ℕ → Fault → Type 0
 HasFaultyFields bytes which = (head : RequestHead) × IsFramed bytes head (Err which)
 
@@ -102,7 +102,7 @@ IsFaulty bytes fault.Coded = HasFaultyFields bytes fault.Coded
 abbrev pub plain : Request → PlainRequest
 plain r = record { method = r.method.now; path = r.path.now; body = r.body.now; last = r.last }
 
--- the answer is what stands at the front
+-- this is what stands at the front of the bytes
 abbrev pub IsFrontOf : List ℕ → Front → Type 0
 IsFrontOf bytes (front.Whole r len) = BeginsWithRequest bytes (plain r) len
 IsFrontOf bytes front.More = IsIncomplete bytes

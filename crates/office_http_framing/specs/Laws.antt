@@ -10,7 +10,8 @@ pub record IsLeftOpen (bytes : List ℕ) : Type 0 where
   pub hopeless : IsHopeless (window bytes)
   pub unfinished : IsUnfinished (window bytes)
 
--- two answers on one front are one answer, but where it is left open
+-- at the front of these bytes stands one thing: one request, or a part of one, or one fault; only
+-- where httparse leaves it open may a fault stand there beside a part or another fault
 pub record HasOneFront (bytes : List ℕ) : Type 0 where
   pub requests : (r s : PlainRequest) (m n : ℕ)
       → BeginsWithRequest bytes r m → BeginsWithRequest bytes s n → (r ≡ s) × (m ≡ n)
@@ -21,7 +22,7 @@ pub record HasOneFront (bytes : List ℕ) : Type 0 where
   pub faults : (which other : Fault)
       → IsFaulty bytes which → IsFaulty bytes other → (which ≡ other) ⊎ IsLeftOpen bytes
 
--- the requests of the bytes are one list
+-- the bytes are one list of requests, under this limit, however that is found to end
 abbrev pub HasOneList : ℕ → List ℕ → Type 0
 HasOneList limit bytes =
     (requests others : List PlainRequest) (ending other : Ending)

@@ -1,7 +1,7 @@
 -- The limits of a request, and the byte that ends its path.
 use Rattle.std.specs.Prelude.{ℕ}
 
--- the bytes in which a head has to be whole
+-- in how many bytes from the front a head has to be whole
 abbrev pub head_limit : ℕ
 head_limit = 8192
 
@@ -9,7 +9,7 @@ head_limit = 8192
 abbrev pub field_limit : ℕ
 field_limit = 64
 
--- the most bytes of a body
+-- the most bytes of a request's body
 abbrev pub body_limit : ℕ
 body_limit = 262144
 
@@ -17,6 +17,6 @@ body_limit = 262144
 abbrev pub longest_request : ℕ
 longest_request = 270336
 
--- b'?'
+-- the byte `?`, which ends the path of a target
 abbrev pub question_mark : ℕ
 question_mark = 63

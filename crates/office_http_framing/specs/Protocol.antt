@@ -1,4 +1,4 @@
--- What a machine may answer.
+-- What a machine may answer to a request and to a fault of the framing.
 use Rattle.std.specs.Prelude.{◌≡◌, ℕ, ◌⊎◌, List}
 use Rattle.office_http_framing.specs.declared.front.Fault.{Fault}
 use Rattle.office_http_framing.specs.declared.machine.Answer.{Answer}
@@ -25,7 +25,7 @@ MayAnswer protocol before request answer after =
     protocol.step before request answer after
     ⊎ ((answer ≡ protocol.unavailable_text) × (after ≡ before))
 
--- the answer to a fault, or the one that says that memory was refused
+-- this is the answer to the fault, or the one that says that memory was refused
 abbrev pub AnswersFault : {State : Type 0} → Protocol State → Fault → List ℕ → Type 0
 AnswersFault protocol which answer =
     (answer ≡ protocol.fault_text which) ⊎ (answer ≡ protocol.unavailable_text)

@@ -21,11 +21,11 @@ pub record Ends : Type 0 where
 abbrev pub ends_of : Told → Told → Ends
 ends_of source sink = record { source = source; sink = sink }
 
--- what is said of requests and the answers to them
+-- a statement about requests and the answers to them, both in order
 abbrev pub Runs : Type 1
 Runs = List PlainRequest → List (List ℕ) → Type 0
 
--- what follows the answers to the requests: the answer to a fault, or nothing
+-- what is written after the answers to the requests: the answer to a fault, or nothing
 abbrev pub Closes : {State : Type 0} → Protocol State → Ending → List (List ℕ) → Type 0
 Closes protocol closed closing = closing ≡ []
 Closes protocol unfinished closing = closing ≡ []
@@ -39,13 +39,13 @@ pub record Tail : Type 0 where
   pub left : ℕ
   pub closing : List (List ℕ)
 
--- the requests ended so
+-- the list of requests ended this way, and left this tail
 pub record IsTailOf
     {State : Type 0} (protocol : Protocol State) (ending : Ending) (tail : Tail) : Type 0 where
   pub ends : EndsAt tail.rest tail.left ending
   pub closes : Closes protocol ending tail.closing
 
--- how many requests the outcome tells
+-- how many requests were dealt with, as the outcome tells
 abbrev pub told_requests : Result Served ServeFault → ℕ
 told_requests (Ok served) = served.requests
 told_requests (Err (stop.Read requests)) = requests
@@ -64,7 +64,7 @@ EndsBy protocol (Err (stop.Write requests)) tail start end =
     (tail.closing ≡ []) ⊎ ((which : Fault) × IsTailOf protocol (faulty which) tail)
 EndsBy protocol (Err stop.NoMemory) tail start end = (tail.closing ≡ []) × (end ≡ start)
 
--- the texts were taken in order, and the last one up to some place
+-- the sink took the texts in order, and the last one up to some place
 pub record BreaksOff (old new : Option (List ℕ)) (texts : List (List ℕ)) : Type 0 where
   pub whole : List (List ℕ)
   pub part : List ℕ
@@ -107,7 +107,7 @@ pub record Untouched {Machine : Type 0} (start end : Ends) (old new : Machine) :
   pub machine_is : new ≡ old
 
 -- How the calls of the two ends went, by their own counts: none failed or moved no byte, but one at
--- most, which the outcome tells.
+-- most, which the outcome tells. Nothing is said where the buffer was refused.
 abbrev pub TellsFault : Ends → Ends → Result Served ServeFault → Type 0
 TellsFault start end (Ok served) =
     (NoneStops start.source.counts end.source.counts

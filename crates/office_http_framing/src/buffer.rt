@@ -1,4 +1,4 @@
-//! The bytes that were read and are not yet dealt with.
+//! The buffer of a stream: the bytes that were read and are not yet dealt with.
 
 ghost use Rattle.std.specs.Prelude.{◌≡◌, ◌<◌, ◌≤◌, ◌-◌, ◌++◌, ℕ, List, [], length, drop, take, slice_range, vec_len, nat_lt, IfOk, MatchResult};
 ghost use Rattle.std.specs.Io.{ReadsAtMost};
@@ -13,7 +13,8 @@ use std::marker::Model;
 /// As many bytes as the longest request has: a whole head and a whole body.
 pub const BUFFER_LEN: usize = 270_336;
 
-/// The bytes from `start` to `end`.
+/// The bytes that were read and are not yet dealt with: those from `start` to `end`, which is not
+/// included. Contracts see them as a list.
 #[derive(Drop)]
 pub(crate) struct Buffer {
     bytes: Vec<u8>,
@@ -33,7 +34,7 @@ impl Model for Buffer {
         × (vec_len b.bytes ≡ BUFFER_LEN) };
 }
 
-/// Moves the bytes from `start` to `end` to the front.
+/// Moves the bytes from `start` to before `end` to the front.
 fn move_to_front(bytes: &mut Vec<u8>, start: usize, end: usize)
     requires ordered { start ≤ end }
     requires in_range { end ≤ vec_len bytes.old }
@@ -79,7 +80,7 @@ impl Buffer {
         &self.bytes[self.start..self.end]
     }
 
-    /// Lets the first bytes go.
+    /// Lets the first `len` bytes go.
     pub(crate) fn consume(&mut self, len: usize)
         requires { len ≤ length self.old }
         ensures { self.new ≡ drop len self.old }
@@ -87,7 +88,9 @@ impl Buffer {
         self.start += len;
     }
 
-    /// Takes one read of the source at the end.
+    /// Makes one read of the source, adds its bytes after those that are buffered, and says how
+    /// many came: 0 at the end, or where the source gives way. An error is the source's, and adds
+    /// none.
     pub(crate) fn fill<R: Source>(&mut self, source: &mut R) -> io::Result<usize>
         requires { length self.old < BUFFER_LEN }
         ensures bytes { MatchResult result

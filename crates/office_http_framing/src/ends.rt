@@ -13,9 +13,10 @@ use std::io::{Read, Write};
 pub struct Counts {
     pub calls: u64,
     pub failures: u64,
-    /// The calls that answered 0 bytes.
+    /// How many calls answered 0 bytes.
     pub empties: u64,
-    /// The reads of a next request, at which a source may give way: `Source::read_next`.
+    /// How many calls were reads of a next request, at which a source may give way:
+    /// `Source::read_next`.
     pub next_reads: u64,
 }
 
@@ -23,7 +24,7 @@ impl Counts {
     ghost use Rattle.office_http_framing.specs.Ends.{call_counts_after, tallied_at};
     ghost use Rattle.std.specs.Prelude.{false};
 
-    /// Counts one more read of a next request.
+    /// Counts one more read of a next request, by its outcome.
     pub fn count_next(&mut self, outcome: &io::Result<usize>)
         ensures { self.new ≡ tallied_at false outcome.now self.old }
     {
@@ -31,7 +32,7 @@ impl Counts {
         self.next_reads = self.next_reads.saturating_add(1);
     }
 
-    /// Counts one more call.
+    /// Counts one more call, by its outcome.
     pub fn count(&mut self, outcome: &io::Result<usize>)
         ensures { self.new ≡ call_counts_after outcome.now self.old }
     {
@@ -60,8 +61,9 @@ pub trait Source {
         ensures bytes { ReadConsumes (told self.old).bytes (told self.new).bytes result buf.new }
         ensures counts { (told self.new).counts ≡ call_counts_after result (told self.old).counts };
 
-    /// Reads the first bytes of the next request, none of which is buffered: as `read`, but here a
-    /// source may give way to another client, and answers 0 bytes then.
+    /// Reads the first bytes of the next request, none of which is buffered, to the front of the
+    /// slice, which is not empty, and says how many: none at the end, or where the source gives way
+    /// to another client. An interrupted read is a failure.
     fn read_next(&mut self, buf: &mut [u8]) -> io::Result<usize>
         requires { 0 < length buf.old }
         ensures bound { ReadsAtMost result buf.new }
@@ -77,8 +79,8 @@ pub trait Sink {
     // The bytes that the sink holds, where they are known, and the counts.
     ghost told: { Self → Told };
 
-    /// Writes some bytes from the front of the slice, which is not empty, and says how many. An
-    /// interrupted write is a failure.
+    /// Writes some bytes from the front of the slice, which is not empty, and says how many: none
+    /// where the sink takes no more. An interrupted write is a failure.
     fn write(&mut self, buf: &[u8]) -> io::Result<usize>
         requires { 0 < length buf.now }
         ensures bound { WritesAtMost result buf.now }
@@ -86,7 +88,7 @@ pub trait Sink {
         ensures counts { (told self.new).counts ≡ call_counts_after result (told self.old).counts };
 }
 
-/// A source of any reader.
+/// A source over any reader, which counts its calls. It never gives way.
 #[derive(Drop)]
 pub struct FromRead<R> {
     pub reader: R,
@@ -94,6 +96,7 @@ pub struct FromRead<R> {
 }
 
 impl<R> FromRead<R> {
+    /// The source over this reader, before its first call.
     pub fn new(reader: R) -> FromRead<R>
         ensures reader { result.reader ≡ reader }
         ensures counts { result.counts ≡ no_calls }
@@ -121,7 +124,7 @@ impl<R: Read> Source for FromRead<R> {
     }
 }
 
-/// A sink of any writer.
+/// A sink over any writer, which counts its calls.
 #[derive(Drop)]
 pub struct ToWrite<W> {
     pub writer: W,
@@ -129,6 +132,7 @@ pub struct ToWrite<W> {
 }
 
 impl<W> ToWrite<W> {
+    /// The sink over this writer, before its first call.
     pub fn new(writer: W) -> ToWrite<W>
         ensures writer { result.writer ≡ writer }
         ensures counts { result.counts ≡ no_calls }
@@ -154,8 +158,8 @@ impl<W: Write> Sink for ToWrite<W> {
 #[derive(Clone, Copy)]
 pub struct WriteFailed;
 
-/// Writes all the bytes, by as many writes as it takes. After an error those up to some place were
-/// written.
+/// Writes all the bytes, by as many writes as it takes. After an error the sink has taken those up
+/// to some place, and is not called again.
 pub fn write_all<W: Sink>(writer: &mut W, bytes: &[u8]) -> Result<(), WriteFailed>
     ensures bytes { WritesOrBreaksOff result (W.told writer.old) (W.told writer.new) bytes.now }
     ensures counts { Grows (W.told writer.old).counts (W.told writer.new).counts }

@@ -15,25 +15,27 @@ use crate::front::{Fault, Front, Request, next_request};
 use crate::machine::Machine;
 use std::alloc::Global;
 
-/// How a stream was served to its end.
+/// A stream was served to its end.
 #[derive(Clone, Copy, PartialEq)]
 pub struct Served {
-    /// The whole requests that were dealt with.
+    /// How many whole requests were answered.
     pub requests: u32,
 }
 
 /// Why a stream was not served to its end.
 #[derive(Clone, Copy, PartialEq)]
 pub enum ServeFault {
-    /// The source failed after these requests.
+    /// The source failed after so many requests, each of which was answered.
     Read { requests: u32 },
-    /// The sink failed, or took no byte, at the answer to the last of these requests or to a fault.
+    /// The sink failed, or took no byte, at the answer to the last of so many requests, or to a
+    /// fault after them.
     Write { requests: u32 },
     /// The buffer was refused, and nothing was read.
     NoMemory,
 }
 
-/// Answers one request, and writes the answer.
+/// Answers one request, and writes the answer, or where that was refused the text that says so. The
+/// error means that not all of it was written.
 fn serve_request<Tools, M: Machine<Tools>, W: Sink>(
     alloc: Global,
     machine: &mut M,
@@ -57,7 +59,8 @@ fn serve_request<Tools, M: Machine<Tools>, W: Sink>(
     }
 }
 
-/// Writes the answer to a fault.
+/// Writes the answer to a fault, or where memory for that was refused the text that says so. The
+/// error means that not all of it was written.
 fn serve_fault<Tools, M: Machine<Tools>, W: Sink>(
     alloc: Global,
     fault: Fault,
@@ -73,7 +76,8 @@ fn serve_fault<Tools, M: Machine<Tools>, W: Sink>(
     }
 }
 
-/// How many requests may follow: none after the last one.
+/// How many requests may follow a request that was one of `left` that might come: none after the
+/// last.
 fn left_after(left: u32, last: bool) -> u32
     ensures left { result ≡ if last then 0 else left - 1 }
     ensures fewer { result ≤ left - 1 }
@@ -81,8 +85,9 @@ fn left_after(left: u32, last: bool) -> u32
     if last { 0 } else { left.saturating_sub(1) }
 }
 
-/// Serves the requests that the source gives, until it ends, a fault, the last request, or the
-/// limit. It reads only while it holds no whole request and no fault.
+/// Serves the requests that the source gives, one after another, until the source ends, or a fault
+/// or the last request was answered, or `max_requests` were. It reads only while it holds no whole
+/// request and no fault.
 pub fn serve<Tools, M: Machine<Tools>, R: Source, W: Sink>(
     alloc: Global,
     machine: &mut M,

@@ -10,7 +10,7 @@ use crate::front::Fault;
 use httparse::is_space_or_tab;
 use httparse::spans::HeaderSpan;
 
-/// The most bytes of a body.
+/// The most bytes of a request's body.
 pub const LARGEST_BODY: usize = 262_144;
 
 fn eq_ignore_case(a: &[u8], b: &[u8]) -> bool
@@ -48,7 +48,8 @@ fn trim(s: &[u8]) -> &[u8]
     trim_end(trim_start(s))
 }
 
-/// The length that one value gives.
+/// The length in bytes that one value gives: digits alone, leading zeros allowed. Another value is
+/// `Length`, and more than `LARGEST_BODY` is `BodyTooLarge`.
 fn length_of(value: &[u8]) -> Result<usize, Fault>
     ensures { result ≡ length_of value.now }
 {
@@ -70,7 +71,8 @@ fn length_of(value: &[u8]) -> Result<usize, Fault>
     }
 }
 
-/// The length that the Content-Length fields give.
+/// The length in bytes that the Content-Length fields give: 0 without one. Two are `Length`, equal
+/// ones too.
 fn length_among(bytes: &[u8], fields: &[HeaderSpan]) -> Result<usize, Fault>
     requires { All (IsHeaderWithin (length bytes.now)) fields.now }
     ensures { result ≡ length_among
@@ -101,7 +103,8 @@ fn has_transfer_encoding(bytes: &[u8], fields: &[HeaderSpan]) -> bool
     false
 }
 
-/// The length of the body, or the fault that the fields have.
+/// The length of the body in bytes, or the fault that the fields have: a Transfer-Encoding, which
+/// is tested first, is `Coded`.
 #[tactic(auto, unfolding(crate::specs::Fields::body_length))]
 pub(crate) fn body_length(bytes: &[u8], fields: &[HeaderSpan]) -> Result<usize, Fault>
     requires { All (IsHeaderWithin (length bytes.now)) fields.now }
@@ -121,7 +124,7 @@ fn lists_close(value: &[u8]) -> bool
         .any(|element| eq_ignore_case(trim(element), b"close"))
 }
 
-/// Whether a Connection field lists `close`.
+/// Whether any Connection field lists `close`, in any case of letters.
 #[tactic(auto, unfolding(crate::specs::Fields::closes))]
 pub(crate) fn closes(bytes: &[u8], fields: &[HeaderSpan]) -> bool
     requires { All (IsHeaderWithin (length bytes.now)) fields.now }

@@ -9,7 +9,7 @@ use crate::fields::{body_length, closes};
 use httparse::Status;
 use httparse::spans::{EMPTY_HEADER_SPAN, HeaderSpan, RequestSpans, parse_request};
 
-/// The bytes in which a head has to be whole.
+/// In how many bytes from the front a head has to be whole.
 pub const HEAD_LIMIT: usize = 8_192;
 
 /// The most fields of a head.
@@ -20,13 +20,13 @@ const QUESTION_MARK: u8 = b'?';
 /// Why no request can be read at the front.
 #[derive(Clone, Copy)]
 pub enum Fault {
-    /// The bytes are no head of a request.
+    /// The bytes can become no head of a request with at most `FIELD_LIMIT` fields.
     Head,
-    /// The head is not whole in the bytes that it may take.
+    /// The head is not whole in the first `HEAD_LIMIT` bytes.
     HeadTooLarge,
-    /// Content-Length is not one number.
+    /// There is a Content-Length that is not digits alone, or more than one.
     Length,
-    /// The body is too long.
+    /// Content-Length is more than 262,144 bytes.
     BodyTooLarge,
     /// The message has a Transfer-Encoding.
     Coded,
@@ -43,12 +43,12 @@ pub struct Request<'b> {
     pub last: bool,
 }
 
-/// What stands at the front.
+/// What stands at the front of the bytes of a stream.
 #[derive(Clone, Copy)]
 pub enum Front<'b> {
     /// A whole request, and how many bytes it takes.
     Whole { request: Request<'b>, length: usize },
-    /// A request that has not come whole.
+    /// A part of a request, which has not come whole, or nothing yet.
     More,
     Bad(Fault),
 }
@@ -62,7 +62,8 @@ fn path_of(target: &[u8]) -> &[u8]
     }
 }
 
-/// What stands at the front of bytes whose window begins with this head.
+/// What stands at the front of bytes that begin with this head: the request, a part of it, or the
+/// fault of its fields. `start` is the first `HEAD_LIMIT` bytes.
 fn front_with_head<'b>(
     bytes: &'b [u8],
     start: &[u8],
@@ -93,7 +94,8 @@ fn front_with_head<'b>(
     Front::Whole { request, length }
 }
 
-/// What stands at the front of the bytes of a stream. It takes no memory.
+/// What stands at the front of these bytes: a whole request, a part of one, or a fault. It takes no
+/// memory.
 pub fn next_request(bytes: &[u8]) -> Front<'_>
     ensures { IsFrontOf bytes.now result }
 {

@@ -1,5 +1,5 @@
 //! The framing of HTTP/1.1 requests, the two ends of a stream, and the engine that serves a stream
-//! by a machine. What the machine is, and what its answers say, stands in the crate above.
+//! by a machine. Of the machine it knows only what the trait `Machine` says.
 #![tactic(auto)]
 
 mod buffer;

@@ -1,4 +1,5 @@
-//! What answers the requests: the engine knows no more of it than this trait says.
+//! What answers the requests of a stream: the engine knows no more of it than the trait `Machine`
+//! says.
 
 ghost use Rattle.std.specs.Prelude.{◌≡◌, IfOk};
 
@@ -8,7 +9,7 @@ use std::alloc::{AllocError, Global};
 /// The answer to a request.
 #[derive(Drop)]
 pub enum Answer {
-    /// Bytes that were written for this request.
+    /// Bytes that were made for this request.
     Written(Vec<u8>),
     /// A text that stands in the program. It takes no memory.
     Fixed(&'static [u8]),
@@ -28,7 +29,8 @@ impl Answer {
     }
 }
 
-/// Memory or the store was refused, and nothing was changed.
+/// Memory or the store was refused. What the machine keeps has not changed, but a crash may leave
+/// the request's step.
 #[derive(Clone, Copy)]
 pub struct Unavailable;
 
@@ -40,27 +42,27 @@ pub trait Machine<Tools> {
     ghost use Rattle.office_http_framing.specs.Protocol.{Protocol};
     ghost use Rattle.office_http_framing.specs.Stops.{DealsBy, KeepsState, Storage, moment_of};
 
-    // What a machine means.
+    // The states that a machine can mean.
     ghost State: { Type 0 };
 
-    // What it stores of that.
+    // What the machine can store of a state.
     ghost Stored: { Type 0 };
 
-    // What it holds now, what a crash may leave of that, the states for which either stands, and
-    // whether the machine is honest: what it keeps its state on has returned what was written, and
-    // no failure has shut it. How often it has written, and what a request may write.
+    // What the machine holds now, what a crash may leave of that, the states for which either
+    // stands, and whether the machine is honest: what it keeps its state on has returned what was
+    // written, and no failure has shut it. How often it has written, and what a request may write.
     ghost storage: { Storage Self State Stored };
 
     // What the machine keeps its state on has returned what was written, so far, whether or not a
     // failure has shut it.
     ghost is_clean: { Self → Type 0 };
 
-    // The answers that it may give, and the states that they leave.
+    // The answers that the machine may give, and the states that these leave.
     ghost protocol: { Protocol State };
 
     /// Decides the request, builds its whole answer, and then makes its changes; or makes none.
-    /// Where a failure has shut what it keeps its state on, it is unavailable, or gives an answer
-    /// that is right from any state.
+    /// Where a failure has shut what the machine keeps its state on, it is `Unavailable`, or gives
+    /// an answer that is right from any state.
     fn answer(
         &mut self,
         alloc: Global,
@@ -77,7 +79,7 @@ pub trait Machine<Tools> {
             DealsBy protocol storage self.old self.new
             (moment_of storage self.old held before) (plain request.now) result };
 
-    /// The whole answer to a fault of the framing, or memory was refused.
+    /// The whole answer to a fault of the framing. The error means that memory was refused.
     fn fault_answer(alloc: Global, fault: Fault) -> Result<Vec<u8>, AllocError>
         ensures { IfOk result (λ answer. answer.items ≡ protocol.fault_text fault) };
 

@@ -18,7 +18,7 @@ use Rattle.office_http_requests.specs.FaultsInOrder.{or_fault, or_field}
 use Rattle.office_http_requests.specs.Fields.{field_name}
 use Rattle.signal_records.specs.Reading.{within}
 
--- the data that bytes in JSON are
+-- the data that bytes are in JSON, where they are UTF-8 and one JSON value
 abbrev pub json_of : List ℕ → Option Data
 json_of bytes = if is_utf8 bytes then read bytes else None
 
@@ -27,7 +27,7 @@ abbrev pub opens_object : List ℕ → Bool
 opens_object [] = false
 opens_object (b ∷ bytes) = if is_space b then opens_object bytes else b == 123
 
--- UTF-8 that opens an object: no other bytes are one
+-- the bytes may be a JSON object: they are UTF-8, and the first that is no space opens one
 abbrev pub MayBeObject : List ℕ → Type 0
 MayBeObject bytes = IsUtf8 bytes × IsTrue (opens_object bytes)
 
@@ -36,7 +36,7 @@ abbrev pub object_in : Data → Option Data
 object_in (object members) = Some (object members)
 object_in _ = None
 
--- the object that a body is
+-- the JSON object that a body is, or the fault Json
 unfoldable pub body_of : List ℕ → Result Data AskFault
 body_of bytes = or_fault Json (option_and_then object_in (json_of bytes))
 
@@ -56,30 +56,30 @@ data_of (Err fault) = Err fault
 abbrev pub number_in : Data → Field → Option ℕ
 number_in body field = option_and_then as_u64 (option_and_then as_number (get (field_name field) body))
 
--- the text under a key
+-- the text under a key, if one is there
 abbrev pub text_in : Data → Field → Option (List ℕ)
 text_in body field = option_and_then as_str (get (field_name field) body)
 
--- the number of a range under a key
+-- the number under a key, where it is low to high, or the field's fault
 unfoldable pub ranged_in : ℕ → ℕ → Data → Field → Result ℕ AskFault
 ranged_in low high body field = or_field field (option_and_then (within low high) (number_in body field))
 
--- the intersection under its key
+-- the number of an intersection, 1 to 9999, under the key `id`, or that field's fault
 abbrev pub id_in : Data → Result ℕ AskFault
 id_in body = ranged_in 1 9999 body Id
 
--- the days between two inspections under their key
+-- the days between two inspections, 1 to 3650, under the key `interval`, or that field's fault
 abbrev pub interval_in : Data → Result ℕ AskFault
 interval_in body = ranged_in 1 3650 body Interval
 
--- words of at most so many bytes under a key
+-- the words of at most so many bytes under a key, or the field's fault
 unfoldable pub words_in : ℕ → Data → Field → Result (List ℕ) AskFault
 words_in max body field = or_field field (option_and_then (words_of max) (text_in body field))
 
--- the day under its key
+-- the day that the text under the key `day` spells, as days after 1970-01-01, or that field's fault
 unfoldable pub day_in : Data → Result ℕ AskFault
 day_in body = or_field Day (option_and_then day_of (text_in body Day))
 
--- the code of a part under its key
+-- the code of a part under the key `part`, or that field's fault
 unfoldable pub part_in : Data → Result (List ℕ) AskFault
 part_in body = or_field Part (option_and_then part_of (text_in body Part))

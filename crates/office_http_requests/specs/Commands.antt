@@ -24,11 +24,11 @@ use Rattle.office_http_requests.specs.Rows.{changes_in}
 abbrev pub asked_in_json : Command → Asked
 asked_in_json command = record { command = command; form = Json }
 
--- a command whose answer is CSV
+-- a command whose answer is CSV, where its reply has that form
 abbrev pub asked_in_csv : Command → Asked
 asked_in_csv command = record { command = command; form = Csv }
 
--- an addition of an intersection: the body's keys by name
+-- the command AddIntersection of a body, or the first fault: that of the body, then its keys by name
 unfoldable pub added_intersection : Result Data AskFault → Result Asked AskFault
 added_intersection read = do
   body ← read
@@ -37,7 +37,7 @@ added_intersection read = do
   name ← words_in 120 body Name
   Ok (asked_in_json (command.AddIntersection id interval name))
 
--- the intersection of the path, and the clerk of the body
+-- the intersection of a path and the clerk of a body, or the first fault: the path, then the body
 unfoldable pub id_and_clerk_in : List ℕ → Result Data AskFault → Result (ℕ × List ℕ) AskFault
 id_and_clerk_in path read = do
   id ← id_at path
@@ -45,14 +45,14 @@ id_and_clerk_in path read = do
   clerk ← words_in 40 body Clerk
   Ok (id, clerk)
 
--- the body's keys by name, then the rows
+-- the clerk and the changes of an edit in JSON, or the first fault: the body's keys by name, then the rows
 unfoldable pub clerk_and_rows_in : Data → Result (List ℕ × List Change) AskFault
 clerk_and_rows_in body = do
   clerk ← words_in 40 body Clerk
   changes ← changes_in body
   Ok (clerk, changes)
 
--- an edit with its rows in JSON: the path, then the body, then its fields
+-- the command Edit with its rows in JSON, or the first fault: the path, then the body, then its fields
 unfoldable pub edited_in : List ℕ → Result Data AskFault → Result Asked AskFault
 edited_in path read = do
   id ← id_at path
@@ -60,14 +60,15 @@ edited_in path read = do
   found ← clerk_and_rows_in body
   Ok (asked_in_json (command.Edit id found.0 found.1))
 
--- the body's keys by name, then the records of the CSV text
+-- the clerk and the changes of an edit in CSV, or the first fault: the body's keys by name, then the
+-- records of the CSV text
 unfoldable pub clerk_and_csv_in : Data → Result (List ℕ × List Change) AskFault
 clerk_and_csv_in body = do
   clerk ← words_in 40 body Clerk
   changes ← csv_changes_in body
   Ok (clerk, changes)
 
--- an edit with its rows as CSV: the path, then the body, then its fields
+-- the command Edit with its rows as CSV, or the first fault: the path, then the body, then its fields
 unfoldable pub edited_by_csv : List ℕ → Result Data AskFault → Result Asked AskFault
 edited_by_csv path read = do
   id ← id_at path
@@ -75,14 +76,14 @@ edited_by_csv path read = do
   found ← clerk_and_csv_in body
   Ok (asked_in_json (command.Edit id found.0 found.1))
 
--- an import is of no path
+-- the command Import of a body, or the first fault: the body, then its CSV text; its path has no fields
 unfoldable pub imported_in : Result Data AskFault → Result Asked AskFault
 imported_in read = do
   body ← read
   records ← csv_records_in body
   Ok (asked_in_json (command.Import records))
 
--- the command of an endpoint, of the path and the body as it was read
+-- what a request to an endpoint asks, by its path and its body as that was read, or the first fault
 unfoldable pub asked_at : Endpoint → List ℕ → Result Data AskFault → Result Asked AskFault
 asked_at AddIntersection path read = added_intersection read
 asked_at State path read = do
@@ -135,7 +136,8 @@ asked_at Overdue path read = do
   day ← day_at path
   Ok (asked_in_json (command.Overdue day))
 
--- the command of a request whose body was read so: its route, then the method, then the fields
+-- what a request asks, by its method, its path and its body as that was read, or the first fault: its
+-- route, then the method, then the fields
 unfoldable pub command_with : List ℕ → List ℕ → Result Data AskFault → Result Asked AskFault
 command_with method path read = do
   endpoint ← or_no_route (endpoint_of path)
@@ -145,7 +147,7 @@ command_with method path read = do
 abbrev pub body_for : Endpoint → List ℕ → Result Data AskFault
 body_for endpoint bytes = if takes_body endpoint then body_of bytes else Err NoObject
 
--- the command of a request
+-- what a request asks, by its method, its path and the bytes of its body, or the first fault
 unfoldable pub command_at : List ℕ → List ℕ → List ℕ → Result Asked AskFault
 command_at method path bytes = command_with method path (body_of bytes)
 

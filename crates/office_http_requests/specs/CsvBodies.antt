@@ -12,17 +12,19 @@ use Rattle.office_http_requests.specs.declared.fault.AskFault.{AskFault}
 use Rattle.office_http_requests.specs.declared.fault.AskFault.TheVariants.{NoMemory}
 use Rattle.office_http_requests.specs.declared.field.Field.TheVariants.{Csv}
 
--- the CSV text under its key
+-- the text under the key `csv`, or that field's fault
 abbrev pub csv_in : Data → Result (List ℕ) AskFault
 csv_in body = or_field Csv (text_in body Csv)
 
--- the changes of the CSV text under its key
+-- the changes that the records of the CSV text under the key `csv` spell, or the fault: of that field,
+-- or of the first bad record
 unfoldable pub csv_changes_in : Data → Result (List Change) AskFault
 csv_changes_in body = do
   csv ← csv_in body
   or_bad_row (changes_of csv)
 
--- the commands of the register of the CSV text under its key
+-- the commands of the register that the records of the CSV text under the key `csv` spell, or the
+-- fault: of that field, or of the first bad record
 unfoldable pub csv_records_in : Data → Result (List RecordCommand) AskFault
 csv_records_in body = do
   csv ← csv_in body

@@ -7,7 +7,7 @@ use Rattle.office_http_requests.specs.declared.fault.AskFault.{AskFault}
 use Rattle.office_http_requests.specs.declared.fault.AskFault.TheVariants.{NoRoute, Method, Json, Field as FieldFault, BadRow, NoMemory}
 use Rattle.office_http_requests.specs.declared.field.Field.{Field}
 
--- what a text or rows spell, or the first bad one
+-- what a CSV text or rows spell, or their fault as one of the request: a bad record, or want of memory
 abbrev pub or_bad_row : {A : Type 0} → Result A CsvFault → Result A AskFault
 or_bad_row (Ok x) = Ok x
 or_bad_row (Err fault) = Err (ask_fault fault)
@@ -21,7 +21,7 @@ abbrev pub Gives : {A : Type 0} → Result A AskFault → Result A AskFault → 
 Gives (Ok x) wanted = wanted ≡ Ok x
 Gives (Err fault) wanted = fault ≢ NoMemory → wanted ≡ Err fault
 
--- want of memory is reported only where the fact is so
+-- where the result is want of memory, this fact holds
 abbrev pub WantsMemoryOnlyIf : {A : Type 0} → Result A AskFault → Type 0 → Type 0
 WantsMemoryOnlyIf (Ok x) P = ⊤
 WantsMemoryOnlyIf (Err fault) P = fault ≡ NoMemory → P
@@ -38,7 +38,7 @@ MayWant (Err Json) = ⊥
 MayWant (Err (FieldFault field)) = ⊥
 
 infixl 10 ◌>>=◌
--- a step, and the next on what it gave
+-- a step, and the next on the value that it gave; a fault of the first ends both
 abbrev pub ◌>>=◌ : {A B : Type 0} → Result A AskFault → (A → Result B AskFault) → Result B AskFault
 Ok x >>= next = next x
 Err fault >>= next = Err fault

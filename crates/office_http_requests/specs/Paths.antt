@@ -11,19 +11,19 @@ use Rattle.signal_records.specs.Reading.{number_spelled}
 abbrev pub is_slash : ℕ → Bool
 is_slash b = b == 47
 
--- what stands between two slashes of a path, counted from 0, which is what stands before the first
+-- a segment of a path, counted from 0, which is what stands before the first slash; empty where the path has no such
 abbrev pub segment : ℕ → List ℕ → List ℕ
 segment zero path = before_first is_slash path
 segment (suc index) path = segment index (after_first is_slash path)
 
--- the intersection of a path
+-- the number of an intersection, 1 to 9999, in the third segment of a path, or the fault of the field `id`
 unfoldable pub id_at : List ℕ → Result ℕ AskFault
 id_at path = or_field Id (number_spelled 1 9999 (segment 2 path))
 
--- the order of a path
+-- the number of an order, 1 to 999,999, in the fifth segment of a path, or the fault of the field `order`
 unfoldable pub order_at : List ℕ → Result ℕ AskFault
 order_at path = or_field Order (number_spelled 1 999_999 (segment 4 path))
 
--- the day of a path
+-- the day that the third segment of a path spells, as days after 1970-01-01, or the fault of the field `day`
 unfoldable pub day_at : List ℕ → Result ℕ AskFault
 day_at path = or_field Day (day_of (segment 2 path))

@@ -16,7 +16,7 @@ use Rattle.office_http_requests.specs.Paths.{id_at, order_at}
 use Rattle.office_http_requests.specs.declared.kind.RecordKind.{RecordKind}
 use Rattle.office_http_requests.specs.declared.kind.RecordKind.TheVariants.{Inspect, OpenOrder, UsePart, CloseOrder, Receive}
 
--- the inspection of a path and a body
+-- the inspection that a body describes, or the fault of the first bad key by name
 unfoldable pub inspection_in : Data → Result Inspection AskFault
 inspection_in body = do
   clerk ← words_in 40 body Clerk
@@ -25,7 +25,7 @@ inspection_in body = do
   text ← words_in 500 body Text
   Ok (record { number = number; day = day; clerk = clerk; text = text })
 
--- the opening of an order, of a path and a body
+-- the opening of an order that a body describes, or the fault of the first bad key by name
 unfoldable pub opening_in : Data → Result Opening AskFault
 opening_in body = do
   clerk ← words_in 40 body Clerk
@@ -34,7 +34,7 @@ opening_in body = do
   text ← words_in 500 body Text
   Ok (record { number = number; day = day; clerk = clerk; text = text })
 
--- the used part of a path and a body
+-- the part that a body describes, used for the order of this number, or the fault of the first bad key by name
 unfoldable pub used_in : ℕ → Data → Result UsedLine AskFault
 used_in order body = do
   count ← ranged_in 1 999_999_999 body Count
@@ -42,14 +42,14 @@ used_in order body = do
   part ← part_in body
   Ok (record { order = order; line = line; part = part; count = count })
 
--- the closing of an order, of a path and a body
+-- the closing of an order that a body describes, or the fault of the first bad key by name
 unfoldable pub closing_in : Data → Result Closing AskFault
 closing_in body = do
   clerk ← words_in 40 body Clerk
   day ← day_in body
   Ok (record { day = day; closer = clerk })
 
--- the delivery of a body
+-- the delivery that a body describes, or the fault of the first bad key by name
 unfoldable pub delivery_in : Data → Result Delivery AskFault
 delivery_in body = do
   count ← ranged_in 1 999_999_999 body Count
@@ -58,14 +58,14 @@ delivery_in body = do
   part ← part_in body
   Ok (record { part = part; number = number; day = day; count = count })
 
--- a delivery, of the body alone: its path has no fields
+-- the command Receive, by the body alone, since its path has no fields, or the first fault
 unfoldable pub received_in : Result Data AskFault → Result RecordCommand AskFault
 received_in read = do
   body ← read
   delivery ← delivery_in body
   Ok (command.Receive delivery)
 
--- the command of a kind, of the path and the body as it was read
+-- the command of a kind, by a path and a body as that was read, or the first fault
 unfoldable pub record_asked : RecordKind → List ℕ → Result Data AskFault → Result RecordCommand AskFault
 record_asked Inspect path read = do
   id ← id_at path

@@ -70,7 +70,7 @@ method_of Overdue = codes "GET"
 abbrev pub takes_body : Endpoint → Bool
 takes_body endpoint = bytes_eq (codes "POST") (method_of endpoint)
 
--- the table's endpoints, in its order
+-- all endpoints, in the order of the table of routes
 abbrev pub endpoints : List Endpoint
 endpoints =
     AddIntersection ∷ State ∷ Timing ∷ TimingCsv ∷ Draft ∷ Begin
@@ -78,11 +78,11 @@ endpoints =
     ∷ Record Inspect ∷ Record OpenOrder ∷ Record UsePart ∷ Record CloseOrder ∷ Record Receive
     ∷ Import ∷ Cabinet ∷ CabinetCsv ∷ OpenOrders ∷ Stock ∷ Overdue ∷ []
 
--- a router's rows
+-- the rows of a router: patterns of paths, each with the route that leads to its endpoint
 abbrev pub RouteRows : Type 0
 RouteRows = RowsOf (RouteOf Endpoint)
 
--- the rows with one route more, where its text is a route
+-- the rows with one route more, to this endpoint, where the text was read as a route
 abbrev pub with_scan : Result Scan InsertError → Endpoint → RouteRows → RouteRows
 with_scan (Ok scan) endpoint rows = placed (scan.pattern, route_from scan endpoint) rows
 with_scan (Err e) endpoint rows = rows
@@ -96,10 +96,10 @@ abbrev pub with_routes : List Endpoint → RouteRows → RouteRows
 with_routes [] rows = rows
 with_routes (endpoint ∷ rest) rows = with_routes rest (with_route endpoint rows)
 
--- the rows of the whole table
+-- the rows of a router that has the routes of all endpoints
 unfoldable pub route_rows : RouteRows
 route_rows = with_routes endpoints []
 
--- the endpoint that `matchit` finds for a path
+-- the endpoint that `matchit` finds for a path; none for bytes that are not UTF-8
 unfoldable pub endpoint_of : List ℕ → Option Endpoint
 endpoint_of path = if is_utf8 path then option_map (λ route. route.value) (first route_rows path) else None

@@ -31,11 +31,11 @@ each f (x ∷ xs) = option_and_then (λ y. option_map (λ ys. y ∷ ys) (each f 
 unfoldable pub texts_in : Data → Option (List (List ℕ))
 texts_in d = option_and_then (each as_str) (list_in d)
 
--- the rows under their key
+-- the rows under the key `rows`, where they are an array of arrays of texts
 unfoldable pub rows_in : Data → Option (List (List (List ℕ)))
 rows_in body = option_and_then (each texts_in) (option_and_then list_in (get (field_name Rows) body))
 
--- the row spells a change with a list of phases: that alone needs memory to be read
+-- the row spells a change with a list of phases: to read any other change takes no memory
 abbrev pub PutsListAt : List (List ℕ) → Type 0
 PutsListAt fields = IsOkAnd (change_at current_limits fields) PutsList
 
@@ -43,7 +43,7 @@ PutsListAt fields = IsOkAnd (change_at current_limits fields) PutsList
 abbrev pub changes_spelled : List (List (List ℕ)) → Result (List Change) AskFault
 changes_spelled rows = or_bad_row (csv_rows (change_at current_limits) rows)
 
--- the changes of a body
+-- the changes that the rows of a body spell, or the fault: of the field `rows`, or of the first bad row
 unfoldable pub changes_in : Data → Result (List Change) AskFault
 changes_in body = do
   rows ← or_field Rows (rows_in body)
@@ -57,12 +57,12 @@ RowRefs = Vec (Bor (List ℕ)) Global
 abbrev pub rows_seen : List RowRefs → List (List (List ℕ))
 rows_seen rows = map (λ row. texts row.items) rows
 
--- the references are to the wanted texts
+-- what was found is references to the wanted texts, or nothing where no texts are wanted
 abbrev pub ShowsTexts : Option RowRefs → Option (List (List ℕ)) → Type 0
 ShowsTexts None wanted = wanted ≡ None
 ShowsTexts (Some refs) wanted = wanted ≡ Some (texts refs.items)
 
--- the rows have the wanted texts
+-- what was found is rows of the wanted texts, or nothing where no rows are wanted
 abbrev pub ShowsRows : Option (Vec RowRefs Global) → Option (List (List (List ℕ))) → Type 0
 ShowsRows None wanted = wanted ≡ None
 ShowsRows (Some rows) wanted = wanted ≡ Some (rows_seen rows.items)

@@ -34,9 +34,8 @@ fn opens_object(bytes: &[u8]) -> bool
     false
 }
 
-// What is reported of a body by what the reader of JSON answered for its bytes. The reader may tell
-// want of memory of any text: it is told on only where it was told, and only of bytes that open an
-// object.
+// What is reported of a body, by what the reader of JSON answered for its bytes. The reader may
+// report want of memory for any text; this passes it on only for bytes that open an object.
 fn object_of(read: Result<Value, Error>, bytes: &[u8]) -> Result<Value, AskFault>
     ensures { IsBodyTold read (opens bytes.now) result }
 {
@@ -47,7 +46,7 @@ fn object_of(read: Result<Value, Error>, bytes: &[u8]) -> Result<Value, AskFault
     }
 }
 
-/// What is reported of a body of a request: none is no object.
+/// The JSON object that the body of a request is; `Json` where it is none, or empty.
 pub(crate) fn read_object(alloc: Global, bytes: &[u8]) -> Result<Value, AskFault>
     ensures gives { Gives (data_of result) (body_of bytes.now) }
     ensures memory { WantsMemoryOnlyIf result (MayBeObject bytes.now) }
@@ -58,8 +57,8 @@ pub(crate) fn read_object(alloc: Global, bytes: &[u8]) -> Result<Value, AskFault
     read(alloc, bytes)
 }
 
-// The object that the bytes of a body are. Want of memory is reported of no bytes that can't be an
-// object: they are Json, however many they are.
+// The object that the bytes of a body are. Bytes that can't be an object are `Json`, however many
+// they are: want of memory is not reported of them.
 // Reading needs a large local: a request without a body is not to pay for it.
 #[inline(never)]
 fn read(alloc: Global, bytes: &[u8]) -> Result<Value, AskFault>
@@ -79,14 +78,14 @@ fn whole(body: &Value, field: Field) -> Option<u64>
     body.get(field.name()).and_then(Value::as_u64)
 }
 
-/// The text under a key.
+/// The text under a key, if one is there. It takes no memory.
 pub(crate) fn text(body: &Value, field: Field) -> Option<&str>
     ensures { option_map (λ text. text.now) result ≡ text_in (view body.now) field }
 {
     body.get(field.name()).and_then(Value::as_str)
 }
 
-/// The number of a range under a key.
+/// The number under a key, where it is `LOW` to `HIGH`, or the field's fault.
 #[tactic(auto, unfolding(crate::specs::Bodies::ranged_in))]
 pub(crate) fn number<Of, const LOW: u32, const HIGH: u32>(
     body: &Value,
@@ -99,7 +98,8 @@ pub(crate) fn number<Of, const LOW: u32, const HIGH: u32>(
     number_within(n).ok_or(AskFault::Field(field))
 }
 
-/// The text under a key, where it is words of at most so many bytes. It takes no memory.
+/// The text under a key, where it is words of at most `MAX` bytes, or the field's fault. It takes
+/// no memory.
 #[tactic(auto, unfolding(crate::specs::Bodies::words_in))]
 pub(crate) fn words_text<const MAX: usize>(body: &Value, field: Field) -> Result<&str, AskFault>
     ensures text { lent_value (λ text. text.now) result ≡ words_in MAX (view body.now) field }
@@ -110,7 +110,8 @@ pub(crate) fn words_text<const MAX: usize>(body: &Value, field: Field) -> Result
     words_parsed::<MAX>(text.as_bytes()).ok_or(AskFault::Field(field))
 }
 
-/// The words under a key. Want of memory is reported of words alone.
+/// The words of at most `MAX` bytes under a key, or the field's fault. Want of memory is reported
+/// only where there are such words.
 pub(crate) fn words<const MAX: usize>(
     alloc: Global,
     body: &Value,
@@ -123,7 +124,7 @@ pub(crate) fn words<const MAX: usize>(
     Ok(Words::from_parsed(alloc, text)?)
 }
 
-/// The day under its key.
+/// The day that the text under the key `day` spells, as `YYYY-MM-DD`, or that field's fault.
 #[tactic(auto, unfolding(crate::specs::Bodies::day_in))]
 pub(crate) fn day(body: &Value) -> Result<Day, AskFault>
     ensures day { result ≡ day_in (view body.now) }
@@ -133,7 +134,8 @@ pub(crate) fn day(body: &Value) -> Result<Day, AskFault>
     day_spelled(text.as_bytes()).ok_or(AskFault::Field(Field::Day))
 }
 
-/// The text under its key, where it is the code of a part. It takes no memory.
+/// The text under the key `part`, where it is the code of a part, or that field's fault. It takes
+/// no memory.
 #[tactic(auto, unfolding(crate::specs::Bodies::part_in))]
 fn part_text(body: &Value) -> Result<&str, AskFault>
     ensures text { lent_value (λ text. text.now) result ≡ part_in (view body.now) }
@@ -144,7 +146,8 @@ fn part_text(body: &Value) -> Result<&str, AskFault>
     part_parsed(text.as_bytes()).ok_or(AskFault::Field(Field::Part))
 }
 
-/// The code of a part under its key. Want of memory is reported of a code alone.
+/// The code of a part under the key `part`, or that field's fault. Want of memory is reported only
+/// where there is such a code.
 pub(crate) fn part(alloc: Global, body: &Value) -> Result<PartCode, AskFault>
     ensures gives { Gives result (part_in (view body.now)) }
     ensures memory { WantsMemoryOnlyIf result (IsOk (part_in (view body.now))) }

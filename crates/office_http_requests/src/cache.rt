@@ -16,15 +16,15 @@ pub struct RouteCache {
 }
 
 impl RouteCache {
-    /// No table yet. It takes no memory.
+    /// A cache that has no table yet. It takes no memory.
     pub fn new() -> RouteCache
         ensures { result.routes ≡ None }
     {
         RouteCache { routes: None }
     }
 
-    /// What a request asks, or the first fault, by the table that is kept. Where there is none, it
-    /// is made first.
+    /// What a request asks, or its first fault, by the table that is kept. Where none is kept yet,
+    /// it is made first, and `NoMemory` may mean that it was refused.
     pub fn command_of(&mut self, alloc: Global, request: &Request) -> Result<Asked, AskFault>
         ensures gives { Gives result
             (command_at request.now.method.now request.now.path.now request.now.body.now) }

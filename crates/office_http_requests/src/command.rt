@@ -19,7 +19,7 @@ use serde_json::Value;
 use signal_records::{InterId, Words};
 use std::alloc::Global;
 
-/// What a request asks of the office.
+/// What a request asks of the office, and the form in which it asks to be answered.
 #[derive(Drop)]
 pub struct Asked {
     pub command: Command,
@@ -48,8 +48,8 @@ impl Routes {
     }
 }
 
-// What is reported of the body of a request whose route and method are known. That of a GET is not
-// looked at: whatever its bytes are, it is taken for none.
+// What is reported of the body of a request whose route and method are known. The body of a GET is
+// not looked at: it is `Json`, whatever its bytes are.
 fn told_of_body(alloc: Global, endpoint: Endpoint, bytes: &[u8]) -> Result<Value, AskFault>
     ensures gives { Gives (data_of result) (body_for endpoint bytes.now) }
     ensures memory { WantsMemoryOnlyIf result (MayBeObject bytes.now) }
@@ -61,7 +61,8 @@ fn told_of_body(alloc: Global, endpoint: Endpoint, bytes: &[u8]) -> Result<Value
     body::read_object(alloc, bytes)
 }
 
-/// What a request asks, or the first fault, by a table of routes that is made for it alone.
+/// What a request asks, or its first fault, by a table of routes that is made for this call alone.
+/// `NoMemory` may mean that the table was refused.
 pub fn command_of(alloc: Global, request: &Request) -> Result<Asked, AskFault>
     ensures { Gives result
         (command_at request.now.method.now request.now.path.now request.now.body.now) }
@@ -70,7 +71,8 @@ pub fn command_of(alloc: Global, request: &Request) -> Result<Asked, AskFault>
     routes.command_of(alloc, request)
 }
 
-// The command of an endpoint, by what was reported of the body.
+// What a request to an endpoint asks, by its path and what was reported of its body, or the first
+// fault.
 #[tactic(auto, unfolding(crate::specs::Commands::asked_at))]
 fn ask_at_endpoint(
     alloc: Global,
@@ -79,8 +81,8 @@ fn ask_at_endpoint(
     body: Result<Value, AskFault>,
 ) -> Result<Asked, AskFault>
     ensures gives { Gives result (asked_at endpoint path.now (data_of body)) }
-    // No key of the body is told as want of memory: it is told only where it was told of the body,
-    // or where a command, or a bad row, takes memory.
+    // Want of memory is told in place of no fault of a key: only where it was told of the body, or
+    // where a command, or a bad row, takes memory.
     ensures memory { WantsMemoryOnlyIf result (
         (method_of endpoint ≡ codes "POST") × MayWant (asked_at endpoint path.now (data_of body))) }
 {
@@ -139,7 +141,7 @@ fn in_json(command: Command) -> Asked
     }
 }
 
-// A command whose answer is CSV.
+// A command whose answer is CSV, where its reply has that form.
 fn in_csv(command: Command) -> Asked
     ensures { result ≡ asked_in_csv command }
 {
@@ -161,7 +163,7 @@ fn add_intersection(alloc: Global, body: Result<Value, AskFault>) -> Result<Aske
     Ok(in_json(Command::AddIntersection { id, interval, name }))
 }
 
-// The intersection of the path, and the clerk of the body.
+// The intersection of the path and the clerk of the body, or the first fault of these.
 #[tactic(auto, unfolding(crate::specs::Commands::id_and_clerk_in))]
 fn id_and_clerk(
     alloc: Global,
@@ -188,7 +190,7 @@ fn edit(alloc: Global, path: &[u8], body: Result<Value, AskFault>) -> Result<Ask
     Ok(in_json(Command::Edit { id, clerk, changes }))
 }
 
-// The clerk and the changes of the rows. Every key is judged before memory is taken.
+// The clerk of a body and the changes of its rows. Every key is judged before memory is taken.
 #[tactic(auto, unfolding(crate::specs::Commands::clerk_and_rows_in))]
 fn clerk_and_rows(alloc: Global, body: &Value) -> Result<(Words<40>, Changes), AskFault>
     ensures gives { Gives result (clerk_and_rows_in (view body.now)) }
@@ -210,7 +212,7 @@ fn edit_csv(alloc: Global, path: &[u8], body: Result<Value, AskFault>) -> Result
     Ok(in_json(Command::Edit { id, clerk, changes }))
 }
 
-// The clerk and the changes of the CSV text. Every key is judged before memory is taken.
+// The clerk of a body and the changes of its CSV text. Every key is judged before memory is taken.
 #[tactic(auto, unfolding(crate::specs::Commands::clerk_and_csv_in))]
 fn clerk_and_csv(alloc: Global, body: &Value) -> Result<(Words<40>, Changes), AskFault>
     ensures gives { Gives result (clerk_and_csv_in (view body.now)) }

@@ -13,14 +13,15 @@ use serde_json::Value;
 use signal_records::Change;
 use std::alloc::Global;
 
-// The CSV text under its key.
+// The text under the key `csv`, or that field's fault.
 fn text(body: &Value) -> Result<&str, AskFault>
     ensures { lent_value (λ csv. csv.now) result ≡ csv_in (view body.now) }
 {
     body::text(body, Field::Csv).ok_or(AskFault::Field(Field::Csv))
 }
 
-/// The changes that the records of the CSV text under its key spell.
+/// The changes that the records of the CSV text under the key `csv` spell, in order, or the fault:
+/// of that field, or of the first bad record.
 #[tactic(auto, unfolding(crate::specs::CsvBodies::csv_changes_in))]
 pub(crate) fn changes(alloc: Global, body: &Value) -> Result<Vec<Change>, AskFault>
     ensures gives { GivesList result (csv_changes_in (view body.now)) }
@@ -29,7 +30,8 @@ pub(crate) fn changes(alloc: Global, body: &Value) -> Result<Vec<Change>, AskFau
     Ok(read_timing_csv(alloc, text(body)?.as_bytes())?)
 }
 
-/// The commands of the register that the records of the CSV text under its key spell.
+/// The commands of the register that the records of the CSV text under the key `csv` spell, in
+/// order, or the fault: of that field, or of the first bad record.
 #[tactic(auto, unfolding(crate::specs::CsvBodies::csv_records_in))]
 pub(crate) fn records(alloc: Global, body: &Value) -> Result<Vec<RecordCommand>, AskFault>
     ensures gives { GivesList result (csv_records_in (view body.now)) }

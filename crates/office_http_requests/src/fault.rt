@@ -22,6 +22,7 @@ pub enum AskFault {
     Field(Field),
     /// A row of the body, or a record of its CSV text, spells nothing that the request may have.
     BadRow(BadRow),
+    /// A growth was refused.
     NoMemory,
 }
 
@@ -41,7 +42,7 @@ impl<T: Drop> From<AllocFailed<T>> for AskFault {
     }
 }
 
-/// A bad record of a CSV text is one of the request.
+/// The fault of a CSV text, as one of the request that has it.
 impl From<CsvFault> for AskFault {
     ghost use Rattle.office_http_requests.specs.AskFault.{ask_fault};
 

@@ -15,7 +15,7 @@ fn first_slash(path: &[u8]) -> Option<usize>
     path.iter().position(|b| *b == b'/')
 }
 
-// Where the first slash is, or the length.
+// The index of the path's first slash, or the path's length where it has none.
 fn slash_at(path: &[u8]) -> usize
     ensures value { result ≡ position_or_len is_slash path.now }
     ensures bound { result ≤ length path.now }
@@ -23,7 +23,7 @@ fn slash_at(path: &[u8]) -> usize
     first_slash(path).unwrap_or(path.len())
 }
 
-// What follows the first slash.
+// What follows the path's first slash; nothing where it has none.
 fn after_slash(path: &[u8]) -> &[u8]
     ensures { result.now ≡ after_first is_slash path.now }
 {
@@ -35,8 +35,8 @@ fn after_slash(path: &[u8]) -> &[u8]
     }
 }
 
-/// What stands between two slashes of a path, counted from 0, which is what stands before the
-/// first.
+/// A segment of a path, counted from 0, which is what stands before the first slash; empty where
+/// the path has no such.
 pub(crate) fn segment(path: &[u8], index: usize) -> &[u8]
     ensures { result.now ≡ segment_of index path.now }
 {
@@ -47,7 +47,8 @@ pub(crate) fn segment(path: &[u8], index: usize) -> &[u8]
     &rest[..slash_at(rest)]
 }
 
-/// The intersection of a path: its third segment.
+/// The number of an intersection, 1 to 9999, in the third segment of a path, or the fault of the
+/// field `id`.
 #[tactic(auto, unfolding(crate::specs::Paths::id_at))]
 pub(crate) fn id(path: &[u8]) -> Result<InterId, AskFault>
     ensures id { result ≡ id_at path.now }
@@ -56,7 +57,8 @@ pub(crate) fn id(path: &[u8]) -> Result<InterId, AskFault>
     InterId::parse(segment(path, 2)).ok_or(AskFault::Field(Field::Id))
 }
 
-/// The order of a path: its fifth segment.
+/// The number of an order, 1 to 999,999, in the fifth segment of a path, or the fault of the field
+/// `order`.
 #[tactic(auto, unfolding(crate::specs::Paths::order_at))]
 pub(crate) fn order(path: &[u8]) -> Result<RecordNo, AskFault>
     ensures order { result ≡ order_at path.now }
@@ -65,7 +67,7 @@ pub(crate) fn order(path: &[u8]) -> Result<RecordNo, AskFault>
     RecordNo::parse(segment(path, 4)).ok_or(AskFault::Field(Field::Order))
 }
 
-/// The day of a path: its third segment.
+/// The day, `YYYY-MM-DD`, in the third segment of a path, or the fault of the field `day`.
 #[tactic(auto, unfolding(crate::specs::Paths::day_at))]
 pub(crate) fn day(path: &[u8]) -> Result<Day, AskFault>
     ensures day { result ≡ day_at path.now }

@@ -1,5 +1,5 @@
-//! The records of bodies, by the names of their keys. Every key is judged before memory is taken,
-//! so that want of memory is reported of no fault.
+//! The records that bodies describe. Keys are judged by name, each before memory is taken, so that
+//! want of memory is reported in place of no fault.
 ghost use Rattle.std.specs.Prelude.{IsOk};
 ghost use Rattle.serde_json.specs.View.{view};
 ghost use Rattle.office_http_requests.specs.FaultsInOrder.{Gives, WantsMemoryOnlyIf};
@@ -13,7 +13,7 @@ use serde_json::Value;
 use signal_records::{RecordNo, Words};
 use std::alloc::Global;
 
-/// An inspection.
+/// The inspection that a body describes, or the fault of the first bad key.
 #[tactic(auto, unfolding(crate::specs::Recording::inspection_in))]
 pub(crate) fn inspection(alloc: Global, body: &Value) -> Result<Inspection, AskFault>
     ensures gives { Gives result (inspection_in (view body.now)) }
@@ -31,7 +31,7 @@ pub(crate) fn inspection(alloc: Global, body: &Value) -> Result<Inspection, AskF
     })
 }
 
-/// What opens an order.
+/// The opening of an order that a body describes, or the fault of the first bad key.
 #[tactic(auto, unfolding(crate::specs::Recording::opening_in))]
 pub(crate) fn opening(alloc: Global, body: &Value) -> Result<Opening, AskFault>
     ensures gives { Gives result (opening_in (view body.now)) }
@@ -49,7 +49,8 @@ pub(crate) fn opening(alloc: Global, body: &Value) -> Result<Opening, AskFault>
     })
 }
 
-/// A part that is used for an order.
+/// The part that a body describes, used for the order of this number, or the fault of the first bad
+/// key.
 #[tactic(auto, unfolding(crate::specs::Recording::used_in))]
 pub(crate) fn used_part(alloc: Global, order: RecordNo, body: &Value) -> Result<UsedLine, AskFault>
     ensures gives { Gives result (used_in order (view body.now)) }
@@ -66,7 +67,7 @@ pub(crate) fn used_part(alloc: Global, order: RecordNo, body: &Value) -> Result<
     })
 }
 
-/// What closes an order.
+/// The closing of an order that a body describes, or the fault of the first bad key.
 #[tactic(auto, unfolding(crate::specs::Recording::closing_in))]
 pub(crate) fn order_closing(alloc: Global, body: &Value) -> Result<Closing, AskFault>
     ensures gives { Gives result (closing_in (view body.now)) }
@@ -80,7 +81,7 @@ pub(crate) fn order_closing(alloc: Global, body: &Value) -> Result<Closing, AskF
     })
 }
 
-/// A delivery of a part.
+/// The delivery of a part that a body describes, or the fault of the first bad key.
 #[tactic(auto, unfolding(crate::specs::Recording::delivery_in))]
 pub(crate) fn delivery(alloc: Global, body: &Value) -> Result<Delivery, AskFault>
     ensures gives { Gives result (delivery_in (view body.now)) }

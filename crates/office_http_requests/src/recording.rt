@@ -11,8 +11,8 @@ use cabinet_core::RecordCommand;
 use serde_json::Value;
 use std::alloc::Global;
 
-/// The command of a kind, or the first fault: a field of the path from the left, that of the body
-/// as it was read, a key of the body by name.
+/// The command of a kind, by the path and the body as that was read, or the first fault: a field of
+/// the path from the left, the fault of the body, a key of the body by name.
 #[tactic(auto, unfolding(crate::specs::Recording::record_asked))]
 pub(crate) fn command_of(
     alloc: Global,
@@ -21,7 +21,7 @@ pub(crate) fn command_of(
     body: Result<Value, AskFault>,
 ) -> Result<RecordCommand, AskFault>
     ensures gives { Gives result (record_asked kind path.now (data_of body)) }
-    // Want of memory is reported of no fault of the path, the body or a key.
+    // Want of memory is reported in place of no fault of the path, the body or a key.
     ensures memory { WantsMemoryOnlyIf result
         (MayWant (record_asked kind path.now (data_of body))) }
 {

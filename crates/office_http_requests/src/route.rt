@@ -181,7 +181,7 @@ impl Model for Routes {
 }
 
 impl Routes {
-    /// The whole table.
+    /// The whole table of routes. `NoMemory` means that a growth was refused.
     pub fn new(alloc: Global) -> Result<Routes, NoMemory>
         ensures { IfOk result (λ routes. routes ≡ route_rows) }
     {
@@ -190,7 +190,8 @@ impl Routes {
         Ok(Routes { router })
     }
 
-    /// The endpoint of a path: bytes that are not UTF-8 are in no route. It takes no memory.
+    /// The endpoint of a path, or `NoRoute` where no route has it, as none has bytes that are not
+    /// UTF-8. It takes no memory.
     pub fn endpoint_at(&self, path: &[u8]) -> Result<Endpoint, AskFault>
         ensures endpoint { result ≡ or_no_route (endpoint_of path.now) }
         ensures fault { IfErr result (λ fault. fault ≡ AskFault.NoRoute) }

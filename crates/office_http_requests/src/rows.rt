@@ -40,7 +40,7 @@ fn array(body: &Value, field: Field) -> Option<&Vec<Value>>
     body.get(field.name()).and_then(Value::as_array)
 }
 
-// The rows under their key, if they are an array of arrays of texts.
+// The rows under the key `rows`, if they are an array of arrays of texts.
 fn rows<'a>(alloc: Global, body: &'a Value) -> Result<Option<Vec<Vec<&'a [u8]>>>, AllocError>
     ensures { IfOk result (λ found. ShowsRows found (rows_in (view body.now))) }
 {
@@ -57,8 +57,9 @@ fn rows<'a>(alloc: Global, body: &'a Value) -> Result<Option<Vec<Vec<&'a [u8]>>>
     Ok(Some(rows))
 }
 
-// Reads the changes that rows spell, counted from 1, into the room for them. Out of memory is told
-// only where the reader of a row told it, of one that spells a change with a list of phases.
+// Reads the changes that rows spell into the room for them, or tells the first bad row, counted
+// from 1. Want of memory is told only where the reader of a row told it, and some row spells a
+// change with a list of phases.
 fn changes(alloc: Global, room: Vec<Change>, rows: &[Vec<&[u8]>]) -> Result<Changes, AskFault>
     requires empty { (room.items ≡ []) × (vec_len room ≡ 0) }
     requires enough { length rows.now ≤ vec_capacity room }
@@ -95,7 +96,7 @@ fn all_rows(values: &[Value]) -> bool
     values.iter().all(|value| is_row(value))
 }
 
-// Whether the rows stand under their key. It takes no memory.
+// Whether an array of arrays of texts stands under the key `rows`. It takes no memory.
 fn has_rows(body: &Value) -> bool
     ensures { result ≡ is_some (rows_in (view body.now)) }
 {
@@ -105,8 +106,9 @@ fn has_rows(body: &Value) -> bool
     }
 }
 
-/// The changes under their key. What is no array of arrays of texts is judged before memory is
-/// taken.
+/// The changes that the rows under the key `rows` spell, or the fault: of that field, where they
+/// are no array of arrays of texts, which is judged before memory is taken; or of the first bad
+/// row.
 #[tactic(auto, unfolding(crate::specs::Rows::changes_in))]
 pub(crate) fn of_body(alloc: Global, body: &Value) -> Result<Changes, AskFault>
     ensures gives { Gives result (changes_in (view body.now)) }

@@ -8,7 +8,7 @@ ghost use Rattle.signal_values.specs.Words.{AreWords};
 use cabinet_core::{Day, PartCode, read_day};
 use signal_records::{Number, Words};
 
-/// The number, where it is in its range.
+/// This number, where it is `LOW` to `HIGH`.
 pub(crate) fn number_within<Of, const LOW: u32, const HIGH: u32>(
     n: u64,
 ) -> Option<Number<Of, LOW, HIGH>>
@@ -18,7 +18,7 @@ pub(crate) fn number_within<Of, const LOW: u32, const HIGH: u32>(
     Number::new(n)
 }
 
-/// The words of at most so many bytes that a text is. It takes no memory.
+/// The words that a text is, where it is such and has at most `MAX` bytes. It takes no memory.
 pub(crate) fn words_parsed<const MAX: usize>(text: &[u8]) -> Option<&str>
     ensures parsed { option_map (λ words. words.now) result ≡ words_of MAX text.now }
     ensures words { IfSome result (λ words. AreWords MAX words.now) }
@@ -26,14 +26,14 @@ pub(crate) fn words_parsed<const MAX: usize>(text: &[u8]) -> Option<&str>
     Words::<MAX>::parse(text)
 }
 
-/// The day that a text spells, as `YYYY-MM-DD`.
+/// The day that a text spells as `YYYY-MM-DD`, if it spells one.
 pub(crate) fn day_spelled(text: &[u8]) -> Option<Day>
     ensures { result ≡ day_of text.now }
 {
     read_day(text)
 }
 
-/// The code of a part that a text is. It takes no memory.
+/// The code of a part that a text is, where it is one. It takes no memory.
 pub(crate) fn part_parsed(text: &[u8]) -> Option<&str>
     ensures parsed { option_map (λ code. code.now) result ≡ part_of text.now }
     ensures code { IfSome result (λ code. IsPartCode code.now) }

@@ -1,4 +1,4 @@
--- The bytes of an answer.
+-- The bytes of an HTTP answer, whose content is JSON.
 use Rattle.std.specs.Prelude.{◌≡◌, ℕ, List, length, ◌++◌, codes, decimal}
 use Rattle.http.specs.StatusCode.{status_text}
 use Rattle.serde_json.specs.Data.{Data}
@@ -9,7 +9,7 @@ use Rattle.office_machine.specs.declared.reply.Reply.TheVariants.{Refused}
 use Rattle.office_http_requests.specs.declared.form.Form.{Form}
 use Rattle.office_http_responses.specs.Trees.{tree_in}
 
--- an answer with this status and this content
+-- the bytes of an answer with this status code and this content
 unfoldable pub answer_with : ℕ → List ℕ → List ℕ
 answer_with status content =
     codes "HTTP/1.1 " ++ status_text status
@@ -20,15 +20,15 @@ answer_with status content =
 pub record PutsBytes (old new bytes : List ℕ) : Type 0 where
   pub items : new ≡ old ++ bytes
 
--- an answer with this status, whose content is a tree in compact text
+-- the bytes of an answer with this status code, whose content is a tree in compact text
 abbrev pub answer_text : ℕ → Data → List ℕ
 answer_text status tree = answer_with status (compact_text tree)
 
--- the status of a reply
+-- the HTTP status code of a reply: that of its refusal, or 200
 abbrev pub status_of : Reply → ℕ
 status_of (Refused refusal) = (line_of refusal).status
 status_of _ = 200
 
--- the answer of a reply in a form
+-- the bytes of the answer that tells a reply in a form
 unfoldable pub answer_bytes : Reply → Form → List ℕ
 answer_bytes reply form = answer_text (status_of reply) (tree_in form reply)

@@ -1,4 +1,4 @@
--- The answers of requests that ask nothing.
+-- The answers to requests that ask nothing of the office: faults of the framing, and of what is asked.
 use Rattle.std.specs.Prelude.{◌≡◌, ℕ, ◌≤◌, List, [], ◌∷◌, codes, ◌==◌, if◌then◌else◌, unwrap_or}
 use Rattle.serde_json.specs.Data.{Data}
 use Rattle.office_machine.specs.Refusal.{RefusalLine}
@@ -16,7 +16,7 @@ use Rattle.office_http_requests.specs.Fields.{field_name}
 use Rattle.office_http_responses.specs.Json.{count, text, keys}
 use Rattle.signal_records.specs.RowFault.{fault_name, fault_field}
 
--- a line of the table
+-- a line of the table of faults: a number, a name and an HTTP status code
 abbrev pub line : ℕ → List ℕ → ℕ → RefusalLine
 line number name status = record { number = number; name = name; status = status }
 
@@ -33,24 +33,24 @@ line_of kind.Json = line 8 (codes "Json") 400
 line_of kind.Field = line 9 (codes "Field") 400
 line_of kind.BadRow = line 31 (codes "BadRow") 400
 
--- the first of these kinds of fault with a number, or BadRow
+-- the first of these kinds of fault that has this number, or BadRow where none has
 abbrev pub first_numbered : ℕ → List FaultKind → FaultKind
 first_numbered n [] = kind.BadRow
 first_numbered n (k ∷ rest) = if n == (line_of k).number then k else first_numbered n rest
 
--- the kind of fault with a number
+-- the kind of fault that has this number, or BadRow where none has
 abbrev pub kind_numbered : ℕ → FaultKind
 kind_numbered n = first_numbered n (
     kind.Head ∷ kind.HeadTooLarge ∷ kind.Length ∷ kind.BodyTooLarge ∷ kind.Coded
     ∷ kind.NoRoute ∷ kind.Method ∷ kind.Json ∷ kind.Field ∷ [])
 
--- a fault's number, and what its answer shows more
+-- this is a fault's number, with what its answer shows more: nothing for 1 to 8, a field for 9, a bad row for 31
 abbrev pub IsFault : ℕ → More → Type 0
 IsFault n Nothing = (1 ≤ n) × (n ≤ 8)
 IsFault n (FieldMore field) = n ≡ 9
 IsFault n (RowMore bad) = n ≡ 31
 
--- the tree of a fault
+-- the JSON tree of a fault: its name and number, and more where its answer shows a field or a bad row
 abbrev pub fault_tree : FaultKind → More → Data
 fault_tree k Nothing = keys ((codes "error", text (line_of k).name) ∷ (codes "number", count (line_of k).number) ∷ [])
 fault_tree k (FieldMore field) =
@@ -70,11 +70,11 @@ fault_tree k (RowMore bad) =
     ∷ []
     )
 
--- the answer of a fault
+-- the bytes of the answer to a fault
 unfoldable pub fault_bytes : FaultKind → More → List ℕ
 fault_bytes k more = answer_text (line_of k).status (fault_tree k more)
 
--- a fault of a request's framing, as a line of the table of faults
+-- the kind in the table of faults of a fault of a request's framing
 abbrev pub framing_kind : Fault → FaultKind
 framing_kind framing.Head = kind.Head
 framing_kind framing.HeadTooLarge = kind.HeadTooLarge
@@ -82,11 +82,11 @@ framing_kind framing.Length = kind.Length
 framing_kind framing.BodyTooLarge = kind.BodyTooLarge
 framing_kind framing.Coded = kind.Coded
 
--- the answer of a fault of a request's framing
+-- the bytes of the answer to a fault of a request's framing
 abbrev pub framing_fault_text : Fault → List ℕ
 framing_fault_text fault = fault_bytes (framing_kind fault) Nothing
 
--- the answer of a request that is no command
+-- the bytes of the answer to a request that is no command: its fault, or for want of memory unavailable
 abbrev pub ask_fault_text : AskFault → List ℕ
 ask_fault_text ask.NoRoute = fault_bytes kind.NoRoute Nothing
 ask_fault_text ask.Method = fault_bytes kind.Method Nothing

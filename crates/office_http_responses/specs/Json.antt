@@ -20,7 +20,7 @@ or_null tree (Some x) = tree x
 abbrev pub array_of : {A : Type 0} → (A → Data) → List A → Data
 array_of tree xs = array (items_of (map tree xs))
 
--- the members of an object
+-- the members of an object, by key and value, in the order of the list
 abbrev pub members : List (List ℕ × Data) → Members
 members [] = no_members
 members (entry ∷ rest) = member entry.0 entry.1 (members rest)

@@ -27,17 +27,18 @@ use Rattle.signal_records.specs.declared.record.Row.{Row}
 use Rattle.signal_rules.specs.Texts.{rule_text, subject_text}
 use Rattle.signal_rules.specs.declared.violation.Violation.{Violation}
 
--- the name of the verify status
+-- the name of a verdict, as the verify status has it (NTCIP 1201, dbVerifyStatus)
 abbrev pub verdict_name : Verdict → List ℕ
 verdict_name NotDone = codes "notDone"
 verdict_name DoneWithError = codes "doneWithError"
 verdict_name DoneWithNoError = codes "doneWithNoError"
 
--- a refusal or a fault with no more keys
+-- the tree of a refusal of which no more is shown than its name and its number
 abbrev pub error_tree : RefusalLine → Data
 error_tree line = keys ((codes "error", text line.name) ∷ (codes "number", count line.number) ∷ [])
 
--- the tree of a refusal
+-- the tree of a refusal: its name and its number; with how often the draft breaks rules, of VerifyFailed, or
+-- with the record at which an import was refused, from 1, and the number of that record's refusal
 abbrev pub refusal_tree : Refusal → Data
 refusal_tree (refusal.Draft (VerifyFailed violations)) =
     keys (
@@ -56,7 +57,7 @@ refusal_tree (refusal.ImportRow at cause) =
     )
 refusal_tree why = error_tree (line_of why)
 
--- what State shows of an intersection
+-- what the query State shows of an intersection; the owner is null where nobody holds a draft
 abbrev pub state_tree : IntersectionState → Data
 state_tree shown =
     keys (
@@ -71,7 +72,7 @@ state_tree shown =
     ∷ []
     )
 
--- a row, as the array of its fields
+-- a timing row, as the array of its fields, which are texts
 abbrev pub row_tree : Row → Data
 row_tree row = array_of text (spelling current_limits row)
 
@@ -79,16 +80,16 @@ row_tree row = array_of text (spelling current_limits row)
 abbrev pub rows_tree : Rows → Data
 rows_tree set = array_of row_tree (values set)
 
--- a rule that a subject breaks
+-- the tree of a violation: the rule, and the subject that breaks it
 abbrev pub violation_tree : Violation → Data
 violation_tree violation =
     keys ((codes "rule", text (rule_text violation.rule)) ∷ (codes "subject", text (subject_text violation.subject)) ∷ [])
 
--- what Timing shows of an intersection
+-- what the query Timing shows of an intersection: its revision and its committed rows
 abbrev pub timing_tree : RunningTiming → Data
 timing_tree shown = keys ((codes "revision", count shown.revision) ∷ (codes "rows", rows_tree shown.rows) ∷ [])
 
--- what Draft shows of an intersection
+-- what the query Draft shows of an intersection: the draft's owner, its rows and the rules that they break
 abbrev pub draft_tree : OpenDraft → Data
 draft_tree shown =
     keys (
@@ -98,7 +99,7 @@ draft_tree shown =
     ∷ []
     )
 
--- the tree of a reply
+-- the tree of a reply in JSON
 abbrev pub tree_of : Reply → Data
 tree_of Added = keys ((codes "result", text (codes "added")) ∷ [])
 tree_of Same = keys ((codes "result", text (codes "same")) ∷ [])

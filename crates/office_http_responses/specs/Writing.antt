@@ -15,7 +15,7 @@ use Rattle.office_http_responses.specs.declared.writing.Scalar.TheVariants as sc
 abbrev pub tokens_of : Data → List Token
 tokens_of tree = json_tokens (outline tree)
 
--- the tokens of a member
+-- the tokens of a member of an object: its key, and those of its value
 abbrev pub member_tokens : List ℕ × Data → List Token
 member_tokens entry = key entry.0 ∷ tokens_of entry.1
 
@@ -24,15 +24,15 @@ pub record Added (old new : Written) (ts : List Token) : Type 0 where
   pub before : new.before ≡ old.before
   pub tokens : new.tokens ≡ old.tokens ++ ts
 
--- a call that wrote these tokens, or had no memory
+-- a call wrote these tokens after what stood there, or had no memory
 abbrev pub Adds : {E : Type 0} → Result (Unit {0}) E → Written → Written → List Token → Type 0
 Adds result old new ts = OnOk result (Added old new ts)
 
--- a call that wrote a tree, or had no memory
+-- a call wrote this tree after what stood there, or had no memory
 abbrev pub AddsTree : {E : Type 0} → Result (Unit {0}) E → Written → Written → Data → Type 0
 AddsTree result old new tree = Adds result old new (tokens_of tree)
 
--- the tree of a value without parts
+-- the tree of a JSON value without parts
 abbrev pub scalar_tree : Scalar → Data
 scalar_tree (scalar.Number n) = count n
 scalar_tree (scalar.Text bytes) = text bytes.now

@@ -1,4 +1,4 @@
-//! The bytes of an answer.
+//! The bytes of the answer to a reply.
 ghost use Rattle.std.specs.Prelude.{◌≡◌, IfOk};
 ghost use Rattle.serde_json.specs.Written.{compact_text};
 ghost use Rattle.office_machine.specs.Refusal.{line_of};
@@ -20,7 +20,7 @@ use std::alloc::{AllocError, Global};
 const DAMAGED: &[u8] = b"HTTP/1.1 500 Internal Server Error\r\nContent-Type: application/json\r\n\
       Content-Length: 31\r\n\r\n{\"error\":\"Damaged\",\"number\":91}";
 
-/// The room that most contents need.
+/// The room in bytes that most contents need.
 pub(crate) const CONTENT_ROOM: usize = 240;
 
 /// The answer where a stored row is no record, in whichever form. It takes no memory.
@@ -30,7 +30,8 @@ pub fn damaged() -> &'static [u8]
     DAMAGED
 }
 
-/// The answer of a reply in a form, which is for replies that have two: any other is in JSON.
+/// The whole HTTP answer that tells a reply. In CSV is only what shows a timing set or a cabinet;
+/// any other reply is in JSON, whatever the form. The error means that memory was refused.
 pub fn answer_of(alloc: Global, reply: &Reply, form: Form) -> Result<Vec<u8>, AllocError>
     ensures { IfOk result (λ answer. answer.items ≡ answer_bytes reply.now form) }
 {
@@ -38,7 +39,7 @@ pub fn answer_of(alloc: Global, reply: &Reply, form: Form) -> Result<Vec<u8>, Al
     with_head(alloc, status(reply), content.as_slice())
 }
 
-// The text of a reply.
+// The content that tells a reply in a form, as compact JSON.
 fn content_of(alloc: Global, reply: &Reply, form: Form) -> Result<Vec<u8>, AllocError>
     ensures { IfOk result (λ content. content.items ≡ compact_text (tree_in form reply.now)) }
 {
@@ -47,7 +48,7 @@ fn content_of(alloc: Global, reply: &Reply, form: Form) -> Result<Vec<u8>, Alloc
     Ok(to.into_inner())
 }
 
-// The status of a reply.
+// The HTTP status of a reply: that of its refusal, or 200.
 fn status(reply: &Reply) -> StatusCode
     ensures { result ≡ status_of reply.now }
 {
@@ -57,7 +58,7 @@ fn status(reply: &Reply) -> StatusCode
     }
 }
 
-// The status of a refusal, which is a status code of HTTP for each.
+// The HTTP status of a refusal. Each has a code that HTTP knows, so that the fallback is not used.
 fn refusal_status(refusal: Refusal) -> StatusCode
     ensures { result ≡ (line_of refusal).status }
 {

@@ -73,7 +73,7 @@ fn write_uses(
     Ok(())
 }
 
-// The parts that were used for an order.
+// The parts that were used for an order, as an array: those of the lines that name it.
 fn uses(
     alloc: Global,
     to: &mut Writer,
@@ -88,7 +88,7 @@ fn uses(
     Ok(())
 }
 
-// An order without the parts that were used for it.
+// The members of an order's object, without the parts that were used for it.
 fn write_order_members(alloc: Global, to: &mut Writer, order: &Order) -> Result<(), AllocError>
     ensures { Adds result to.old to.new (flat_map member_tokens (order_members order.now)) }
 {
@@ -106,7 +106,7 @@ fn write_order_members(alloc: Global, to: &mut Writer, order: &Order) -> Result<
     )
 }
 
-// An order, with those of the lines that are its own.
+// An order as an object, with the parts that were used for it: those of the lines that name it.
 fn write_order(
     alloc: Global,
     to: &mut Writer,
@@ -152,8 +152,8 @@ fn orders(
     Ok(())
 }
 
-/// The inspections and the orders of an intersection, each order with the parts that were used for
-/// it.
+/// Writes the inspections and the orders of an intersection, each order with the parts that were
+/// used for it.
 pub(crate) fn write_cabinet(
     alloc: Global,
     to: &mut Writer,

@@ -1,4 +1,4 @@
-//! CSV texts, in JSON.
+//! CSV texts, each as the one key of a JSON object.
 ghost use Rattle.std.specs.Prelude.{IsUtf8};
 ghost use Rattle.office_files.specs.Records.{records_csv_text};
 ghost use Rattle.office_files.specs.Timing.{timing_csv_text};
@@ -25,7 +25,7 @@ fn write_csv(alloc: Global, to: &mut Writer, csv: &[u8]) -> Result<(), AllocErro
     object(alloc, to, &[("csv", Text(csv))])
 }
 
-/// The rows of a timing set as a CSV text, in the order of their keys.
+/// Writes the rows of a timing set, in the order of their keys, as a CSV text under the key `csv`.
 pub(crate) fn write_timing_csv(
     alloc: Global,
     to: &mut Writer,
@@ -37,7 +37,8 @@ pub(crate) fn write_timing_csv(
     write_csv(alloc, to, csv.as_slice())
 }
 
-/// What made the cabinet of an intersection as it stands, as a CSV text.
+/// Writes the records that made the cabinet of an intersection as it stands, as a CSV text under
+/// the key `csv`.
 pub(crate) fn write_cabinet_csv(
     alloc: Global,
     to: &mut Writer,

@@ -6,7 +6,7 @@ use cabinet_core::{Date, write_date};
 use json::Writer;
 use std::alloc::{AllocError, Global};
 
-/// A date, as it is spelt.
+/// Writes a date as a text, `YYYY-MM-DD`.
 pub(crate) fn date_in_json(alloc: Global, to: &mut Writer, date: Date) -> Result<(), AllocError>
     ensures { AddsTree result to.old to.new (day_tree date) }
 {

@@ -1,4 +1,4 @@
-//! The answers of requests that ask nothing.
+//! The answers to requests that ask nothing of the office.
 ghost use Rattle.std.specs.Prelude.{◌≡◌, ◌≢◌, IfOk};
 ghost use Rattle.serde_json.specs.Written.{compact_text};
 ghost use Rattle.office_http_requests.specs.declared.fault.AskFault.TheVariants.{NoMemory};
@@ -40,7 +40,7 @@ pub(crate) enum FaultKind {
     BadRow,
 }
 
-/// The faults before a bad row.
+/// The faults with the numbers 1 to 9, in that order.
 const BEFORE_ROWS: [FaultKind; 9] = [
     FaultKind::Head,
     FaultKind::HeadTooLarge,
@@ -53,7 +53,7 @@ const BEFORE_ROWS: [FaultKind; 9] = [
     FaultKind::Field,
 ];
 
-// A line of the table of faults.
+// A line of the table of faults: what its answer tells.
 #[derive(Clone, Copy)]
 struct FaultLine {
     number: u32,
@@ -62,7 +62,8 @@ struct FaultLine {
 }
 
 impl FaultKind {
-    /// Its line of the table: the number and the name by which clients know it, and the status.
+    /// The fault's line of the table: the number and the name by which clients know it, and the
+    /// HTTP status of its answer.
     fn line(self) -> FaultLine
         ensures number { result.number ≡ (line_of self).number }
         ensures name { result.name.now ≡ (line_of self).name }
@@ -87,7 +88,7 @@ impl FaultKind {
         }
     }
 
-    /// That of a fault of a request's framing.
+    /// The kind of a fault of a request's framing.
     fn of_framing(fault: Fault) -> FaultKind
         ensures { result ≡ framing_kind fault }
     {
@@ -101,7 +102,7 @@ impl FaultKind {
     }
 }
 
-// The first of some faults that has a number, or BadRow.
+// The first of these faults that has this number, or `BadRow` where none has.
 fn first_numbered(number: u32, kinds: &[FaultKind]) -> FaultKind
     ensures { result ≡ first_numbered number kinds.now }
 {
@@ -117,7 +118,7 @@ fn first_numbered(number: u32, kinds: &[FaultKind]) -> FaultKind
     }
 }
 
-// The fault that has a number, or BadRow.
+// The fault that has this number, or `BadRow` where none of 1 to 9 has.
 fn kind_numbered(number: u32) -> FaultKind
     ensures { result ≡ kind_numbered number }
 {
@@ -160,7 +161,7 @@ fn write_fault(
     }
 }
 
-// The text of a fault.
+// The content that tells a fault, as compact JSON.
 fn content_of_fault(alloc: Global, kind: FaultKind, more: More) -> Result<Vec<u8>, AllocError>
     ensures { IfOk result (λ content. content.items ≡ compact_text (fault_tree kind more)) }
 {
@@ -169,7 +170,7 @@ fn content_of_fault(alloc: Global, kind: FaultKind, more: More) -> Result<Vec<u8
     Ok(to.into_inner())
 }
 
-// The answer of a fault.
+// The whole answer to a fault.
 fn kind_answer(alloc: Global, kind: FaultKind, more: More) -> Result<Vec<u8>, AllocError>
     ensures { IfOk result (λ answer. answer.items ≡ fault_bytes kind more) }
 {
@@ -177,8 +178,8 @@ fn kind_answer(alloc: Global, kind: FaultKind, more: More) -> Result<Vec<u8>, Al
     with_head(alloc, kind.line().status, content.as_slice())
 }
 
-/// The answer of a fault by its number: of a request's framing (1 to 5) or of what it asks (6 to 9,
-/// and 31).
+/// The whole answer to a fault by its number: of a request's framing (1 to 5) or of what it asks (6
+/// to 9, and 31). The error means that memory was refused.
 pub fn fault_answer(alloc: Global, number: u32, more: More) -> Result<Vec<u8>, AllocError>
     requires { IsFault number more }
     ensures { IfOk result (λ answer. answer.items ≡ fault_bytes (kind_numbered number) more) }
@@ -186,8 +187,8 @@ pub fn fault_answer(alloc: Global, number: u32, more: More) -> Result<Vec<u8>, A
     kind_answer(alloc, kind_numbered(number), more)
 }
 
-/// The answer of a request that asks nothing. Want of memory has none of its own: that is an error
-/// here too.
+/// The whole answer to a request that asks nothing. The error means that memory was refused, here
+/// or in reading the request: the fault `NoMemory` has no answer of its own.
 pub fn ask_fault_answer(alloc: Global, fault: AskFault) -> Result<Vec<u8>, AllocError>
     ensures { IfOk result (λ answer. (fault ≢ NoMemory) × (answer.items ≡ ask_fault_text fault)) }
 {
@@ -201,7 +202,7 @@ pub fn ask_fault_answer(alloc: Global, fault: AskFault) -> Result<Vec<u8>, Alloc
     }
 }
 
-/// The answer of a fault of a request's framing.
+/// The whole answer to a fault of a request's framing. The error means that memory was refused.
 pub fn framing_fault_answer(alloc: Global, fault: Fault) -> Result<Vec<u8>, AllocError>
     ensures { IfOk result (λ answer. answer.items ≡ framing_fault_text fault) }
 {

@@ -6,10 +6,10 @@ ghost use Rattle.office_http_responses.specs.Answers.{PutsBytes, answer_with};
 use http::StatusCode;
 use std::alloc::{AllocError, Global};
 
-/// The room that a head needs, whatever its status.
+/// The room in bytes that a head needs, whatever its status.
 const HEAD_ROOM: usize = 120;
 
-/// A content after its head, in a buffer that has room for both.
+/// The whole answer with this status and this content: the head, and then the content.
 pub(crate) fn with_head(
     alloc: Global,
     status: StatusCode,
@@ -43,7 +43,7 @@ fn put_number(answer: &mut Vec<u8>, n: usize) -> Result<(), AllocError>
     put(answer, digits.format(n).as_bytes())
 }
 
-// The status line, without its end.
+// Puts the status line, without its end.
 fn put_status(answer: &mut Vec<u8>, status: StatusCode) -> Result<(), AllocError>
     ensures { OnOk result (PutsBytes answer.old.items answer.new.items
         (codes "HTTP/1.1 " ++ status_text status)) }

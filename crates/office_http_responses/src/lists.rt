@@ -1,4 +1,4 @@
-//! The items of lists, in JSON: rows, broken rules, numbers, parts and overdue inspections.
+//! The items of lists, in JSON: rows, broken rules, numbers, parts and overdue intersections.
 ghost use Rattle.std.specs.Prelude.{map, string_bytes};
 ghost use Rattle.office_http_responses.specs.Json.{array_of, text};
 ghost use Rattle.office_http_responses.specs.Trees.{rows_tree};
@@ -23,14 +23,14 @@ impl WriteJson for String {
     }
 }
 
-// The array of texts.
+// Writes an array of these texts.
 fn texts(alloc: Global, to: &mut Writer, texts: &[String]) -> Result<(), AllocError>
     ensures { AddsTree result to.old to.new (array_of text (map string_bytes texts.now)) }
 {
     array(alloc, to, texts)
 }
 
-// A row, as the array of its fields.
+// A timing row, as the array of its fields, which are texts.
 impl WriteJson for Row {
     ghost use Rattle.office_http_responses.specs.Trees.{row_tree};
 
@@ -42,7 +42,7 @@ impl WriteJson for Row {
     }
 }
 
-/// The rows of a timing set, in the order of their keys.
+/// Writes the rows of a timing set as an array, in the order of their keys.
 pub(crate) fn write_rows(alloc: Global, to: &mut Writer, set: &TimingSet) -> Result<(), AllocError>
     ensures { AddsTree result to.old to.new (rows_tree set.now) }
 {
@@ -50,7 +50,7 @@ pub(crate) fn write_rows(alloc: Global, to: &mut Writer, set: &TimingSet) -> Res
     array(alloc, to, rows.as_slice())
 }
 
-// A rule that a subject breaks.
+// A violation, as the rule and the subject that breaks it.
 impl WriteJson for Violation {
     ghost use Rattle.office_http_responses.specs.Trees.{violation_tree};
 
@@ -81,7 +81,7 @@ impl WriteJson for RecordNo {
     }
 }
 
-// How many of a part are on hand.
+// A part, by its code, and how many of it are on hand.
 impl WriteJson for (PartCode, Hand) {
     ghost use Rattle.office_http_responses.specs.RegisterTrees.{hand_tree};
 
@@ -99,7 +99,8 @@ impl WriteJson for (PartCode, Hand) {
     }
 }
 
-// An intersection that is overdue, and the day on which its inspection fell due.
+// An intersection that is overdue, and the day on which its inspection fell due, or null where
+// there never was one.
 impl WriteJson for OverdueRow {
     ghost use Rattle.cabinet_core.specs.Overdue.{listed_of};
     ghost use Rattle.office_http_responses.specs.RegisterTrees.{listed_tree};

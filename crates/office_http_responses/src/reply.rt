@@ -20,7 +20,7 @@ use office_machine::reply::{
 };
 use std::alloc::{AllocError, Global};
 
-// The name of the verify status (NTCIP 1201, `dbVerifyStatus`).
+// The name of a verdict, as the verify status has it (NTCIP 1201, `dbVerifyStatus`).
 fn verdict_word(verdict: Verdict) -> &'static str
     ensures { result.now ≡ verdict_name verdict }
 {
@@ -60,7 +60,7 @@ fn write_refusal(alloc: Global, to: &mut Writer, refusal: Refusal) -> Result<(),
     }
 }
 
-// Who holds the draft, or null.
+// Who holds the intersection's draft, or null where nobody does.
 fn owner_of(shown: &IntersectionState) -> Scalar<'_>
     ensures { scalar_tree result ≡ or_null text shown.now.owner }
 {
@@ -121,7 +121,7 @@ fn write_overdue(alloc: Global, to: &mut Writer, rows: &OverdueList) -> Result<(
     object_of_array(alloc, to, "overdue", rows.as_slice())
 }
 
-// A reply in JSON.
+// Writes a reply in JSON.
 fn write_reply(alloc: Global, to: &mut Writer, reply: &Reply) -> Result<(), AllocError>
     ensures { AddsTree result to.old to.new (tree_of reply.now) }
 {
@@ -160,7 +160,7 @@ fn write_reply(alloc: Global, to: &mut Writer, reply: &Reply) -> Result<(), Allo
     }
 }
 
-// A reply in CSV, where it has that form.
+// Writes a reply in CSV where it shows a timing set or a cabinet, and any other in JSON.
 fn write_in_csv(alloc: Global, to: &mut Writer, reply: &Reply) -> Result<(), AllocError>
     ensures { AddsTree result to.old to.new (csv_tree_of reply.now) }
 {
@@ -171,7 +171,7 @@ fn write_in_csv(alloc: Global, to: &mut Writer, reply: &Reply) -> Result<(), All
     }
 }
 
-/// A reply in a form.
+/// Writes a reply in a form; one that has no CSV form is in JSON.
 pub(crate) fn write_in_form(
     alloc: Global,
     to: &mut Writer,

@@ -1,4 +1,5 @@
-//! The answer 503, by which a request changed nothing.
+//! The answer 503: memory or the database was refused, and no later answer of the run shows the
+//! request.
 ghost use Rattle.std.specs.Prelude.{◌≡◌};
 ghost use Rattle.office_http_responses.specs.Unavailable.{unavailable_bytes};
 

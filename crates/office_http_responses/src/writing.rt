@@ -1,4 +1,4 @@
-//! JSON written a token at a time, in the order of the keys.
+//! JSON objects and arrays, written a token at a time; members stand in the order given.
 ghost use Rattle.std.specs.Prelude.{◌≡◌, [], ◌∷◌, map, flat_map, option_map};
 ghost use Rattle.office_http_responses.specs.Json.{keys, array_of, or_null, text as text_tree};
 ghost use Rattle.office_http_responses.specs.RegisterTrees.{day_tree};
@@ -10,17 +10,17 @@ use json::Writer;
 use signal_records::Words;
 use std::alloc::{AllocError, Global};
 
-/// A value without parts.
+/// A JSON value without parts.
 #[derive(Drop)]
 pub(crate) enum Scalar<'a> {
     Null,
     Number(u64),
     Text(&'a str),
-    /// A day, or a date on which an inspection falls due, as it is spelt.
+    /// A day, or a date on which an inspection falls due, as the text `YYYY-MM-DD`.
     Day(Date),
 }
 
-/// A clerk, or null where there is none.
+/// A clerk as a text, or null where there is none.
 pub(crate) fn clerk_or_null(clerk: Option<&Words<40>>) -> Scalar<'_>
     ensures { scalar_tree result ≡ or_null text_tree (option_map (λ clerk. clerk.now) clerk.entry) }
 {
@@ -30,7 +30,7 @@ pub(crate) fn clerk_or_null(clerk: Option<&Words<40>>) -> Scalar<'_>
     }
 }
 
-/// A day, or null where there is none.
+/// A day as a text, or null where there is none.
 pub(crate) fn day_or_null(day: Option<Day>) -> Scalar<'static>
     ensures { scalar_tree result ≡ or_null day_tree day }
 {
@@ -40,7 +40,7 @@ pub(crate) fn day_or_null(day: Option<Day>) -> Scalar<'static>
     }
 }
 
-/// The day on which an inspection falls due, or null where there is none.
+/// The day on which an inspection falls due, as a text, or null where there is none.
 pub(crate) fn due_or_null(due: Option<Date>) -> Scalar<'static>
     ensures { scalar_tree result ≡ or_null day_tree due }
 {
@@ -72,7 +72,7 @@ fn write_member(
     write_scalar(alloc, to, &member.1)
 }
 
-/// Members of an object, by key and value.
+/// Writes members of an object, by key and value, in the order given.
 pub(crate) fn write_members(
     alloc: Global,
     to: &mut Writer,
@@ -86,7 +86,7 @@ pub(crate) fn write_members(
     Ok(())
 }
 
-/// An object of members without parts.
+/// Writes an object of these members, whose values have no parts.
 pub(crate) fn object(
     alloc: Global,
     to: &mut Writer,
@@ -100,13 +100,13 @@ pub(crate) fn object(
     Ok(())
 }
 
-/// What is written as JSON.
+/// A value that is written as JSON.
 pub(crate) trait WriteJson {
     ghost use Rattle.serde_json.specs.Data.{Data};
     ghost use Rattle.office_http_responses.specs.RegisterTrees.{day_tree};
     ghost use Rattle.office_http_responses.specs.Writing.{AddsTree};
 
-    // What is written, as a tree.
+    // The JSON tree of a value, which is written for it.
     ghost tree: { Self → Data };
 
     fn write_json(&self, alloc: Global, to: &mut Writer) -> Result<(), AllocError>
@@ -122,7 +122,7 @@ fn write_items<T: WriteJson>(alloc: Global, to: &mut Writer, items: &[T]) -> Res
     Ok(())
 }
 
-/// An array of the items.
+/// Writes an array of these items, in order.
 pub(crate) fn array<T: WriteJson>(
     alloc: Global,
     to: &mut Writer,
@@ -136,7 +136,7 @@ pub(crate) fn array<T: WriteJson>(
     Ok(())
 }
 
-/// An object of one key, under which the items stand as an array.
+/// Writes an object of this one key, under which the items stand as an array.
 pub(crate) fn object_of_array<T: WriteJson>(
     alloc: Global,
     to: &mut Writer,
