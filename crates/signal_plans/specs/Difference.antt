@@ -12,13 +12,13 @@ use Rattle.signal_records.specs.TimingSet.{Rows}
 use Rattle.signal_plans.specs.declared.difference.Difference.{Difference}
 use Rattle.signal_plans.specs.declared.difference.Difference.TheVariants.{Added, Removed, Changed}
 
--- the key at which two sets differ, of a difference
+-- the key of a difference, at which the two sets differ
 abbrev pub place_of : Difference → Key
 place_of (Added row) = key_of row
 place_of (Removed row) = key_of row
 place_of (Changed before after) = key_of after
 
--- the change that makes the second set's row of the first set's one
+-- the change after which the first set has at the key of a difference what the second set has there
 abbrev pub change_of : Difference → Change
 change_of (Added row) = Put row
 change_of (Removed row) = Remove (key_of row)
@@ -32,8 +32,8 @@ difference_changes differences = map change_of differences
 abbrev pub difference_at : Key → List Difference → Option Difference
 difference_at key differences = find key_cmp key (map (λ d. (place_of d, d)) differences)
 
--- a difference fits what two sets have under a key: there is none where that is the same, and else it says what
--- stands there
+-- a difference fits what two sets have under a key: there is none where both have the same row, or no row, and
+-- else it says what stands there
 abbrev pub Explains : Option Row → Option Row → Option Difference → Type 0
 Explains first second None = first ≡ second
 Explains first second (Some (Added row)) = (first ≡ None) × (second ≡ Some row)
@@ -41,13 +41,13 @@ Explains first second (Some (Removed row)) = (first ≡ Some row) × (second ≡
 Explains first second (Some (Changed before after)) =
     (first ≡ Some before) × (second ≡ Some after) × (before ≢ after)
 
--- at each key, the difference fits what stands there
+-- at each key, the list has no difference where the sets have the same there, and else one that says what they have
 abbrev pub EachKeyExplained : Rows → Rows → List Difference → Type 0
 EachKeyExplained first second differences =
     (key : Key) → Explains (get first key) (get second key) (difference_at key differences)
 
--- The differences are those of the sets, in the order of their keys, each with what stands there. So there is one
--- such list of two sets.
+-- The list has the differences of two sets, in the order of their keys, each with what stands there. Two sets have
+-- one such list.
 pub record AreTold (first second : Rows) (found : List Difference) : Type 0 where
   pub ascending : IsStrictlySortedBy key_cmp (map place_of found)
   pub explained : EachKeyExplained first second found

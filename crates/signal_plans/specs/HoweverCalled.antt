@@ -24,7 +24,8 @@ CrossingHasRoom set pattern p phase ped =
     → HasRoom phase split ped
 
 -- green ends so early that all of yellow and red follow it within the split, and so late that at
--- least one second of it is over, after the lead of a walk that may be called
+-- least one second of it is over, after the lead of a walk that may be called; its end is in tenths of
+-- a second from where the phase begins
 pub record HasGreen (phase : Phase) (split : Split) : Type 0 where
   pub green_end : ℕ
   pub cleared : green_end + phase.yellow + phase.red ≡ 10 * split.time

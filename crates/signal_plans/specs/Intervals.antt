@@ -7,7 +7,7 @@ use Rattle.signal_records.specs.declared.record.Split.{Split}
 use Rattle.signal_records.specs.declared.record.SplitMode.{SplitMode}
 use Rattle.signal_records.specs.declared.record.SplitMode.TheVariants.{PedestrianRecall, MaximumVehicleAndPedestrianRecall}
 
--- splitMode calls for the walk
+-- splitMode calls for the walk in each cycle: both pedestrian recalls do
 abbrev pub CallsPedestrian : SplitMode → Type 0
 CallsPedestrian mode = (mode ≡ PedestrianRecall) ⊎ (mode ≡ MaximumVehicleAndPedestrianRecall)
 
@@ -24,7 +24,8 @@ pub record HasRoom (phase : Phase) (split : Split) (ped : Ped) : Type 0 where
   pub crossing : FitsCrossing phase ped green_end
 
 -- green ends so early that all of yellow and red follow it within the split, and so late that the
--- minimum green is over, and a walk that is called with its clearance
+-- minimum green is over, and, where splitMode calls the walk, lead and minimum green, and walk and
+-- clearance
 pub record FitsSplit (phase : Phase) (split : Split) : Type 0 where
   pub green_end : ℕ
   pub cleared : green_end + phase.yellow + phase.red ≡ 10 * split.time
@@ -35,8 +36,8 @@ pub record FitsSplit (phase : Phase) (split : Split) : Type 0 where
 abbrev pub clear_end : Phase → Ped → ℕ
 clear_end phase ped = 10 * ped.walk + 10 * ped.clear + phase.yellow + phase.red
 
--- who left the curb and walks 3.5 feet a second is not yet across: in 2 tenths of a second that is 7
--- tenths of a foot
+-- who left the curb at one moment and walks 3.5 feet a second is not yet across at another one: in 2
+-- tenths of a second that is 7 tenths of a foot
 abbrev pub IsCrossing : Ped → ℕ → ℕ → Type 0
 IsCrossing ped left now = (left ≤ now) × (7 * (now - left) < 2 * ped.width)
 
@@ -47,14 +48,16 @@ abbrev pub CrossesInTime : Phase → Ped → Type 0
 CrossesInTime phase ped =
     (left now : ℕ) → left ≤ 10 * ped.walk → IsCrossing ped left now → now < clear_end phase ped
 
--- who set out from the setback when the walk began, at 3 feet a second, is not yet across
+-- who set out from the setback when the walk began and walks 3 feet a second is not yet across
 abbrev pub IsOnTheWay : Ped → ℕ → Type 0
 IsOnTheWay ped now = 3 * now < ped.setback + ped.width
 
--- who set out from the setback when the walk began is across before red is over
+-- who set out from the setback when the walk began, at 3 feet a second, is across before walk,
+-- clearance, yellow and red are over, one after the other
 abbrev pub CrossesFromSetback : Phase → Ped → Type 0
 CrossesFromSetback phase ped = (now : ℕ) → IsOnTheWay ped now → now < clear_end phase ped
 
--- who crosses, from the curb or from the setback, is across before red is over
+-- who crosses, from the curb or from the setback, is across before walk, clearance, yellow and red
+-- are over, one after the other
 abbrev pub WalkersCross : Phase → Ped → Type 0
 WalkersCross phase ped = CrossesInTime phase ped × CrossesFromSetback phase ped

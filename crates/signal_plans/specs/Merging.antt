@@ -12,7 +12,7 @@ use Rattle.signal_plans.specs.declared.difference.Difference.{Difference}
 use Rattle.signal_plans.specs.declared.difference.Difference.TheVariants.{Changed}
 use Rattle.signal_plans.specs.Difference.{place_of, difference_at, Explains}
 
--- values under their keys
+-- each of some values with its key, in their order
 abbrev pub under_keys : {X : Type 0} → (X → Key) → List X → List (Key × X)
 under_keys key xs = map (λ x. (key x, x)) xs
 
@@ -20,8 +20,8 @@ under_keys key xs = map (λ x. (key x, x)) xs
 abbrev pub KeysAscend : List Row → Type 0
 KeysAscend rows = T (is_sorted key_cmp (under_keys key_of rows))
 
--- how the first rows' keys compare; a list that has no row comes last, and where none has there is
--- no answer
+-- how the keys of the first rows of two lists compare; a list that has no row comes last, and where
+-- neither has one there is no answer
 abbrev pub next_order : List Row → List Row → Option Ordering
 next_order [] [] = None
 next_order [] (b ∷ second) = Some Greater
@@ -37,7 +37,8 @@ pub record AreDifferences (first second : List Row) (differences : List Differen
   pub above : (key : Key) → T (below_all key_cmp key (under_keys key_of first))
       → T (below_all key_cmp key (under_keys key_of second)) → T (below_all key_cmp key (under_keys place_of differences))
 
--- two rows of a key are listed where they differ
+-- the list of differences grew by the change from one row of a key to another, if these differ; if
+-- they are the same, it is as it was
 abbrev pub TellsChange : Row → Row → List Difference → List Difference → Type 0
 TellsChange before after old new =
     ((before ≡ after) × (new ≡ old)) ⊎ ((before ≢ after) × (new ≡ old ++ Changed before after ∷ []))

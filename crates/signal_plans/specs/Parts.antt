@@ -6,7 +6,7 @@ use Rattle.signal_rules.specs.Lookup.{phases}
 use Rattle.signal_plans.specs.declared.plan.PlanParts.{PlanParts}
 use Rattle.signal_plans.specs.PhaseWarnings.{patterns}
 
--- the phases and the patterns of a set, and how many rings have a phase
+-- the parts are the phases and the patterns of a set, each ascending, and how many rings have a phase
 pub record AreParts (set : Rows) (parts : PlanParts) : Type 0 where
   pub phases : parts.phases.items ≡ phases set
   pub patterns : parts.patterns.items ≡ patterns set

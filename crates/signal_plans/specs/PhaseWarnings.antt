@@ -22,16 +22,16 @@ maximum_case phase =
 abbrev pub minimum_case : Phase → Bool × Advice
 minimum_case phase = (phase.min_green == 0, NoMinimumGreen)
 
--- phaseConcurrency is empty, in a plan of more than one ring
+-- phaseConcurrency is empty, in a plan of so many rings, more than one
 abbrev pub is_alone : ℕ → Phase → Bool
 is_alone rings phase = length phase.mates == 0 && nat_lt 1 rings
 
--- no-concurrent-phase: a phase may time with none in the other rings
+-- no-concurrent-phase: the plan has more than one ring, and the phase lists none that may time with it
 abbrev pub concurrency_case : Rows → Phase → Bool × Advice
 concurrency_case set phase =
     (is_alone (length (used_rings set)) phase, NoConcurrentPhase (length (used_rings set)))
 
--- the one pattern of a number, if the set has it
+-- a pattern as a list of one, and no pattern as a list of none
 abbrev pub listed_pattern : Option Pattern → List Pattern
 listed_pattern None = []
 listed_pattern (Some pattern) = pattern ∷ []
@@ -53,11 +53,11 @@ is_served set p = list_any (λ pattern. is_serving (split_at set pattern.split p
 abbrev pub is_never_served : Rows → ℕ → Bool
 is_never_served set p = not (length (patterns set) == 0) && not (is_served set p)
 
--- never-served: a phase that no pattern serves times in free operation alone
+-- never-served: the plan has patterns, and none serves the phase, so that it times in free operation alone
 abbrev pub service_case : Rows → ℕ → Bool × Advice
 service_case set p = (is_never_served set p, NeverServed)
 
--- what an engineer is warned of in a phase itself
+-- what an engineer is warned of in a phase itself, besides its crossing
 abbrev pub phase_cases : Rows → ℕ → Phase → Cases Advice
 phase_cases set p phase =
     maximum_case phase ∷ minimum_case phase ∷ concurrency_case set phase ∷ service_case set p ∷ []

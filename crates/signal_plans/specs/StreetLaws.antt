@@ -19,15 +19,15 @@ use Rattle.signal_rules.specs.Lookup.{phase_at, split_at}
 use Rattle.signal_plans.specs.Timing.{HasPhase, HasPattern, BeginsIn, TimesIn, StartsIn, IsTiming, IsServed, InItsCycle, order, StandsBefore}
 use Rattle.signal_plans.specs.Intervals.{CallsPedestrian, FitsSplit, IsCrossing, WalkersCross}
 
--- phaseConcurrency of p has q
+-- the set has p, and phaseConcurrency of p has q
 abbrev pub Lists : Rows → ℕ → ℕ → Type 0
 Lists set p q = (phase : Phase) × (phase_at set p ≡ Some phase) × Contains phase.mates q
 
--- each of two phases lists the other
+-- two phases are concurrent: each lists the other (phaseConcurrency)
 abbrev pub AreConcurrent : Rows → ℕ → ℕ → Type 0
 AreConcurrent set p q = Lists set p q × Lists set q p
 
--- two phases that time at one second, in whatever rings, are concurrent
+-- two phases that time at one second, in whatever rings, list each other
 abbrev pub OnlyConcurrentPhasesTime : Rows → Pattern → Type 0
 OnlyConcurrentPhasesTime set pattern =
     (p q second : ℕ) → p ≢ q → IsTiming set pattern p second → IsTiming set pattern q second
@@ -136,7 +136,7 @@ InEachPattern set Law = (n : ℕ) (pattern : Pattern) → HasPattern set n patte
 abbrev pub OfEachPhase : Rows → (ℕ → Phase → Type 0) → Type 0
 OfEachPhase set Law = (p : ℕ) (phase : Phase) → HasPhase set p phase → Law p phase
 
--- which phases time in a cycle, and when
+-- the laws of one cycle of a pattern: which phases time in it, and when
 pub record RunsItsCycle (set : Rows) (pattern : Pattern) : Type 0 where
   pub stretches : OfEachPhase set (TimesOnce set pattern)
   pub served : OfEachPhase set (IsServedUnlessOmitted set pattern)

@@ -10,12 +10,12 @@ use Rattle.signal_plans.specs.declared.warning.Scope.{Scope}
 use Rattle.signal_plans.specs.declared.warning.Scope.TheVariants as scope
 use Rattle.signal_plans.specs.declared.warning.Warning.{Warning}
 
--- `split 1 8`, or `plan`
+-- what a warning is about: `split 1 8`, or `plan`
 abbrev pub scope_text : Scope → List ℕ
 scope_text (scope.Subject s) = subject_text s
 scope_text scope.Plan = codes "plan"
 
--- the part of a phase that decides how long its split is to be
+-- the words for the part of a phase that decides how long its split is to be: `walk and clearance`
 abbrev pub governing_text : NeedPart → List ℕ
 governing_text need_part.Green = codes "lead and minimum green"
 governing_text need_part.Walk = codes "walk and clearance"
@@ -45,11 +45,11 @@ advice_text (advice.NoPattern count) = decimal count ++ codes " phases, and no p
 advice_text (advice.NoConflict rings) =
     codes "each phase may time with every phase of the other rings: none of the " ++ (decimal rings ++ codes " rings waits for another")
 
--- `phase 2: the minimum green is 0 s`
+-- a warning without the end of its line, as `phase 2: the minimum green is 0 s`
 abbrev pub warning_text : Warning → List ℕ
 warning_text w = scope_text w.subject ++ (codes ": " ++ advice_text w.advice)
 
--- `warning: phase 2: the minimum green is 0 s` and a line feed
+-- the line of a warning: `warning: phase 2: the minimum green is 0 s` and a line feed
 abbrev pub warning_line : Warning → List ℕ
 warning_line w = codes "warning: " ++ (warning_text w ++ codes "\n")
 

@@ -8,11 +8,11 @@ use Rattle.signal_records.specs.TimingSet.{Rows}
 use Rattle.signal_records.specs.Within.{current_limits, IsPhaseWithin, IsPatternWithin}
 use Rattle.signal_rules.specs.{Lookup.phase_at, Lookup.split_at, Lookup.pattern_at, SequenceRule.ring_row, Lanes.time_of}
 
--- the set has the phase, with its numbers in the ranges that they have in each row of a program
+-- the set has the phase, with its numbers in the ranges that they have in each row of the program
 abbrev pub HasPhase : Rows → ℕ → Phase → Type 0
 HasPhase set p phase = IsPhaseWithin current_limits p phase × (phase_at set p ≡ Some phase)
 
--- the set has the pattern, with its numbers in the ranges that they have in each row of a program
+-- the set has the pattern, with its numbers in the ranges that they have in each row of the program
 abbrev pub HasPattern : Rows → ℕ → Pattern → Type 0
 HasPattern set n pattern = IsPatternWithin n pattern × (pattern_at set n ≡ Some pattern)
 
@@ -20,7 +20,7 @@ HasPattern set n pattern = IsPatternWithin n pattern × (pattern_at set n ≡ So
 abbrev pub order : Rows → Pattern → ℕ → List ℕ
 order set pattern ring = ring_row set pattern.seq ring
 
--- splitTime of a phase, in seconds; a phase without a row has none
+-- splitTime of a phase in a pattern, in seconds; 0 for a phase without a split row
 abbrev pub split_time : Rows → Pattern → ℕ → ℕ
 split_time set pattern p = time_of (split_at set pattern.split p)
 
@@ -53,11 +53,11 @@ pub record IsTiming (set : Rows) (pattern : Pattern) (p second : ℕ) : Type 0 w
   pub ring_number : IsInRange 1 RINGS ring
   pub times : TimesIn set pattern ring p second
 
--- a phase begins in a ring and has time there
+-- a phase begins in a ring at a second of the cycle, and times there at that second
 abbrev pub StartsIn : Rows → Pattern → ℕ → ℕ → ℕ → Type 0
 StartsIn set pattern ring p second = BeginsIn set pattern ring p second × TimesIn set pattern ring p second
 
--- a phase is served in a cycle
+-- a phase times at some second of the cycle
 abbrev pub IsServed : Rows → Pattern → ℕ → Type 0
 IsServed set pattern p = (second : ℕ) × IsTiming set pattern p second
 

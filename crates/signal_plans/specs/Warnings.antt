@@ -19,17 +19,17 @@ use Rattle.signal_plans.specs.SplitWarnings.{split_warnings}
 use Rattle.signal_plans.specs.PatternWarnings.{coordination_advice}
 use Rattle.signal_plans.specs.PlanWarnings.{plan_cases}
 
--- a piece of advice as a warning of its subject, if there is one
+-- the warning of a subject with a piece of advice, if there is one
 abbrev pub warning_of : Scope → Option Advice → List Warning
 warning_of s None = []
 warning_of s (Some advice) = record { subject = s; advice = advice } ∷ []
 
--- of some cases, in their order, each that is so, once
+-- a warning for each of some cases that is so, in their order
 abbrev pub told_cases : Scope → Cases Advice → List Warning
 told_cases s [] = []
 told_cases s (c ∷ cs) = if c.0 then record { subject = s; advice = c.1 } ∷ told_cases s cs else told_cases s cs
 
--- the warnings of a phase: of the phase itself, and then of its crossing
+-- the warnings of a phase, if there is one: those of the phase itself, and then those of its crossing
 abbrev pub phase_warnings : Rows → ℕ → Option Phase → List Warning
 phase_warnings set p None = []
 phase_warnings set p (Some phase) =
@@ -42,7 +42,7 @@ row_warnings set n p None = []
 row_warnings set n p (Some split) =
     told_cases (scope.Subject (subject.Split n p)) (split_warnings (phase_at set p) split)
 
--- the warnings of a pattern, if there is one
+-- the warnings of a pattern itself, without those of its split rows, if there is one
 abbrev pub pattern_warnings : Rows → ℕ → Option Pattern → List Warning
 pattern_warnings set n None = []
 pattern_warnings set n (Some pattern) =

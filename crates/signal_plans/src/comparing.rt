@@ -1,4 +1,4 @@
-//! Two timing sets compared.
+//! Compares two timing sets, key by key.
 
 ghost use Rattle.std.specs.Prelude.{◌≡◌, drop, IfOk, OnOk};
 ghost use Rattle.signal_records.specs.TimingSet.{after_changes};
@@ -10,8 +10,8 @@ use signal_records::{NoMemory, Row, TimingSet};
 use std::alloc::Global;
 use std::cmp::Ordering;
 
-/// How the keys of the first rows compare, where either list has a row. A list without one comes
-/// last.
+/// How the keys of the first rows of two lists compare. A list without a row comes last; where
+/// neither has one, there is no answer.
 fn next_order(first: &[Row], second: &[Row]) -> Option<Ordering>
     ensures { result ≡ next_order first.now second.now }
 {
@@ -23,7 +23,7 @@ fn next_order(first: &[Row], second: &[Row]) -> Option<Ordering>
     }
 }
 
-/// The rows after the first.
+/// The rows after the first; none of an empty list.
 fn after_first(rows: &[Row]) -> &[Row]
     ensures { result.now ≡ drop 1 rows.now }
 {
@@ -51,7 +51,7 @@ fn push_changed(
     Ok(())
 }
 
-/// The differences of two lists of rows, each in key order.
+/// The differences of two lists of rows, which are each in the order of their keys, in that order.
 fn differences_of(
     alloc: Global,
     mut first: &[Row],
@@ -82,10 +82,11 @@ fn differences_of(
     Ok(differences)
 }
 
-/// What the second set differs in from the first: one difference for each key under which they
-/// have different rows, and none for another, in the order of the keys. Each tells the rows that
-/// stand there. The changes that they make turn the first set into the second. It takes time in
-/// proportion to the rows of both.
+/// What the second set differs in from the first: in the order of the keys, one difference for each
+/// key at which the sets differ, with the rows that stand there. The changes that the differences
+/// make turn the first set into the second. It takes time in proportion to the rows of both.
+///
+/// `NoMemory` means that a growth was really refused.
 pub fn compare(
     alloc: Global,
     first: &TimingSet,

@@ -11,6 +11,7 @@ use signal_records::{Key, NoMemory, Row, write_row};
 use std::alloc::{AllocError, Global};
 use std::fmt::Write;
 
+/// Appends the first part and the rest, with the separator between each two.
 fn push_separated_from(
     text: &mut String,
     separator: &str,
@@ -27,7 +28,7 @@ fn push_separated_from(
     Ok(())
 }
 
-/// Appends the parts with the separator between.
+/// Appends the parts with the separator between each two.
 fn push_separated(text: &mut String, separator: &str, parts: &[String]) -> Result<(), AllocError>
     ensures { OnOk result (string_bytes text.new ≡ string_bytes text.old
         ++ separated_by separator.now (map string_bytes parts.now)) }
@@ -50,7 +51,7 @@ fn push_key(text: &mut String, key: Key) -> Result<(), AllocError>
     }
 }
 
-/// Appends a row as it stands in a CSV file.
+/// Appends the fields of a row with commas between, as it stands in a CSV file.
 fn push_row(alloc: Global, text: &mut String, row: &Row) -> Result<(), NoMemory>
     ensures { OnOk result (string_bytes text.new ≡ string_bytes text.old
         ++ separated_by (codes ",") (spelling current_limits row.now)) }
@@ -60,7 +61,7 @@ fn push_row(alloc: Global, text: &mut String, row: &Row) -> Result<(), NoMemory>
     Ok(())
 }
 
-/// Appends the key of two rows and the fields that differ.
+/// Appends the key of two rows and the fields that differ, as `~ phase,2: minGreen 8 > 10`.
 fn push_changed(alloc: Global, text: &mut String, before: &Row, after: &Row) -> Result<(), NoMemory>
     ensures { OnOk result (string_bytes text.new ≡ string_bytes text.old
         ++ difference_text (Difference.Changed before.now after.now)) }
@@ -73,6 +74,7 @@ fn push_changed(alloc: Global, text: &mut String, before: &Row, after: &Row) -> 
     Ok(())
 }
 
+/// Appends a difference without the end of its line, after `+ `, `- ` or `~ `.
 fn push_difference(
     alloc: Global,
     text: &mut String,
@@ -99,6 +101,8 @@ fn push_difference(
 /// Of a row that was changed, after `~ `, stand the key and each field that differs: its name, its
 /// value before, ` > `, and its value after. A field that is empty, or that the row does not have,
 /// is a dash.
+///
+/// `NoMemory` means that a growth was really refused.
 pub fn comparison_text(alloc: Global, differences: &[Difference]) -> Result<Vec<u8>, NoMemory>
     ensures { IfOk result (λ text. text.items ≡ comparison_text differences.now) }
 {

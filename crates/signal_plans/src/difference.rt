@@ -17,7 +17,7 @@ pub enum Difference {
     Changed { before: Row, after: Row },
 }
 
-/// The change that makes the row of the second set.
+/// The change after which the first set has at the key what the second set has there.
 fn change_of(difference: &Difference) -> Result<Change, NoMemory>
     ensures { IfOk result (λ change. change ≡ change_of difference.now) }
 {
@@ -30,6 +30,8 @@ fn change_of(difference: &Difference) -> Result<Change, NoMemory>
 
 /// The changes that make the second set of the first, in the order of the differences: a row that
 /// was added or changed is put, and the key of one that was removed is removed.
+///
+/// `NoMemory` means that a growth was really refused.
 pub fn changes(alloc: Global, differences: &[Difference]) -> Result<Vec<Change>, NoMemory>
     ensures { IfOk result (λ changes. changes.items ≡ difference_changes differences.now) }
 {

@@ -7,7 +7,8 @@ ghost use Rattle.signal_plans.specs.Comparison.{field_or_dash, field_change, fro
 use signal_records::{Key, NoMemory, Row, write_row};
 use std::alloc::Global;
 
-/// The field at a place of a row, or a dash where it is empty or there is none.
+/// The field at a place of a row, counted from 0 with the kind; a dash where it is empty or the row
+/// has none there.
 fn field_or_dash(fields: &[String], place: usize) -> &str
     ensures { result.now ≡ field_or_dash (map string_bytes fields.now) place }
 {
@@ -17,14 +18,14 @@ fn field_or_dash(fields: &[String], place: usize) -> &str
     }
 }
 
-/// Two rows of a key, spelled.
+/// The fields of two rows of a key, the kind being the first.
 #[derive(Clone, Copy)]
 pub(crate) struct Spelled<'a> {
     pub(crate) before: &'a [String],
     pub(crate) after: &'a [String],
 }
 
-/// Appends the field at a place, where it differs.
+/// Appends the field at a place, counted from 0, where it differs, as `minGreen 8 > 10`.
 fn push_field(
     alloc: Global,
     parts: &mut Vec<String>,
@@ -44,7 +45,7 @@ fn push_field(
     Ok(())
 }
 
-/// Appends the fields that differ of two phases up to their mates.
+/// Appends the fields that differ of two rows of a phase, from its ring to its mates.
 fn push_front(alloc: Global, parts: &mut Vec<String>, rows: Spelled<'_>) -> Result<(), NoMemory>
     ensures { OnOk result (map string_bytes parts.new.items ≡ map string_bytes parts.old.items
         ++ front_changes (map string_bytes rows.entry.before.now)
@@ -59,7 +60,7 @@ fn push_front(alloc: Global, parts: &mut Vec<String>, rows: Spelled<'_>) -> Resu
     push_field(alloc, parts, rows, 8, "mates")
 }
 
-/// Appends the fields that differ of their pedestrian parts.
+/// Appends the fields that differ of two rows of a phase, in its pedestrian part.
 fn push_ped(alloc: Global, parts: &mut Vec<String>, rows: Spelled<'_>) -> Result<(), NoMemory>
     ensures { OnOk result (map string_bytes parts.new.items ≡ map string_bytes parts.old.items
         ++ ped_changes (map string_bytes rows.entry.before.now)
@@ -73,7 +74,7 @@ fn push_ped(alloc: Global, parts: &mut Vec<String>, rows: Spelled<'_>) -> Result
     push_field(alloc, parts, rows, 14, "lead")
 }
 
-/// Appends the fields that differ of two rows of a key.
+/// Appends the fields that differ of two rows of a key, in their order in a row.
 fn push_fields(
     alloc: Global,
     parts: &mut Vec<String>,

@@ -11,8 +11,9 @@ use signal_records::{NoMemory, Pattern, PhaseNo, SeqNo, SplitNo, TimingSet};
 use signal_rules::{is_coordinated, phase_at, ring_row, split_at, time_of};
 use std::alloc::Global;
 
-/// The first two coordinated phases of a pattern that do not time together; where there are such
-/// and every phase is coordinated, that. The phases are those of the set.
+/// What an engineer is warned of in a pattern, if two coordinated phases do not time together: the
+/// first two such phases or, where every phase is coordinated, that. The phases are those of the
+/// set.
 pub(crate) fn coordination_advice(
     alloc: Global,
     set: &TimingSet,
@@ -28,7 +29,8 @@ pub(crate) fn coordination_advice(
     Ok(or_all(is_all, phases.len(), apart))
 }
 
-/// What is reported of a pattern with coordinated phases that are apart.
+/// The advice on two phases that are apart, if there is one; in its place `AllCoordinated`, where
+/// all of so many phases are coordinated.
 fn or_all(is_all: bool, phases: usize, apart: Option<Advice>) -> Option<Advice>
     ensures { result ≡ or_all is_all phases apart }
 {
@@ -38,7 +40,7 @@ fn or_all(is_all: bool, phases: usize, apart: Option<Advice>) -> Option<Advice>
     }
 }
 
-/// The coordinated ones of the phases, which are those of the set.
+/// Those of the phases that a split number coordinates, in order. The phases are those of the set.
 fn coordinated_phases(
     alloc: Global,
     set: &TimingSet,
@@ -70,7 +72,7 @@ fn apart_advice(set: &TimingSet, pattern: &Pattern, phases: &[PhaseNo]) -> Optio
     }
 }
 
-/// The first of some phases that does not time together with another one.
+/// The first of some other phases that does not time together with this phase.
 fn apart_from(
     set: &TimingSet,
     pattern: &Pattern,
@@ -90,8 +92,8 @@ fn apart_from(
     None
 }
 
-/// Whether two phases time together at some second of the cycle: each begins before the other is
-/// over.
+/// Whether each of two phases begins before the other is over, so that two phases that have time do
+/// time together at some second of the cycle.
 fn time_together(set: &TimingSet, pattern: &Pattern, p: PhaseNo, q: PhaseNo) -> bool
     ensures { result ≡ time_together set.now pattern.now p q }
 {
@@ -102,7 +104,7 @@ fn time_together(set: &TimingSet, pattern: &Pattern, p: PhaseNo, q: PhaseNo) -> 
     begin < other_end && other_begin < end
 }
 
-/// The second of the cycle at which a phase begins.
+/// The second of the cycle at which a phase begins: those before it in its ring's row are over.
 fn begin_of(set: &TimingSet, pattern: &Pattern, p: PhaseNo) -> u32
     ensures exact { result ≡ begin_of set.now pattern.now p }
     ensures small { result ≤ 255 * 33 }
@@ -117,7 +119,7 @@ fn begin_of(set: &TimingSet, pattern: &Pattern, p: PhaseNo) -> u32
     second
 }
 
-/// The row of a sequence for the ring of a phase.
+/// The row of a sequence for the ring of a phase; empty, if the set does not have the phase.
 fn own_row(set: &TimingSet, n: SeqNo, p: PhaseNo) -> &[PhaseNo]
     ensures row { result.now ≡ own_row set.now n (phase_at set.now p) }
     ensures short { length result.now ≤ 33 }

@@ -10,7 +10,8 @@ use crate::warning::Advice;
 use signal_records::{Pattern, Ped, Phase, PhaseNo, Split, SplitMode, TimingSet};
 use signal_rules::split_at;
 
-/// What is so of a phase itself.
+/// What an engineer may be warned of in a phase itself, each with whether it is so. The parts are
+/// those of the set.
 pub(crate) fn phase_cases(
     set: &TimingSet,
     parts: &PlanParts,
@@ -40,7 +41,7 @@ pub(crate) fn phase_cases(
     ]
 }
 
-/// Whether a phase may time with no other, in a plan of more than one ring.
+/// Whether a phase lists no mate, in a plan of so many rings, more than one.
 fn is_alone(phase: &Phase, rings: usize) -> bool
     ensures { result ≡ is_alone rings phase.now }
 {
@@ -68,7 +69,8 @@ fn is_served(set: &TimingSet, patterns: &[Pattern], p: PhaseNo) -> bool
     false
 }
 
-/// Whether a split row serves its phase in each cycle.
+/// Whether a split row serves its phase in each cycle: its mode does not omit the phase. Without a
+/// row there is no service.
 pub(crate) fn is_serving(split: Option<Split>) -> bool
     ensures { result ≡ is_serving split }
 {
@@ -78,7 +80,7 @@ pub(crate) fn is_serving(split: Option<Split>) -> bool
     }
 }
 
-/// What is so of a crossing.
+/// What an engineer may be warned of in a crossing, each with whether it is so.
 pub(crate) fn crossing_cases(ped: &Ped) -> [(bool, Advice); 2]
     ensures { result ≡ crossing_warnings (Some ped.now) }
 {

@@ -13,8 +13,8 @@ use signal_records::{NoMemory, Pattern, PatternNo, PhaseNo, TimingSet};
 use signal_rules::{pattern_at, phase_at, phases_of, used_rings};
 use std::alloc::Global;
 
-/// What is looked up of a set once: its phases, its patterns, and how many of its rings have a
-/// phase.
+/// What is looked up of a set once: its phases and its patterns, each ascending, and how many rings
+/// have a phase.
 #[derive(Drop)]
 pub(crate) struct PlanParts {
     pub(crate) phases: Vec<PhaseNo>,
@@ -22,7 +22,7 @@ pub(crate) struct PlanParts {
     pub(crate) rings: usize,
 }
 
-/// The parts of a set.
+/// Looks up the phases and the patterns of a set, and how many rings have a phase.
 pub(crate) fn parts_of(alloc: Global, set: &TimingSet) -> Result<PlanParts, NoMemory>
     ensures { IfOk result (λ parts. AreParts set.now parts) }
 {
@@ -49,7 +49,8 @@ fn patterns_of(alloc: Global, set: &TimingSet) -> Result<Vec<Pattern>, NoMemory>
     Ok(found)
 }
 
-/// What is so of a plan.
+/// What an engineer may be warned of in a plan as a whole, each with whether it is so. The parts
+/// are those of the set.
 pub(crate) fn plan_cases(set: &TimingSet, parts: &PlanParts) -> [(bool, Advice); 2]
     requires { AreParts set.now parts.now }
     ensures { result ≡ plan_cases set.now }
@@ -70,7 +71,7 @@ pub(crate) fn plan_cases(set: &TimingSet, parts: &PlanParts) -> [(bool, Advice);
     ]
 }
 
-/// Whether there are phases, and no pattern.
+/// Whether there are phases and no pattern.
 fn lacks_pattern(phases: &[PhaseNo], patterns: &[Pattern]) -> bool
     ensures { result ≡ lacks_pattern (length phases.now) (length patterns.now) }
 {
@@ -99,7 +100,7 @@ fn has_no_conflict(set: &TimingSet, phases: &[PhaseNo]) -> bool
     true
 }
 
-/// Whether a phase may time with each of some others.
+/// Whether nothing but a ring keeps a phase from timing with each of some others.
 fn may_time_with_all(set: &TimingSet, others: &[PhaseNo], p: PhaseNo) -> bool
     ensures { result ≡ may_time_with_all set.now others.now p }
 {
@@ -111,7 +112,8 @@ fn may_time_with_all(set: &TimingSet, others: &[PhaseNo], p: PhaseNo) -> bool
     true
 }
 
-/// Whether nothing but a ring keeps a phase from timing with another one.
+/// Whether nothing but a ring keeps a phase from timing with another one: the set has both, and
+/// they are in one ring, or the first lists the second.
 fn may_time(set: &TimingSet, p: PhaseNo, q: PhaseNo) -> bool
     ensures { result ≡ may_time (phase_at set.now p) q (phase_at set.now q) }
 {

@@ -8,7 +8,7 @@ use crate::warning::Advice;
 use signal_records::{Ped, Phase, Split, SplitMode};
 use signal_rules::need_if_called;
 
-/// What is so of the split row of a phase.
+/// What an engineer may be warned of in the split row of a phase, each with whether it is so.
 pub(crate) fn split_cases(phase: &Phase, split: &Split) -> [(bool, Advice); 3]
     ensures { result ≡ split_warnings (Some phase.now) split.now }
 {
@@ -31,7 +31,7 @@ pub(crate) fn split_cases(phase: &Phase, split: &Split) -> [(bool, Advice); 3]
     ]
 }
 
-/// Whether a split mode calls the walk in each cycle.
+/// Whether a split mode calls the walk in each cycle: both pedestrian recalls do.
 fn recalls_walk(mode: SplitMode) -> bool
     ensures { result ≡ recalls_walk mode }
 {
@@ -41,7 +41,8 @@ fn recalls_walk(mode: SplitMode) -> bool
     }
 }
 
-/// What a phase shows besides its green, in tenths of a second.
+/// What a phase shows besides its green, in tenths of a second: the lead of a walk that the mode
+/// calls, yellow and red.
 fn besides_green(phase: &Phase, mode: SplitMode) -> u32
     ensures exact { result ≡ besides_green phase.now mode }
     ensures small { result ≤ 610 }

@@ -11,7 +11,7 @@ use signal_records::{NoMemory, TimingSet};
 use signal_rules::violations;
 use std::alloc::Global;
 
-/// Whether a set breaks no rule; the laws of the street hold of one that does not.
+/// Whether a set breaks no rule. Of such a set the laws of the street hold.
 ///
 /// `NoMemory` means that a growth was really refused.
 pub fn is_fit_for_the_street(alloc: Global, set: &TimingSet) -> Result<bool, NoMemory>
@@ -22,10 +22,9 @@ pub fn is_fit_for_the_street(alloc: Global, set: &TimingSet) -> Result<bool, NoM
     Ok(breaks.is_empty())
 }
 
-/// Whether a set breaks no rule and has no warning. Of one that does not the laws of the street
-/// hold, and besides, whatever calls a walk, the split mode or a button, it has its time: each
-/// crossing is measured and has room in each split that is not omitted. Each coordinated phase has
-/// green.
+/// Whether a set breaks no rule and has no warning. Of such a set the laws of the street hold, and
+/// besides, whatever calls a walk, the split mode or a button, the walk has its time: each crossing
+/// is measured and has room in each split that is not omitted. Each coordinated phase has green.
 ///
 /// `NoMemory` means that a growth was really refused.
 pub fn is_fit_however_called(alloc: Global, set: &TimingSet) -> Result<bool, NoMemory>

@@ -25,7 +25,8 @@ impl fmt::Display for Scope {
     }
 }
 
-/// The parts of a phase that decide how long its split is to be.
+/// The words for the part of a phase that decides how long its split is to be, as `walk and
+/// clearance`.
 fn governing_words(part: NeedPart) -> &'static str
     ensures { result.now ≡ governing_text part }
 {
@@ -35,7 +36,7 @@ fn governing_words(part: NeedPart) -> &'static str
     }
 }
 
-/// Writes what is so, with its numbers.
+/// Writes what an engineer is warned of, with its numbers, as `the minimum green is 0 s`.
 impl fmt::Display for Advice {
     ghost use Rattle.std.specs.Prelude.{Some};
     ghost use Rattle.signal_plans.specs.Texts.{advice_text};

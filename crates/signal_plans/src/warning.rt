@@ -15,26 +15,27 @@ pub enum Scope {
 /// What a warning says, with its numbers. Times are in seconds where no other unit is named.
 #[derive(Clone, Copy, PartialEq, Eq)]
 pub enum Advice {
-    /// Of a phase: its maximum is below its minimum green.
+    /// Of a phase: its maximum green is below its minimum green.
     MaximumBelowMinimum { maximum: u8, minimum: u8 },
     /// Of a phase: its minimum green is 0.
     NoMinimumGreen,
-    /// Of a phase: it may time with no other, in a plan of so many rings, more than one.
+    /// Of a phase: it lists no mate, in a plan of so many rings, more than one.
     NoConcurrentPhase { rings: usize },
-    /// Of a phase: each pattern omits it, or has no split for it.
+    /// Of a phase: the plan has patterns, and each omits the phase, or has no split for it.
     NeverServed,
     /// Of a phase: its crossing, so many tenths of a foot wide, has no clearance.
     NoClearance { width: u32 },
     /// Of a phase: the width of its crossing is 0, so not measured.
     NotMeasured,
-    /// Of a split row: it is too short if a button calls the walk.
+    /// Of a split row: its time is less than the phase needs if a button calls the walk.
     WalkIfCalled { time: u8, need: SplitNeed },
     /// Of a split row: its mode calls the walk of a phase that has no crossing.
     RecallWithoutWalk,
     /// Of a split row: its phase is coordinated and has no second of green. What it shows besides
-    /// is in tenths of a second.
+    /// green, a called lead, yellow and red, is in tenths of a second.
     NoGreen { time: u8, besides: u32 },
-    /// Of a pattern: every phase is coordinated, so many.
+    /// Of a pattern: every phase is coordinated, so many, and two of them have no second of the
+    /// cycle in common.
     AllCoordinated { phases: usize },
     /// Of a pattern: two coordinated phases have no second of the cycle in common.
     CoordinatedApart { phase: PhaseNo, other: PhaseNo },
@@ -45,7 +46,7 @@ pub enum Advice {
     NoConflict { rings: usize },
 }
 
-/// A warning.
+/// What an engineer is warned of, with what the warning is about.
 #[derive(Clone, Copy, PartialEq, Eq)]
 pub struct Warning {
     pub subject: Scope,

@@ -11,7 +11,7 @@ abbrev pub changed_key : Change → Key
 changed_key (Put row) = key_of row
 changed_key (Remove key) = key
 
--- the row that a change leaves at its key
+-- the row that a change leaves at its key; a removal leaves none
 abbrev pub left_by : Change → Option Row
 left_by (Put row) = Some row
 left_by (Remove key) = None

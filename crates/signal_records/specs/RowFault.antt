@@ -27,7 +27,7 @@ fault_name fault.NoMemory = codes "NoMemory"
 fault_name (fault.Day field) = codes "Day"
 fault_name (fault.Text field) = codes "Text"
 
--- the field that a fault names, counted from 1
+-- the field that a fault names, counted from 1, if it names one
 abbrev pub fault_field : RowFault → Option ℕ
 fault_field (fault.Number field) = Some field
 fault_field (fault.Range field) = Some field

@@ -11,7 +11,7 @@ use crate::limits::VERSION_1_LIMITS;
 use crate::record::{Change, Pattern, Ped, Phase, Row, SeqRow, Split};
 use signal_values::{PatternNo, PhaseNo, RingNo, SeqNo, SplitNo};
 
-/// Every row is within today's limits.
+/// Shows that every row is within today's limits, as its types say; it does nothing else.
 pub fn row_is_within(row: &Row)
     ensures { IsRowWithin current_limits row.now }
 {
@@ -23,7 +23,7 @@ pub fn row_is_within(row: &Row)
     }
 }
 
-/// Every key is within today's limits.
+/// Shows that every key is within today's limits, as its types say; it does nothing else.
 pub fn key_is_within(_key: Key)
     ensures { IsKeyWithin current_limits _key }
 {}
@@ -44,7 +44,7 @@ pub fn is_key_v1(key: &Key) -> bool
     }
 }
 
-/// Every change is within today's limits.
+/// Shows that every change is within today's limits, as its types say; it does nothing else.
 pub fn change_is_within(change: &Change)
     ensures { IsChangeWithin current_limits change.now }
 {

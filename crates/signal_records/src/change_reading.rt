@@ -1,4 +1,4 @@
-//! Changes from their fields.
+//! Reads changes from their fields.
 
 ghost use Rattle.std.specs.Prelude.{◌≡◌, ◌≤◌, length};
 ghost use Rattle.signal_values.specs.declared.number.TheConstants.{PHASES, RINGS};
@@ -53,7 +53,8 @@ fn pattern_key(fields: &[&[u8]]) -> Result<Key, RowFault>
     Ok(Key::Pattern(n))
 }
 
-/// The key after `remove`, whose kind is the second field.
+/// The key after `remove`, within limits, or the first fault: of its kind, which is the second
+/// field, then of the number of fields, then of the fields from left to right.
 #[tactic(auto, unfolding(crate::specs::Reading::key_at))]
 fn key_within(limits: Limits, fields: &[&[u8]]) -> Result<Key, RowFault>
     requires phases { limits.phases ≤ PHASES }

@@ -9,9 +9,9 @@ use crate::list_reading::SpelledPhases;
 use crate::record::SplitMode;
 use signal_values::{Number, numeral};
 
-/// The number that the field at a place spells in decimal digits without a leading zero, as
-/// `read_row` reads one. Fields are counted from 1. A number of any length is one: Range where it
-/// is out of the range, and else Number.
+/// The number from `LOW` to `HIGH` that the field at a place, counted from 1, spells in decimal
+/// digits without a leading zero. The fault is Number where the field spells none, and Range where
+/// the number, which may have any length, is out of the range.
 pub fn number<Of, const LOW: u32, const HIGH: u32>(
     fields: &[&[u8]],
     place: u8,
@@ -24,7 +24,8 @@ pub fn number<Of, const LOW: u32, const HIGH: u32>(
     number_up_to(HIGH, fields, place)
 }
 
-/// The number at a place, where the last one is given.
+/// The number from `LOW` to a last one that the field at a place, counted from 1, spells; Number
+/// where the field spells none, and Range where it is out of the range.
 #[tactic(auto, unfolding(crate::specs::Reading::number_at))]
 pub(crate) fn number_up_to<Of, const LOW: u32, const HIGH: u32>(
     last: u32,
@@ -44,6 +45,8 @@ pub(crate) fn number_up_to<Of, const LOW: u32, const HIGH: u32>(
     Number::new(n).ok_or(RowFault::Range(place))
 }
 
+/// The number from 0 to 255 that the field at a place, counted from 1, spells; Number where the
+/// field spells none, and Range where it is greater.
 #[tactic(auto, unfolding(crate::specs::Reading::number_at))]
 pub(crate) fn byte(fields: &[&[u8]], place: u8) -> Result<u8, RowFault>
     requires some { 1 ≤ place }
@@ -54,6 +57,8 @@ pub(crate) fn byte(fields: &[&[u8]], place: u8) -> Result<u8, RowFault>
     u8::try_from(n).map_err(|_| RowFault::Range(place))
 }
 
+/// The flag, 0 or 1, that the field at a place, counted from 1, spells; Number where the field
+/// spells no number, and Range where it spells another one.
 #[tactic(auto, unfolding(crate::specs::Reading::flag_at))]
 pub(crate) fn flag(fields: &[&[u8]], place: u8) -> Result<bool, RowFault>
     requires some { 1 ≤ place }
@@ -68,6 +73,8 @@ pub(crate) fn flag(fields: &[&[u8]], place: u8) -> Result<bool, RowFault>
     }
 }
 
+/// The split mode whose code, 2 to 7, the field at a place, counted from 1, spells; Number where
+/// the field spells no number, and Mode where it spells another one.
 #[tactic(auto, unfolding(crate::specs::Reading::mode_at))]
 pub(crate) fn mode(fields: &[&[u8]], place: u8) -> Result<SplitMode, RowFault>
     requires some { 1 ≤ place }
@@ -86,7 +93,8 @@ pub(crate) fn mode(fields: &[&[u8]], place: u8) -> Result<SplitMode, RowFault>
     }
 }
 
-/// The phases up to the last one that the field at a place spells. It takes no memory.
+/// The distinct phases, from 1 to the last one, that the field at a place, counted from 1, spells;
+/// List where it spells none such. It takes no memory.
 #[tactic(auto, unfolding(crate::specs::Reading::list_at))]
 pub(crate) fn phases<'a>(
     last: u32,

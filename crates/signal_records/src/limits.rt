@@ -17,7 +17,7 @@ pub struct Limits {
 }
 
 impl Limits {
-    /// How many fields a pedestrian part has.
+    /// How many fields a pedestrian part has: six with a lead, and five without.
     pub(crate) fn ped_width(self) -> usize
         ensures { result ≡ ped_width self.has_lead }
     {

@@ -10,8 +10,8 @@ use signal_values::{PhaseNo, numeral};
 use std::alloc::Global;
 use std::marker::Model;
 
-/// A field that spells distinct phases with one space between two. It is seen as the list of their
-/// numbers.
+/// A field that spells distinct phases, perhaps none, with one space between two. It is seen as the
+/// list of their numbers.
 #[derive(Drop)]
 pub(crate) struct SpelledPhases<'a> {
     bytes: &'a [u8],
@@ -30,7 +30,8 @@ impl<'a> Model for SpelledPhases<'a> {
 }
 
 impl<'a> SpelledPhases<'a> {
-    /// The phases up to the last one that the bytes spell, if they do. It takes no memory.
+    /// The field of these bytes, if they spell distinct phases from 1 to the last one. It takes no
+    /// memory.
     pub(crate) fn new(last: u32, bytes: &'a [u8]) -> Option<SpelledPhases<'a>>
         requires { last ≤ PHASES }
         ensures { result ≡ phases_in last (parts bytes.now) }
@@ -42,7 +43,8 @@ impl<'a> SpelledPhases<'a> {
         }
     }
 
-    /// The list of them. The empty one takes no memory.
+    /// The list of the phases that the field spells. `NoMemory` means that a growth was really
+    /// refused; an empty list takes no memory.
     pub(crate) fn list(&self, alloc: Global) -> Result<PhaseList, NoMemory>
         ensures list { IfOk result (λ list. list ≡ self.now) }
         ensures memory { IfErr result (λ _. 1 ≤ length self.now) }
@@ -57,14 +59,15 @@ impl<'a> SpelledPhases<'a> {
     }
 }
 
-/// The phase that a part spells.
+/// The phase that a part of a list spells, if it spells one.
 fn phase_in(part: &[u8]) -> Option<PhaseNo>
     ensures { result ≡ phase_in part.now }
 {
     PhaseNo::new(numeral(part)?)
 }
 
-/// Whether the bytes spell distinct phases up to the last one, with one space between two.
+/// Whether the bytes spell distinct phases, from 1 to the last one, with one space between two. No
+/// bytes spell no phases.
 fn spells_phases(last: u32, bytes: &[u8]) -> bool
     requires { last ≤ PHASES }
     ensures { result ≡ spells_phases last bytes.now }

@@ -34,7 +34,7 @@ impl Revision {
         Revision { number: 0 }
     }
 
-    /// The revision of this number, if it is one.
+    /// The revision of this number, if it is at most 999,999.
     pub fn new(n: u32) -> Option<Revision>
         ensures accepts { IsSome result ↔ (n ≤ LAST_REVISION) }
         ensures keeps { IfSome result (λ revision. revision ≡ n) }
@@ -59,6 +59,7 @@ impl Revision {
         }
     }
 
+    /// The number of the revision, 0 to 999,999.
     pub fn get(self) -> u32
         ensures value { result ≡ self }
         ensures high { result ≤ LAST_REVISION }

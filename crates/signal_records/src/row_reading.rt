@@ -1,4 +1,4 @@
-//! Rows from their fields.
+//! Reads rows from their fields.
 
 ghost use Rattle.std.specs.Prelude.{◌≡◌, ◌≤◌, ◌+◌, length};
 ghost use Rattle.signal_values.specs.declared.number.TheConstants.{PHASES, RINGS};
@@ -11,7 +11,7 @@ use crate::record::{Pattern, Ped, Phase, Row, SeqRow, Split};
 use signal_values::{Lead, no_lead};
 use std::alloc::Global;
 
-/// The lead at its place; without a field for it, it is 0.
+/// The lead of a pedestrian part, which is field 15; 0 in a version without leads.
 #[tactic(auto, unfolding(crate::specs::Reading::lead_in))]
 fn lead(limits: Limits, fields: &[&[u8]]) -> Result<Lead, RowFault>
     requires { length fields.now ≡ 9 + ped_width limits.has_lead }
@@ -57,7 +57,8 @@ fn ped(limits: Limits, fields: &[&[u8]]) -> Result<Option<Ped>, RowFault>
     }
 }
 
-/// The list of mates is made last: memory is taken for a whole row alone.
+/// The phase row that the fields spell, or the first fault. The list of mates is made last, so that
+/// memory is taken for a whole row alone.
 #[tactic(auto, using(crate::proofs::Wants::none), unfolding(crate::specs::Reading::phase_record))]
 fn phase_record(alloc: Global, limits: Limits, fields: &[&[u8]]) -> Result<Row, RowFault>
     requires phases { limits.phases ≤ PHASES }

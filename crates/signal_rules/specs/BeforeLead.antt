@@ -18,7 +18,7 @@ use Rattle.signal_rules.specs.Violations.{Findings, broken, findings, subjects, 
 abbrev pub HasNoLead : Option Phase → Type 0
 HasNoLead phase = IfSome phase (λ (p : Phase). IfSome p.ped (λ ped. ped.lead ≡ 0))
 
--- V14 alone is of the lead
+-- a rule is about the lead: V14 alone is
 abbrev pub is_of_lead : Rule → Bool
 is_of_lead rule.V14 = true
 is_of_lead _ = false
@@ -31,12 +31,13 @@ no_lead ped = record { walk = ped.walk; clear = ped.clear; width = ped.width; se
 abbrev pub without_lead : Phase → Phase
 without_lead p = record { ring = p.ring; min_green = p.min_green; passage = p.passage; max1 = p.max1; yellow = p.yellow; red = p.red; mates = p.mates; ped = option_map no_lead p.ped }
 
--- V8, by the need of a phase without a lead
+-- V8 of a split row, if there is one, by what its phase needs without a lead
 abbrev pub for_split_before : Rows → ℕ → Option Split → Findings
 for_split_before set p None = []
 for_split_before set p (Some split) = (rule.V8, split_cases p (option_map without_lead (phase_at set p)) split) ∷ []
 
--- the rules of sequences and patterns are those of today
+-- the rules on a subject in version 1: of a phase those of today but V14, of a split row V8 by a need without a lead,
+-- of a sequence and of a pattern those of today
 abbrev pub findings_before : Rows → Subject → Findings
 findings_before set (subject.Phase p) = filter (λ f. not (is_of_lead f.0)) (findings set (subject.Phase p))
 findings_before set (subject.Split n p) = for_split_before set p (split_at set n p)
@@ -46,6 +47,6 @@ findings_before set s = findings set s
 abbrev pub violations_before_at : Rows → Subject → List Violation
 violations_before_at set s = violations_in (broken s (findings_before set s))
 
--- the violations of a set in version 1, in the order of today
+-- the violations of a set in version 1: those of its subjects, in the order of today's violations
 unfoldable pub violations_before_lead : Rows → List Violation
 violations_before_lead set = flat_map (violations_before_at set) (subjects set)

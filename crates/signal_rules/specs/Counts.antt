@@ -7,7 +7,7 @@ use Rattle.signal_rules.specs.declared.violation.Subject.TheVariants as subject
 use Rattle.signal_rules.specs.Lookup.{pattern_at, ring_numbers}
 use Rattle.signal_rules.specs.SequenceRule.{ring_row}
 
--- `u64::MAX`
+-- the greatest value of a count: `u64::MAX`
 abbrev pub greatest : ℕ
 greatest = 2 ^ 64 - 1
 
@@ -28,12 +28,13 @@ entries_of set seq (ring ∷ rings) = length (ring_row set seq ring) + entries_o
 abbrev pub sequence_entries : Rows → ℕ → ℕ
 sequence_entries set seq = entries_of set seq ring_numbers
 
--- the seconds that are compared at most for a pattern: the lengths of its sequence's rows
+-- the seconds that are compared at most for a pattern, if there is one: the lengths of its sequence's rows, together
 abbrev pattern_seconds : Rows → Option Pattern → ℕ
 pattern_seconds set None = 0
 pattern_seconds set (Some pattern) = sequence_entries set pattern.seq
 
--- the seconds that are compared at most for a subject: for a pattern the lengths of its sequence's rows
+-- the seconds that are compared at most for a subject: for a pattern the lengths of its sequence's rows, together, and
+-- for any other subject none
 abbrev pub most_seconds : Rows → Subject → ℕ
 most_seconds set (subject.Pattern n) = pattern_seconds set (pattern_at set n)
 most_seconds set _ = 0

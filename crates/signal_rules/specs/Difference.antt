@@ -4,6 +4,6 @@ use Rattle.std.specs.FinMap.{get}
 use Rattle.signal_records.specs.declared.key.Key.{Key}
 use Rattle.signal_records.specs.TimingSet.{Rows}
 
--- at each key that is not among the keys, the sets have the same row
+-- at each key that is not among these keys, the sets have the same row, or neither has one
 abbrev pub DiffersAtMost : Rows → Rows → List Key → Type 0
 DiffersAtMost base draft keys = (key : Key) → ¬ Contains keys key → get draft key ≡ get base key

@@ -12,39 +12,39 @@ use Rattle.signal_values.specs.Numbers.{numbers}
 use Rattle.signal_values.specs.declared.number.TheConstants.{PHASES, RINGS}
 use Rattle.signal_records.specs.TimingSet.{Rows}
 
--- the record of a phase, of a row of that kind
+-- the record of a phase, if this is a phase row
 abbrev pub the_phase : Option Row → Option Phase
 the_phase (Some (row.Phase p phase)) = Some phase
 the_phase _ = None
 
--- the phases of a sequence's row, of a row of that kind
+-- the phases of a sequence row, if this is one
 abbrev pub the_list : Option Row → Option (List ℕ)
 the_list (Some (row.Seq n ring r)) = Some r.list
 the_list _ = None
 
--- the record of a split, of a row of that kind
+-- the record of a split, if this is a split row
 abbrev pub the_split : Option Row → Option Split
 the_split (Some (row.Split n p split)) = Some split
 the_split _ = None
 
--- the record of a pattern, of a row of that kind
+-- the record of a pattern, if this is a pattern row
 abbrev pub the_pattern : Option Row → Option Pattern
 the_pattern (Some (row.Pattern n pattern)) = Some pattern
 the_pattern _ = None
 
--- the objects of a phase (phaseTable)
+-- the objects of a phase (phaseTable), if the set has it
 abbrev pub phase_at : Rows → ℕ → Option Phase
 phase_at set p = the_phase (get set (key.Phase p))
 
--- sequenceData of a sequence and ring
+-- sequenceData of a sequence and ring, if they have a row
 abbrev pub sequence_at : Rows → ℕ → ℕ → Option (List ℕ)
 sequence_at set n ring = the_list (get set (key.Seq n ring))
 
--- splitTime, splitMode and splitCoordPhase of a split number and phase
+-- splitTime, splitMode and splitCoordPhase of a split number and phase, if they have a row
 abbrev pub split_at : Rows → ℕ → ℕ → Option Split
 split_at set n p = the_split (get set (key.Split n p))
 
--- the objects of a pattern (patternTable)
+-- the objects of a pattern (patternTable), if the set has it
 abbrev pub pattern_at : Rows → ℕ → Option Pattern
 pattern_at set n = the_pattern (get set (key.Pattern n))
 
@@ -60,7 +60,7 @@ last_split = 20
 abbrev pub last_pattern : ℕ
 last_pattern = 48
 
--- the phases that a controller can have, ascending; the limits of phases and of rings stand here alone
+-- the phases that a controller can have, ascending
 abbrev pub phase_numbers : List ℕ
 phase_numbers = numbers PHASES 1
 

@@ -18,7 +18,7 @@ use Rattle.signal_rules.specs.Slots.{spans_of, conflicts_in}
 abbrev pub has_splits : Rows → ℕ → Bool
 has_splits set n = list_all (λ p. is_some (split_at set n p)) (phases set)
 
--- a phase for which the split number has no row, in the order of some phases
+-- V9 of a split number and some phases, in their order: it has a row for each of them
 abbrev pub splits_cases : Rows → ℕ → List ℕ → Cases Reason
 splits_cases set n ps = map (λ p. (not (is_some (split_at set n p)), reason.Pattern (NoSplit n p))) ps
 
@@ -47,7 +47,7 @@ abbrev pub is_coordinated : Option Split → Bool
 is_coordinated None = false
 is_coordinated (Some split) = split.coord
 
--- V11: splitCoordPhase marks some phase of the set
+-- V11 of a split number: its splitCoordPhase marks some phase of the set
 abbrev pub has_coordinated : Rows → ℕ → Bool
 has_coordinated set n = list_any (λ p. is_coordinated (split_at set n p)) (phases set)
 
@@ -64,7 +64,7 @@ rings_cases set pattern rings =
 abbrev pub sum_cases : Rows → Pattern → Cases Reason
 sum_cases set pattern = rings_cases set pattern (used_rings set)
 
--- V12 holds: the lane of each used ring is as long as patternCycleTime
+-- V12 holds: the lane of each ring that has a phase is as long as patternCycleTime
 abbrev pub lanes_fill_cycle : Rows → Pattern → Bool
 lanes_fill_cycle set pattern = holds (sum_cases set pattern)
 
@@ -76,7 +76,8 @@ agree_throughout set lanes cycle = list_all (λ second. all_list_each_other set 
 abbrev pub lanes_agree : Rows → Pattern → Bool
 lanes_agree set pattern = agree_throughout set (lanes set pattern) pattern.cycle
 
--- V13: the lanes agree; where they do not, the first second at which two phases time together that do not list each other
+-- V13: no reason where at each second the phases of any two lanes list each other; else, second by second, any two
+-- phases that time together, with whether they do not list each other
 abbrev pub conflict_cases : Rows → Pattern → Cases Reason
 conflict_cases set pattern =
     if lanes_agree set pattern then [] else conflicts_in pattern.cycle (spans_of set pattern (used_rings set))

@@ -28,7 +28,7 @@ red_is_right phase = nat_le phase.red 60
 abbrev pub red_cases : Phase → Cases Reason
 red_cases phase = (not (red_is_right phase), reason.Interval (interval.Red phase.red)) ∷ []
 
--- V3 to V5 and V14 hold of a phase without a pedestrian part
+-- the reasons that break a rule of pedestrian parts (V3 to V5, V14): a phase without such a part has none
 abbrev pub of_ped : Option Ped → (Ped → Cases Reason) → Cases Reason
 of_ped None cases = []
 of_ped (Some ped) cases = cases ped
@@ -49,16 +49,17 @@ walk_cases ped = (not (walk_is_long ped), reason.Crossing (crossing.ShortWalk pe
 abbrev pub clearance : Phase → Ped → ℕ
 clearance phase ped = 10 * ped.clear + (phase.yellow + phase.red)
 
--- V4 (4E.06, pedestrian clearance time): in the clearance, who walks 3.5 feet a second crosses the width
+-- V4 (4E.06, pedestrian clearance time): in clearance, yellow and red, who walks 3.5 feet a second crosses the width
 abbrev pub clears_crossing : Phase → Ped → Bool
 clears_crossing phase ped = nat_le (2 * ped.width) (7 * clearance phase ped)
 
--- what crossing takes is rounded up to a tenth of a second
+-- the reason that breaks V4: what crossing takes, rounded up to a tenth of a second, and what there is
 abbrev pub crossing_cases : Phase → Ped → Cases Reason
 crossing_cases phase ped =
     (not (clears_crossing phase ped), reason.Crossing (crossing.SlowClearance ped.width ((2 * ped.width + 6) / 7) (clearance phase ped))) ∷ []
 
--- V5 (4E.06, walk and clearance together): in both, who walks 3 feet a second crosses the setback and the width
+-- V5 (4E.06, walk and clearance together): in walk, clearance, yellow and red, who walks 3 feet a second crosses the
+-- setback and the width
 abbrev pub clears_setback : Phase → Ped → Bool
 clears_setback phase ped = nat_le (ped.width + ped.setback) (3 * (10 * ped.walk + clearance phase ped))
 
@@ -74,7 +75,7 @@ lead_cases ped =
     ∷ (nat_lt ped.walk ped.lead, reason.Crossing (crossing.LongLead ped.lead ped.walk))
     ∷ []
 
--- a mate of p is in the set, is in another ring (phaseRing), and lists p
+-- V6 of one mate m of a phase p: m is in the set, is in another ring (phaseRing), and lists p
 abbrev pub mate_cases : ℕ → Phase → ℕ → Option Phase → Cases Reason
 mate_cases p phase m None = (true, reason.Mate (mate.NotInPlan m)) ∷ []
 mate_cases p phase m (Some other) =
@@ -82,6 +83,6 @@ mate_cases p phase m (Some other) =
     ∷ (not (is_in p other.mates), reason.Mate (mate.NotListed m))
     ∷ []
 
--- V6: each phase of phaseConcurrency is such a mate
+-- V6: each phase of phaseConcurrency is in the set, is in another ring, and lists p; in the order of phaseConcurrency
 abbrev pub mates_cases : Rows → ℕ → Phase → Cases Reason
 mates_cases set p phase = flat_map (λ m. mate_cases p phase m (phase_at set m)) phase.mates

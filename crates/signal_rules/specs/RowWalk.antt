@@ -12,7 +12,7 @@ use Rattle.signal_rules.specs.declared.violation.Subject.{Subject}
 use Rattle.signal_rules.specs.declared.violation.Subject.TheVariants as subject
 use Rattle.signal_rules.specs.Lookup.{last_sequence, last_split, last_pattern}
 
--- rows under their keys
+-- each of some rows with its key, in their order
 abbrev pub with_keys : List Row → List (Key × Row)
 with_keys rows = map (λ r. (key_of r, r)) rows
 
@@ -23,31 +23,31 @@ subject_of (row.Seq n ring r) = subject.Seq n
 subject_of (row.Split n p split) = subject.Split n p
 subject_of (row.Pattern n pattern) = subject.Pattern n
 
--- the subject of a row of a kind
+-- the subject of a row as a list of one, if the row is of this kind; else none
 abbrev pub of_kind : ℕ → Row → List Subject
 of_kind kind r = if kind_of (key_of r) == kind then subject_of r ∷ [] else []
 
--- the number of a row's sequence, of a row of that kind
+-- the sequence number of a sequence row; another row has none
 abbrev pub sequence_of : Row → Option ℕ
 sequence_of (row.Seq n ring r) = Some n
 sequence_of _ = None
 
--- a number that differs from the last one
+-- the number, if there is one and it differs from the last one
 abbrev pub other_than : ℕ → Option ℕ → Option ℕ
 other_than last None = None
 other_than last (Some n) = if n == last then None else Some n
 
--- the sequences of rows in order, each once, after the last one before them
+-- the sequences of rows that stand in the order of their keys, each once, but for the last one before these rows
 abbrev pub sequences_after : ℕ → List Row → List ℕ
 sequences_after last [] = []
 sequences_after last (r ∷ rows) =
     cons_option (other_than last (sequence_of r)) (sequences_after (unwrap_or (other_than last (sequence_of r)) last) rows)
 
--- a number lies in a range
+-- a number is from low to high
 abbrev pub is_from_to : ℕ → ℕ → ℕ → Bool
 is_from_to low high n = nat_le low n && nat_le n high
 
--- the numbers of a row are those that a controller can have
+-- the numbers in the key of a row are in the ranges that a controller can have
 abbrev pub is_within : Row → Bool
 is_within (row.Phase p phase) = is_from_to 1 PHASES p
 is_within (row.Seq n ring r) = is_from_to 1 last_sequence n && is_from_to 1 RINGS ring

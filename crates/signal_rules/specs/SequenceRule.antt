@@ -9,26 +9,26 @@ use Rattle.signal_rules.specs.declared.reason.Reason.{Reason}
 use Rattle.signal_rules.specs.declared.reason.Reason.TheVariants as reason
 use Rattle.signal_rules.specs.declared.reason.SequenceReason.TheVariants as sequence
 
--- phaseRing; a phase that is not in the set is in no ring
+-- phaseRing of a phase is this ring; a phase that is not in the set is in no ring
 abbrev pub in_ring : ℕ → Option Phase → Bool
 in_ring ring None = false
 in_ring ring (Some phase) = phase.ring == ring
 
--- the phases of a row; no row has none
+-- the phases of a sequence row; where there is no row, there are none
 abbrev pub or_empty : Option (List ℕ) → List ℕ
 or_empty None = []
 or_empty (Some ns) = ns
 
--- sequenceData of a sequence and ring; no row is as an empty one
+-- sequenceData of a sequence and ring; empty, where they have no row
 abbrev pub ring_row : Rows → ℕ → ℕ → List ℕ
 ring_row set n ring = or_empty (sequence_at set n ring)
 
--- a phase in the row of a ring is of that ring
+-- V7 of a phase in the row of a ring: it is in the set, and of that ring (phaseRing)
 abbrev pub place_cases : ℕ → ℕ → Option Phase → Cases Reason
 place_cases ring p None = (true, reason.Sequence (sequence.NotInPlan p)) ∷ []
 place_cases ring p (Some phase) = (not (phase.ring == ring), reason.Sequence (sequence.OtherRing p ring phase.ring)) ∷ []
 
--- each phase of a ring's row is of that ring, in the order of the row
+-- V7 of a ring's row, phase by phase in its order: each is in the set, and of that ring
 abbrev pub row_cases : Rows → ℕ → ℕ → Cases Reason
 row_cases set n ring = flat_map (λ p. place_cases ring p (phase_at set p)) (ring_row set n ring)
 
@@ -36,7 +36,7 @@ row_cases set n ring = flat_map (λ p. place_cases ring p (phase_at set p)) (rin
 abbrev pub times_in : List ℕ → ℕ → ℕ
 times_in row p = count_by (λ m. m == p) row
 
--- a phase of the set stands exactly once in the row of its ring
+-- V7 of a phase of the set: it stands exactly once in the row of its ring
 abbrev pub once_cases : Rows → ℕ → ℕ → Option Phase → Cases Reason
 once_cases set n p None = []
 once_cases set n p (Some phase) =

@@ -18,7 +18,7 @@ pub record Listing : Type 0 where
   pub phase : ℕ
   pub mates : List ℕ
 
--- what a slot says: the phase has the lane of its ring from a second up to another one
+-- what a slot says: the phase has the lane of its ring from a second of the cycle until another, the first after it
 pub record Span : Type 0 where
   pub from : ℕ
   pub until : ℕ
@@ -28,19 +28,19 @@ pub record Span : Type 0 where
 abbrev pub listing_at : Rows → ℕ → Listing
 listing_at set p = record { phase = p; mates = the_mates (phase_at set p) }
 
--- the span of a phase that starts at a second; one with no time has none
+-- the span of a phase that starts at a second and lasts a time, in seconds; a phase with no time has none
 abbrev pub spans_at : Rows → ℕ → ℕ → ℕ → List Span
 spans_at set p time second =
     map (λ from. record { from = from; until = from + time; listing = listing_at set p })
     (start_of time second)
 
--- the spans of a row that begins at a second
+-- the spans of the phases of a row that begins at a second, in its order
 abbrev pub spans_from : Rows → ℕ → ℕ → List ℕ → List Span
 spans_from set split second [] = []
 spans_from set split second (p ∷ ps) =
     spans_at set p (times set split p) second ++ spans_from set split (second + times set split p) ps
 
--- the spans of the rings' rows
+-- the spans of some rings' rows, each of which begins at second 0, ring by ring
 abbrev pub spans_of : Rows → Pattern → List ℕ → List Span
 spans_of set pattern rings =
     flat_map (λ ring. spans_from set pattern.split 0 (ring_row set pattern.seq ring)) rings
@@ -57,7 +57,8 @@ are_mates p q = is_in q.phase p.mates && is_in p.phase q.mates
 abbrev pub spans_in : ℕ → List Span → List Span
 spans_in second spans = filter (has_second second) spans
 
--- a phase and each of some later ones, which time together from a second on until one of them is over
+-- V13 of a span and each of some later ones, which all last at a second: the two phases list each other. Else they time
+-- together from that second until one of them is over.
 abbrev pub later_cases : ℕ → Span → List Span → Cases Reason
 later_cases second span later =
     map (λ other. (
@@ -65,19 +66,19 @@ later_cases second span later =
       reason.Pattern (Conflict second (min span.until other.until) span.listing.phase other.listing.phase),
     )) later
 
--- a span and those later ones that have a second, if it has the second itself
+-- V13 of a span and each later one at a second at which both last: the two phases list each other
 abbrev pub slot_cases : ℕ → Span → List Span → Cases Reason
 slot_cases second span later = if has_second second span then later_cases second span (spans_in second later) else []
 
--- any two of some spans, each and each later one
+-- V13 of any two of some spans, which all last at a second: the two phases list each other
 abbrev pub pair_cases : ℕ → List Span → Cases Reason
 pair_cases second [] = []
 pair_cases second (span ∷ later) = later_cases second span later ++ pair_cases second later
 
--- the phases list each other at each second at which one of some spans begins
+-- at each second at which one of some spans begins, the phases of the spans that last then list each other
 abbrev pub agree_where_begun : List Span → List Span → Bool
 agree_where_begun spans begun = list_all (λ span. holds (pair_cases span.from (spans_in span.from spans))) begun
 
--- second by second, and at each the spans in their order
+-- V13 of spans, at each second of the cycle in turn: any two phases whose spans last then list each other
 abbrev pub conflicts_in : ℕ → List Span → Cases Reason
 conflicts_in cycle spans = flat_map (λ second. pair_cases second (spans_in second spans)) (numbers cycle 0)

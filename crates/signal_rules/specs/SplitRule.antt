@@ -19,12 +19,14 @@ abbrev pub is_omitted : SplitMode → Bool
 is_omitted PhaseOmitted = true
 is_omitted _ = false
 
--- the longer one of two parts that begin together: lead and minimum green, or walk and clearance
+-- the longer one of two parts that begin together: lead and minimum green, or walk and clearance; the first, if they
+-- are equal
 abbrev pub longer_part : Ped → ℕ → NeedPart
 longer_part ped min_green =
     if nat_lt (ped.lead + min_green) (ped.walk + ped.clear) then need_part.Walk else need_part.Green
 
--- a phase whose walk is not called has no part but its green
+-- the part that decides how long a phase must be, by the pedestrian part whose walk is called, if one is, and the
+-- minimum green in seconds; it is the green, if no walk is called
 abbrev pub part_called : Option Ped → ℕ → NeedPart
 part_called None min_green = need_part.Green
 part_called (Some ped) min_green = longer_part ped min_green
@@ -33,7 +35,7 @@ part_called (Some ped) min_green = longer_part ped min_green
 abbrev pub governing_part : Phase → SplitMode → NeedPart
 governing_part phase mode = part_called (called phase.ped mode) phase.min_green
 
--- what a phase needs in a split mode, with the part that governs it
+-- what a phase needs in a split mode, in tenths of a second, with the part that governs it
 abbrev pub split_need : Phase → SplitMode → SplitNeed
 split_need phase mode = record { tenths = need_of phase mode; governs = governing_part phase mode }
 

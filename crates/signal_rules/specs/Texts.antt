@@ -24,7 +24,7 @@ use Rattle.signal_rules.specs.declared.reason.Explained.{Explained}
 use Rattle.signal_rules.specs.declared.need.NeedPart.{NeedPart}
 use Rattle.signal_rules.specs.declared.need.NeedPart.TheVariants as need_part
 
--- 1 to 14
+-- the number of a rule: 1 to 14
 abbrev pub number_of : Rule → ℕ
 number_of rule.V1 = 1
 number_of rule.V2 = 2
@@ -41,22 +41,22 @@ number_of rule.V12 = 12
 number_of rule.V13 = 13
 number_of rule.V14 = 14
 
--- `V13`
+-- the name of a rule, as `V13`
 abbrev pub rule_text : Rule → List ℕ
 rule_text r = codes "V" ++ decimal (number_of r)
 
--- `phase 2`, `sequence 1`, `split 1 8`, `pattern 1`
+-- the kind and the numbers of a subject: `phase 2`, `sequence 1`, `split 1 8`, `pattern 1`
 abbrev pub subject_text : Subject → List ℕ
 subject_text (subject.Phase p) = codes "phase " ++ decimal p
 subject_text (subject.Seq n) = codes "sequence " ++ decimal n
 subject_text (subject.Split n p) = codes "split " ++ decimal n ++ codes " " ++ decimal p
 subject_text (subject.Pattern n) = codes "pattern " ++ decimal n
 
--- `pattern 1 V13`
+-- a subject and the rule that it breaks, as `pattern 1 V13`
 abbrev pub violation_text : Violation → List ℕ
 violation_text v = subject_text v.subject ++ codes " " ++ rule_text v.rule
 
--- `13.5`
+-- a number of tenths with its decimal point, as `13.5`
 abbrev pub tenths_text : ℕ → List ℕ
 tenths_text n = decimal (n / 10) ++ (codes "." ++ decimal (n % 10))
 
@@ -96,7 +96,7 @@ sequence_text (sequence.Missing p ring) =
     codes "phase " ++ (decimal p ++ (codes " is missing in ring " ++ decimal ring))
 sequence_text (sequence.Repeated p) = codes "phase " ++ (decimal p ++ codes " stands twice")
 
--- the part of a phase that decides its need
+-- the word for the part of a phase that decides its need: `green` or `walk`
 abbrev pub part_text : NeedPart → List ℕ
 part_text need_part.Green = codes "green"
 part_text need_part.Walk = codes "walk"
@@ -134,6 +134,6 @@ reason_text (reason.Sequence r) = sequence_text r
 reason_text (reason.Split r) = split_text r
 reason_text (reason.Pattern r) = pattern_text r
 
--- `pattern 1 V10: offset 60 s, cycle 60 s`
+-- a violation and its reason, as `pattern 1 V10: offset 60 s, cycle 60 s`
 abbrev pub explained_text : Explained → List ℕ
 explained_text e = violation_text e.violation ++ (codes ": " ++ reason_text e.reason)

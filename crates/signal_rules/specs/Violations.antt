@@ -18,7 +18,7 @@ use Rattle.signal_rules.specs.SequenceRule.{sequence_cases}
 use Rattle.signal_rules.specs.SplitRule.{split_cases}
 use Rattle.signal_rules.specs.PatternRules.{rows_cases, has_rows, offset_cases, coordination_cases, sum_cases, lanes_fill_cycle, conflict_cases}
 
--- the rules on a subject with the reasons that break each, ascending
+-- the rules on a subject, ascending, each with the reasons that break it
 abbrev pub Findings : Type 0
 Findings = List (Rule × Cases Reason)
 
@@ -34,13 +34,13 @@ phase_findings set p phase =
     ∷ (rule.V14, of_ped phase.ped lead_cases)
     ∷ []
 
--- V13 is evaluated only where V12 holds
+-- V12 of a pattern, and V13 where V12 holds, with the reasons that break each
 abbrev pub lane_findings : Rows → Pattern → Findings
 lane_findings set pattern =
     (rule.V12, sum_cases set pattern)
     ∷ (if lanes_fill_cycle set pattern then (rule.V13, conflict_cases set pattern) ∷ [] else [])
 
--- V12 and V13 are evaluated only where V9 holds
+-- V9 to V11 of a pattern, and V12 and V13 where V9 holds, with the reasons that break each; V13 only if V12 holds too
 abbrev pub pattern_findings : Rows → Pattern → Findings
 pattern_findings set pattern =
     (rule.V9, rows_cases set pattern)
@@ -48,22 +48,22 @@ pattern_findings set pattern =
     ∷ (rule.V11, coordination_cases set pattern)
     ∷ (if has_rows set pattern then lane_findings set pattern else [])
 
--- the rules of a phase that the set has
+-- the rules of a phase; none of one that the set does not have
 abbrev pub for_phase : Rows → ℕ → Option Phase → Findings
 for_phase set p None = []
 for_phase set p (Some phase) = phase_findings set p phase
 
--- a sequence without a row is no subject
+-- the rule of a sequence; none of one that has no row
 abbrev pub for_sequence : Rows → ℕ → Bool → Findings
 for_sequence set n false = []
 for_sequence set n true = (rule.V7, sequence_cases set n) ∷ []
 
--- the rule of a split row that the set has
+-- the rule of a split row; none of one that the set does not have
 abbrev pub for_split : Rows → ℕ → Option Split → Findings
 for_split set p None = []
 for_split set p (Some split) = (rule.V8, split_cases p (phase_at set p) split) ∷ []
 
--- the rules of a pattern that the set has
+-- the rules of a pattern; none of one that the set does not have
 abbrev pub for_pattern : Rows → Option Pattern → Findings
 for_pattern set None = []
 for_pattern set (Some pattern) = pattern_findings set pattern
@@ -75,7 +75,7 @@ findings set (subject.Seq n) = for_sequence set n (has_sequence set n)
 findings set (subject.Split n p) = for_split set p (split_at set n p)
 findings set (subject.Pattern n) = for_pattern set (pattern_at set n)
 
--- a rule with its reason, if it has one, before others
+-- the violation of a rule by a subject with its reason, if there is one, before others
 abbrev pub with_reason : Subject → Rule → Option Reason → List Explained → List Explained
 with_reason s r None others = others
 with_reason s r (Some why) others = record { violation = record { subject = s; rule = r }; reason = why } ∷ others
@@ -93,19 +93,20 @@ explained_at set s = broken s (findings set s)
 abbrev pub broken_sum : ℕ → Reason → Explained
 broken_sum n why = record { violation = record { subject = subject.Pattern n; rule = rule.V12 }; reason = why }
 
--- V12 with each ring after the first that does not fill the cycle either
+-- V12 of a pattern with each ring that does not fill the cycle, but for the first of these; nothing unless V9 holds
 abbrev pub further_sums : Rows → ℕ → Option Pattern → List Explained
 further_sums set n None = []
 further_sums set n (Some pattern) =
     if has_rows set pattern then map (broken_sum n) (further (sum_cases set pattern)) else []
 
--- the rules that a subject breaks, each with the first of its reasons, and V12 with each ring
+-- the rules that a subject breaks, each with the first of its reasons, and then V12 with each further ring that does
+-- not fill the cycle
 abbrev pub reasons_at : Rows → Subject → List Explained
 reasons_at set (subject.Pattern n) =
     explained_at set (subject.Pattern n) ++ further_sums set n (pattern_at set n)
 reasons_at set s = explained_at set s
 
--- violations that were found with their reasons, without those
+-- the violations alone, of some that were found with their reasons
 abbrev pub violations_in : List Explained → List Violation
 violations_in found = map (λ e. e.violation) found
 
@@ -137,7 +138,7 @@ violations_of set = flat_map (violations_at set) (subjects set)
 unfoldable pub reasons_of : Rows → List Explained
 reasons_of set = flat_map (reasons_at set) (subjects set)
 
--- the violations of a set that were found with their reasons are all, in order
+-- what was found is all violations of a set with their reasons, in order
 abbrev pub AreReasons : Rows → List Explained → Type 0
 AreReasons set found = found ≡ reasons_of set
 

@@ -16,17 +16,20 @@ use crate::violation::{Subject, Violation};
 use signal_records::{Key, NoMemory, TimingSet};
 use std::alloc::Global;
 
-/// Answers for a subject of a set, and keeps two counts, which never pass `u64::MAX` and stay there
-/// once there: its calls, and the seconds at which it compared phases.
+/// Answers for a subject of a set, and keeps two counts: of its calls, and of the seconds at which
+/// it compared phases. A count never falls and never passes `u64::MAX`.
 pub trait Judge {
     /// The answer for a subject of a set.
     ghost answers: { Rows → SubjectOf → List ViolationOf };
 
+    /// The count of calls.
     ghost calls: { Self → ℕ };
 
+    /// The count of seconds at which phases were compared.
     ghost seconds: { Self → ℕ };
 
-    /// An answer is one call more. A refusal may leave the counts raised, within the same bounds.
+    /// The answer for a subject of a set, which counts as one call. A refusal of memory may leave
+    /// the counts raised, by no more than an answer raises them.
     fn judge(
         &mut self,
         alloc: Global,
@@ -50,12 +53,12 @@ pub trait Judge {
 pub struct Tally {
     calls: u64,
     seconds: u64,
-    // The ranges of the two types, as the laws of a judge ask for them.
+    // Both counts are at most `u64::MAX`, as the laws of a judge ask.
     ghost within: { (calls ≤ greatest) × (seconds ≤ greatest) },
 }
 
 impl Tally {
-    /// Both counts are 0.
+    /// A tally whose counts are both 0.
     pub fn new() -> Tally
         ensures calls { ⟦<Tally as Judge>⟧.calls result ≡ 0 }
         ensures seconds { ⟦<Tally as Judge>⟧.seconds result ≡ 0 }
@@ -66,14 +69,14 @@ impl Tally {
         }
     }
 
-    /// The calls so far.
+    /// How many calls there were so far, or `u64::MAX` where there were more.
     pub fn count(&self) -> u64
         ensures { result ≡ ⟦<Tally as Judge>⟧.calls self.now }
     {
         self.calls
     }
 
-    /// The seconds at which phases were compared so far.
+    /// At how many seconds phases were compared so far, or `u64::MAX` where there were more.
     pub fn seconds(&self) -> u64
         ensures { result ≡ ⟦<Tally as Judge>⟧.seconds self.now }
     {
@@ -92,7 +95,8 @@ impl Judge for Tally {
 
     ghost seconds_within = { λ tally. tally.within.1 };
 
-    /// The call is counted first, so that one that is refused is counted too.
+    /// The violations of the subject. The call is counted first, so that one to which memory is
+    /// refused is counted too.
     fn judge(
         &mut self,
         alloc: Global,
@@ -109,7 +113,7 @@ impl Judge for Tally {
         *calls = calls.saturating_add(1);
         let mut found = Vec::new(alloc);
         let judged = judging::judge(alloc, set, subject, seconds, &mut found);
-        // It is read, so that its range is known.
+        // The count is read, so that its range is known.
         let _seconds = *seconds;
         judged?;
         Ok(found)
@@ -118,9 +122,9 @@ impl Judge for Tally {
 
 /// The judge's answers on the subjects of the draft that a key reaches, in their order. They are
 /// the violations of the draft, where the base has none, the sets differ at most at the keys, and
-/// the judge answers these subjects as a tally does.
+/// the judge answers for these subjects what they violate.
 ///
-/// A refusal may leave the counts raised, within the same bounds.
+/// A refusal of memory may leave the judge's counts raised, by no more than the answers raise them.
 pub fn violations_touched<J: Judge>(
     alloc: Global,
     base: &TimingSet,

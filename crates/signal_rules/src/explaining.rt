@@ -36,7 +36,8 @@ pub fn reasons(alloc: Global, set: &TimingSet) -> Result<Vec<Explained>, NoMemor
     Ok(found)
 }
 
-/// The rules that one subject breaks, as [`reasons`] has them.
+/// The rules that one subject breaks, each with the first of its reasons, and V12 once for each
+/// ring that does not fill the cycle. There are none where the set does not have the subject.
 ///
 /// `NoMemory` means that a growth was really refused.
 pub fn reasons_at(
@@ -51,7 +52,7 @@ pub fn reasons_at(
     Ok(found)
 }
 
-/// Adds the rules that a subject breaks.
+/// Adds the rules that a subject breaks, with their reasons, and V12 once for each ring.
 fn push_reasons(
     alloc: Global,
     set: &TimingSet,
@@ -68,7 +69,8 @@ fn push_reasons(
     }
 }
 
-/// Adds V12 with each ring after the first that does not fill the cycle.
+/// Adds V12 of a pattern with each ring that does not fill the cycle, but for the first of these;
+/// nothing without a pattern, or where V9 does not hold.
 fn push_further_sums(
     alloc: Global,
     set: &TimingSet,
@@ -88,7 +90,7 @@ fn push_further_sums(
     push_after_first(set, n, &pattern, &rings_of(alloc, set, &phases)?, found)
 }
 
-/// Adds V12 with each of some rings after the first of them that does not fill the cycle.
+/// Adds V12 with each of some rings that does not fill the cycle, but for the first of these.
 fn push_after_first(
     set: &TimingSet,
     n: PatternNo,

@@ -24,11 +24,12 @@ use std::alloc::Global;
 pub(crate) trait Finding: Copy {
     ghost of: { ExplainedOf → Self };
 
+    /// What is collected of a violation with this reason.
     fn of(violation: Violation, reason: Reason) -> Self
         ensures { result ≡ of (record { violation = violation; reason = reason }) };
 
-    /// A violation of V13 by slots that conflict. Only a reason needs a search for the first
-    /// second.
+    /// What is collected of a violation of V13 by slots that conflict. A search for the first
+    /// second at which they do is made only where the reason is collected too.
     fn of_conflict(violation: Violation, slots: &[Slot<'_>], cycle: Cycle) -> Self
         requires { holds (conflicts_in cycle slots.now) ≡ false }
         ensures { (why : ReasonOf) → first_true (conflicts_in cycle slots.now) ≡ Some why →
@@ -78,7 +79,7 @@ pub fn violations(alloc: Global, set: &TimingSet) -> Result<Vec<Violation>, NoMe
     Ok(found)
 }
 
-/// Adds what the subject breaks, which is nothing where the set does not have the subject. Each
+/// Adds the rules that the subject breaks: none where the set does not have the subject. Each
 /// second that is compared is a tick.
 pub(crate) fn judge<F: Finding>(
     alloc: Global,
@@ -108,7 +109,7 @@ pub(crate) fn judge<F: Finding>(
     }
 }
 
-/// Adds a violation, if the rule has a reason not to hold.
+/// Adds the violation of a rule by a subject, if there is a reason for it.
 fn report<F: Finding>(
     reason: Option<Reason>,
     subject: Subject,
@@ -124,7 +125,8 @@ fn report<F: Finding>(
     Ok(())
 }
 
-/// The rules of a phase: those of its own intervals, of its crossing, of its mates, of its lead.
+/// Adds the rules of a phase that it breaks, in order: V1 and V2 of its intervals, V3 to V5 of its
+/// crossing, V6 of its mates, V14 of its lead.
 fn judge_phase<F: Finding>(
     set: &TimingSet,
     p: PhaseNo,
@@ -173,6 +175,7 @@ fn judge_phase<F: Finding>(
     )
 }
 
+/// Adds V7, if a sequence has a row and breaks the rule.
 fn judge_sequence<F: Finding>(
     alloc: Global,
     set: &TimingSet,
@@ -190,6 +193,8 @@ fn judge_sequence<F: Finding>(
     Ok(())
 }
 
+/// Adds the rules of a pattern that it breaks, of V9 to V13 in order. Each second that is compared
+/// is a tick.
 fn judge_pattern<F: Finding>(
     alloc: Global,
     set: &TimingSet,
@@ -216,8 +221,8 @@ fn judge_pattern<F: Finding>(
     Ok(())
 }
 
-/// The rules on the lanes of a pattern, which are compared only where they fill the cycle. The
-/// phases are those of the set.
+/// Adds the rule on the lanes of a pattern that it breaks: V12, or V13, which is judged only where
+/// the lanes fill the cycle. The phases are those of the set.
 fn judge_lanes<F: Finding>(
     alloc: Global,
     set: &TimingSet,
@@ -243,7 +248,7 @@ fn judge_lanes<F: Finding>(
     Ok(())
 }
 
-/// V13, of slots that fill the cycle.
+/// Adds V13, if slots that fill the cycle conflict. Each second that is compared is a tick.
 fn judge_slots<F: Finding>(
     slots: &[Slot<'_>],
     cycle: Cycle,

@@ -1,6 +1,6 @@
-//! The lanes of a pattern, of which V12 and V13 are. No lane is built second by second: its length
-//! is a sum of splits, and the rings are compared only at the seconds at which one of them starts a
-//! phase. What that takes of the set is looked up once for each ring and for each phase of its row.
+//! The lanes of a pattern, which V12 and V13 are about. No lane is built second by second: its
+//! length is a sum of splits, and the rings are compared only at the seconds at which one of them
+//! starts a phase. What this needs of the set is looked up once for each phase of a ring's row.
 
 ghost use Rattle.std.specs.Prelude.{◌≡◌, ◌<◌, ◌≤◌, ◌+◌, ◌*◌, ◌^◌, ◌++◌, ◌==◌, true, IfOk, OnOk, length};
 ghost use Rattle.signal_rules.specs.Cases.{first_true};
@@ -18,7 +18,8 @@ use signal_records::{NoMemory, Pattern, PhaseNo, RingNo, Split, TimingSet};
 use std::alloc::Global;
 use std::marker::Model;
 
-/// A phase that has its ring's lane from a second up to another one, and the phases that it lists.
+/// A phase with the phases that it lists. It has its ring's lane from second `from` of the cycle
+/// until `until`, which is the first second after it.
 #[derive(Drop)]
 pub(crate) struct Slot<'s> {
     pub(crate) from: u32,
@@ -39,8 +40,8 @@ impl<'s> Model for Slot<'s> {
     } };
 }
 
-/// Whether the splits of a row sum up to the cycle. The row is left where it passes the cycle, so
-/// that no sum grows past it.
+/// Whether the splits of a row sum up to the cycle; where they do, the slots of its phases are
+/// added. A sum that would pass the cycle is not made: the answer is then no.
 pub(crate) fn row_fills<'s>(
     set: &'s TimingSet,
     pattern: &Pattern,
@@ -65,7 +66,8 @@ pub(crate) fn row_fills<'s>(
     Ok(second == cycle)
 }
 
-/// The seconds of the lane of a ring.
+/// How many seconds the lane of a ring has in a pattern: the sum of the splits of its row, which
+/// is at most 8415.
 pub fn lane_seconds(set: &TimingSet, pattern: &Pattern, ring: RingNo) -> u32
     ensures exact { result ≡ length (lane set.now pattern.now.seq pattern.now.split ring) }
     ensures small { result ≤ 255 * 33 }
@@ -77,7 +79,7 @@ pub fn lane_seconds(set: &TimingSet, pattern: &Pattern, ring: RingNo) -> u32
     seconds
 }
 
-/// The seconds of a phase; one without a split row has none.
+/// The time of a split row, 0 to 255 seconds; without a row it is 0.
 pub fn time_of(split: Option<Split>) -> u32
     ensures exact { result ≡ time_of split }
     ensures small { result ≤ 255 }
@@ -88,7 +90,8 @@ pub fn time_of(split: Option<Split>) -> u32
     }
 }
 
-/// Adds the slot of a phase that starts at a second, which has one if it has any time.
+/// Adds the slot of a phase that starts at a second and lasts a time, in seconds; a phase with no
+/// time has none.
 fn push_slot<'s>(
     set: &'s TimingSet,
     phase: PhaseNo,
@@ -111,7 +114,8 @@ fn push_slot<'s>(
     Ok(())
 }
 
-/// The first two slots, in their order, that have a second and whose phases do not list each other.
+/// The reason that breaks V13 at a second, if any: the first two slots, in their order, that have
+/// the second and whose phases do not list each other.
 pub(crate) fn pair_reason(slots: &[Slot<'_>], second: u32) -> Option<Reason>
     ensures { result ≡ first_true (pair_cases second (spans_in second slots.now)) }
 {
@@ -124,7 +128,8 @@ pub(crate) fn pair_reason(slots: &[Slot<'_>], second: u32) -> Option<Reason>
     }
 }
 
-/// A slot with later ones, if it has a second.
+/// The reason that breaks V13 at a second, if a slot and a later one both have the second and
+/// their phases do not list each other; of the first such later one.
 fn slot_reason(slot: &Slot<'_>, later: &[Slot<'_>], second: u32) -> Option<Reason>
     ensures { result ≡ first_true (slot_cases second slot.now later.now) }
 {
@@ -135,8 +140,8 @@ fn slot_reason(slot: &Slot<'_>, later: &[Slot<'_>], second: u32) -> Option<Reaso
     }
 }
 
-/// The first of some later slots that has the second of a slot and conflicts with it, for the
-/// seconds that both last.
+/// The reason that breaks V13 from a second of this slot on, until one of the two phases is over:
+/// of the first later slot that has the second and does not list this one, or is not listed by it.
 fn later_reason(slot: &Slot<'_>, later: &[Slot<'_>], second: u32) -> Option<Reason>
     ensures { result ≡ first_true (later_cases second slot.now (spans_in second later.now)) }
 {
@@ -165,7 +170,7 @@ fn list_each_other(slot: &Slot<'_>, other: &Slot<'_>) -> bool
     slot.mates.contains(&other.phase) && other.mates.contains(&slot.phase)
 }
 
-/// `phaseConcurrency` of the first phase has the second.
+/// Whether `phaseConcurrency` of phase `p` has phase `q`; a phase that is not in the set has none.
 pub fn lists(set: &TimingSet, p: PhaseNo, q: PhaseNo) -> bool
     ensures { result ≡ lists set.now p q }
 {
@@ -182,7 +187,8 @@ fn mates_of(set: &TimingSet, p: PhaseNo) -> &[PhaseNo]
     }
 }
 
-/// The rings that have a phase, in ascending order: no more than an intersection has.
+/// The rings that have a phase of the set, in ascending order: 8 at most. `NoMemory` means that a
+/// growth was really refused.
 pub fn used_rings(alloc: Global, set: &TimingSet) -> Result<Vec<RingNo>, NoMemory>
     ensures rings { IfOk result (λ rings. rings.items ≡ used_rings set.now) }
     ensures few { IfOk result (λ rings. length rings.items ≤ 8) }
@@ -216,7 +222,7 @@ fn is_among(rings: &[RingNo], ring: RingNo) -> bool
     rings.contains(&ring)
 }
 
-/// The ring of each of the phases, in their order.
+/// The ring of each of the phases that the set has, in the order of the phases.
 fn each_ring(alloc: Global, set: &TimingSet, phases: &[PhaseNo]) -> Result<Vec<RingNo>, NoMemory>
     ensures { IfOk result (λ rings. rings.items ≡ rings_at set.now phases.now) }
 {

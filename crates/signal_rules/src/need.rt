@@ -1,4 +1,5 @@
-//! What a phase needs of its split: with yellow and red the longer of its green and its walk.
+//! What a phase needs of its split: its green, or a called walk where that is longer, with yellow
+//! and red.
 
 ghost use Rattle.std.specs.Prelude.{◌≡◌};
 ghost use Rattle.signal_rules.specs.SplitRule.{governing_part, split_need, need_if_called};
@@ -17,13 +18,14 @@ pub enum NeedPart {
 /// What a phase needs of its split.
 #[derive(Clone, Copy, PartialEq, Eq)]
 pub struct SplitNeed {
-    /// The part that governs with yellow and red, in tenths of a second.
+    /// The part that governs, with yellow and red, in tenths of a second.
     pub tenths: u32,
+    /// The part that decides how long the phase must be.
     pub governs: NeedPart,
 }
 
-/// The need of a phase in a split mode: walk, clearance and lead count where the mode calls the
-/// walk (modes 5 and 6), else the minimum green alone.
+/// The need of a phase in a split mode: its minimum green or, where the mode calls the walk (modes
+/// 5 and 6), the longer one of lead and minimum green, and walk and clearance; with yellow and red.
 pub fn split_need(phase: &Phase, mode: SplitMode) -> SplitNeed
     ensures { result ≡ split_need phase.now mode }
 {

@@ -13,7 +13,8 @@ use crate::reason::{PatternReason, Reason};
 use crate::sequence::has_sequence;
 use signal_records::{Cycle, NoMemory, Pattern, PhaseNo, RingNo, Split, SplitNo, TimingSet};
 
-/// V9, of `patternSequenceNumber` and `patternSplitNumber`. The phases are those of the set.
+/// The reason that breaks V9, if any: `patternSequenceNumber` has no row, or `patternSplitNumber`
+/// has none for a phase, and then for the first. The phases are those of the set.
 pub(crate) fn rows_reason(set: &TimingSet, phases: &[PhaseNo], pattern: &Pattern) -> Option<Reason>
     requires { phases.now ≡ set_has.phases set.now }
     ensures { result ≡ first_true (rows_cases set.now pattern.now) }
@@ -25,7 +26,7 @@ pub(crate) fn rows_reason(set: &TimingSet, phases: &[PhaseNo], pattern: &Pattern
     splits_reason(set, phases, pattern.split)
 }
 
-/// The first of the phases for which a split number has no row.
+/// The reason that breaks V9, if any: the first of the phases for which a split number has no row.
 fn splits_reason(set: &TimingSet, phases: &[PhaseNo], split: SplitNo) -> Option<Reason>
     ensures { result ≡ first_true (splits_cases set.now split phases.now) }
 {
@@ -49,7 +50,8 @@ pub(crate) fn offset_reason(pattern: &Pattern) -> Option<Reason>
     Some(Reason::Pattern(PatternReason::LateOffset { offset, cycle }))
 }
 
-/// V11, of `splitCoordPhase`. The phases are those of the set.
+/// The reason that breaks V11, if any: in `patternSplitNumber`, `splitCoordPhase` marks none of the
+/// phases, which are those of the set.
 pub(crate) fn coordination_reason(
     set: &TimingSet,
     phases: &[PhaseNo],
@@ -67,7 +69,8 @@ pub(crate) fn coordination_reason(
     Some(Reason::Pattern(PatternReason::NoneCoordinated { split }))
 }
 
-/// Whether a phase is coordinated; one without a split row is not.
+/// Whether a split row coordinates its phase (`splitCoordPhase`); a phase without a row is not
+/// coordinated.
 pub fn is_coordinated(split: Option<Split>) -> bool
     ensures { result ≡ is_coordinated split }
 {
@@ -77,8 +80,8 @@ pub fn is_coordinated(split: Option<Split>) -> bool
     }
 }
 
-/// V12: the splits of each ring's row sum up to the cycle; else the first ring whose splits do not.
-/// Where they do, the slots of the rows are added.
+/// The reason that breaks V12, if any: the first of the rings whose splits do not sum up to the
+/// cycle. Where there is none, the slots of the rings' rows are added.
 pub(crate) fn sum_reason<'s>(
     set: &'s TimingSet,
     pattern: &Pattern,
@@ -104,8 +107,9 @@ pub(crate) fn sum_reason<'s>(
     Ok(None)
 }
 
-/// V13, where the rings fill the cycle: they agree at each second at which one of them starts a
-/// phase, and so at each second. Each comparison is a tick: where they agree, one for each slot.
+/// Whether V13 holds of rings that fill the cycle: their phases list each other at each second at
+/// which one of them starts a phase, and so at each second. Each comparison is a tick: where V13
+/// holds, one for each slot.
 pub(crate) fn rings_agree(slots: &[Slot<'_>], ticks: &mut u64) -> bool
     ensures agree { result ≡ agree_where_begun slots.now slots.now }
     ensures ticks { RisesAtMost (length slots.now) ticks.old ticks.new }
@@ -120,7 +124,8 @@ pub(crate) fn rings_agree(slots: &[Slot<'_>], ticks: &mut u64) -> bool
     true
 }
 
-/// The first second of a cycle at which two phases time together that do not list each other.
+/// The reason that breaks V13, if any: the first second of a cycle at which two phases time
+/// together that do not list each other, and there the first two such phases.
 pub(crate) fn conflict_reason(slots: &[Slot<'_>], cycle: Cycle) -> Option<Reason>
     ensures { result ≡ first_true (conflicts_in cycle slots.now) }
 {

@@ -10,7 +10,7 @@ use crate::lookup::phase_at;
 use crate::reason::{CrossingReason, IntervalReason, MateReason, Reason};
 use signal_records::{Ped, Phase, PhaseNo, TimingSet};
 
-/// V1, of `phaseYellowChange`.
+/// The reason that breaks V1, if any: `phaseYellowChange` is not 3.0 to 6.0 seconds.
 pub(crate) fn yellow_reason(phase: &Phase) -> Option<Reason>
     ensures { result ≡ first_true (yellow_cases phase.now) }
 {
@@ -21,7 +21,7 @@ pub(crate) fn yellow_reason(phase: &Phase) -> Option<Reason>
     Some(Reason::Interval(IntervalReason::Yellow { tenths }))
 }
 
-/// V2, of `phaseRedClear`.
+/// The reason that breaks V2, if any: `phaseRedClear` is more than 6.0 seconds.
 pub(crate) fn red_reason(phase: &Phase) -> Option<Reason>
     ensures { result ≡ first_true (red_cases phase.now) }
 {
@@ -32,7 +32,8 @@ pub(crate) fn red_reason(phase: &Phase) -> Option<Reason>
     Some(Reason::Interval(IntervalReason::Red { tenths }))
 }
 
-/// V3, of `phaseWalk`.
+/// The reason that breaks V3, if any: `phaseWalk` is less than 7 seconds, or less than 4 where the
+/// short walk is allowed.
 pub(crate) fn walk_reason(phase: &Phase) -> Option<Reason>
     ensures { result ≡ first_true (of_ped phase.now.ped walk_cases) }
 {
@@ -47,7 +48,7 @@ pub(crate) fn walk_reason(phase: &Phase) -> Option<Reason>
     Some(Reason::Crossing(CrossingReason::ShortWalk { seconds, least }))
 }
 
-/// From the end of the walk to the end of red, in tenths of a second.
+/// Pedestrian clearance, yellow and red together, in tenths of a second.
 pub fn clearance(phase: &Phase, ped: &Ped) -> u32
     ensures exact { result ≡ clearance phase.now ped.now }
     ensures small { result ≤ 3060 }
@@ -57,7 +58,8 @@ pub fn clearance(phase: &Phase, ped: &Ped) -> u32
     10 * u32::from(*clear) + (u32::from(*yellow) + u32::from(*red))
 }
 
-/// V4: tenths of a second, at 3.5 feet a second, against tenths of a foot.
+/// The reason that breaks V4, if any: who walks 3.5 feet a second does not cross the width in
+/// pedestrian clearance, yellow and red. It is in tenths of a foot and of a second.
 pub(crate) fn clearance_reason(phase: &Phase) -> Option<Reason>
     ensures { result ≡ first_true (of_ped phase.now.ped (crossing_cases phase.now)) }
 {
@@ -77,7 +79,8 @@ pub(crate) fn clearance_reason(phase: &Phase) -> Option<Reason>
     }))
 }
 
-/// V5: tenths of a second, at 3 feet a second, against tenths of a foot.
+/// The reason that breaks V5, if any: who walks 3 feet a second does not cross setback and width in
+/// walk, pedestrian clearance, yellow and red. It is in tenths of a foot and of a second.
 pub(crate) fn setback_reason(phase: &Phase) -> Option<Reason>
     ensures { result ≡ first_true (of_ped phase.now.ped (setback_cases phase.now)) }
 {
@@ -98,7 +101,8 @@ pub(crate) fn setback_reason(phase: &Phase) -> Option<Reason>
     }))
 }
 
-/// V14, of the leading pedestrian interval, which is no longer than `phaseWalk`.
+/// The reason that breaks V14, if any: the leading pedestrian interval is 1 or 2 seconds, or longer
+/// than `phaseWalk`.
 pub(crate) fn lead_reason(phase: &Phase) -> Option<Reason>
     ensures { result ≡ first_true (of_ped phase.now.ped lead_cases) }
 {
@@ -115,7 +119,8 @@ pub(crate) fn lead_reason(phase: &Phase) -> Option<Reason>
     None
 }
 
-/// V6, of `phaseConcurrency`: the first mate that is not one, in the order of the list.
+/// The reason that breaks V6, if any: the first phase of `phaseConcurrency` that is not in the set,
+/// is in the same ring, or does not list this phase.
 pub(crate) fn mates_reason(set: &TimingSet, p: PhaseNo, phase: &Phase) -> Option<Reason>
     ensures { result ≡ first_true (mates_cases set.now p phase.now) }
 {

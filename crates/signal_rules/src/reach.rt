@@ -10,7 +10,8 @@ use crate::violation::Subject;
 use signal_records::{Key, NoMemory, TimingSet};
 use std::alloc::Global;
 
-/// Of the subjects that the draft has, those that a key reaches, in their order and each once.
+/// The subjects that the draft has and one of the keys reaches, in the order of the subjects, each
+/// once. `NoMemory` means that a growth was really refused.
 ///
 /// A key reaches its own subject, which for a sequence row is the sequence. A phase also reaches
 /// the phases that list it, every sequence, its split rows and every pattern; a sequence row

@@ -7,9 +7,9 @@ use signal_records::{Cycle, PhaseNo, RingNo, SeqNo, SplitNo};
 /// Why a phase breaks V1 or V2, in tenths of a second.
 #[derive(Clone, Copy)]
 pub enum IntervalReason {
-    /// V1: the yellow change interval is not within its limits.
+    /// V1: the yellow change interval is not 3.0 to 6.0 seconds.
     Yellow { tenths: u8 },
-    /// V2: the red clearance interval is over its limit.
+    /// V2: the red clearance interval is over 6.0 seconds.
     Red { tenths: u8 },
 }
 
@@ -18,13 +18,13 @@ pub enum IntervalReason {
 pub enum CrossingReason {
     /// V3: the walk and the least one, in seconds.
     ShortWalk { seconds: u8, least: u8 },
-    /// V4: the width in tenths of a foot, and in tenths of a second what it takes and what there
-    /// is.
+    /// V4: the width in tenths of a foot, and in tenths of a second how long crossing it takes, and
+    /// how long clearance, yellow and red are.
     SlowClearance { width: u32, takes: u32, there: u32 },
-    /// V5: setback and width in tenths of a foot, and in tenths of a second what they take and what
-    /// there is.
+    /// V5: setback and width together in tenths of a foot, and in tenths of a second how long
+    /// crossing them takes, and how long walk, clearance, yellow and red are.
     SlowSetback { length: u32, takes: u32, there: u32 },
-    /// V14: the lead in seconds, less than the least one.
+    /// V14: the lead in seconds, 1 or 2, which is less than 3.
     ShortLead { lead: u32 },
     /// V14: lead and walk in seconds, of which the lead is longer.
     LongLead { lead: u32, walk: u8 },
@@ -72,7 +72,7 @@ pub enum SplitReason {
     NotInPlan { phase: PhaseNo },
     /// The phase has no time, and is not omitted.
     NoTime,
-    /// The phase has time, and is omitted; whether it is coordinated too.
+    /// The phase has time, and is omitted; `coord` tells whether it is coordinated too.
     TimeOmitted { time: u8, coord: bool },
     /// The time is less than the need of the phase.
     Short { time: u8, need: SplitNeed },
@@ -107,8 +107,8 @@ pub enum PatternReason {
         sum: u32,
         cycle: Cycle,
     },
-    /// V13: two phases time together that do not list each other. The second `until` is the first
-    /// one at which they no longer do.
+    /// V13: two phases time together, from second `from` on, that do not list each other. At second
+    /// `until` the first of them is over.
     Conflict {
         from: u32,
         until: u32,

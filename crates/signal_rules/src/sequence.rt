@@ -23,10 +23,9 @@ pub fn has_sequence(set: &TimingSet, n: SeqNo) -> bool
     false
 }
 
-/// V7, of `sequenceData` of all rings. The phases are those of the set.
-///
-/// The first phase that stands where it should not, ring by ring in the order of their rows, and
-/// else the first one that does not stand once where it should.
+/// The reason that breaks V7, if any: the first phase in the row of a ring, ring by ring, that is
+/// not in the set or not of that ring; else the first of the phases, which are those of the set,
+/// that does not stand exactly once in the row of its ring.
 #[tactic(auto, using(crate::proofs::Cases::first_past, crate::proofs::Cases::first_here))]
 pub(crate) fn sequence_reason(set: &TimingSet, phases: &[PhaseNo], n: SeqNo) -> Option<Reason>
     requires { phases.now ≡ set_has.phases set.now }
@@ -38,7 +37,7 @@ pub(crate) fn sequence_reason(set: &TimingSet, phases: &[PhaseNo], n: SeqNo) -> 
     }
 }
 
-/// The first phase that stands in the row of a ring and is not of that ring.
+/// The first phase in the row of a ring, ring by ring, that is not in the set or not of that ring.
 fn misplaced_reason(set: &TimingSet, n: SeqNo) -> Option<Reason>
     ensures { result ≡ first_true (flat_map (row_cases set.now n) ring_numbers) }
 {
@@ -50,7 +49,7 @@ fn misplaced_reason(set: &TimingSet, n: SeqNo) -> Option<Reason>
     None
 }
 
-/// The first such phase in the row of one ring.
+/// The first phase in the row of this ring that is not in the set, or not of the ring.
 fn misplaced_in(set: &TimingSet, n: SeqNo, ring: RingNo) -> Option<Reason>
     ensures { result ≡ first_true (row_cases set.now n ring) }
 {
@@ -62,7 +61,8 @@ fn misplaced_in(set: &TimingSet, n: SeqNo, ring: RingNo) -> Option<Reason>
     None
 }
 
-/// A phase in the row of a ring is of that ring.
+/// Why a phase does not belong in the row of a ring, if so: it is not in the set, or of another
+/// ring.
 fn place_reason(set: &TimingSet, ring: RingNo, phase: PhaseNo) -> Option<Reason>
     ensures { result ≡ first_true (place_cases ring phase (phase_at set.now phase)) }
 {
@@ -89,7 +89,7 @@ fn not_once(set: &TimingSet, phases: &[PhaseNo], n: SeqNo) -> Option<Reason>
     None
 }
 
-/// A phase of the set stands exactly once in the row of its ring.
+/// Why a phase of the set breaks V7, if so: it does not stand exactly once in the row of its ring.
 fn once_reason(set: &TimingSet, n: SeqNo, p: PhaseNo) -> Option<Reason>
     ensures { result ≡ first_true (once_cases set.now n p (phase_at set.now p)) }
 {

@@ -9,7 +9,8 @@ use crate::violation::Subject;
 use signal_records::{NoMemory, Row, TimingSet};
 use std::alloc::Global;
 
-/// Phases, sequences, split rows and patterns, each by ascending number.
+/// The subjects of a set: its phases, its sequences that have a row, its split rows and its
+/// patterns, each by ascending number. `NoMemory` means that a growth was really refused.
 pub fn subjects_of(alloc: Global, set: &TimingSet) -> Result<Vec<Subject>, NoMemory>
     ensures { IfOk result (λ found. found.items ≡ subjects set.now) }
 {
@@ -23,7 +24,7 @@ pub fn subjects_of(alloc: Global, set: &TimingSet) -> Result<Vec<Subject>, NoMem
     Ok(subjects)
 }
 
-/// The numbers of rows are read, so that their ranges are known.
+/// Reads the numbers in the keys of rows, so that a proof knows their ranges.
 fn read_numbers(rows: &[Row])
     ensures { list_all is_within rows.now ≡ true }
 {
@@ -53,7 +54,7 @@ fn read_number(row: &Row)
     }
 }
 
-/// The subjects of the rows of a kind, which a key's `kind` tells.
+/// Adds the subject of each row of a kind: 1 for phases, 3 for split rows, 4 for patterns.
 fn add_kind(rows: &[Row], kind: u32, subjects: &mut Vec<Subject>) -> Result<(), NoMemory>
     ensures { OnOk result (subjects.new.items
         ≡ subjects.old.items ++ flat_map (of_kind kind) rows.now) }
@@ -66,7 +67,8 @@ fn add_kind(rows: &[Row], kind: u32, subjects: &mut Vec<Subject>) -> Result<(), 
     Ok(())
 }
 
-/// What a row is judged as: the rows of a sequence together, each other one alone.
+/// The subject that a row is judged as: the rows of a sequence are one, and each other row is its
+/// own.
 pub fn subject_of(row: &Row) -> Subject
     ensures { result ≡ subject_of row.now }
 {
@@ -78,7 +80,8 @@ pub fn subject_of(row: &Row) -> Subject
     }
 }
 
-/// The sequences that have a row, each once: its rows stand one after the other.
+/// Adds each sequence that has a row, once. Rows are in the order of their keys, so that those of
+/// a sequence stand one after the other.
 fn add_sequences(rows: &[Row], subjects: &mut Vec<Subject>) -> Result<(), NoMemory>
     ensures { OnOk result (subjects.new.items ≡ subjects.old.items
         ++ map (λ n. Subject.Seq n) (sequences_after 0 rows.now)) }

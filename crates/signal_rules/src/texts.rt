@@ -1,4 +1,4 @@
-//! How reasons are written.
+//! How violations are written with their reasons.
 
 use crate::need::NeedPart;
 use crate::reason::{
@@ -24,7 +24,7 @@ impl fmt::Display for Tenths {
     }
 }
 
-/// Writes the interval and its limit.
+/// Writes the interval and its limit, as `yellow is 2.9 s, not 3.0 to 6.0 s`.
 impl fmt::Display for IntervalReason {
     ghost use Rattle.std.specs.Prelude.{Some};
     ghost use Rattle.signal_rules.specs.Texts.{interval_text};
@@ -45,7 +45,7 @@ impl fmt::Display for IntervalReason {
     }
 }
 
-/// Writes what is too short or too long.
+/// Writes what is too short or too long, as `walk is 6 s, less than 7 s`.
 impl fmt::Display for CrossingReason {
     ghost use Rattle.std.specs.Prelude.{Some};
     ghost use Rattle.signal_rules.specs.Texts.{crossing_text};
@@ -92,7 +92,7 @@ impl fmt::Display for CrossingReason {
     }
 }
 
-/// Writes the mate and what it lacks.
+/// Writes the mate and why it is none, as `mate 9 is not in the plan`.
 impl fmt::Display for MateReason {
     ghost use Rattle.std.specs.Prelude.{Some};
     ghost use Rattle.signal_rules.specs.Texts.{mate_text};
@@ -110,7 +110,7 @@ impl fmt::Display for MateReason {
     }
 }
 
-/// Writes the phase and where it stands.
+/// Writes the phase and what is wrong with its place, as `phase 8 is missing in ring 2`.
 impl fmt::Display for SequenceReason {
     ghost use Rattle.std.specs.Prelude.{Some};
     ghost use Rattle.signal_rules.specs.Texts.{sequence_text};
@@ -154,7 +154,7 @@ impl fmt::Display for NeedPart {
     }
 }
 
-/// Writes the time and what it does not fit.
+/// Writes the time and what it does not fit, as `5 s, and omitted`, or the phase that is missing.
 impl fmt::Display for SplitReason {
     ghost use Rattle.std.specs.Prelude.{Some};
     ghost use Rattle.signal_rules.specs.Texts.{split_text};
@@ -184,7 +184,7 @@ impl fmt::Display for SplitReason {
     }
 }
 
-/// Writes what the pattern lacks, or what its rings time.
+/// Writes what the pattern lacks, or which of its times do not fit, as `offset 60 s, cycle 60 s`.
 impl fmt::Display for PatternReason {
     ghost use Rattle.std.specs.Prelude.{Some};
     ghost use Rattle.signal_rules.specs.Texts.{pattern_text};
@@ -230,7 +230,7 @@ impl fmt::Display for PatternReason {
     }
 }
 
-/// Writes the reason alone.
+/// Writes the reason without its violation, as `offset 60 s, cycle 60 s`.
 impl fmt::Display for Reason {
     ghost use Rattle.std.specs.Prelude.{Some};
     ghost use Rattle.signal_rules.specs.Texts.{reason_text};

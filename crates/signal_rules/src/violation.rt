@@ -15,25 +15,28 @@ pub enum Rule {
     V2,
     /// The walk interval of a phase is at least 7 seconds, or 4 where a short one is allowed.
     V3,
-    /// The clearance is enough to cross at 3.5 feet a second.
+    /// Pedestrian clearance, yellow and red are enough to cross at 3.5 feet a second.
     V4,
-    /// Walk and clearance are enough to cross from the setback at 3 feet a second.
+    /// Walk, pedestrian clearance, yellow and red are enough to cross from the setback at 3 feet a
+    /// second.
     V5,
     /// Each mate of a phase is in the set, is in another ring, and lists the phase.
     V6,
     /// Each phase stands exactly once in a sequence, in the row of its ring, and nothing else does.
     V7,
-    /// The time of a split row fits its mode and the need of its phase.
+    /// The phase of a split row is in the set. Where it is omitted, it has no time and is not
+    /// coordinated, and else it has the time that it needs.
     V8,
-    /// A pattern's sequence has a row, and its split number has one for each phase.
+    /// A pattern's sequence has a row, and its split number has one for each phase of the set.
     V9,
     /// A pattern's offset is less than its cycle.
     V10,
-    /// A pattern's split number has a coordinated phase.
+    /// A pattern's split number coordinates a phase of the set.
     V11,
-    /// The splits of each ring sum up to the cycle.
+    /// The splits of each ring that has a phase sum up to the cycle; judged where V9 holds.
     V12,
-    /// Phases that time together list each other, at each second of the cycle.
+    /// Phases that time together list each other, at each second of the cycle; judged where V9 and
+    /// V12 hold.
     V13,
     /// The walk of a phase leads its green by no time, or by 3 seconds or more, at most the walk.
     V14,
@@ -58,7 +61,7 @@ pub struct Violation {
 }
 
 impl Rule {
-    /// 1 to 14.
+    /// The number of the rule: 1 to 14.
     pub fn number(self) -> u32
         ensures { result ≡ number_of self }
     {

@@ -14,5 +14,5 @@ pub use number::{
 pub use numerals::numeral;
 pub use words::Words;
 
-/// A growth was refused.
+/// The error of a growth of memory that was really refused.
 pub use std::alloc::AllocError as NoMemory;

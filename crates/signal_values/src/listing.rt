@@ -2,7 +2,7 @@
 
 use std::marker::Model;
 
-/// Things in their order, seen as a list.
+/// Things in their order, kept in a `Vec`. They are seen as the list of them.
 #[derive(Drop)]
 pub struct Listing<T> {
     list: Vec<T>,
@@ -19,7 +19,7 @@ impl<T> Model for Listing<T> {
 impl<T> Listing<T> {
     ghost use Rattle.std.specs.Prelude.{◌≡◌};
 
-    /// What a `Vec` holds, without memory.
+    /// The things of a `Vec`, in its order. It takes no memory.
     pub fn new(list: Vec<T>) -> Listing<T>
         ensures { result ≡ list.items }
     {
@@ -33,7 +33,7 @@ impl<T> Listing<T> {
         self.list.as_slice()
     }
 
-    /// The `Vec` of them, without memory.
+    /// The things as a `Vec`, in order. It takes no memory.
     pub fn into_vec(self) -> Vec<T>
         ensures { result.items ≡ self }
     {

@@ -8,7 +8,8 @@ ghost use Rattle.signal_values.specs.Numerals.{is_numeral, number_spelled};
 
 use crate::number::Number;
 
-/// The number that digits spell, or the greatest `u32` where it is greater.
+/// The number that decimal digits spell, 0 for none, or `u32::MAX` where it is greater. There is no
+/// answer where a byte is no digit.
 fn digits(bytes: &[u8]) -> Option<u32>
     ensures none { IfNone result (list_all is_ascii_digit bytes.now ≡ false) }
     ensures some { IfSome result (λ n. list_all is_ascii_digit bytes.now ≡ true) }
@@ -24,7 +25,8 @@ fn digits(bytes: &[u8]) -> Option<u32>
     Some(n)
 }
 
-/// The number that a numeral spells, or the greatest `u32` where it is greater.
+/// The number that a numeral spells, decimal digits without a leading zero, or `u32::MAX` where it
+/// is greater. There is no answer where the bytes are no numeral.
 pub fn numeral(bytes: &[u8]) -> Option<u32>
     ensures none { IfNone result (is_numeral bytes.now ≡ false) }
     ensures some { IfSome result (λ n. is_numeral bytes.now ≡ true) }
@@ -38,8 +40,8 @@ pub fn numeral(bytes: &[u8]) -> Option<u32>
 }
 
 impl<Of, const LOW: u32, const HIGH: u32> Number<Of, LOW, HIGH> {
-    /// The number that a text spells in decimal digits without a leading zero, if it is in the
-    /// range.
+    /// The number that a text spells in decimal digits without a leading zero, if it is from `LOW`
+    /// to `HIGH`.
     #[tactic(auto, unfolding(crate::specs::Numerals::number_spelled))]
     pub fn parse(text: &[u8]) -> Option<Self>
         requires { HIGH < 2 ^ 32 - 1 }
