@@ -10,7 +10,7 @@ use Rattle.office_desk_cabinet.specs.declared.registered.Registered.{Registered}
 use Rattle.office_desk_cabinet.specs.declared.registered.Registered.TheVariants.{Same, Refused}
 use Rattle.office_desk_cabinet.specs.Registers.{line_told, rows_told}
 
--- to tell this decision may fail for want of memory: it adds records, or was itself refused memory
+-- what is told of this decision may be refused memory: it adds records, or was itself refused memory
 abbrev pub WantsMemory : Result Recorded CabinetRefusal → Type 0
 WantsMemory (Ok (recorded.Added changes)) = Unit {0}
 WantsMemory (Ok recorded.Same) = ⊥

@@ -10,9 +10,9 @@ use office_tables_shelf::register::{RegisterKey, RegisterRecord};
 use office_tables_shelf::shelf::{Shelf, ShelfFault};
 use std::alloc::Global;
 
-/// The record under a key of the register once the pending rows are written, if there is one. What
-/// they put there is not read. The fault is `Damaged` where the row that is read is no record,
-/// `Store` where the database refused, and `NoMemory` where a growth was refused.
+/// The record under a key of the register once the pending rows are written, if there is one. The
+/// stored row is read only where they put none there. The fault is `Damaged` where that row is no
+/// record, `Store` where the database refused, and `NoMemory` where a growth was refused.
 pub fn record_at<S: Shelf>(
     shelf: &mut S,
     alloc: Global,

@@ -1,4 +1,4 @@
--- What a step of the transaction on an intersection's timing is answered and writes.
+-- How a step of the transaction on an intersection's timing is answered, and what it writes.
 use Rattle.std.specs.Prelude.{◌≡◌, ◌≢◌, ℕ, List, [], ◌∷◌, map, Result, Ok, Err}
 use Rattle.signal_records.specs.declared.record.Change.TheVariants.{Put, Remove}
 use Rattle.draft_core.specs.Moves.{next_holder}
@@ -44,7 +44,7 @@ pub record WritesMove (id : ℕ) (clerk : List ℕ) (found : Found) (move : Move
   pub rows : changes
       ≡ PutIntersection id (moved_row found clerk move) ∷ row_changes_of id move.changes
 
--- to answer this decision may fail for want of memory: it is a move, or was itself refused memory
+-- the answer to this decision may be refused memory: it is a move, or was itself refused memory
 abbrev pub WantsMemory : Result Move DraftRefusal → Type 0
 WantsMemory (Ok move) = Unit {0}
 WantsMemory (Err refusal) = refusal ≡ NoMemory

@@ -49,9 +49,9 @@ fn answer_add(
     Ok(decided)
 }
 
-/// Decides the command AddIntersection, with the days from one inspection to the next. The fault is
-/// `Damaged` where the row of that number is no record, `Store` where the database refused, and
-/// `NoMemory` where a growth was refused.
+/// Decides the command AddIntersection; `interval` is the days from one inspection to the next.
+/// The fault is `Damaged` where the row of that number is no record, `Store` where the database
+/// refused, and `NoMemory` where a growth was refused.
 pub fn decide_add<S: Shelf>(
     shelf: &mut S,
     alloc: Global,

@@ -56,7 +56,7 @@ fn state_reply(id: InterId, row: IntersectionRow, rows: usize, verify: Verdict) 
 }
 
 /// The verdict on the draft of an intersection of which this row was read. Only in state Done is
-/// the plan read and judged; else it is `NotDone`.
+/// the plan read and judged; in any other the verdict is `NotDone`.
 fn verdict_at<S: Shelf>(
     shelf: &mut S,
     alloc: Global,
@@ -83,7 +83,8 @@ fn verdict_at<S: Shelf>(
 
 /// Decides the query State about an intersection; `UnknownIntersection` where there is none. The
 /// fault is `Damaged` where a row that is read is no record, `Store` where the database refused,
-/// and `NoMemory` where a growth was refused. The committed rows are read only in state Done.
+/// and `NoMemory` where a growth was refused. The committed rows are counted, but read only in
+/// state Done.
 pub fn decide_state<S: Shelf>(
     shelf: &mut S,
     alloc: Global,

@@ -4,8 +4,8 @@ use Rattle.csv.specs.Reading.{records, default_config, strip_bom}
 use Rattle.csv.specs.Writing.{default_writer, row_text, with_flexible}
 use Rattle.csv.specs.declared.writer.WriterBuilder.{WriterBuilder}
 
--- the records that the crate csv reads with its default settings, except that a byte order mark is taken off first, no record is a header,
--- and records may differ in length
+-- the records that the crate csv reads with its default settings, except that no record is a header and records may differ in length;
+-- it takes off a byte order mark first
 abbrev pub csv_records : List ℕ → List (List (List ℕ))
 csv_records text = records default_config (strip_bom text)
 

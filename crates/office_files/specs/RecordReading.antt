@@ -11,7 +11,7 @@ use Rattle.cabinet_core.specs.Part.{is_code_byte}
 use Rattle.cabinet_core.specs.declared.command.RecordCommand.{RecordCommand}
 use Rattle.cabinet_core.specs.declared.command.RecordCommand.TheVariants as command
 
--- which of the first days from 1970-01-01 on, so many, a text spells as `YYYY-MM-DD`
+-- which of the first so many days from 1970-01-01 on a text spells as `YYYY-MM-DD`
 unfoldable pub day_among : ℕ → List ℕ → Option ℕ
 day_among zero text = None
 day_among (suc n) text = if bytes_eq text (day_text n) then Some n else day_among n text

@@ -96,8 +96,8 @@ abbrev pub ServesAsMany : ℕ → List Connected → Result ⊤ ServeStop → Ty
 ServesAsMany count served result =
     MatchResult result (λ _. length served ≡ count) (λ _. length served ≤ count)
 
--- the source was called only while a request of the connection was awaited, not again after a call that failed or gave no byte, and at most
--- once for each byte of the longest requests, one more of these than the limit, and once more
+-- the source was called only while a request of the connection was awaited, not again after a call that failed or gave no byte; and in all at most
+-- once for each byte that the limit's requests and one more can have, and once more
 pub record AsksConnection (start end : Ends) : Type 0 where
   pub asks : OnlyAsks (λ told. told) connection_limit start.source end.source
   pub reads : end.source.counts.calls ≤ longest_request * (connection_limit + 1) + 1

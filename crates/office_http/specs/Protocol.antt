@@ -54,7 +54,7 @@ abbrev pub WritesRead :
 WritesRead (Ok asked) before held kept old new = WritesAsked before asked.command held kept old new
 WritesRead (Err fault) before held kept old new = (kept ≡ held) × (new ≡ old)
 
--- a request wrote no more than may the command or the fault that it is read as
+-- a request wrote no more than the command or the fault that it is read as may write
 abbrev pub WritesRequest :
     Office → PlainRequest → (held kept : Content) → (old new : WriteCounts) → Type 0
 WritesRequest before request = WritesRead (read_of request) before

@@ -76,8 +76,7 @@ fn serve_fault<Tools, M: Machine<Tools>, W: Sink>(
     }
 }
 
-/// How many requests may follow a request that was one of `left` that might come: none after the
-/// last.
+/// How many requests may follow one, where `left` might come before it came: none after the last.
 fn left_after(left: u32, last: bool) -> u32
     ensures left { result ≡ if last then 0 else left - 1 }
     ensures fewer { result ≤ left - 1 }

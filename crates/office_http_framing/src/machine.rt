@@ -61,8 +61,8 @@ pub trait Machine<Tools> {
     ghost protocol: { Protocol State };
 
     /// Decides the request, builds its whole answer, and then makes its changes; or makes none.
-    /// Where a failure has shut what the machine keeps its state on, it is `Unavailable`, or gives
-    /// an answer that is right from any state.
+    /// Where a failure has shut what the machine keeps its state on, the machine is `Unavailable`,
+    /// or gives an answer that is right from any state.
     fn answer(
         &mut self,
         alloc: Global,

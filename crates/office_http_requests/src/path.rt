@@ -36,7 +36,7 @@ fn after_slash(path: &[u8]) -> &[u8]
 }
 
 /// A segment of a path, counted from 0, which is what stands before the first slash; empty where
-/// the path has no such.
+/// the path has fewer.
 pub(crate) fn segment(path: &[u8], index: usize) -> &[u8]
     ensures { result.now ≡ segment_of index path.now }
 {

@@ -1,5 +1,5 @@
-//! The records that bodies describe. Keys are judged by name, each before memory is taken, so that
-//! want of memory is reported in place of no fault.
+//! The records that bodies describe. All keys are judged, in the order of their names, before
+//! memory is taken, so that want of memory is reported in place of no fault.
 ghost use Rattle.std.specs.Prelude.{IsOk};
 ghost use Rattle.serde_json.specs.View.{view};
 ghost use Rattle.office_http_requests.specs.FaultsInOrder.{Gives, WantsMemoryOnlyIf};

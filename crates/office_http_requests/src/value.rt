@@ -18,7 +18,7 @@ pub(crate) fn number_within<Of, const LOW: u32, const HIGH: u32>(
     Number::new(n)
 }
 
-/// The words that a text is, where it is such and has at most `MAX` bytes. It takes no memory.
+/// The text, where it is words of at most `MAX` bytes. It takes no memory.
 pub(crate) fn words_parsed<const MAX: usize>(text: &[u8]) -> Option<&str>
     ensures parsed { option_map (λ words. words.now) result ≡ words_of MAX text.now }
     ensures words { IfSome result (λ words. AreWords MAX words.now) }

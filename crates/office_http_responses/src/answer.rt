@@ -30,8 +30,9 @@ pub fn damaged() -> &'static [u8]
     DAMAGED
 }
 
-/// The whole HTTP answer that tells a reply. In CSV is only what shows a timing set or a cabinet;
-/// any other reply is in JSON, whatever the form. The error means that memory was refused.
+/// The whole HTTP answer that tells a reply in a form. Only what shows the committed rows or the
+/// cabinet of an intersection can be in CSV; any other reply is in JSON, whatever the form. The
+/// error means that memory was refused.
 pub fn answer_of(alloc: Global, reply: &Reply, form: Form) -> Result<Vec<u8>, AllocError>
     ensures { IfOk result (λ answer. answer.items ≡ answer_bytes reply.now form) }
 {

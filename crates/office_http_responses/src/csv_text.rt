@@ -1,4 +1,4 @@
-//! CSV texts, each as the one key of a JSON object.
+//! CSV texts, each under the one key of a JSON object.
 ghost use Rattle.std.specs.Prelude.{IsUtf8};
 ghost use Rattle.office_files.specs.Records.{records_csv_text};
 ghost use Rattle.office_files.specs.Timing.{timing_csv_text};

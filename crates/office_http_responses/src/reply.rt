@@ -160,7 +160,7 @@ fn write_reply(alloc: Global, to: &mut Writer, reply: &Reply) -> Result<(), Allo
     }
 }
 
-// Writes a reply in CSV where it shows a timing set or a cabinet, and any other in JSON.
+// Writes what the query Timing or the query Cabinet shows in CSV, and any other reply in JSON.
 fn write_in_csv(alloc: Global, to: &mut Writer, reply: &Reply) -> Result<(), AllocError>
     ensures { AddsTree result to.old to.new (csv_tree_of reply.now) }
 {

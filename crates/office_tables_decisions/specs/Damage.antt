@@ -29,7 +29,7 @@ IsImport (command.Import records) = Unit {0}
 IsImport _ = ⊥
 
 -- the reply to a command that reads a row that is no record: Damaged, or Unavailable if memory or the shelf refused before; an import may also be
--- refused for a record before that row's
+-- refused for a record before the one that reads that row
 abbrev pub IsTurnedAway : Command → Reply → Type 0
 IsTurnedAway command reply = ((reply ≡ Refused refusal.Damaged) ⊎ (reply ≡ Refused refusal.Unavailable)) ⊎ (IsImport command × IsRefused reply)
 

@@ -15,7 +15,7 @@ use Rattle.office_tables_shelf.specs.declared.rows.IntersectionRow.{Intersection
 use Rattle.office_tables_shelf.specs.RegisterStands.{RegisterStands}
 use Rattle.office_machine.specs.Office.{Office, Intersection, Version, IsSoundIn, side_at, today}
 
--- what the row of an intersection holds: its name, its interval, its revision and who owns its draft
+-- what the row of an intersection holds: its name, its interval, its revision, and the owner and the stage of its draft, if it has one
 abbrev pub row_of : Intersection → IntersectionRow
 row_of i = record { name = i.name; interval = i.interval; revision = i.timing.revision; holder = option_map holder_of i.timing.draft }
 

@@ -75,7 +75,7 @@ AreRowsPlaced = AllByRecursion (λ e. IsRowAt e.0.key e.1)
 abbrev pub AreLeftPlaced : List (Place × Option Row) → Type 0
 AreLeftPlaced = AllByRecursion (λ e. IsLeftAt e.0.key e.1)
 
--- the change that leaves this row at a key, or removes the row there where it leaves none
+-- the change that puts this row at a key, or removes the row there where none is given
 abbrev pub change_at : Key → Option Row → Change
 change_at key (Some row) = Put row
 change_at key None = Remove key

@@ -129,7 +129,7 @@ pub(crate) fn drop_drafts(rows: &mut BTreeMap<Place, Option<Row>>, inter: InterI
     rows.retain(|place, _| place.inter != inter);
 }
 
-/// The change that leaves this row at a key, or removes the row there where it leaves none.
+/// The change that puts this row at a key, or removes the row there where none is given.
 fn change_at(key: Key, left: &Option<Row>) -> Result<Change, NoMemory>
     ensures { IfOk result (λ change. change ≡ left_at key left.now) }
 {

@@ -18,7 +18,7 @@ pub struct Place {
 }
 
 impl Place {
-    /// The bounds of all places of an intersection in a plan: phase 1 to pattern 48, with both.
+    /// The bounds of all places of an intersection in a plan: phase 1 to pattern 48, both included.
     pub(crate) fn all_of(inter: InterId) -> (Bound<Place>, Bound<Place>)
         ensures { result ≡ all_places inter }
     {
@@ -51,7 +51,7 @@ pub struct RecordPlace {
 
 impl RecordPlace {
     /// The bounds of all places of an intersection for inspections, and for orders: number 1 to
-    /// 999,999, with both.
+    /// 999,999, both included.
     pub(crate) fn all_of(inter: InterId) -> (Bound<RecordPlace>, Bound<RecordPlace>)
         ensures { result ≡ all_records inter }
     {
@@ -99,7 +99,7 @@ pub struct LinePlace {
 
 impl LinePlace {
     /// The bounds of all places of an intersection for used parts: line 1 of order 1 to line 99 of
-    /// order 999,999, with both.
+    /// order 999,999, both included.
     pub(crate) fn all_of(inter: InterId) -> (Bound<LinePlace>, Bound<LinePlace>)
         ensures { result ≡ all_lines inter }
     {

@@ -28,7 +28,7 @@ impl Kept for Inspection {
 
     fn place(&self, inter: InterId) -> Result<RecordPlace, NoMemory> {
         inspection_is_within(self);
-        // shows the range of the intersection's number, which the place of an inspection asks for
+        // shows the range of the intersection's number, without which no inspection stands there
         let _inter = inter.get();
         let number = self.number;
         Ok(RecordPlace { inter, number })
@@ -53,7 +53,7 @@ impl Kept for Order {
 
     fn place(&self, inter: InterId) -> Result<RecordPlace, NoMemory> {
         order_is_within(self);
-        // shows the range of the intersection's number, which the place of an order asks for
+        // shows the range of the intersection's number, without which no order stands there
         let _inter = inter.get();
         let number = self.number;
         Ok(RecordPlace { inter, number })

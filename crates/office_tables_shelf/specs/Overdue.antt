@@ -38,7 +38,7 @@ seen_on days e = seen_row e.0 e.1 (last_day_in days e.0)
 abbrev pub IsSeen : Content → ℕ × IntersectionRow → Seen → Type 0
 IsSeen tables e seen = (inspections : List Inspection) → ListsInspections tables e.0 inspections → seen ≡ seen_row e.0 e.1 (latest_day inspections)
 
--- each is an intersection as it is seen, for the row at the same place of the list
+-- there is one for each row, at the same place: the intersection of that row as it is seen
 abbrev pub AreSeenOf : Content → List (ℕ × IntersectionRow) → List Seen → Type 0
 AreSeenOf tables [] [] = Unit {0}
 AreSeenOf tables (e ∷ rows) (one ∷ seen) = IsSeen tables e one × AreSeenOf tables rows seen

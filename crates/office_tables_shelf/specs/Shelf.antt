@@ -1,4 +1,4 @@
--- What the contracts of a shelf say: what a call that reads keeps, and which intersections and rows of plans it answers.
+-- What the contracts of a shelf say: what a call that reads keeps, and which intersections and rows of plans it gives.
 use Rattle.std.specs.Prelude.{◌≡◌, ℕ, List, map, length, Option, IsSome, Result, Ok, Err, ⊤}
 use Rattle.std.specs.Int.{IsInRange}
 use Rattle.std.specs.Option.{option_map}

@@ -55,9 +55,9 @@ impl From<NoMemory> for ShelfFault {
 /// Two things are told apart: the disk has returned what was written (`is_clean`), and no failure
 /// of it has shut the database besides (`is_honest`). A read that answers or tells a damaged row,
 /// and an `apply` that made a change, found the database open and left it so (`open`): what they
-/// say rests on a clean disk alone. A database that is shut stays shut, and refuses each later
-/// call of these. A refusal leaves the content where the database is still open. What a crash may
-/// leave rests on the disk alone.
+/// say rests on a clean disk alone. A database that is shut stays shut, and refuses each later such
+/// call. A refusal leaves the content where the database is still open. What a crash may leave
+/// rests on the disk alone.
 pub trait Shelf {
     /// What is stored, whether or not it is a record.
     ghost content: { Self → Content };
@@ -324,8 +324,8 @@ pub trait Shelf {
             (written self.new ≡ counts_after (written self.old) changes.now) }
         ensures written_err { OnErr result (written self.new ≡ written self.old) }
 
-        // A crash leaves what it could leave before, or the whole result; once changes were made,
-        // it leaves the result alone.
+        // A crash leaves what it could leave before, or the whole result; and only the result once
+        // changes were made.
         ensures crash { (tables : Content) → may_leave self.new tables →
             may_leave self.old tables
             ⊎ (is_honest self.old × (tables ≡ changed_by (content self.old) changes.now)) }
