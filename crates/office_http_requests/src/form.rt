@@ -4,6 +4,6 @@
 #[derive(Clone, Copy)]
 pub enum Form {
     Json,
-    /// A text of comma-separated values, as the one key of a JSON object.
+    /// Comma-separated values, as a text under the one key of a JSON object.
     Csv,
 }

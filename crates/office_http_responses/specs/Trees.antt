@@ -119,7 +119,7 @@ tree_of (Refused why) = refusal_tree why
 abbrev pub csv_tree : List ℕ → Data
 csv_tree csv = keys ((codes "csv", text csv) ∷ [])
 
--- the tree of a reply in CSV, which a timing set and a cabinet have; any other is as in JSON
+-- the tree of a reply in CSV, which Timing and Cabinet have; any other reply, Draft too, is as in JSON
 abbrev pub csv_tree_of : Reply → Data
 csv_tree_of (Timing shown) = csv_tree (timing_csv_text shown.rows)
 csv_tree_of (Cabinet shown) = csv_tree (records_csv_text shown.id shown.view)
