@@ -1,4 +1,4 @@
--- One step of the register: what becomes of a command, and the register after it. That the command's intersection is there, the office tests.
+-- One step of the register: what becomes of a command, and the register after it. The office tests that the command's intersection is there.
 use Rattle.std.specs.Prelude.{ℕ, Option, Some, None}
 use Rattle.std.specs.FinMap.{get, insert}
 use Rattle.cabinet_core.specs.Cabinet.{Line, added, same, refused, inspect_line, open_line, use_line, close_line, receive_line, record_of, with_closing}

@@ -28,7 +28,7 @@ pub enum CabinetRefusal {
     LineDiffers,
     /// The order was closed on another day or by another clerk.
     CloseDiffers,
-    /// A growth was refused. It comes only where a record would be added.
+    /// A growth was refused. It comes only where the command would change the register.
     NoMemory,
 }
 

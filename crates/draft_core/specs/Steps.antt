@@ -101,8 +101,8 @@ pub record StepWrites (step : Step) (timing : Timing) (move : Move) : Type 0 whe
   pub committed : timing_writes move.changes ≤ most_committed step (length timing.delta)
   pub drafted : draft_writes move.changes ≤ most_drafted step (length timing.delta)
 
--- A STEP IS TAKEN. The decision follows the step's line of the table, for whichever timing side what
--- the step read is part of, and whichever draft rows represent that side's draft.
+-- A STEP IS TAKEN. The decision follows the step's line of the table, whatever the timing side of which
+-- the step read a part, and whichever draft rows represent that side's draft.
 pub record Takes (step : Step) (timing : Timing) (clerk : List ℕ)
     (result : Result Move DraftRefusal) : Type 0 where
   pub line : (rows : RowsByKey) (side : TimingSide) → Stands (reach_of step) timing rows side

@@ -18,13 +18,13 @@ abbrev pub cabinet_title : ℕ → List ℕ → ℕ → List ℕ
 cabinet_title id name interval =
     codes "Cabinet " ++ decimal id ++ codes ": " ++ name ++ codes "\nInterval " ++ decimal interval ++ codes " days\n"
 
--- the line of the day on which the next inspection is due, so many days after the latest one, or
+-- the line that says on which day the next inspection is due, so many days after the latest one, or
 -- that there never was one
 abbrev pub due_line : ℕ → Option ℕ → List ℕ
 due_line interval None = codes "Never inspected\n"
 due_line interval (Some latest) = codes "Next inspection due " ++ day_text (latest + interval) ++ codes "\n"
 
--- the cells of an inspection or of the opening of an order,
+-- the cells of an inspection or of the opening of an order:
 -- `     1  2026-03-01  Ana           Fan cleaned`
 abbrev pub record_cells : (number day : ℕ) → (clerk text : List ℕ) → Row
 record_cells number day clerk text = Number 6 number ∷ Day day ∷ Word 12 clerk ∷ Word 0 text ∷ []

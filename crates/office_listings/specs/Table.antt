@@ -56,7 +56,7 @@ columns_text heading rows = heading ++ flat_map line_text rows ++ codes "Count "
 
 -- ---- as CSV
 
--- a cell as the field of a record: its number, its word, which may be empty, or its day, without spaces around it
+-- a cell as the field of a record: its number, its word, which may be empty, or its day, with no spaces added
 abbrev pub field_text : Cell → List ℕ
 field_text (Number width n) = decimal n
 field_text (First width word) = word
@@ -71,7 +71,7 @@ field_at cells place = field_text (get_or cells place (Word 0 []))
 abbrev pub record_fields : List ℕ → Row → List (List ℕ)
 record_fields order cells = map (field_at cells) order
 
--- one record was added, which has the cells of a row in this order; its fields are texts, as those of the others are
+-- one record was added, which has the cells of a row in this order; where all fields were texts, all still are
 abbrev pub AddsRecord : List ℕ → Row → (old new : List Fields) → Type 0
 AddsRecord order cells old new =
     (map fields_of new ≡ map fields_of old ++ record_fields order cells ∷ [])

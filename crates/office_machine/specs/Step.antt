@@ -63,7 +63,7 @@ abbrev pub moved : Office → ℕ → Intersection → Result TimingSide DraftRe
 moved office id i (Ok next) = (moved_to next, with_intersection office id (record i { timing = next }))
 moved office id i (Err why) = (Refused (refusal_of_draft why), office)
 
--- a step of the transaction on an intersection, by its line of the table; where no intersection is there, it is UnknownIntersection
+-- a step of the transaction on an intersection, by its line of the table; where no intersection is there, the reply is UnknownIntersection
 abbrev pub transacted : Office → ℕ → (TimingSide → Result TimingSide DraftRefusal) → Option Intersection → Reply × Office
 transacted office id line None = (Refused refusal.UnknownIntersection, office)
 transacted office id line (Some i) = moved office id i (line i.timing)

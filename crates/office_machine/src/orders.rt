@@ -22,8 +22,8 @@ pub struct NamedOrder {
     pub listed: OpenOrder,
 }
 
-/// Appends the open orders of a cabinet, in its order. `NoMemory` means that a growth was refused;
-/// some may be appended by then.
+/// Appends the open orders of a cabinet, in the order of their numbers. `NoMemory` means that a
+/// growth was refused; some may be appended by then.
 pub fn add_open_orders(found: &mut Vec<OpenOrder>, cabinet: &CabinetShown) -> Result<(), NoMemory>
     ensures { OnOk result (found.new.items ≡ found.old.items ++ open_orders cabinet.now) }
 {
@@ -72,8 +72,9 @@ pub fn add_named(
     Ok(())
 }
 
-/// Appends the open orders of a cabinet, in its order, each with the number and the name of its
-/// intersection. `NoMemory` means that a growth was refused; some may be appended by then.
+/// Appends the open orders of a cabinet, in the order of their numbers, each with the number and
+/// the name of its intersection. `NoMemory` means that a growth was refused; some may be appended
+/// by then.
 pub fn add_named_orders(
     found: &mut Vec<NamedOrder>,
     name: &Words<120>,

@@ -124,9 +124,9 @@ impl OverdueList {
 /// What the office answers.
 #[derive(Drop)]
 pub enum Reply {
-    /// The record or the intersection was not there, and is now.
+    /// The record, the closing of an order or the intersection was not there, and is now.
     Added,
-    /// An equal record, or an intersection with the same name and interval, was there.
+    /// An equal record or closing, or an intersection with the same name and interval, was there.
     Same,
     /// A step of the transaction was made, and this is where it stands.
     Moved {

@@ -65,8 +65,8 @@ pub record HasNeitherVersion (trees : Trees) : Type 0 where
   pub not_current : version_in trees ≢ Some current_version
   pub not_first : version_in trees ≢ Some first_version
 
--- rows that a query of the version shows: none, or a first one that shows a number other than 2,
--- which is today's version, and 1
+-- rows that a query of the version shows: none, or a first one that shows a number which is neither
+-- today's version, 2, nor 1
 abbrev pub AreNeither : List Row → Type 0
 AreNeither [] = Unit {0}
 AreNeither (row ∷ more) = (n : ℤ) × (column row 0 ≡ Int n) × (n ≢ pos 2) × (n ≢ pos 1)

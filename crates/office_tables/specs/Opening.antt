@@ -84,7 +84,7 @@ module _ {S : Type 0} (g : Ghosts S) where
   abbrev pub IsHonestStore : S → Type 0
   IsHonestStore s = IsCleanStore s × IsTrue (g.view s).is_open
 
-  -- In the store that is left, the last commit stands, if it is open. A crash leaves trees that it
+  -- If the store that is left is open, the last commit stands in it. A crash leaves trees that it
   -- could leave before, or such as the old ones may become.
   pub record IsLeft (conn : Held S) (MayBecome : Trees → Type 0) (left : S) : Type 0 where
     pub clean : doubt (state g conn).is_clean ≤ doubt (g.view left).is_clean

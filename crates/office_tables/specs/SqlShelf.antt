@@ -11,7 +11,7 @@ use Rattle.office_tables_statements.specs.Calls.{IsHonest, IsOffice}
 use Rattle.office_tables_statements.specs.Stored.{content_of}
 use Rattle.office_tables_sql.specs.Version.{AreToday, version_in, current_version}
 
--- what is seen of a shelf: the connection, and how many rows of each table were written over it
+-- what is seen of a shelf: the connection, and how often the rows of each table were written over it
 pub record SqlView (S : Type 0) : Type 0 where
   pub conn : Held S
   pub counts : WriteCounts

@@ -152,8 +152,8 @@ fn have_no_row(eight: &[Moved]) -> bool
 
 /// Why tables are not made anew, by the rows of `office_version` and those of the eight: `Damaged`
 /// where the eight have a row and there is no version, `Version` where another one is stored,
-/// `Store` where what is stored is no number, or the tables are not the office's. None where they
-/// may be made.
+/// `Store` where `office_version` has other columns or stores no number, or the tables are not the
+/// office's. None where they may be made.
 fn refusal(tables: &[Table], version: &[Row], eight: &[Moved]) -> Option<OpenFault>
     ensures made { result ≡ None →
         MayBeMade tables.now version.now (map part_moved eight.now) }

@@ -227,9 +227,10 @@ fn take_tables<S: Alter + Drop>(
 }
 
 /// The database with the tables of the office and today's version. All are made where there are
-/// none, where some are missing, or where no version and no row is stored; those that are there
-/// keep their rows. Where it refuses, `OpenFault` says why, and what is left of the database comes
-/// back, with its last commit as it was.
+/// none, where some are missing or have other numbers, or where no version and no row is stored;
+/// those that are there keep their rows. Where it refuses, `OpenFault` says why, and what is left
+/// of the database comes back with its last commit; after a commit that failed, a crash may also
+/// leave the tables that were to be made.
 pub fn prepare_tables<S: Alter + Drop>(
     alloc: Global,
     conn: Connection<S>,

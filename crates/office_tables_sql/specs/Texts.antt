@@ -11,8 +11,8 @@ pub record SqlTexts : Type 0 where
   pub update : List ℕ
   pub insert : List ℕ
 
--- the texts in SQL find, change and add the row of a table under a key; of the list they say
--- nothing
+-- the texts in SQL find, change and add the row of a table under a key; the text of the list may be
+-- any
 pub record AreTextsOf (t : Table) (texts : SqlTexts) : Type 0 where
   pub finds : IsFindText t texts.find
   pub updates : IsUpdateText t texts.update

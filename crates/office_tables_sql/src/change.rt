@@ -15,7 +15,7 @@ use signal_records::{Change, Row};
 use sqlite::{Alter, Connection, Transaction};
 use std::alloc::Global;
 
-/// Makes one change of a row in a transaction.
+/// Makes one change in a transaction: of one row, or of all draft rows of an intersection.
 fn change_row<S: Alter>(
     alloc: Global,
     tx: &mut Transaction<'_, S>,

@@ -162,7 +162,7 @@ impl Gather<(InterId, Inspection)> for BTreeMap<InterId, Day> {
     }
 }
 
-/// The day of the latest inspection of each intersection that has one, whichever was recorded last.
+/// The latest day of the inspections of each intersection that has any, whatever their numbers.
 /// `Damaged` means that an inspection is no record, `Store` that the database refused, `NoMemory`
 /// that a growth was refused. No inspection is kept after it is read.
 pub fn last_days<S: Alter>(

@@ -38,8 +38,8 @@ pub struct Texts {
 
 /// A record that one table of the office keeps as a row.
 pub trait StoredRow: Sized + Drop {
-    /// What a record is kept of, and of what a list shows all records: an intersection, or the
-    /// whole office.
+    /// What records are kept of, so that a list shows all of them: an intersection, or the whole
+    /// office.
     type Of: Copy;
     /// The number of the intersection that records are kept of, none for the whole office.
     ghost whose: { Self.Of → Option ℕ };
@@ -60,8 +60,8 @@ pub trait StoredRow: Sized + Drop {
         ensures update { result.update.now ≡ texts.update }
         ensures insert { result.insert.now ≡ texts.insert };
 
-    /// The record that a row stands for, which the list or the query of a key shows. `Damaged`
-    /// means that it stands for none, `NoMemory` that a growth was refused.
+    /// The record for which a row stands that the list or the query of a key shows. `Damaged` means
+    /// that it stands for none, `NoMemory` that a growth was refused.
     fn read(alloc: Global, of: Self::Of, row: &Row) -> Result<Self, ShelfFault>
         ensures key { IfOk result (λ x. key of x ≡ key_shown table row.now) }
         ensures columns { IfOk result (λ x. columns x ≡ columns_shown table row.now) }

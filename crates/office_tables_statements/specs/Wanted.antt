@@ -54,7 +54,7 @@ abbrev pub uniques_of : WantedKey → List (List ℕ)
 uniques_of Rowid = []
 uniques_of (Places places index) = places.now ∷ []
 
--- how the keys are ordered that are no rowid
+-- how the keys that are no rowid are ordered
 abbrev pub orders_of : WantedKey → List Order
 orders_of Rowid = []
 orders_of (Places places index) = plain ∷ []
@@ -76,7 +76,7 @@ table_wanted want = record {
   is_counted = false;
 }
 
--- the index that keeps the PRIMARY KEY of a table, whose number is the one before its own
+-- the index that keeps the PRIMARY KEY of a table; its number is the next one after the table's
 abbrev pub index_wanted : List ℕ → ℕ → List ℕ → Index
 index_wanted name table places = record { name = name; tree = table + 1; table = table; columns = places; order = plain; is_unique = true }
 

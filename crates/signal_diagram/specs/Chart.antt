@@ -77,7 +77,7 @@ behind cycle second = if second == cycle then 0 else second
 abbrev pub conflicts_with_lane : Rows → ℕ → ℕ → RingLane → Bool
 conflicts_with_lane set begins p shown = list_all (λ bar. not (bar.from == begins && list_each_other set p bar.phase)) shown.bars
 
--- a phase may time together with none of any lane that begins at a second
+-- a phase may time together with no phase of these lanes that begins at a second
 abbrev pub conflicts_with_all : Rows → ℕ → ℕ → List RingLane → Bool
 conflicts_with_all set begins p lanes = list_all (conflicts_with_lane set begins p) lanes
 

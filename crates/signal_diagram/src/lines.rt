@@ -81,7 +81,7 @@ fn conflicts_with_lane(set: &TimingSet, begins: u32, p: PhaseNo, lane: &Lane) ->
     lane.bars.iter().all(|bar| !meets(set, begins, p, bar))
 }
 
-/// Whether a phase may time together with none of any lane that begins at a second.
+/// Whether a phase may time together with no phase of these lanes that begins at a second.
 fn conflicts_with_all(set: &TimingSet, begins: u32, p: PhaseNo, lanes: &[Lane]) -> bool
     ensures { result ≡ conflicts_with_all set.now begins p lanes.now }
 {
@@ -117,7 +117,7 @@ fn is_barrier(set: &TimingSet, cycle: u32, lanes: &[Lane], second: u32) -> bool
 }
 
 /// Adds a line at each second from 1 up to the cycle at which all rings change phase, and at the
-/// end of the cycle. Each is a barrier or none.
+/// end of the cycle, each with whether it is a barrier.
 pub(crate) fn add_lines(
     shapes: &mut Vec<Shape>,
     set: &TimingSet,

@@ -78,7 +78,7 @@ impl Band {
     }
 }
 
-/// The style of an interval, by whether it comes without a button: else its edge alone, in dashes.
+/// The style of an interval; of one that does not come without a button, the edge alone, in dashes.
 fn style_of(band: Band, comes: bool) -> &'static str
     ensures { result.now ≡ style_of band comes }
 {
