@@ -12,9 +12,8 @@ use Rattle.signal_office_commands.specs.Changing.{ChangesShelf}
 use Rattle.signal_office_commands.specs.InTurn.{RunsInTurn}
 use Rattle.signal_office_commands.specs.Replacing.{LeavesPlan, LeftPlan, HasShownRows, TellsNoChange, base_at, draft_set, is_same, plan_left, plan_wanted}
 use Rattle.signal_office_commands.specs.Revising.{EndsAs, Revises, RevisesSo, WouldBe, commands_due, committing, drafted, is_idle, revised_by}
-use Rattle.signal_office_commands.specs.Standing.{AreWanted, ShowsStanding, base_from, base_of, standing_of, standing_seen}
+use Rattle.signal_office_commands.specs.Standing.{AreWanted, ShowsStanding, StandingRows, base_from, base_of, standing_seen}
 use Rattle.signal_office_commands.specs.declared.revising.{Revised.Revised, Revised.TheVariants.Open, Revised.TheVariants.Same, Revised.TheVariants.Committed, Revision.Revision}
-use Rattle.signal_office_commands.specs.declared.standing.StandingPlan.{StandingPlan}
 use Rattle.signal_office_faults.specs.declared.fault.Fault.{Fault}
 use Rattle.signal_office_line.specs.declared.job.Edit.{Edit}
 use Rattle.signal_office_queries.specs.Parts.{◌>>=◌, open_draft_in}
@@ -25,24 +24,24 @@ use Rattle.signal_rules.specs.declared.violation.Violation.{Violation}
 
 -- ---- what stands, of the office
 
-shown_draft : (draft : Option Draft) → open_draft_in (seen.Reply (draft_shown draft)) ≡ Ok (option_map (λ (d : Draft). d.set) draft)
+shown_draft : (draft : Option Draft) → open_draft_in (Some (seen.Reply (draft_shown draft))) ≡ Ok (option_map (λ (d : Draft). d.set) draft)
 shown_draft None = refl
 shown_draft (Some d) = refl
 
-standing_found : (found : Option Intersection) (standing : StandingPlan)
-    → Ok standing ≡ standing_of (seen.Reply (shown found (λ i. reply.Timing (timing_shown i)))) (seen.Reply (shown found (λ i. draft_shown i.timing.draft)))
+standing_found : (found : Option Intersection) (standing : StandingRows)
+    → Ok standing ≡ standing_seen (seen.Reply (shown found (λ i. reply.Timing (timing_shown i))) ∷ seen.Reply (shown found (λ i. draft_shown i.timing.draft)) ∷ [])
     → (i : Intersection) × (found ≡ Some i) × (standing ≡ record { committed = i.timing.committed; draft = draft_set i.timing })
 standing_found None standing e = absurd cc
 standing_found (Some i) standing e = let is = rw (shown_draft i.timing.draft) at e in (i, refl, cc)
 
 -- it is what the office shows
-standing_on : (tables : Content) (office : Office) (id : ℕ) (standing : StandingPlan) → ShowsStanding tables id standing → StandForSound tables office
+standing_on : (tables : Content) (office : Office) (id : ℕ) (standing : StandingRows) → ShowsStanding tables id standing → StandForSound tables office
     → (i : Intersection) × (get office.intersections id ≡ Some i) × (standing ≡ record { committed = i.timing.committed; draft = draft_set i.timing })
 standing_on tables office id standing (Ok found, looks, is) stands =
     standing_found (get office.intersections id) standing (is ∙ ap standing_seen (looks.0 office stands))
 standing_on tables office id standing (Err why, looks, is) stands = absurd cc
 
-same_base : (standing : StandingPlan) (side : TimingSide) → standing.committed ≡ side.committed → standing.draft ≡ draft_set side → base_of standing ≡ base_at side
+same_base : (standing : StandingRows) (side : TimingSide) → standing.committed ≡ side.committed → standing.draft ≡ draft_set side → base_of standing ≡ base_at side
 same_base standing side committed draft = ap (λ set. base_from set standing.draft) committed ∙ ap (base_from side.committed) draft
 
 made_plan : (replace : Bool) (base : Rows) (asked wanted : List Change) → AreWanted replace base asked wanted → after_changes base wanted ≡ plan_wanted replace base asked
@@ -52,7 +51,7 @@ made_plan false base asked wanted is = ap (after_changes base) is
 -- ---- what was done
 
 -- where the draft would be the committed set, a commit was asked for; that nothing changes is told then, and then alone
-tells : (commit same : Bool) (standing : StandingPlan) (changes : List Change) (committed wanted : Rows)
+tells : (commit same : Bool) (standing : StandingRows) (changes : List Change) (committed wanted : Rows)
     → standing.committed ≡ committed → after_changes (base_of standing) changes ≡ wanted → WouldBe commit standing changes same → TellsNoChange commit committed wanted same
 tells false same standing changes committed wanted was is would = would
 tells true true standing changes committed wanted was is would = sym was ∙ would ∙ is
@@ -69,7 +68,7 @@ bound : {A B : Type 0} (first : Result A Fault) (rest : A → Result B Fault) (y
 bound (Ok x) rest y e = (x, refl, e)
 bound (Err why) rest y e = cc
 
-module _ (bytes : List ℕ) (edit : Edit) (old new : Content) (asked : List Change) (spelled : changes_of bytes ≡ Ok asked) (standing : StandingPlan) (changes : List Change)
+module _ (bytes : List ℕ) (edit : Edit) (old new : Content) (asked : List Change) (spelled : changes_of bytes ≡ Ok asked) (standing : StandingRows) (changes : List Change)
     (before : Office) (stands : StandForSound old before) (i : Intersection) (there : get before.intersections edit.id ≡ Some i)
     (was : standing.committed ≡ i.timing.committed) (base : base_of standing ≡ base_at i.timing)
     (is : after_changes (base_of standing) changes ≡ plan_wanted edit.replace (base_at i.timing) asked) where
@@ -151,8 +150,8 @@ leaves : (wrote : Bool) (bytes : List ℕ) (edit : Edit) (old new : Content) (do
 leaves wrote bytes edit old new done (Err why, comes, ends) before stands = absurd (apart done why ends.0)
 leaves wrote bytes edit old new done (Ok found, (asked, spelled, standing, shows, it), ends) before stands =
     let on = standing_on old before edit.id standing shows stands in
-    let committed = ap (λ (s : StandingPlan). s.committed) on.2 in
-    let base = same_base standing on.0.timing committed (ap (λ (s : StandingPlan). s.draft) on.2) in
+    let committed = ap (λ (s : StandingRows). s.committed) on.2 in
+    let base = same_base standing on.0.timing committed (ap (λ (s : StandingRows). s.draft) on.2) in
     let is = made_plan edit.replace (base_of standing) asked it.changes it.wanted ∙ ap (λ set. plan_wanted edit.replace set asked) base in
     by_ends bytes edit old new asked spelled standing it.changes before stands on.0 on.1 committed base is wrote done found it.same
     (tells edit.commit it.same standing it.changes _ _ committed is it.would_be) it.revises ends

@@ -1,5 +1,5 @@
 -- A fault as `--explain` tells it: of a bad record also its line and what is wrong there, and of a draft that another clerk owns also that clerk.
-use Rattle.std.specs.Prelude.{◌≡◌, ◌⊎◌, ℕ, Bool, true, false, List, [], ◌∷◌, MatchResult, Option, Some, None, Result, Ok, Err}
+use Rattle.std.specs.Prelude.{◌≡◌, ◌⊎◌, ℕ, Bool, true, false, List, [], ◌∷◌, slice_get, MatchResult, Option, Some, None, Result, Ok, Err}
 use Rattle.arrayvec.specs.declared.array_string.ArrayString.{ArrayString}
 use Rattle.draft_core.specs.declared.refusal.DraftRefusal.TheVariants as draft
 use Rattle.office_files.specs.declared.fault.BadRow.{BadRow}
@@ -11,7 +11,7 @@ use Rattle.signal_office_faults.specs.declared.hints.Hint.{Hint}
 use Rattle.office_tables_shelf.specs.Content.{Content}
 use Rattle.signal_office_faults.specs.declared.fault.Fault.{Fault}
 use Rattle.signal_office_faults.specs.declared.fault.Fault.TheVariants as fault
-use Rattle.signal_office_queries.specs.Parts.{first_seen, state_in}
+use Rattle.signal_office_queries.specs.Parts.{state_in}
 use Rattle.signal_office_queries.specs.Seen.{Looks}
 use Rattle.signal_office_queries.specs.declared.seen.Query.TheVariants as query
 use Rattle.signal_office_queries.specs.declared.seen.Seen.{Seen}
@@ -52,7 +52,7 @@ TellsOwnerIn (Err why) told = told ≡ why
 abbrev pub IsOwnerTold : Content → (id : ℕ) → Fault → Type 0
 IsOwnerTold tables id told =
     (found : Result (List Seen) Fault) × Looks tables (query.State id ∷ []) found
-    × MatchResult found (λ all. TellsOwnerIn (state_in (first_seen all)) told) (λ why. told ≡ why)
+    × MatchResult found (λ all. TellsOwnerIn (state_in (slice_get all 0)) told) (λ why. told ≡ why)
 
 -- ---- an edit that is refused
 

@@ -12,12 +12,11 @@ use Rattle.office_tables_shelf.specs.declared.counts.WriteCounts.{WriteCounts}
 use Rattle.office_tables_shelf.specs.declared.rows.Table.TheVariants as table
 use Rattle.signal_office_commands.specs.Changing.{AfterOneOf}
 use Rattle.signal_office_commands.specs.InTurn.{Makes, RunsInTurn}
-use Rattle.signal_office_commands.specs.Standing.{AreWanted, IsNotStanding, ShowsStanding, TellsSame, base_of}
+use Rattle.signal_office_commands.specs.Standing.{AreWanted, IsNotStanding, ShowsStanding, StandingRows, TellsSame, base_of}
 use Rattle.signal_office_queries.specs.Comparison.{IsUnread}
 use Rattle.signal_office_commands.specs.declared.revising.Revised.{Revised}
 use Rattle.signal_office_commands.specs.declared.revising.Revised.TheVariants.{Same, Open, Committed}
 use Rattle.signal_office_commands.specs.declared.revising.Revision.{Revision}
-use Rattle.signal_office_commands.specs.declared.standing.StandingPlan.{StandingPlan}
 use Rattle.signal_office_faults.specs.declared.fault.Fault.{Fault}
 use Rattle.signal_office_faults.specs.declared.fault.Fault.TheVariants as told
 use Rattle.signal_office_line.specs.declared.job.Edit.{Edit}
@@ -86,12 +85,12 @@ AfterRevision it old found =
 -- ---- what an edit comes to
 
 -- whether the draft would be the committed set, which is asked where a commit is
-abbrev pub WouldBe : (commit : Bool) → StandingPlan → List Change → (same : Bool) → Type 0
+abbrev pub WouldBe : (commit : Bool) → StandingRows → List Change → (same : Bool) → Type 0
 WouldBe false standing changes same = same ≡ false
 WouldBe true standing changes same = TellsSame standing.committed (after_changes (base_of standing) changes) same
 
 -- where the draft would be the committed set, and nobody holds one, nothing is to be done
-abbrev pub is_idle : (same : Bool) → StandingPlan → Bool
+abbrev pub is_idle : (same : Bool) → StandingRows → Bool
 is_idle same standing = same && is_none standing.draft
 
 -- the commands are those of the edit, or there are none, where nothing is to be done
@@ -102,7 +101,7 @@ Revises idle same edit changes (Some it) =
     × (it.more.items ≡ committing edit.commit same edit.id edit.clerk) × (it.same ≡ same)
 
 -- what an edit wants of what stands: the changes that were asked for, or those that make the plan of the file, and whether they make the committed set; and its commands
-pub record IsRevision (edit : Edit) (standing : StandingPlan) (asked : List Change) (it : Option Revision) : Type 0 where
+pub record IsRevision (edit : Edit) (standing : StandingRows) (asked : List Change) (it : Option Revision) : Type 0 where
   pub changes : List Change
   pub wanted : AreWanted edit.replace (base_of standing) asked changes
   pub same : Bool
@@ -112,7 +111,7 @@ pub record IsRevision (edit : Edit) (standing : StandingPlan) (asked : List Chan
 -- WHAT AN EDIT COMES TO, before anything is changed: its commands; or the file was not read, what stands was not shown, or memory was refused
 abbrev pub ComesTo : (bytes : List ℕ) → Edit → Content → Result (Option Revision) Fault → Type 0
 ComesTo bytes edit tables (Ok it) =
-    (asked : List Change) × (changes_of bytes ≡ Ok asked) × (standing : StandingPlan) × ShowsStanding tables edit.id standing × IsRevision edit standing asked it
+    (asked : List Change) × (changes_of bytes ≡ Ok asked) × (standing : StandingRows) × ShowsStanding tables edit.id standing × IsRevision edit standing asked it
 ComesTo bytes edit tables (Err why) = IsUnread (changes_of bytes) why ⊎ (IsNotStanding tables edit.id why ⊎ (why ≡ told.Memory))
 
 -- nothing is done where the plan is as it stands, or the edit is not made; else the draft is changed

@@ -1,33 +1,43 @@
 -- What stands of an intersection's plan, and what an edit makes of it.
-use Rattle.std.specs.Prelude.{◌≡◌, ◌≢◌, ℕ, Bool, true, false, List, [], ◌∷◌, Option, Some, None, Result, Ok, Err}
-use Rattle.std.specs.FinMap.{empty}
+use Rattle.std.specs.Prelude.{◌≡◌, ◌≢◌, ℕ, Bool, true, false, List, [], ◌∷◌, slice_get, Option, Some, None, Result, Ok, Err}
+use Rattle.std.specs.{FinMap.empty, Option.option_copied}
 use Rattle.office_tables_shelf.specs.Content.{Content}
 use Rattle.signal_office_commands.specs.declared.standing.StandingPlan.{StandingPlan}
 use Rattle.signal_office_faults.specs.declared.fault.Fault.{Fault}
-use Rattle.signal_office_queries.specs.Parts.{◌>>=◌, first_seen, open_draft_in, rest_of, timing_in}
+use Rattle.signal_office_queries.specs.Parts.{◌>>=◌, open_draft_in, timing_in}
 use Rattle.signal_office_queries.specs.Seen.{IsMadeOfAnswers}
 use Rattle.signal_office_queries.specs.declared.seen.Query.TheVariants as query
 use Rattle.signal_office_queries.specs.declared.seen.Seen.{Seen}
 use Rattle.signal_records.specs.TimingSet.{Rows, after_changes}
 use Rattle.signal_records.specs.declared.record.Change.{Change}
 
--- a draft that is not open is none
-abbrev pub standing_of : (timing draft : Seen) → Result StandingPlan Fault
-standing_of timing draft = do
-  runs ← timing_in timing
-  drafted ← open_draft_in draft
+-- the rows that stand of a plan: the committed set, and the draft where a clerk holds one
+pub record StandingRows : Type 0 where
+  pub committed : Rows
+  pub draft : Option Rows
+
+-- the rows of what is lent of it
+abbrev pub standing_rows : StandingPlan → StandingRows
+standing_rows standing = record { committed = standing.committed.now; draft = option_copied standing.draft }
+
+-- the rows of what is lent, or the fault
+abbrev pub rows_in : Result StandingPlan Fault → Result StandingRows Fault
+rows_in (Ok standing) = Ok (standing_rows standing)
+rows_in (Err why) = Err why
+
+-- what stands of a plan, by what a look at its committed set and at its draft saw; a draft that is not open is none
+abbrev pub standing_seen : List Seen → Result StandingRows Fault
+standing_seen found = do
+  runs ← timing_in (slice_get found 0)
+  drafted ← open_draft_in (slice_get found 1)
   Ok (record { committed = runs.rows; draft = drafted })
 
--- what stands of a plan, by what a look at its committed set and at its draft saw
-abbrev pub standing_seen : List Seen → Result StandingPlan Fault
-standing_seen found = standing_of (first_seen found) (first_seen (rest_of found))
-
 -- what stands of a plan is what the office shows; or the fault is reported of the query that is refused
-abbrev pub StandsAs : Content → ℕ → Result StandingPlan Fault → Type 0
+abbrev pub StandsAs : Content → ℕ → Result StandingRows Fault → Type 0
 StandsAs tables id result = IsMadeOfAnswers (query.Timing id ∷ query.Draft id ∷ []) (λ found it. it ≡ standing_seen found) tables result
 
 -- this is what the office shows of a plan
-abbrev pub ShowsStanding : Content → ℕ → StandingPlan → Type 0
+abbrev pub ShowsStanding : Content → ℕ → StandingRows → Type 0
 ShowsStanding tables id standing = StandsAs tables id (Ok standing)
 
 -- this is why the office shows no plan
@@ -40,7 +50,7 @@ base_from committed None = committed
 base_from committed (Some draft) = draft
 
 -- what a transaction goes on with, by what stands
-abbrev pub base_of : StandingPlan → Rows
+abbrev pub base_of : StandingRows → Rows
 base_of standing = base_from standing.committed standing.draft
 
 -- the changes that an edit makes of it: those of a file; or, where the file is the whole plan, such as make its plan

@@ -1,10 +1,10 @@
 //! A fault as `--explain` tells it: of a bad record also its line and what is wrong there, and of a
 //! draft that another clerk owns also that clerk.
 
-ghost use Rattle.std.specs.Prelude.{◌≡◌};
+ghost use Rattle.std.specs.Prelude.{◌≡◌, slice_get};
 ghost use Rattle.signal_office_commands.specs.Explained.{IsEditExplained, IsEditRefused, IsFileExplained, IsOwnerTold, TellsOwner, TellsOwnerIn, with_hint};
 ghost use Rattle.signal_office_queries.specs.Asks.{OnlyLooks};
-ghost use Rattle.signal_office_queries.specs.Parts.{first_seen, state_in};
+ghost use Rattle.signal_office_queries.specs.Parts.{state_in};
 ghost use Rattle.office_files.specs.declared.fault.CsvFault.TheVariants as file;
 ghost use Rattle.signal_office_faults.specs.declared.fault.Fault.TheVariants as fault;
 
@@ -16,7 +16,7 @@ use office_machine::refusal::Refusal;
 use office_tables_shelf::shelf::Shelf;
 use signal_office_faults::{Fault, Hint, hint_of, line_of_record};
 use signal_office_line::Edit;
-use signal_office_queries::{Query, Seen, first_seen, look, state_in};
+use signal_office_queries::{Query, Seen, look, state_in};
 use signal_records::{InterId, Words};
 use std::alloc::Global;
 
@@ -70,10 +70,10 @@ fn held_by(owner: &Option<Words<40>>) -> Fault
 }
 
 /// Tells the clerk who owns the draft of an intersection, as it was seen.
-fn owner_in(seen: Vec<Seen>) -> Fault
-    ensures { TellsOwnerIn (state_in (first_seen seen.items)) result }
+fn owner_in(seen: &[Seen]) -> Fault
+    ensures { TellsOwnerIn (state_in (slice_get seen.now 0)) result }
 {
-    match state_in(first_seen(seen)) {
+    match state_in(seen, 0) {
         Ok(state) => held_by(&state.owner),
         Err(why) => why,
     }
@@ -84,7 +84,7 @@ fn owner_told<S: Shelf>(alloc: Global, office: &mut Office<S>, id: InterId) -> F
     ensures { OnlyLooks S.Shelf office.old office.new (λ tables. IsOwnerTold tables id result) }
 {
     match look(alloc, office, &[Query::State { id }]) {
-        Ok(seen) => owner_in(seen),
+        Ok(seen) => owner_in(seen.as_slice()),
         Err(why) => why,
     }
 }

@@ -7,10 +7,11 @@ ghost use Rattle.signal_office_commands.specs.Changing.{AfterOneOf, ChangesShelf
 ghost use Rattle.signal_office_commands.specs.InTurn.{Makes};
 ghost use Rattle.signal_office_commands.specs.Replacing.{LeavesPlan};
 ghost use Rattle.signal_office_commands.specs.Revising.{AfterRevising, AfterRevision, ComesTo, Drafts, IsRevision, RevisesAs, RevisesSo, WouldBe, commands_due, committing, drafted, drafting, revised_by, wrote_timing};
+ghost use Rattle.signal_office_commands.specs.Standing.{standing_rows};
 ghost use Rattle.signal_office_queries.specs.Asks.{OnlyLooks};
 
 use crate::in_turn::run_in_turn;
-use crate::standing::{StandingPlan, standing_in};
+use crate::standing::{StandingPlan, standing_seen};
 use draft_core::changes::Changes;
 use office_desk::office::Office;
 use office_files::read_timing_csv;
@@ -20,6 +21,7 @@ use office_tables_shelf::rows::Table;
 use office_tables_shelf::shelf::Shelf;
 use signal_office_faults::Fault;
 use signal_office_line::Edit;
+use signal_office_queries::{Query, look};
 use signal_records::{Change, InterId, NoMemory, Words};
 use signal_rules::Violation;
 use std::alloc::Global;
@@ -95,11 +97,11 @@ fn committing(
 /// Whether the draft would be the committed set, which is asked where a commit is.
 fn would_be(
     alloc: Global,
-    standing: &StandingPlan,
+    standing: &StandingPlan<'_>,
     changes: &[Change],
     commit: bool,
 ) -> Result<bool, NoMemory>
-    ensures { IfOk result (λ same. WouldBe commit standing.now changes.now same) }
+    ensures { IfOk result (λ same. WouldBe commit (standing_rows standing.now) changes.now same) }
 {
     if !commit {
         return Ok(false);
@@ -112,10 +114,10 @@ fn would_be(
 fn revision_of(
     alloc: Global,
     edit: &Edit<'_>,
-    standing: &StandingPlan,
+    standing: &StandingPlan<'_>,
     asked: Vec<Change>,
 ) -> Result<Option<Revision>, NoMemory>
-    ensures { IfOk result (λ it. IsRevision edit.now standing.now asked.items it) }
+    ensures { IfOk result (λ it. IsRevision edit.now (standing_rows standing.now) asked.items it) }
 {
     let changes = standing.wanted(alloc, asked, edit.replace)?;
     let same = would_be(alloc, standing, changes.as_slice(), edit.commit)?;
@@ -180,7 +182,9 @@ fn revision_in<S: Shelf>(
         (λ tables. ComesTo bytes.now edit.now tables result) }
 {
     let asked = read_timing_csv(alloc, bytes)?;
-    let standing = standing_in(alloc, office, edit.id)?;
+    let id = edit.id;
+    let seen = look(alloc, office, &[Query::Timing { id }, Query::Draft { id }])?;
+    let standing = standing_seen(seen.as_slice())?;
     Ok(revision_of(alloc, edit, &standing, asked)?)
 }
 

@@ -1,5 +1,5 @@
 -- What a folder is filled with.
-use Rattle.std.specs.Prelude.{◌≡◌, ◌⊎◌, ◌≤◌, ℕ, List, [], ◌∷◌, Contains, MatchResult, length, take, None, Result, Ok, Err, ⊤}
+use Rattle.std.specs.Prelude.{◌≡◌, ◌⊎◌, ◌≤◌, ℕ, List, [], ◌∷◌, Contains, MatchResult, length, slice_get, take, None, Result, Ok, Err, ⊤}
 use Rattle.std.specs.List.{AllZip}
 use Rattle.office_machine.specs.declared.intersections.ListedIntersection.{ListedIntersection}
 use Rattle.office_tables_shelf.specs.Content.{Content}
@@ -10,7 +10,7 @@ use Rattle.signal_office_faults.specs.declared.fault.Fault.TheVariants as fault
 use Rattle.signal_office_jobs.specs.Filed.{file_name, file_shown, files_in}
 use Rattle.signal_office_jobs.specs.declared.filed.FileOf.{FileOf}
 use Rattle.signal_office_line.specs.declared.job.Folder.{Folder}
-use Rattle.signal_office_queries.specs.Parts.{first_seen, intersections_in}
+use Rattle.signal_office_queries.specs.Parts.{intersections_in}
 use Rattle.signal_office_queries.specs.Seen.{IsMadeOfAnswers}
 use Rattle.signal_office_queries.specs.declared.seen.Query.TheVariants as query
 use Rattle.signal_office_reports.specs.Reports.{IsShown}
@@ -22,7 +22,7 @@ late_outcome outcome = outcome
 
 -- these are all intersections of the office, each once, by their numbers; or they are not listed
 abbrev pub ListsOffice : Content → Result (List ListedIntersection) Fault → Type 0
-ListsOffice = IsMadeOfAnswers (query.Intersections ∷ []) (λ found it. it ≡ intersections_in (first_seen found))
+ListsOffice = IsMadeOfAnswers (query.Intersections ∷ []) (λ found it. it ≡ intersections_in (slice_get found 0))
 
 -- a file is put under its name with what it shows
 abbrev pub IsFileOf : Content → FileOf → NamedText → Type 0
@@ -46,6 +46,11 @@ MakesTexts tables files = PutsFiles tables files None None
 -- THE FILES of an office: those over all its intersections
 abbrev pub AreFilesOfAll : Folder → Content → List FileOf → Type 0
 AreFilesOfAll folder tables files = (listed : List ListedIntersection) × ListsOffice tables (Ok listed) × (files ≡ files_in folder listed)
+
+-- the files over all intersections; or these are not listed, or memory was refused
+abbrev pub FindsFiles : Folder → Content → Result (List FileOf) Fault → Type 0
+FindsFiles folder tables (Ok files) = AreFilesOfAll folder tables files
+FindsFiles folder tables (Err why) = ListsOffice tables (Err why) ⊎ (why ≡ fault.Memory)
 
 -- why nothing is put: the intersections are not listed, or memory was refused, or the text of a file is not made
 abbrev pub IsUnfilled : Folder → Content → Fault → Type 0

@@ -1,18 +1,17 @@
 //! Folders that are filled with what an office shows.
 
 ghost use Rattle.std.specs.Prelude.{◌≡◌, ◌≢◌, Err};
-ghost use Rattle.signal_office_jobs.specs.Filled.{FillsWith, ListsOffice, PutsFiles, late_outcome};
+ghost use Rattle.signal_office_jobs.specs.Filled.{FillsWith, FindsFiles, PutsFiles, late_outcome};
 ghost use Rattle.signal_office_queries.specs.Asks.{OnlyLooks};
+ghost use Rattle.signal_office_queries.specs.Seen.{Gives};
 
 use crate::filed::{FileOf, files_in};
 use office_desk::office::Office;
-use office_machine::intersections::ListedIntersection;
 use office_tables_shelf::shelf::Shelf;
 use signal_office_faults::{Fault, Folder};
 use signal_office_line::Folder as FolderKind;
-use signal_office_queries::{Query, first_seen, intersections_in, look};
+use signal_office_queries::{Query, intersections_in, look};
 use signal_office_reports::report;
-use signal_records::Listing;
 use std::alloc::Global;
 
 /// No folder: what is put is let go.
@@ -29,15 +28,18 @@ impl Folder for NoFolder {
     }
 }
 
-/// The intersections of an office, by their numbers.
-fn list_intersections<S: Shelf>(
+/// The files of a kind of all intersections of an office.
+fn files_of_all<S: Shelf>(
     alloc: Global,
     office: &mut Office<S>,
-) -> Result<Listing<ListedIntersection>, Fault>
-    ensures { OnlyLooks S.Shelf office.old office.new (λ tables. ListsOffice tables result) }
+    kind: &FolderKind,
+) -> Result<Vec<FileOf>, Fault>
+    ensures { OnlyLooks S.Shelf office.old office.new
+        (λ tables. Gives (FindsFiles kind.now tables) result) }
 {
     let seen = look(alloc, office, &[Query::Intersections])?;
-    intersections_in(first_seen(seen))
+    let listed = intersections_in(seen.as_slice(), 0)?;
+    Ok(files_in(alloc, kind, listed.as_slice())?)
 }
 
 /// Makes the text of each file in their order, and puts it.
@@ -86,8 +88,7 @@ pub fn fill<S: Shelf, D: Folder>(
     // Where a row is no record, nothing was put.
     ensures whole { result ≡ Err Fault.Damaged → D.files folder.new ≡ D.files folder.old }
 {
-    let listed = list_intersections(alloc, office)?;
-    let files = files_in(alloc, kind, listed.as_slice())?;
+    let files = files_of_all(alloc, office, kind)?;
     let files = files.as_slice();
     put_each(alloc, office, files, &mut NoFolder)?;
     late_outcome(put_each(alloc, office, files, folder))

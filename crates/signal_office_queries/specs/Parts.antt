@@ -1,5 +1,6 @@
 -- What a query showed, or the fault of its refusal.
-use Rattle.std.specs.Prelude.{◌≡◌, ◌⊎◌, List, [], ◌∷◌, ℕ, Option, Some, None, Result, Ok, Err}
+use Rattle.std.specs.Prelude.{◌≡◌, ◌⊎◌, List, ℕ, slice_get, Option, Some, None, Result, Ok, Err}
+use Rattle.std.specs.{Borrow.Bor, Option.option_copied}
 use Rattle.cabinet_core.specs.Overdue.{Listed}
 use Rattle.draft_core.specs.declared.refusal.DraftRefusal.TheVariants as draft
 use Rattle.office_machine.specs.declared.intersections.ListedIntersection.{ListedIntersection}
@@ -17,72 +18,74 @@ use Rattle.signal_office_queries.specs.declared.seen.Seen.{Seen}
 use Rattle.signal_office_queries.specs.declared.seen.Seen.TheVariants as seen
 use Rattle.signal_records.specs.TimingSet.{Rows}
 
+-- ---- a part, of what was seen at a place
+
+-- the part that is lent of what was seen, or the fault
+abbrev pub part_lent : {A : Type 0} → Result (Bor A) Fault → Result A Fault
+part_lent (Ok part) = Ok part.now
+part_lent (Err why) = Err why
+
+-- the part that is lent where there is one, or the fault
+abbrev pub part_lent_if : {A : Type 0} → Result (Option (Bor A)) Fault → Result (Option A) Fault
+part_lent_if (Ok part) = Ok (option_copied part)
+part_lent_if (Err why) = Err why
+
 -- the state of an intersection that was seen, or the fault
-abbrev pub state_in : Seen → Result IntersectionState Fault
-state_in (seen.Reply (reply.State state)) = Ok state
-state_in (seen.Reply (reply.Refused why)) = Err (fault_of why)
+abbrev pub state_in : Option Seen → Result IntersectionState Fault
+state_in (Some (seen.Reply (reply.State state))) = Ok state
+state_in (Some (seen.Reply (reply.Refused why))) = Err (fault_of why)
 state_in other = Err told.Store
 
 -- the committed plan that was seen, with its name and revision, or the fault
-abbrev pub timing_in : Seen → Result RunningTiming Fault
-timing_in (seen.Reply (reply.Timing timing)) = Ok timing
-timing_in (seen.Reply (reply.Refused why)) = Err (fault_of why)
+abbrev pub timing_in : Option Seen → Result RunningTiming Fault
+timing_in (Some (seen.Reply (reply.Timing timing))) = Ok timing
+timing_in (Some (seen.Reply (reply.Refused why))) = Err (fault_of why)
 timing_in other = Err told.Store
 
 -- the draft that was seen, or the fault
-abbrev pub draft_in : Seen → Result Rows Fault
-draft_in (seen.Reply (reply.Draft draft)) = Ok draft.rows
-draft_in (seen.Reply (reply.Refused why)) = Err (fault_of why)
+abbrev pub draft_in : Option Seen → Result Rows Fault
+draft_in (Some (seen.Reply (reply.Draft draft))) = Ok draft.rows
+draft_in (Some (seen.Reply (reply.Refused why))) = Err (fault_of why)
 draft_in other = Err told.Store
 
 -- where nobody holds a draft, there is none to show
-abbrev pub open_draft_in : Seen → Result (Option Rows) Fault
-open_draft_in (seen.Reply (reply.Draft draft)) = Ok (Some draft.rows)
-open_draft_in (seen.Reply (reply.Refused (refusal.Draft draft.NotTransaction))) = Ok None
-open_draft_in (seen.Reply (reply.Refused why)) = Err (fault_of why)
+abbrev pub open_draft_in : Option Seen → Result (Option Rows) Fault
+open_draft_in (Some (seen.Reply (reply.Draft draft))) = Ok (Some draft.rows)
+open_draft_in (Some (seen.Reply (reply.Refused (refusal.Draft draft.NotTransaction)))) = Ok None
+open_draft_in (Some (seen.Reply (reply.Refused why))) = Err (fault_of why)
 open_draft_in other = Err told.Store
 
 -- the register of a cabinet that was seen, or the fault
-abbrev pub cabinet_in : Seen → Result CabinetShown Fault
-cabinet_in (seen.Reply (reply.Cabinet cabinet)) = Ok cabinet
-cabinet_in (seen.Reply (reply.Refused why)) = Err (fault_of why)
+abbrev pub cabinet_in : Option Seen → Result CabinetShown Fault
+cabinet_in (Some (seen.Reply (reply.Cabinet cabinet))) = Ok cabinet
+cabinet_in (Some (seen.Reply (reply.Refused why))) = Err (fault_of why)
 cabinet_in other = Err told.Store
 
 -- the stock that was seen, or the fault
-abbrev pub stock_in : Seen → Result (List (List ℕ × ℕ)) Fault
-stock_in (seen.Reply (reply.Stock parts)) = Ok parts
-stock_in (seen.Reply (reply.Refused why)) = Err (fault_of why)
+abbrev pub stock_in : Option Seen → Result (List (List ℕ × ℕ)) Fault
+stock_in (Some (seen.Reply (reply.Stock parts))) = Ok parts
+stock_in (Some (seen.Reply (reply.Refused why))) = Err (fault_of why)
 stock_in other = Err told.Store
 
 -- the list of the overdue that was seen, or the fault
-abbrev pub overdue_in : Seen → Result (List Listed) Fault
-overdue_in (seen.Reply (reply.Overdue listed)) = Ok listed
+abbrev pub overdue_in : Option Seen → Result (List Listed) Fault
+overdue_in (Some (seen.Reply (reply.Overdue listed))) = Ok listed
 overdue_in other = Err told.Store
 
 -- the list of intersections that was seen, or the fault
-abbrev pub intersections_in : Seen → Result (List ListedIntersection) Fault
-intersections_in (seen.Intersections list) = Ok list
+abbrev pub intersections_in : Option Seen → Result (List ListedIntersection) Fault
+intersections_in (Some (seen.Intersections list)) = Ok list
 intersections_in other = Err told.Store
 
 -- the open orders that were seen, or the fault
-abbrev pub orders_seen : Seen → Result (List NamedOrder) Fault
-orders_seen (seen.Orders orders) = Ok orders
+abbrev pub orders_seen : Option Seen → Result (List NamedOrder) Fault
+orders_seen (Some (seen.Orders orders)) = Ok orders
 orders_seen other = Err told.Store
 
 -- the cabinets that were seen, or the fault
-abbrev pub cabinets_in : Seen → Result (List ListedCabinet) Fault
-cabinets_in (seen.Cabinets cabinets) = Ok cabinets
+abbrev pub cabinets_in : Option Seen → Result (List ListedCabinet) Fault
+cabinets_in (Some (seen.Cabinets cabinets)) = Ok cabinets
 cabinets_in other = Err told.Store
-
--- the first of what was seen, or a refusal where nothing was
-abbrev pub first_seen : List Seen → Seen
-first_seen [] = seen.Reply (reply.Refused refusal.Unavailable)
-first_seen (it ∷ rest) = it
-
--- what was seen after the first answer
-abbrev pub rest_of : List Seen → List Seen
-rest_of [] = []
-rest_of (it ∷ rest) = rest
 
 -- ---- several that were seen
 
@@ -96,8 +99,8 @@ abbrev pub ◌>>=◌ : {A B : Type 0} → Result A Fault → (A → Result B Fau
 -- what is known of an intersection, with the register of its cabinet, among what was seen
 abbrev pub register_in : List Seen → Result (IntersectionState × CabinetShown) Fault
 register_in found = do
-  known ← state_in (first_seen found)
-  holds ← cabinet_in (first_seen (rest_of found))
+  known ← state_in (slice_get found 0)
+  holds ← cabinet_in (slice_get found 1)
   Ok (known, holds)
 
 -- ---- what is made of it

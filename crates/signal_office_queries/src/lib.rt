@@ -14,8 +14,8 @@ pub use asking::ask;
 pub use comparing::comparison;
 pub use looking::look;
 pub use parts::{
-    cabinet_in, cabinets_in, draft_in, first_seen, intersections_in, next_of, open_draft_in,
-    orders_seen, overdue_in, register_in, state_in, stock_in, timing_in,
+    cabinet_in, cabinets_in, draft_in, intersections_in, open_draft_in, orders_seen, overdue_in,
+    state_in, stock_in, timing_in,
 };
 pub use refused::fault_of;
 pub use seen::{ListedCabinet, Query, Seen};

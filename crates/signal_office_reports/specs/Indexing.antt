@@ -11,9 +11,9 @@ use Rattle.signal_office_reports.specs.Reports.{index_shown}
 use Rattle.signal_office_queries.specs.Seen.{cabinet_listed}
 use Rattle.signal_page.specs.declared.index_shown.IndexShown.{IndexShown}
 
--- what the index of an office shows: its intersections by their numbers, each with the number of warnings of its committed plan, their open orders, and the stock
+-- what the index of an office shows, beside the stock: its intersections by their numbers, each with the number of warnings of its committed plan, and their open orders
 abbrev pub index_from : Office → IndexShown
-index_from office = index_shown (map (cabinet_listed true office) (intersections_of office)) (stock_of office.register)
+index_from office = index_shown (map (cabinet_listed true office) (intersections_of office))
 
 -- the numbers of the intersections that are overdue on the day, if one is given
 abbrev pub late_in : Office → Option ℕ → List ℕ
@@ -22,5 +22,5 @@ late_in office (Some day) = map (λ (listed : Listed). listed.id) (overdue_on of
 
 -- The text is the index of the office. Those that it marks, and shows first, are those that the query Overdue lists.
 pub record IsIndexOf (office : Office) (day : Option ℕ) (text : List ℕ) : Type 0 where
-  pub index : IsIndex day (index_from office) text
+  pub index : IsIndex day (index_from office) (stock_of office.register) text
   pub late : map number_of_entry (overdue_among day (index_from office).entries) ≡ late_in office day

@@ -1,5 +1,5 @@
 -- What is shown of an office: the queries for it, and what is made of what they see.
-use Rattle.std.specs.Prelude.{◌≡◌, ◌⊎◌, ℕ, Bool, true, false, if◌then◌else◌, List, [], ◌∷◌, flat_map, map, Option, Some, None, is_some, unwrap_or, Result, Ok, Err}
+use Rattle.std.specs.Prelude.{◌≡◌, ◌⊎◌, ℕ, Bool, true, false, if◌then◌else◌, List, [], ◌∷◌, flat_map, map, slice_get, Option, Some, None, is_some, unwrap_or, Result, Ok, Err}
 use Rattle.std.specs.FinMap.{values}
 use Rattle.cabinet_core.specs.Overdue.{listed_of}
 use Rattle.cabinet_core.specs.declared.overdue_inspections.OverdueRow.{OverdueRow}
@@ -33,14 +33,13 @@ use Rattle.signal_office_line.specs.declared.shows.Shown.TheVariants as shown
 use Rattle.signal_office_line.specs.declared.shows.View.{View}
 use Rattle.signal_office_line.specs.declared.shows.View.TheVariants as view
 use Rattle.signal_office_queries.specs.Comparison.{Compares, IsUnread}
-use Rattle.signal_office_queries.specs.Parts.{◌>>=◌, IsTextOf, cabinet_in, cabinets_in, draft_in, first_seen, intersections_in, open_draft_in, orders_seen, overdue_in, register_in, rest_of, state_in, stock_in, timing_in}
+use Rattle.signal_office_queries.specs.Parts.{◌>>=◌, IsTextOf, cabinet_in, cabinets_in, draft_in, intersections_in, open_draft_in, orders_seen, overdue_in, register_in, state_in, stock_in, timing_in}
 use Rattle.signal_office_queries.specs.Seen.{IsMadeOfAnswers}
 use Rattle.signal_office_queries.specs.declared.seen.ListedCabinet.{ListedCabinet}
 use Rattle.signal_office_queries.specs.declared.seen.Query.{Query}
 use Rattle.signal_office_queries.specs.declared.seen.Query.TheVariants as query
 use Rattle.signal_office_queries.specs.declared.seen.Seen.{Seen}
-use Rattle.signal_page.specs.Page.{IsPage}
-use Rattle.signal_page.specs.declared.shown.IntersectionShown.{IntersectionShown}
+use Rattle.signal_page.specs.Page.{IsPage, PageShown}
 use Rattle.signal_records.specs.TimingSet.{Rows}
 use Rattle.signal_rules.specs.Lookup.{pattern_at}
 
@@ -81,18 +80,18 @@ abbrev pub if_with : ℕ → Rows → Result Rows Fault
 if_with pattern plan = if is_some (pattern_at plan pattern) then Ok plan else Err told.UnknownPattern
 
 -- the plan that was seen, if it has the pattern
-abbrev pub pattern_in : ℕ → Seen → Result Rows Fault
+abbrev pub pattern_in : ℕ → Option Seen → Result Rows Fault
 pattern_in pattern it = do
   timing ← timing_in it
   if_with pattern timing.rows
 
 -- what the page of an intersection shows, among what was seen
-abbrev pub page_in : List Seen → Result IntersectionShown Fault
+abbrev pub page_in : List Seen → Result PageShown Fault
 page_in found = do
-  known ← state_in (first_seen found)
-  runs ← timing_in (first_seen (rest_of found))
-  drafted ← open_draft_in (first_seen (rest_of (rest_of found)))
-  holds ← cabinet_in (first_seen (rest_of (rest_of (rest_of found))))
+  known ← state_in (slice_get found 0)
+  runs ← timing_in (slice_get found 1)
+  drafted ← open_draft_in (slice_get found 2)
+  holds ← cabinet_in (slice_get found 3)
   Ok (record { state = known; committed = runs.rows; draft = drafted; cabinet = holds })
 
 -- what the index shows of an intersection: how many warnings its committed plan has, too
@@ -103,15 +102,15 @@ index_entry_of it = index_entry it.listed it.cabinet (unwrap_or it.warnings 0)
 abbrev pub named_of : ListedCabinet → List NamedOrder
 named_of it = named_orders it.listed.name it.cabinet
 
--- what the index shows of cabinets and a stock
-abbrev pub index_shown : List ListedCabinet → List (List ℕ × ℕ) → IndexShown
-index_shown cabinets stock = record { entries = map index_entry_of cabinets; orders = flat_map named_of cabinets; stock = stock }
+-- what the index shows of cabinets
+abbrev pub index_shown : List ListedCabinet → IndexShown
+index_shown cabinets = record { entries = map index_entry_of cabinets; orders = flat_map named_of cabinets }
 
 -- the cabinets with the warnings of their plans, and the stock, among what was seen
 abbrev pub index_in : List Seen → Result (List ListedCabinet × List (List ℕ × ℕ)) Fault
 index_in found = do
-  all ← cabinets_in (first_seen found)
-  parts ← stock_in (first_seen (rest_of found))
+  all ← cabinets_in (slice_get found 0)
+  parts ← stock_in (slice_get found 1)
   Ok (all, parts)
 
 -- what was used of all parts, or of one, at all intersections: each line of each order once, by the numbers of these, of their orders, and of the lines
@@ -125,8 +124,8 @@ used_among part cabinets = flat_map (parts_used_in part) cabinets
 -- a committed timing set and its draft, among what was seen
 abbrev pub plans_in : List Seen → Result (Rows × Rows) Fault
 plans_in found = do
-  runs ← timing_in (first_seen found)
-  drafted ← draft_in (first_seen (rest_of found))
+  runs ← timing_in (slice_get found 0)
+  drafted ← draft_in (slice_get found 1)
   Ok (runs.rows, drafted)
 
 -- ---- what is printed
@@ -141,15 +140,15 @@ IsTextShown says it = says it.text × (it.status ≡ 0)
 
 -- the text of the open orders, of all or of one intersection, is made of what was seen
 abbrev pub IsOrdersMade : Option ℕ → (csv : Bool) → List Seen → Result Printed Fault → Type 0
-IsOrdersMade None csv found = IsTextOf (λ orders it. it ≡ shows (table_text csv (orders_table orders))) (orders_seen (first_seen found))
+IsOrdersMade None csv found = IsTextOf (λ orders it. it ≡ shows (table_text csv (orders_table orders))) (orders_seen (slice_get found 0))
 IsOrdersMade (Some id) true found = IsTextOf (λ register it. it ≡ shows (table_text true (orders_table (named_orders register.0.name register.1)))) (register_in found)
-IsOrdersMade (Some id) false found = IsTextOf (λ cabinet it. it ≡ shows (orders_listing (open_orders cabinet))) (cabinet_in (first_seen found))
+IsOrdersMade (Some id) false found = IsTextOf (λ cabinet it. it ≡ shows (orders_listing (open_orders cabinet))) (cabinet_in (slice_get found 0))
 
 -- the text of an export is made of what was seen
 abbrev pub IsExportMade : View → List Seen → Result Printed Fault → Type 0
-IsExportMade view.Timing found = IsTextOf (λ t it. it ≡ shows (timing_csv_text t.rows)) (timing_in (first_seen found))
-IsExportMade view.Draft found = IsTextOf (λ rows it. it ≡ shows (timing_csv_text rows)) (draft_in (first_seen found))
-IsExportMade view.Cabinet found = IsTextOf (λ cabinet it. it ≡ shows (records_csv_text cabinet.id cabinet.view)) (cabinet_in (first_seen found))
+IsExportMade view.Timing found = IsTextOf (λ t it. it ≡ shows (timing_csv_text t.rows)) (timing_in (slice_get found 0))
+IsExportMade view.Draft found = IsTextOf (λ rows it. it ≡ shows (timing_csv_text rows)) (draft_in (slice_get found 0))
+IsExportMade view.Cabinet found = IsTextOf (λ cabinet it. it ≡ shows (records_csv_text cabinet.id cabinet.view)) (cabinet_in (slice_get found 0))
 
 -- What a timing set and the plan of a file differ in is printed. Where no timing set is shown, that is reported; else the file was not read, or memory was refused.
 abbrev pub IsRunningCompared : (csv : Bool) → (plan : List ℕ) → Result RunningTiming Fault → Result Printed Fault → Type 0
@@ -160,21 +159,21 @@ IsRunningCompared csv plan (Err cause) (Err why) = (why ≡ told.Memory) ⊎ (wh
 
 -- what is made of what was seen, and for `CompareRunning` of the text of its CSV file
 abbrev pub IsMade : Shown → (plan : List ℕ) → List Seen → Result Printed Fault → Type 0
-IsMade (shown.Sheet id) plan found = IsTextOf (λ t it. it ≡ shows (sheet_text id t.name t.revision (values t.rows))) (timing_in (first_seen found))
+IsMade (shown.Sheet id) plan found = IsTextOf (λ t it. it ≡ shows (sheet_text id t.name t.revision (values t.rows))) (timing_in (slice_get found 0))
 IsMade (shown.Overdue day most csv) plan found =
-    IsTextOf (λ listed it. (rows : List OverdueRow) × (map listed_of rows ≡ listed) × (it ≡ shows (overdue_written csv day rows))) (overdue_in (first_seen found))
-IsMade (shown.List csv) plan found = IsTextOf (λ list it. it ≡ shows (table_text csv (intersections_table list))) (intersections_in (first_seen found))
-IsMade (shown.Stock csv) plan found = IsTextOf (λ parts it. it ≡ shows (table_text csv (stock_table parts))) (stock_in (first_seen found))
+    IsTextOf (λ listed it. (rows : List OverdueRow) × (map listed_of rows ≡ listed) × (it ≡ shows (overdue_written csv day rows))) (overdue_in (slice_get found 0))
+IsMade (shown.List csv) plan found = IsTextOf (λ list it. it ≡ shows (table_text csv (intersections_table list))) (intersections_in (slice_get found 0))
+IsMade (shown.Stock csv) plan found = IsTextOf (λ parts it. it ≡ shows (table_text csv (stock_table parts))) (stock_in (slice_get found 0))
 IsMade (shown.Orders id csv) plan found = IsOrdersMade id csv found
-IsMade (shown.Used part csv) plan found = IsTextOf (λ cabinets it. it ≡ shows (table_text csv (used_table (used_among part cabinets)))) (cabinets_in (first_seen found))
+IsMade (shown.Used part csv) plan found = IsTextOf (λ cabinets it. it ≡ shows (table_text csv (used_table (used_among part cabinets)))) (cabinets_in (slice_get found 0))
 IsMade (shown.Cabinet id) plan found =
     IsTextOf (λ register it. it ≡ shows (cabinet_register register.1.id register.0.name register.0.interval register.1.view)) (register_in found)
 IsMade (shown.Export id it) plan found = IsExportMade it found
-IsMade (shown.Diagram id pattern) plan found = IsTextOf (λ rows it. it ≡ shows (diagram_text rows pattern)) (pattern_in pattern (first_seen found))
+IsMade (shown.Diagram id pattern) plan found = IsTextOf (λ rows it. it ≡ shows (diagram_text rows pattern)) (pattern_in pattern (slice_get found 0))
 IsMade (shown.CompareDraft id csv) plan found = IsTextOf (λ plans it. Compares csv plans.0 plans.1 it) (plans_in found)
-IsMade (shown.CompareRunning id file csv) plan found = IsRunningCompared csv plan (timing_in (first_seen found))
+IsMade (shown.CompareRunning id file csv) plan found = IsRunningCompared csv plan (timing_in (slice_get found 0))
 IsMade (shown.Page id linked) plan found = IsTextOf (λ page it. IsTextShown (IsPage linked page) it) (page_in found)
-IsMade (shown.Index day) plan found = IsTextOf (λ index it. IsTextShown (IsIndex day (index_shown index.0 index.1)) it) (index_in found)
+IsMade (shown.Index day) plan found = IsTextOf (λ index it. IsTextShown (IsIndex day (index_shown index.0) index.1) it) (index_in found)
 
 -- WHAT IS SHOWN of the tables as what was asked for, or why nothing is: what is made of the answers to its queries
 abbrev pub IsShown : Shown → (plan : List ℕ) → Content → Result Printed Fault → Type 0

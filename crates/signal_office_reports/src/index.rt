@@ -2,15 +2,14 @@
 
 ghost use Rattle.std.specs.Prelude.{◌≡◌, [], flat_map, map, IfOk};
 ghost use Rattle.signal_office_faults.specs.Done.{came_to};
-ghost use Rattle.signal_office_reports.specs.Reports.{IsMade, index_entry_of, index_in, index_shown, named_of, used_among};
+ghost use Rattle.signal_office_reports.specs.Reports.{IsMade, index_entry_of, index_shown, named_of, used_among};
 
 use cabinet_core::{Day, PartCode};
 use office_listings::{UsedPart, add_used, used_list};
 use office_machine::orders::{NamedOrder, add_named_orders};
-use office_machine::reply::Stock;
 use signal_office_faults::{Done, Fault};
 use signal_office_line::{Part, Shown};
-use signal_office_queries::{ListedCabinet, Seen, cabinets_in, first_seen, next_of, stock_in};
+use signal_office_queries::{ListedCabinet, Seen, cabinets_in, stock_in};
 use signal_page::{IndexEntry, IndexShown, add_entry, index_page};
 use signal_records::{Listing, NoMemory};
 use std::alloc::Global;
@@ -36,39 +35,25 @@ fn orders_in(alloc: Global, cabinets: &[ListedCabinet]) -> Result<Vec<NamedOrder
     Ok(orders)
 }
 
-fn index_shown(
-    alloc: Global,
-    cabinets: &[ListedCabinet],
-    stock: Stock,
-) -> Result<IndexShown, NoMemory>
-    ensures { IfOk result (λ shown. shown ≡ index_shown cabinets.now stock) }
+fn index_shown(alloc: Global, cabinets: &[ListedCabinet]) -> Result<IndexShown, NoMemory>
+    ensures { IfOk result (λ shown. shown ≡ index_shown cabinets.now) }
 {
     let entries = entries_in(alloc, cabinets)?;
     let orders = orders_in(alloc, cabinets)?;
     Ok(IndexShown {
         entries: Listing::new(entries),
         orders: Listing::new(orders),
-        stock,
     })
 }
 
-/// The cabinets that an index shows, with the warnings of their plans, and the stock.
-fn index_in(seen: Vec<Seen>) -> Result<(Listing<ListedCabinet>, Stock), Fault>
-    ensures { result ≡ index_in seen.items }
-{
-    let mut seen = seen.into_iter();
-    let cabinets = cabinets_in(next_of(&mut seen))?;
-    let stock = stock_in(next_of(&mut seen))?;
-    Ok((cabinets, stock))
-}
-
 /// The index page, with those that are overdue on a day, if one is given.
-pub(crate) fn index(alloc: Global, day: Option<Day>, seen: Vec<Seen>) -> Result<Done, Fault>
-    ensures { IsMade (Shown.Index day) [] seen.items (came_to result) }
+pub(crate) fn index(alloc: Global, day: Option<Day>, seen: &[Seen]) -> Result<Done, Fault>
+    ensures { IsMade (Shown.Index day) [] seen.now (came_to result) }
 {
-    let (cabinets, stock) = index_in(seen)?;
-    let shown = index_shown(alloc, cabinets.as_slice(), stock)?;
-    Ok(Done::with(index_page(alloc, &shown, day)?))
+    let cabinets = cabinets_in(seen, 0)?;
+    let stock = stock_in(seen, 1)?;
+    let shown = index_shown(alloc, cabinets.as_slice())?;
+    Ok(Done::with(index_page(alloc, &shown, stock.as_slice(), day)?))
 }
 
 /// The code of a part, in memory of its own, where one is named.
@@ -101,11 +86,11 @@ pub(crate) fn used(
     alloc: Global,
     part: &Option<Part<'_>>,
     csv: bool,
-    seen: Vec<Seen>,
+    seen: &[Seen],
 ) -> Result<Done, Fault>
-    ensures { IsMade (Shown.Used part.now csv) [] seen.items (came_to result) }
+    ensures { IsMade (Shown.Used part.now csv) [] seen.now (came_to result) }
 {
-    let cabinets = cabinets_in(first_seen(seen))?;
+    let cabinets = cabinets_in(seen, 0)?;
     let code = code_of(alloc, part)?;
     let found = used_among(alloc, &code, cabinets.as_slice())?;
     Ok(Done::with(used_list(alloc, csv, &found)?))

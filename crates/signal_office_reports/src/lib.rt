@@ -4,7 +4,6 @@
 
 mod comparing;
 mod index;
-mod page;
 mod queries;
 mod reporting;
 mod text;

@@ -26,5 +26,5 @@ pub fn report<S: Shelf>(
 {
     let queries = queries_of(alloc, shown)?;
     let seen = look(alloc, office, queries.as_slice())?;
-    text_by(alloc, shown, plan, seen)
+    text_by(alloc, shown, plan, seen.as_slice())
 }

@@ -6,7 +6,6 @@ ghost use Rattle.signal_office_reports.specs.Reports.{IsExportMade, IsMade, IsOr
 
 use crate::comparing::{compare_draft, compare_running};
 use crate::index::{index, used};
-use crate::page::page;
 use cabinet_core::Day;
 use office_files::{overdue_text, records_csv, timing_csv, timing_sheet};
 use office_listings::{
@@ -17,70 +16,72 @@ use signal_diagram::diagram;
 use signal_office_faults::{Done, Fault};
 use signal_office_line::{Shown, View};
 use signal_office_queries::{
-    Seen, cabinet_in, draft_in, first_seen, intersections_in, orders_seen, overdue_in, register_in,
+    Seen, cabinet_in, draft_in, intersections_in, open_draft_in, orders_seen, overdue_in, state_in,
     stock_in, timing_in,
 };
+use signal_page::{IntersectionShown, intersection_page};
 use signal_records::{InterId, PatternNo};
 use std::alloc::Global;
 
-fn sheet(alloc: Global, id: InterId, seen: Vec<Seen>) -> Result<Done, Fault>
-    ensures { IsMade (Shown.Sheet id) [] seen.items (came_to result) }
+fn sheet(alloc: Global, id: InterId, seen: &[Seen]) -> Result<Done, Fault>
+    ensures { IsMade (Shown.Sheet id) [] seen.now (came_to result) }
 {
-    let timing = timing_in(first_seen(seen))?;
+    let timing = timing_in(seen, 0)?;
     Ok(Done::with(timing_sheet(alloc, id, &timing.name, timing.revision, &timing.rows)?))
 }
 
-fn overdue(alloc: Global, day: Day, most: usize, csv: bool, seen: Vec<Seen>) -> Result<Done, Fault>
-    ensures { IsMade (Shown.Overdue day most csv) [] seen.items (came_to result) }
+fn overdue(alloc: Global, day: Day, most: usize, csv: bool, seen: &[Seen]) -> Result<Done, Fault>
+    ensures { IsMade (Shown.Overdue day most csv) [] seen.now (came_to result) }
 {
-    let listed = overdue_in(first_seen(seen))?;
+    let listed = overdue_in(seen, 0)?;
     match csv {
         true => Ok(Done::with(overdue_csv(alloc, listed.as_slice())?)),
         false => Ok(Done::with(overdue_text(alloc, day, listed.as_slice())?)),
     }
 }
 
-fn list(alloc: Global, csv: bool, seen: Vec<Seen>) -> Result<Done, Fault>
-    ensures { IsMade (Shown.List csv) [] seen.items (came_to result) }
+fn list(alloc: Global, csv: bool, seen: &[Seen]) -> Result<Done, Fault>
+    ensures { IsMade (Shown.List csv) [] seen.now (came_to result) }
 {
-    let list = intersections_in(first_seen(seen))?;
+    let list = intersections_in(seen, 0)?;
     Ok(Done::with(intersections_list(alloc, csv, list.as_slice())?))
 }
 
-fn stock(alloc: Global, csv: bool, seen: Vec<Seen>) -> Result<Done, Fault>
-    ensures { IsMade (Shown.Stock csv) [] seen.items (came_to result) }
+fn stock(alloc: Global, csv: bool, seen: &[Seen]) -> Result<Done, Fault>
+    ensures { IsMade (Shown.Stock csv) [] seen.now (came_to result) }
 {
-    let parts = stock_in(first_seen(seen))?;
+    let parts = stock_in(seen, 0)?;
     Ok(Done::with(stock_list(alloc, csv, parts.as_slice())?))
 }
 
-fn orders_of_all(alloc: Global, csv: bool, seen: Vec<Seen>) -> Result<Done, Fault>
-    ensures { IsOrdersMade None csv seen.items (came_to result) }
+fn orders_of_all(alloc: Global, csv: bool, seen: &[Seen]) -> Result<Done, Fault>
+    ensures { IsOrdersMade None csv seen.now (came_to result) }
 {
-    let orders = orders_seen(first_seen(seen))?;
+    let orders = orders_seen(seen, 0)?;
     Ok(Done::with(orders_list(alloc, csv, orders.as_slice())?))
 }
 
-fn orders_on(alloc: Global, id: InterId, seen: Vec<Seen>) -> Result<Done, Fault>
-    ensures { IsOrdersMade (Some id) false seen.items (came_to result) }
+fn orders_on(alloc: Global, id: InterId, seen: &[Seen]) -> Result<Done, Fault>
+    ensures { IsOrdersMade (Some id) false seen.now (came_to result) }
 {
-    let cabinet = cabinet_in(first_seen(seen))?;
+    let cabinet = cabinet_in(seen, 0)?;
     let mut found = Vec::new(alloc);
-    add_open_orders(&mut found, &cabinet)?;
+    add_open_orders(&mut found, cabinet)?;
     Ok(Done::with(orders_text(alloc, &found)?))
 }
 
-fn orders_csv_on(alloc: Global, id: InterId, seen: Vec<Seen>) -> Result<Done, Fault>
-    ensures { IsOrdersMade (Some id) true seen.items (came_to result) }
+fn orders_csv_on(alloc: Global, id: InterId, seen: &[Seen]) -> Result<Done, Fault>
+    ensures { IsOrdersMade (Some id) true seen.now (came_to result) }
 {
-    let (state, cabinet) = register_in(seen)?;
+    let state = state_in(seen, 0)?;
+    let cabinet = cabinet_in(seen, 1)?;
     let mut found = Vec::new(alloc);
-    add_named_orders(&mut found, &state.name, &cabinet)?;
+    add_named_orders(&mut found, &state.name, cabinet)?;
     Ok(Done::with(orders_list(alloc, true, &found)?))
 }
 
-fn orders(alloc: Global, id: Option<InterId>, csv: bool, seen: Vec<Seen>) -> Result<Done, Fault>
-    ensures { IsOrdersMade id csv seen.items (came_to result) }
+fn orders(alloc: Global, id: Option<InterId>, csv: bool, seen: &[Seen]) -> Result<Done, Fault>
+    ensures { IsOrdersMade id csv seen.now (came_to result) }
 {
     match (id, csv) {
         (None, csv) => orders_of_all(alloc, csv, seen),
@@ -89,36 +90,37 @@ fn orders(alloc: Global, id: Option<InterId>, csv: bool, seen: Vec<Seen>) -> Res
     }
 }
 
-fn cabinet(alloc: Global, id: InterId, seen: Vec<Seen>) -> Result<Done, Fault>
-    ensures { IsMade (Shown.Cabinet id) [] seen.items (came_to result) }
+fn cabinet(alloc: Global, id: InterId, seen: &[Seen]) -> Result<Done, Fault>
+    ensures { IsMade (Shown.Cabinet id) [] seen.now (came_to result) }
 {
-    let (state, cabinet) = register_in(seen)?;
-    Ok(Done::with(cabinet_text(alloc, &state.name, state.interval, &cabinet)?))
+    let state = state_in(seen, 0)?;
+    let cabinet = cabinet_in(seen, 1)?;
+    Ok(Done::with(cabinet_text(alloc, &state.name, state.interval, cabinet)?))
 }
 
-fn export_timing(alloc: Global, seen: Vec<Seen>) -> Result<Done, Fault>
-    ensures { IsExportMade View.Timing seen.items (came_to result) }
+fn export_timing(alloc: Global, seen: &[Seen]) -> Result<Done, Fault>
+    ensures { IsExportMade View.Timing seen.now (came_to result) }
 {
-    let timing = timing_in(first_seen(seen))?;
+    let timing = timing_in(seen, 0)?;
     Ok(Done::with(timing_csv(alloc, &timing.rows)?))
 }
 
-fn export_draft(alloc: Global, seen: Vec<Seen>) -> Result<Done, Fault>
-    ensures { IsExportMade View.Draft seen.items (came_to result) }
+fn export_draft(alloc: Global, seen: &[Seen]) -> Result<Done, Fault>
+    ensures { IsExportMade View.Draft seen.now (came_to result) }
 {
-    let rows = draft_in(first_seen(seen))?;
-    Ok(Done::with(timing_csv(alloc, &rows)?))
+    let rows = draft_in(seen, 0)?;
+    Ok(Done::with(timing_csv(alloc, rows)?))
 }
 
-fn export_cabinet(alloc: Global, seen: Vec<Seen>) -> Result<Done, Fault>
-    ensures { IsExportMade View.Cabinet seen.items (came_to result) }
+fn export_cabinet(alloc: Global, seen: &[Seen]) -> Result<Done, Fault>
+    ensures { IsExportMade View.Cabinet seen.now (came_to result) }
 {
-    let cabinet = cabinet_in(first_seen(seen))?;
+    let cabinet = cabinet_in(seen, 0)?;
     Ok(Done::with(records_csv(alloc, cabinet.id, &cabinet.view)?))
 }
 
-fn export(alloc: Global, view: View, seen: Vec<Seen>) -> Result<Done, Fault>
-    ensures { IsExportMade view seen.items (came_to result) }
+fn export(alloc: Global, view: View, seen: &[Seen]) -> Result<Done, Fault>
+    ensures { IsExportMade view seen.now (came_to result) }
 {
     match view {
         View::Timing => export_timing(alloc, seen),
@@ -127,14 +129,27 @@ fn export(alloc: Global, view: View, seen: Vec<Seen>) -> Result<Done, Fault>
     }
 }
 
-fn picture(alloc: Global, id: InterId, pattern: PatternNo, seen: Vec<Seen>) -> Result<Done, Fault>
-    ensures { IsMade (Shown.Diagram id pattern) [] seen.items (came_to result) }
+fn picture(alloc: Global, id: InterId, pattern: PatternNo, seen: &[Seen]) -> Result<Done, Fault>
+    ensures { IsMade (Shown.Diagram id pattern) [] seen.now (came_to result) }
 {
-    let timing = timing_in(first_seen(seen))?;
+    let timing = timing_in(seen, 0)?;
     match diagram(alloc, &timing.rows, pattern)? {
         Some(text) => Ok(Done::with(text)),
         None => Err(Fault::UnknownPattern),
     }
+}
+
+/// The page of an intersection, linked to the index of all or not.
+fn page(alloc: Global, id: InterId, linked: bool, seen: &[Seen]) -> Result<Done, Fault>
+    ensures { IsMade (Shown.Page id linked) [] seen.now (came_to result) }
+{
+    let shown = IntersectionShown {
+        state: state_in(seen, 0)?,
+        committed: &timing_in(seen, 1)?.rows,
+        draft: open_draft_in(seen, 2)?,
+        cabinet: cabinet_in(seen, 3)?,
+    };
+    Ok(Done::with(intersection_page(alloc, linked, &shown)?))
 }
 
 /// What is made of what was seen, and for `CompareRunning` of the text of its CSV file.
@@ -142,9 +157,9 @@ pub(crate) fn text_by(
     alloc: Global,
     shown: &Shown<'_>,
     plan: &[u8],
-    seen: Vec<Seen>,
+    seen: &[Seen],
 ) -> Result<Done, Fault>
-    ensures { IsMade shown.now plan.now seen.items (came_to result) }
+    ensures { IsMade shown.now plan.now seen.now (came_to result) }
 {
     match shown {
         Shown::Sheet { id } => sheet(alloc, *id, seen),

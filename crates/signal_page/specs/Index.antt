@@ -89,16 +89,16 @@ day_note None entries = []
 day_note (Some day) entries =
     overdue_note day (length (overdue_among (Some day) entries)) (length entries)
 
--- the index
-unfoldable pub index : Option ℕ → IndexShown → List Shown
-index day shown =
+-- the index, by what it shows beside the stock, and the stock
+unfoldable pub index : Option ℕ → IndexShown → List (List ℕ × ℕ) → List Shown
+index day shown stock =
     page_head (Own (codes "Intersections") ∷ []) INDEX_BODY.now ++ day_note day shown.entries
     ++ Own (codes "</header>\n<main>\n") ∷ [] ++ intersections_part day shown.entries
-    ++ named_orders_part shown.orders ++ stock_part shown.stock ++ page_end
+    ++ named_orders_part shown.orders ++ stock_part stock ++ page_end
 
 -- The text is the index. Its intersections are those that were given, each as often as there, and
 -- those that it marks are the ones of the list of the overdue.
-pub record IsIndex (day : Option ℕ) (shown : IndexShown) (text : List ℕ) : Type 0 where
-  pub html : IsHtml (index day shown) text
+pub record IsIndex (day : Option ℕ) (shown : IndexShown) (stock : List (List ℕ × ℕ)) (text : List ℕ) : Type 0 where
+  pub html : IsHtml (index day shown stock) text
   pub each : (id : ℕ) → times_among id (overdue_before day shown.entries) ≡ times_among id shown.entries
   pub late : map number_of_entry (overdue_among day shown.entries) ≡ overdue_numbers day (map seen_by shown.entries)

@@ -1,6 +1,9 @@
 -- The page of an intersection, and that of a plan alone.
 use Rattle.std.specs.Prelude.{◌≡◌, ℕ, Bool, if◌then◌else◌, List, [], ◌∷◌, ◌++◌, codes, is_some, length, Option, Some, None}
+use Rattle.std.specs.Option.{option_copied}
 use Rattle.cabinet_core.specs.Overdue.{latest_day}
+use Rattle.office_machine.specs.declared.reply.CabinetShown.{CabinetShown}
+use Rattle.office_machine.specs.declared.reply.IntersectionState.{IntersectionState}
 use Rattle.signal_plans.specs.declared.difference.Difference.{Difference}
 use Rattle.signal_plans.specs.Difference.{AreTold}
 use Rattle.signal_plans.specs.Warnings.{warnings_of}
@@ -31,6 +34,17 @@ page_end = Own (codes "</main>\n</body>\n</html>\n") ∷ []
 
 -- ---- the page of an intersection
 
+-- what the page of an intersection shows
+pub record PageShown : Type 0 where
+  pub state : IntersectionState
+  pub committed : Rows
+  pub draft : Option Rows
+  pub cabinet : CabinetShown
+
+-- what is lent for it
+abbrev pub shown_by : IntersectionShown → PageShown
+shown_by shown = record { state = shown.state.now; committed = shown.committed.now; draft = option_copied shown.draft; cabinet = shown.cabinet.now }
+
 -- the number of an intersection, and its name
 abbrev pub title : ℕ → Shown → List Shown
 title id name = Own (codes "Intersection ") ∷ Number id ∷ Own (codes ": ") ∷ name ∷ []
@@ -51,13 +65,13 @@ links linked drafted =
     ∷ []
 
 -- the head of the page of an intersection, and its heading
-unfoldable pub heading : IntersectionShown → List Shown
+unfoldable pub heading : PageShown → List Shown
 heading shown =
     page_head (title shown.state.id (Title shown.state.name)) BODY.now
     ++ (title shown.state.id (Name shown.state.name) ++ Own (codes "</h1>\n<dl>\n") ∷ [])
 
 -- what stands above the plan, with how many warnings the committed plan has
-unfoldable pub header : (linked : Bool) → IntersectionShown → (warnings : ℕ) → List Shown
+unfoldable pub header : (linked : Bool) → PageShown → (warnings : ℕ) → List Shown
 header linked shown warnings =
     heading shown
     ++ cabinet_facts shown.state.interval (latest_day shown.cabinet.view.inspections) shown.cabinet.view.orders
@@ -89,13 +103,13 @@ draft_section committed None differences remarks = []
 draft_section committed (Some draft) differences remarks = open_draft committed draft differences remarks
 
 -- the register of the cabinet
-unfoldable pub cabinet_section : IntersectionShown → List Shown
+unfoldable pub cabinet_section : PageShown → List Shown
 cabinet_section shown =
     Own (codes "<section id='cabinet' aria-labelledby='cabinet-title'>\n<h2 id='cabinet-title'>The cabinet</h2>\n")
     ∷ (register shown.state.interval shown.cabinet.view ++ Own (codes "</section>\n") ∷ [])
 
 -- the page, by what the draft changes, and by the remarks on the committed plan and on the draft
-unfoldable pub page : (linked : Bool) → IntersectionShown → List Difference → (runs drafted : PlanRemarks) → List Shown
+unfoldable pub page : (linked : Bool) → PageShown → List Difference → (runs drafted : PlanRemarks) → List Shown
 page linked shown differences runs drafted =
     header linked shown (length runs.warnings) ++ plan_section runs shown.committed
     ++ draft_section shown.committed shown.draft differences drafted ++ cabinet_section shown
@@ -123,7 +137,7 @@ remarks_on set reasons = record { reasons = reasons; warnings = warnings_in set 
 -- the text is the page of an intersection, linked to the index or not, with all warnings of the
 -- committed plan; and of its draft with the changes, the reasons of the rules that it breaks, and
 -- all warnings
-pub record IsPage (linked : Bool) (shown : IntersectionShown) (text : List ℕ) : Type 0 where
+pub record IsPage (linked : Bool) (shown : PageShown) (text : List ℕ) : Type 0 where
   pub differences : List Difference
   pub changes : AreChanges shown.committed shown.draft differences
   pub reasons : List Explained

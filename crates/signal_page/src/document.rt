@@ -1,8 +1,9 @@
 //! The page of an intersection, and that of a plan alone.
 
 ghost use Rattle.std.specs.Prelude.{◌≡◌, ◌++◌, ℕ, List, OnOk, IfOk, is_some, string_bytes};
+ghost use Rattle.std.specs.Option.{option_copied};
 ghost use Rattle.signal_page.specs.Nodes.{IsHtml, html, shown_of};
-ghost use Rattle.signal_page.specs.Page.{IsPage, IsPlanPage, cabinet_section, draft_body, draft_section, page_head, header, heading, link_if, links, open_draft, page, page_end, plan_page, plan_section};
+ghost use Rattle.signal_page.specs.Page.{IsPage, IsPlanPage, cabinet_section, draft_body, draft_section, page_head, header, heading, link_if, links, open_draft, page, page_end, plan_page, plan_section, shown_by};
 ghost use Rattle.signal_page.specs.Rows.{remarks_by};
 ghost use Rattle.signal_page.specs.Words.{escaped_text, unescaped_text};
 
@@ -91,9 +92,9 @@ fn push_links(text: &mut String, linked: bool, drafted: bool) -> Result<(), Allo
 }
 
 /// Appends the head of the page of an intersection, and its heading.
-fn push_heading(text: &mut String, shown: &IntersectionShown) -> Result<(), AllocError>
+fn push_heading(text: &mut String, shown: &IntersectionShown<'_>) -> Result<(), AllocError>
     ensures { OnOk result (string_bytes text.new ≡ string_bytes text.old
-        ++ html (heading shown.now)) }
+        ++ html (heading (shown_by shown.now))) }
 {
     let id = u64::from(shown.state.id.get());
     let name = shown.state.name.as_str();
@@ -123,17 +124,17 @@ fn push_heading(text: &mut String, shown: &IntersectionShown) -> Result<(), Allo
 fn push_header(
     text: &mut String,
     linked: bool,
-    shown: &IntersectionShown,
+    shown: &IntersectionShown<'_>,
     warnings: usize,
 ) -> Result<(), AllocError>
     ensures { OnOk result (string_bytes text.new
-        ≡ string_bytes text.old ++ html (header linked shown.now warnings)) }
+        ≡ string_bytes text.old ++ html (header linked (shown_by shown.now) warnings)) }
 {
     let inspections = shown.cabinet.view.inspections.as_slice();
     let orders = shown.cabinet.view.orders.as_slice();
     push_heading(text, shown)?;
     push_cabinet_facts(text, shown.state.interval, inspections, orders)?;
-    push_draft_facts(text, &shown.state, warnings)?;
+    push_draft_facts(text, shown.state, warnings)?;
     push_links(text, linked, shown.draft.is_some())
 }
 
@@ -201,12 +202,13 @@ fn push_draft_section(
     alloc: Global,
     text: &mut String,
     committed: &TimingSet,
-    draft: &Option<TimingSet>,
+    draft: Option<&TimingSet>,
     differences: &[Difference],
     remarks: &Remarks<'_>,
 ) -> Result<(), NoMemory>
     ensures { OnOk result (string_bytes text.new ≡ string_bytes text.old
-        ++ html (draft_section committed.now draft.now differences.now (remarks_by remarks.now))) }
+        ++ html (draft_section committed.now (option_copied draft.entry) differences.now
+        (remarks_by remarks.now))) }
 {
     match draft {
         None => Ok(()),
@@ -215,9 +217,9 @@ fn push_draft_section(
 }
 
 /// Appends the register of the cabinet.
-fn push_cabinet_section(text: &mut String, shown: &IntersectionShown) -> Result<(), AllocError>
+fn push_cabinet_section(text: &mut String, shown: &IntersectionShown<'_>) -> Result<(), AllocError>
     ensures { OnOk result (string_bytes text.new
-        ≡ string_bytes text.old ++ html (cabinet_section shown.now)) }
+        ≡ string_bytes text.old ++ html (cabinet_section (shown_by shown.now))) }
 {
     push_own(
         text,
@@ -232,22 +234,22 @@ fn push_cabinet_section(text: &mut String, shown: &IntersectionShown) -> Result<
 fn whole_page(
     alloc: Global,
     linked: bool,
-    shown: &IntersectionShown,
+    shown: &IntersectionShown<'_>,
     differences: &[Difference],
     runs: &Remarks<'_>,
     drafted: &Remarks<'_>,
 ) -> Result<Vec<u8>, NoMemory>
-    ensures { IfOk result (λ text. IsHtml (page linked shown.now differences.now
+    ensures { IfOk result (λ text. IsHtml (page linked (shown_by shown.now) differences.now
         (remarks_by runs.now) (remarks_by drafted.now)) text.items) }
 {
     let mut text = String::new(alloc);
     push_header(&mut text, linked, shown, runs.warnings.len())?;
-    push_plan_section(alloc, &mut text, runs, &shown.committed)?;
+    push_plan_section(alloc, &mut text, runs, shown.committed)?;
     push_draft_section(
         alloc,
         &mut text,
-        &shown.committed,
-        &shown.draft,
+        shown.committed,
+        shown.draft,
         differences,
         drafted,
     )?;
@@ -265,26 +267,26 @@ fn whole_page(
 pub fn intersection_page(
     alloc: Global,
     linked: bool,
-    shown: &IntersectionShown,
+    shown: &IntersectionShown<'_>,
 ) -> Result<Vec<u8>, NoMemory>
     // It is that of its definition, and whatever names and texts hold, its tags are its own.
-    ensures page { IfOk result (λ text. IsPage linked shown.now text.items) }
+    ensures page { IfOk result (λ text. IsPage linked (shown_by shown.now) text.items) }
     // A reader takes each name and text back as it was.
     ensures read { (words : List ℕ) → unescaped_text (escaped_text words) ≡ words }
 {
-    let advice = warnings(alloc, &shown.committed)?;
+    let advice = warnings(alloc, shown.committed)?;
     let runs = Remarks {
         reasons: &[],
         warnings: &advice,
     };
-    let Some(draft) = &shown.draft else {
+    let Some(draft) = shown.draft else {
         let none = Remarks {
             reasons: &[],
             warnings: &[],
         };
         return whole_page(alloc, linked, shown, &[], &runs, &none);
     };
-    let differences = compare(alloc, &shown.committed, draft)?;
+    let differences = compare(alloc, shown.committed, draft)?;
     let broken = reasons(alloc, draft)?;
     let advice = warnings(alloc, draft)?;
     let drafted = Remarks {

@@ -275,12 +275,16 @@ fn push_day_note(
 }
 
 /// The page by its definition.
-fn whole_index(alloc: Global, shown: &IndexShown, day: &Option<Day>) -> Result<Vec<u8>, NoMemory>
-    ensures { IfOk result (λ text. IsHtml (index day.now shown.now) text.items) }
+fn whole_index(
+    alloc: Global,
+    shown: &IndexShown,
+    stock: &[(PartCode, Hand)],
+    day: &Option<Day>,
+) -> Result<Vec<u8>, NoMemory>
+    ensures { IfOk result (λ text. IsHtml (index day.now shown.now stock.now) text.items) }
 {
     let entries = shown.entries.as_slice();
     let orders = shown.orders.as_slice();
-    let stock = shown.stock.as_slice();
     let mut text = String::new(alloc);
     push_head(&mut text, &[Node::Own("Intersections")], INDEX_BODY)?;
     push_day_note(&mut text, day, entries)?;
@@ -295,11 +299,16 @@ fn whole_index(alloc: Global, shown: &IndexShown, day: &Option<Day>) -> Result<V
 /// The index page of an office: its intersections, those whose inspection is overdue on the day
 /// first and marked, the open orders of all, and the stock. It is one HTML text, which needs
 /// nothing but the pages that it links to.
-pub fn index_page(alloc: Global, shown: &IndexShown, day: Option<Day>) -> Result<Vec<u8>, NoMemory>
+pub fn index_page(
+    alloc: Global,
+    shown: &IndexShown,
+    stock: &[(PartCode, Hand)],
+    day: Option<Day>,
+) -> Result<Vec<u8>, NoMemory>
     // It is that of its definition, its tags are its own, and each intersection has its row.
-    ensures page { IfOk result (λ text. IsIndex day shown.now text.items) }
+    ensures page { IfOk result (λ text. IsIndex day shown.now stock.now text.items) }
     // A reader takes each name and text back as it was.
     ensures read { (words : List ℕ) → unescaped_text (escaped_text words) ≡ words }
 {
-    whole_index(alloc, shown, &day)
+    whole_index(alloc, shown, stock, &day)
 }

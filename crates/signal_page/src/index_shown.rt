@@ -6,7 +6,7 @@ ghost use Rattle.signal_page.specs.Index.{index_entry};
 use cabinet_core::{Day, latest, open_count};
 use office_machine::intersections::ListedIntersection;
 use office_machine::orders::NamedOrder;
-use office_machine::reply::{CabinetShown, Stock};
+use office_machine::reply::CabinetShown;
 use signal_records::state::Holder;
 use signal_records::{Listing, NoMemory};
 
@@ -22,14 +22,13 @@ pub struct IndexEntry {
     pub warnings: usize,
 }
 
-/// What the index shows of an office.
+/// What the index shows of an office, beside its stock.
 #[derive(Drop)]
 pub struct IndexShown {
     /// The intersections, by their numbers.
     pub entries: Listing<IndexEntry>,
     /// The open orders of all.
     pub orders: Listing<NamedOrder>,
-    pub stock: Stock,
 }
 
 fn holder_copied(holder: &Option<Holder>) -> Result<Option<Holder>, NoMemory>

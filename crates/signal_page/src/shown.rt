@@ -4,12 +4,12 @@ use office_machine::reply::{CabinetShown, IntersectionState};
 use signal_records::TimingSet;
 
 /// An intersection as the office's queries show it.
-#[derive(Drop)]
-pub struct IntersectionShown {
-    pub state: IntersectionState,
+#[derive(Clone, Copy)]
+pub struct IntersectionShown<'a> {
+    pub state: &'a IntersectionState,
     /// The committed plan.
-    pub committed: TimingSet,
+    pub committed: &'a TimingSet,
     /// The draft, where a clerk holds one.
-    pub draft: Option<TimingSet>,
-    pub cabinet: CabinetShown,
+    pub draft: Option<&'a TimingSet>,
+    pub cabinet: &'a CabinetShown,
 }

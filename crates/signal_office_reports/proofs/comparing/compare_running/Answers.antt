@@ -1,10 +1,9 @@
-use Rattle.std.proofs.Common.{◌∙◌, inl, ℕ, Bool, List, Result, Ok, Err, ap, subst}
+use Rattle.std.proofs.Common.{inl, ℕ, Bool, List, Result, Ok, Err, subst}
 use Rattle.office_files.specs.Plan.{IsPlan}
 use Rattle.office_machine.specs.declared.reply.RunningTiming.{RunningTiming}
 use Rattle.signal_office_faults.specs.Done.{Printed, came_to}
 use Rattle.signal_office_faults.specs.declared.fault.Fault.{Fault}
 use Rattle.signal_office_queries.specs.Comparison.{TellsComparison}
-use Rattle.signal_office_queries.specs.Parts.{timing_in}
 use Rattle.signal_office_reports.specs.Reports.{IsRunningCompared}
 use Rattle.signal_plans.specs.Difference.{AreTold}
 use Rattle.signal_plans.specs.declared.difference.Difference.{Difference}
@@ -18,6 +17,6 @@ compared csv plan timing after found (Err why) is differ tells = inl tells
 
 pub returns : goal.returns
 returns c =
-    subst (λ (shown : Result RunningTiming Fault). IsRunningCompared c.args.csv c.args.plan.now shown (came_to c.comparison.result)) (c.in_ok-timing.ensures ∙ ap timing_in c.first_seen.ensures)
-    (compared c.args.csv c.args.plan.now c.in_ok-timing.timing c.in_ok-plan.plan c.in_ok-differences.differences.items (came_to c.comparison.result) c.in_ok-plan.ensures.plan c.in_ok-differences.ensures.told
+    subst (λ (shown : Result RunningTiming Fault). IsRunningCompared c.args.csv c.args.plan.now shown (came_to c.comparison.result)) c.in_ok-timing.ensures
+    (compared c.args.csv c.args.plan.now c.in_ok-timing.timing.now c.in_ok-plan.plan c.in_ok-differences.differences.items (came_to c.comparison.result) c.in_ok-plan.ensures.plan c.in_ok-differences.ensures.told
     (subst (λ (ds : List Difference). TellsComparison c.args.csv ds (came_to c.comparison.result)) c.deref.ensures.value c.comparison.ensures))

@@ -13,7 +13,7 @@ returns g c =
     asks_weaker c.in_ok-seen.ensures (λ tables looks. (
       Ok c.in_ok-seen.seen.items,
       subst (λ (qs : List Query). Looks tables qs (Ok c.in_ok-seen.seen.items)) (c.as_slice.ensures.value ∙ c.in_ok-queries.ensures) looks,
-      c.text_by.ensures,
+      rw c.as_slice-2.ensures.value at c.text_by.ensures,
     ))
 
 pub returns-in_err-queries : goal.returns-in_err-queries

@@ -1,11 +1,11 @@
 use Rattle.std.proofs.Common.{◌≡◌, [], refl}
 use Rattle.std.proofs.lemmas.Result.{IfOk-weaker}
-use Rattle.signal_page.specs.Page.{warnings_in}
+use Rattle.signal_page.specs.Page.{shown_by, warnings_in}
 use Rattle.signal_page.proofs.document.intersection_page.Goals as goal
 
 pub returns-in_default-clause-page : goal.returns-in_default-clause-page
 returns-in_default-clause-page c =
-    let none : warnings_in c.args.shown.now.draft ≡ [] = rw c.in_default.is refl in
+    let none : warnings_in (shown_by c.args.shown.now).draft ≡ [] = rw c.in_default.is refl in
     IfOk-weaker c.whole_page.result _ _ (λ text is. record {
       differences = [];
       changes = rw c.in_default.is refl;
