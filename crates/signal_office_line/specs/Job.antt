@@ -128,14 +128,14 @@ any_db_at rows = any_db_of (first_of (codes "db") rows) (first_of (codes "wait")
 -- In the usages below `--db FILE` stands for `--db FILE [--wait SECONDS]`.
 
 -- `overdue --db FILE [--first N] [--csv] DAY`; without a number all are listed
-abbrev pub overdue_at : List Row → Stated Request
+unfoldable pub overdue_at : List Row → Stated Request
 overdue_at rows = do
   first ← needed (choice_from 1 9_999 (codes "first") rows)
   day ← day_at (codes "DAY") rows
   Ok (request.Show (shown.Overdue day (unwrap_or first 9_999) (flag_at (codes "csv") rows)))
 
 -- `add --db FILE ID INTERVAL NAME`
-abbrev pub add_at : List Row → Stated Request
+unfoldable pub add_at : List Row → Stated Request
 add_at rows = do
   id ← intersection_at rows
   interval ← needed (number_from 1 3_650 (codes "INTERVAL") rows)
@@ -143,7 +143,7 @@ add_at rows = do
   Ok (request.Add id interval name)
 
 -- `import --db FILE [--check] [--until DAY] [--padded] CSV`
-abbrev pub import_at : List Row → Stated Request
+unfoldable pub import_at : List Row → Stated Request
 import_at rows = do
   csv ← needed (csv_at (codes "CSV") rows)
   until ← any_of wrong.Day day_of (first_of (codes "until") rows)
@@ -169,11 +169,11 @@ export_of false draft cabinet rows = do
   Ok (request.Show (shown.Export id view))
 
 -- what is exported, by the flags that are given
-abbrev pub export_at : List Row → Stated Request
+unfoldable pub export_at : List Row → Stated Request
 export_at rows = export_of (flag_at (codes "all") rows) (flag_at (codes "draft") rows) (flag_at (codes "cabinet") rows) rows
 
 -- `pages --db FILE [--day DAY] DIR`
-abbrev pub pages_at : List Row → Stated Request
+unfoldable pub pages_at : List Row → Stated Request
 pages_at rows = do
   dir ← word_at (codes "DIR") rows
   day ← any_of wrong.Day day_of (first_of (codes "day") rows)
@@ -186,7 +186,7 @@ edited_file None commit replace = if commit && not replace then Some None else N
 
 -- `edit --db FILE --clerk NAME [--replace] [--commit] [--explain] [--advise] [--padded] ID CSV`, or
 -- `edit --db FILE --clerk NAME --commit [--explain] [--advise] ID`
-abbrev pub edit_at : List Row → Stated Request
+unfoldable pub edit_at : List Row → Stated Request
 edit_at rows = do
   id ← intersection_at rows
   csv ← needed (edited_file (csv_at (codes "CSV") rows) (flag_at (codes "commit") rows) (flag_at (codes "replace") rows))
@@ -232,7 +232,7 @@ requests =
     ∷ (codes "export", export_at) ∷ (codes "pages", pages_at) ∷ (codes "edit", edit_at) ∷ []
 
 -- what the command of a name asks of the office of a file
-abbrev pub request_at : Text → List Row → Stated Request
+unfoldable pub request_at : Text → List Row → Stated Request
 request_at name rows = option_map_or (λ what. what rows) (under name requests) (Err Unstated)
 
 -- a request, of the office of a file
@@ -245,7 +245,7 @@ office_of asked rows = do
 -- ---- jobs
 
 -- `serve --port N [--count K] [--db FILE]`; without a count the most connections are served
-abbrev pub serve_at : List Row → Stated Job
+unfoldable pub serve_at : List Row → Stated Job
 serve_at rows = do
   port ← needed (number_from 1 65_535 (codes "port") rows)
   count ← needed (choice_from 1 1_000_000 (codes "count") rows)
@@ -266,7 +266,7 @@ comparison_of (Some db) (Some other) rows = do
 comparison_of None None rows = Err Unstated
 
 -- a comparison, by whether an office and another file are given
-abbrev pub compare_at : List Row → Stated Job
+unfoldable pub compare_at : List Row → Stated Job
 compare_at rows = do
   db ← any_db_at rows
   comparison_of db (csv_at (codes "OTHER") rows) rows
@@ -283,7 +283,7 @@ drawing_of None (Some file) None rows = do
 drawing_of _ _ _ rows = Err Unstated
 
 -- a picture, by whether an office, a file and a pattern are given
-abbrev pub diagram_at : List Row → Stated Job
+unfoldable pub diagram_at : List Row → Stated Job
 diagram_at rows = do
   db ← any_db_at rows
   drawing_of db (csv_at (codes "file") rows) (first_of (codes "PATTERN") rows) rows
@@ -297,7 +297,7 @@ showing_of None (Some file) None rows = Ok (job.ShowPlan file plan.Page)
 showing_of _ _ _ rows = Err Unstated
 
 -- a page, by whether an office, a file and an intersection are given
-abbrev pub page_at : List Row → Stated Job
+unfoldable pub page_at : List Row → Stated Job
 page_at rows = do
   db ← any_db_at rows
   showing_of db (csv_at (codes "file") rows) (first_of (codes "ID") rows) rows

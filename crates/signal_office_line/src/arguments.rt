@@ -39,13 +39,13 @@ fn arg_of<'a>(alloc: Global, command: &str, argument: &Argument) -> Arg<'a>
     ensures local { result.global ≡ false }
 {
     let Argument(name, form, ..) = *argument;
-    let arg = Arg::new(alloc, name).help(help_of(command, name));
+    let is_needed = matches!(form, Form::Word | Form::Needed(_));
+    let help = help_of(command, name);
+    let arg = Arg::new(alloc, name).help(help).required(is_needed);
     match form {
-        Form::Word => arg.required(true),
-        Form::SecondWord => arg,
+        Form::Word | Form::SecondWord => arg,
         Form::Flag => arg.long(name).action(ArgAction::SetTrue),
-        Form::Needed(value) => arg.long(name).value_name(value).required(true),
-        Form::Choice(value) => arg.long(name).value_name(value),
+        Form::Needed(value) | Form::Choice(value) => arg.long(name).value_name(value),
     }
 }
 
@@ -65,14 +65,17 @@ pub(crate) fn command_of<'a>(alloc: Global, usage: &Usage) -> Result<Command<'a>
 
 /// The program with one command more. It alone lets commands go, where memory runs out.
 fn with_command<'a>(
-    program: Result<Command<'a>, AllocError>,
+    program: Command<'a>,
     command: Result<Command<'a>, AllocError>,
 ) -> Result<Command<'a>, AllocError>
-    ensures { (app inner : App) → IfOk program.entry (λ c. ParsesAs c app) →
+    ensures { (app inner : App) → ParsesAs program.entry app →
         IfOk command.entry (λ c. ParsesAs c inner) →
         IfOk result (λ c. ParsesAs c (with_command app inner)) }
 {
-    program?.subcommand(command?)
+    match command {
+        Ok(command) => program.subcommand(command),
+        Err(no_memory) => Err(no_memory),
+    }
 }
 
 /// The program with these commands more, in their order.
@@ -86,7 +89,7 @@ pub(crate) fn with_commands<'a>(
 {
     let mut program = program;
     for usage in commands {
-        program = with_command(Ok(program), command_of(alloc, usage))?;
+        program = with_command(program, command_of(alloc, usage))?;
     }
     Ok(program)
 }

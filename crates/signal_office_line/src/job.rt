@@ -129,7 +129,7 @@ pub enum Job<'a> {
 }
 
 /// A word that is not what it is to be.
-#[derive(Clone, Copy, Debug, PartialEq, Eq)]
+#[derive(Clone, Copy)]
 pub enum BadWord {
     /// It spells no day from 1970-01-01 to 2199-12-31.
     Day,
@@ -150,7 +150,7 @@ pub(crate) enum NoJob {
 }
 
 /// Why there is nothing to do.
-#[derive(Debug, Drop)]
+#[derive(Drop)]
 pub enum JobFault {
     /// The words were refused, or ask for help.
     Refused(Error),

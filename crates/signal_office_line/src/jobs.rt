@@ -48,10 +48,13 @@ fn chosen_intersection(matches: &ArgMatches<'_>, id: &str) -> Option<Option<Inte
 }
 
 /// `overdue --db FILE [--first N] [--csv] DAY`.
+#[tactic(auto, unfolding(crate::specs::Job::overdue_at))]
 fn overdue<'a>(matches: &ArgMatches<'a>) -> Result<Request<'a>, NoJob>
     ensures { result ≡ overdue_at (rows_of (found_of matches.now)) }
 {
-    let first = choice_from(matches, "first", 1, ALL_INTERSECTIONS).ok_or(NoJob::Unstated)?;
+    let Some(first) = choice_from(matches, "first", 1, ALL_INTERSECTIONS) else {
+        return Err(NoJob::Unstated);
+    };
     let day = day(matches, "DAY")?;
     let most = first.unwrap_or(ALL_INTERSECTIONS) as usize;
     let csv = flag(matches, "csv");
@@ -59,20 +62,26 @@ fn overdue<'a>(matches: &ArgMatches<'a>) -> Result<Request<'a>, NoJob>
 }
 
 /// `add --db FILE ID INTERVAL NAME`.
+#[tactic(auto, unfolding(crate::specs::Job::add_at))]
 fn add<'a>(matches: &ArgMatches<'a>) -> Result<Request<'a>, NoJob>
     ensures { result ≡ add_at (rows_of (found_of matches.now)) }
 {
     let id = intersection(matches)?;
-    let interval = interval(matches, "INTERVAL").ok_or(NoJob::Unstated)?;
+    let Some(interval) = interval(matches, "INTERVAL") else {
+        return Err(NoJob::Unstated);
+    };
     let name = name(matches, "NAME", BadWord::Name)?;
     Ok(Request::Add { id, interval, name })
 }
 
 /// `import --db FILE [--check] [--until DAY] [--padded] CSV`.
+#[tactic(auto, unfolding(crate::specs::Job::import_at))]
 fn import<'a>(matches: &ArgMatches<'a>) -> Result<Request<'a>, NoJob>
     ensures { result ≡ import_at (rows_of (found_of matches.now)) }
 {
-    let csv = csv_file(matches, "CSV").ok_or(NoJob::Unstated)?;
+    let Some(csv) = csv_file(matches, "CSV") else {
+        return Err(NoJob::Unstated);
+    };
     let until = any_day(matches, "until")?;
     let check = flag(matches, "check");
     Ok(Request::Import { csv, until, check })
@@ -82,15 +91,19 @@ fn import<'a>(matches: &ArgMatches<'a>) -> Result<Request<'a>, NoJob>
 fn view_of(draft: bool, cabinet: bool) -> Option<View>
     ensures { result ≡ view_of draft cabinet }
 {
-    match (draft, cabinet) {
-        (false, false) => Some(View::Timing),
-        (true, false) => Some(View::Draft),
-        (false, true) => Some(View::Cabinet),
-        (true, true) => None,
+    if draft && cabinet {
+        None
+    } else if draft {
+        Some(View::Draft)
+    } else if cabinet {
+        Some(View::Cabinet)
+    } else {
+        Some(View::Timing)
     }
 }
 
 /// `export --db FILE [--draft] [--cabinet] ID`, or `export --db FILE --all DIR`.
+#[tactic(auto, unfolding(crate::specs::Job::export_at))]
 fn export<'a>(matches: &ArgMatches<'a>) -> Result<Request<'a>, NoJob>
     ensures { result ≡ export_at (rows_of (found_of matches.now)) }
 {
@@ -104,13 +117,16 @@ fn export<'a>(matches: &ArgMatches<'a>) -> Result<Request<'a>, NoJob>
         (true, _, _) => Err(NoJob::Unstated),
         (false, _, _) => {
             let id = intersection(matches)?;
-            let view = view_of(draft, cabinet).ok_or(NoJob::Unstated)?;
+            let Some(view) = view_of(draft, cabinet) else {
+                return Err(NoJob::Unstated);
+            };
             Ok(Request::Show(Shown::Export { id, view }))
         }
     }
 }
 
 /// `pages --db FILE [--day DAY] DIR`.
+#[tactic(auto, unfolding(crate::specs::Job::pages_at))]
 fn pages<'a>(matches: &ArgMatches<'a>) -> Result<Request<'a>, NoJob>
     ensures { result ≡ pages_at (rows_of (found_of matches.now)) }
 {
@@ -128,15 +144,16 @@ fn edited_file<'a>(
 ) -> Option<Option<CsvFile<'a>>>
     ensures { result ≡ edited_file csv.entry commit replace }
 {
-    match csv {
-        Some(csv) => Some(Some(csv)),
-        None if commit && !replace => Some(None),
-        None => None,
+    if csv.is_some() || (commit && !replace) {
+        Some(csv)
+    } else {
+        None
     }
 }
 
 /// `edit --db FILE --clerk NAME [--replace] [--commit] [--explain] [--advise] [--padded] ID CSV`,
 /// or `edit --db FILE --clerk NAME --commit [--explain] [--advise] ID`.
+#[tactic(auto, unfolding(crate::specs::Job::edit_at))]
 fn edit<'a>(matches: &ArgMatches<'a>) -> Result<Request<'a>, NoJob>
     ensures { result ≡ edit_at (rows_of (found_of matches.now)) }
 {
@@ -145,7 +162,9 @@ fn edit<'a>(matches: &ArgMatches<'a>) -> Result<Request<'a>, NoJob>
     let commit = flag(matches, "commit");
     let explain = flag(matches, "explain");
     let advise = flag(matches, "advise");
-    let csv = edited_file(csv_file(matches, "CSV"), commit, replace).ok_or(NoJob::Unstated)?;
+    let Some(csv) = edited_file(csv_file(matches, "CSV"), commit, replace) else {
+        return Err(NoJob::Unstated);
+    };
     let clerk = name(matches, "clerk", BadWord::Clerk)?;
     Ok(Request::Edit(Edit {
         id,
@@ -159,30 +178,28 @@ fn edit<'a>(matches: &ArgMatches<'a>) -> Result<Request<'a>, NoJob>
 }
 
 /// What the command of a name asks of the office of a file.
+#[tactic(auto, unfolding(crate::specs::Job::request_at))]
 fn request_at<'a>(command: &str, matches: &ArgMatches<'a>) -> Result<Request<'a>, NoJob>
     ensures { result ≡ request_at command.now (rows_of (found_of matches.now)) }
 {
+    let csv = flag(matches, "csv");
     let shown = match command {
         "sheet" => Shown::Sheet {
             id: intersection(matches)?,
         },
-        "list" => Shown::List {
-            csv: flag(matches, "csv"),
-        },
-        "stock" => Shown::Stock {
-            csv: flag(matches, "csv"),
-        },
+        "list" => Shown::List { csv },
+        "stock" => Shown::Stock { csv },
         "cabinet" => Shown::Cabinet {
             id: intersection(matches)?,
         },
         "orders" => Shown::Orders {
             id: chosen_intersection(matches, "ID").ok_or(NoJob::Unstated)?,
-            csv: flag(matches, "csv"),
+            csv,
         },
         "overdue" => return overdue(matches),
         "used" => Shown::Used {
             part: any_part(matches, "PART")?,
-            csv: flag(matches, "csv"),
+            csv,
         },
         "add" => return add(matches),
         "import" => return import(matches),
@@ -209,17 +226,21 @@ fn office<'a>(matches: &ArgMatches<'a>, asked: Result<Request<'a>, NoJob>) -> Re
 }
 
 /// `serve --port N [--count K] [--db FILE]`.
+#[tactic(auto, unfolding(crate::specs::Job::serve_at))]
 fn serve<'a>(matches: &ArgMatches<'a>) -> Result<Job<'a>, NoJob>
     ensures { result ≡ serve_at (rows_of (found_of matches.now)) }
 {
     let port = number_from(matches, "port", 1, 65_535).ok_or(NoJob::Unstated)? as u16;
-    let count = choice_from(matches, "count", 1, MOST_CONNECTIONS).ok_or(NoJob::Unstated)?;
+    let Some(count) = choice_from(matches, "count", 1, MOST_CONNECTIONS) else {
+        return Err(NoJob::Unstated);
+    };
     let count = count.unwrap_or(MOST_CONNECTIONS);
     let db = any_office_file(matches)?;
     Ok(Job::Serve { port, count, db })
 }
 
 /// `compare [--csv] [--padded] PLAN OTHER`, or `compare --db FILE [--csv] [--padded] ID [OTHER]`.
+#[tactic(auto, unfolding(crate::specs::Job::compare_at))]
 fn compare<'a>(matches: &ArgMatches<'a>) -> Result<Job<'a>, NoJob>
     ensures { result ≡ compare_at (rows_of (found_of matches.now)) }
 {
@@ -227,16 +248,22 @@ fn compare<'a>(matches: &ArgMatches<'a>) -> Result<Job<'a>, NoJob>
     let csv = flag(matches, "csv");
     match (db, csv_file(matches, "OTHER")) {
         (None, Some(second)) => {
-            let first = csv_file(matches, "PLAN").ok_or(NoJob::Unstated)?;
+            let Some(first) = csv_file(matches, "PLAN") else {
+                return Err(NoJob::Unstated);
+            };
             Ok(Job::CompareFiles { first, second, csv })
         }
         (Some(db), None) => {
-            let id = any_intersection(matches, "PLAN").ok_or(NoJob::Unstated)?;
+            let Some(id) = any_intersection(matches, "PLAN") else {
+                return Err(NoJob::Unstated);
+            };
             let request = Request::Show(Shown::CompareDraft { id, csv });
             Ok(Job::Office { db, request })
         }
         (Some(db), Some(plan)) => {
-            let id = any_intersection(matches, "PLAN").ok_or(NoJob::Unstated)?;
+            let Some(id) = any_intersection(matches, "PLAN") else {
+                return Err(NoJob::Unstated);
+            };
             let request = Request::Show(Shown::CompareRunning { id, plan, csv });
             Ok(Job::Office { db, request })
         }
@@ -245,6 +272,7 @@ fn compare<'a>(matches: &ArgMatches<'a>) -> Result<Job<'a>, NoJob>
 }
 
 /// `diagram --db FILE ID PATTERN`, or `diagram --file CSV [--padded] PATTERN`.
+#[tactic(auto, unfolding(crate::specs::Job::diagram_at))]
 fn diagram<'a>(matches: &ArgMatches<'a>) -> Result<Job<'a>, NoJob>
     ensures { result ≡ diagram_at (rows_of (found_of matches.now)) }
 {
@@ -252,12 +280,16 @@ fn diagram<'a>(matches: &ArgMatches<'a>) -> Result<Job<'a>, NoJob>
     match (db, csv_file(matches, "file"), word(matches, "PATTERN")) {
         (Some(db), None, Some(_)) => {
             let id = intersection(matches)?;
-            let pattern = pattern(matches, "PATTERN").ok_or(NoJob::Unstated)?;
+            let Some(pattern) = pattern(matches, "PATTERN") else {
+                return Err(NoJob::Unstated);
+            };
             let request = Request::Show(Shown::Diagram { id, pattern });
             Ok(Job::Office { db, request })
         }
         (None, Some(csv), None) => {
-            let pattern = pattern(matches, "ID").ok_or(NoJob::Unstated)?;
+            let Some(pattern) = pattern(matches, "ID") else {
+                return Err(NoJob::Unstated);
+            };
             let shown = PlanShown::Diagram { pattern };
             Ok(Job::ShowPlan { csv, shown })
         }
@@ -266,6 +298,7 @@ fn diagram<'a>(matches: &ArgMatches<'a>) -> Result<Job<'a>, NoJob>
 }
 
 /// `page --db FILE ID`, or `page --file CSV [--padded]`.
+#[tactic(auto, unfolding(crate::specs::Job::page_at))]
 fn page<'a>(matches: &ArgMatches<'a>) -> Result<Job<'a>, NoJob>
     ensures { result ≡ page_at (rows_of (found_of matches.now)) }
 {
@@ -304,7 +337,9 @@ pub(crate) fn job_at<'a>(command: &str, matches: &ArgMatches<'a>) -> Result<Job<
             Ok(Job::Backup { db, to, force })
         }
         "verify-file" => {
-            let csv = csv_file(matches, "CSV").ok_or(NoJob::Unstated)?;
+            let Some(csv) = csv_file(matches, "CSV") else {
+                return Err(NoJob::Unstated);
+            };
             let explain = flag(matches, "explain");
             let advise = flag(matches, "advise");
             let shown = PlanShown::Violations { explain, advise };

@@ -7,7 +7,7 @@ ghost use Rattle.clap.specs.Walk.{rows_of};
 ghost use Rattle.signal_office_line.specs.Refusals.{IsWrongNumber};
 
 use crate::arguments::{Argument, Form, Usage};
-use crate::command_line::{DIR, ID, PATTERN, WAIT, command_line, command_named, usage_of};
+use crate::command_line::{DIR, ID, PATTERN, WAIT, command_named, usage_of};
 use crate::values::{flag, number_from, word};
 use clap::error::ErrorKind;
 use clap::{ArgMatches, Error};
@@ -60,51 +60,46 @@ fn wrong_word<'a>(
     }
 }
 
-/// Why the word of an argument is no number of its range, where it is to be one.
-fn number_reason(
-    alloc: Global,
-    id: &str,
-    argument: Argument,
-    matches: &ArgMatches<'_>,
-) -> Result<Option<String>, AllocError> {
-    let Argument(name, form, range) = argument;
-    let Some((word, least, most)) = wrong_word(id, range, matches) else {
-        return Ok(None);
-    };
-    let dashes = match form {
-        Form::Needed(_) | Form::Choice(_) => "--",
-        _ => "",
-    };
-    let text = format!(in alloc; "{dashes}{name} {word}: a number from {least} to {most}")?;
-    Ok(Some(text))
-}
-
-/// Why the words of a command state no job: the first word that is no number of its range, and that
-/// of `--wait` last, or what the command takes.
-fn reason(alloc: Global, command: &str, matches: &ArgMatches<'_>) -> Result<String, AllocError> {
+/// The first argument of a command whose word is no number of its range, that of `--wait` last:
+/// what it is to be, its word, and the range.
+fn wrong_number<'a>(
+    command: &str,
+    matches: &ArgMatches<'a>,
+) -> Option<(Argument, (&'a str, u32, u32))> {
     if let Some(Usage(_, arguments)) = usage_of(command) {
         for argument in arguments {
             let Argument(id, ..) = *argument;
             if id != "wait" {
                 let argument = taken_as(command, argument, matches);
-                if let Some(text) = number_reason(alloc, id, argument, matches)? {
-                    return Ok(text);
+                if let Some(found) = wrong_word(id, argument.2, matches) {
+                    return Some((argument, found));
                 }
             }
         }
     }
-    match number_reason(alloc, "wait", WAIT, matches)? {
-        Some(text) => Ok(text),
-        None => String::from_str(alloc, forms_of(command, matches)),
+    match wrong_word("wait", WAIT.2, matches) {
+        Some(found) => Some((WAIT, found)),
+        None => None,
     }
 }
 
-/// The refusal of a command's words, with the command's own usage.
-fn refusal_of(alloc: Global, name: &str, matches: &ArgMatches<'_>) -> Result<Error, AllocError>
+/// Why the words of a command state no job: the first word that is no number of its range, or what
+/// the command takes.
+fn reason(alloc: Global, command: &str, matches: &ArgMatches<'_>) -> Result<String, AllocError> {
+    let Some((argument, (word, least, most))) = wrong_number(command, matches) else {
+        return String::from_str(alloc, forms_of(command, matches));
+    };
+    let Argument(name, form, ..) = argument;
+    let is_option = matches!(form, Form::Needed(_) | Form::Choice(_));
+    let dashes = if is_option { "--" } else { "" };
+    format!(in alloc; "{dashes}{name} {word}: a number from {least} to {most}")
+}
+
+/// The refusal of a command's words for a reason, with the command's own usage.
+fn refusal_of(alloc: Global, name: &str, reason: &str) -> Result<Error, AllocError>
     ensures { IfOk result (λ error. kind_of error ≡ ErrorKind.ValueValidation) }
 {
-    let reason = reason(alloc, name, matches)?;
-    command_named(alloc, name)?.error(ErrorKind::ValueValidation, reason.as_str())
+    command_named(alloc, name)?.error(ErrorKind::ValueValidation, reason)
 }
 
 /// The refusal of words that `clap` takes and that state no job.
@@ -112,7 +107,10 @@ pub(crate) fn value_refusal(alloc: Global, matches: &ArgMatches<'_>) -> Result<E
     ensures { IfOk result (λ error. kind_of error ≡ ErrorKind.ValueValidation) }
 {
     match matches.subcommand() {
-        Some((name, inner)) => refusal_of(alloc, name, inner),
-        None => command_line(alloc)?.error(ErrorKind::ValueValidation, "a command is needed"),
+        Some((name, inner)) => {
+            let reason = reason(alloc, name, inner)?;
+            refusal_of(alloc, name, reason.as_str())
+        }
+        None => refusal_of(alloc, "", "a command is needed"),
     }
 }
