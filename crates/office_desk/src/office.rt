@@ -58,7 +58,8 @@ impl<S> Model for Office<S> {
     ghost view = { λ office. office.shelf };
 }
 
-impl<S: Shelf> Office<S> {
+// It asks nothing of the shelf, so that its callers owe nothing for it.
+impl<S> Office<S> {
     /// The office whose tables the shelf keeps.
     pub fn new(shelf: S) -> Office<S>
         ensures { result ≡ shelf }
@@ -79,7 +80,9 @@ impl<S: Shelf> Office<S> {
     {
         self.shelf
     }
+}
 
+impl<S: Shelf> Office<S> {
     /// What a command is answered, and what is to be written for it. Nothing is written yet. Where
     /// memory or the shelf refuses, it answers Unavailable; where a stored row is no record,
     /// Damaged.

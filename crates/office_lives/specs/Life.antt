@@ -1,6 +1,5 @@
 -- A FILE'S WHOLE LIFE: runs over it in turn, each from the tables that the run before it left.
 use Rattle.std.specs.Prelude.{◌≡◌, ◌⊎◌, ℕ, List, [], ◌∷◌, Result, Err, IsTrue}
-use Rattle.sqlite.specs.Files.{file_state}
 use Rattle.sqlite.specs.Recovery.{Image}
 use Rattle.sqlite.specs.Tree.{Trees}
 use Rattle.sqlite_disk.specs.declared.Disk.{Ghosts as Disk}
@@ -16,10 +15,10 @@ use Rattle.office_http_framing.specs.declared.engine.Served.{Served}
 use Rattle.office_http_framing.specs.declared.engine.ServeFault.{ServeFault}
 use Rattle.signal_office_faults.specs.declared.fault.Fault.{Fault}
 use Rattle.signal_office_in_file.specs.Ended.{ServesStoredOffice}
+use Rattle.signal_office_in_file.specs.Stopping.{IsServedToAStop}
 use Rattle.signal_office_in_file.specs.declared.Ended.{Ended}
 use Rattle.signal_office_in_file.specs.declared.Ended.TheVariants.{Closed, Unclosed}
 use Rattle.signal_office_file.specs.Files.{AreThoseOf}
-use Rattle.signal_office_file.specs.Serving.{IsCutShortIn, IsServedToAStop}
 use Rattle.signal_office_file.specs.declared.left.FileLeft.{FileLeft}
 use Rattle.signal_office_file.specs.declared.left.FileLeft.TheVariants as left
 
@@ -50,8 +49,8 @@ module _ {D : Type 0} (g : Disk D) where
   -- what a run made of the tables that it found, for the next run to find
   abbrev pub Made : Lived → Content → Content → Type 0
   Made (in_order limit start end outcome) old new = ServesStoredOffice limit start end old outcome new
-  Made (to_a_stop limit start end outcome) old new = IsServedToAStop (file_state {D = D} {g = g}) limit start end old outcome new
-  Made (unclosed limit start end) old new = ∥ (new ≡ old) ⊎ IsCutShortIn g limit start end old new ∥₁
+  Made (to_a_stop limit start end outcome) old new = IsServedToAStop limit start end old outcome new
+  Made (unclosed limit start end) old new = ∥ (new ≡ old) ⊎ ((outcome : Result Served ServeFault) × IsServedToAStop limit start end old outcome new) ∥₁
   Made (command does) old new = does old new
   Made (command_to_a_stop leaves) old new = ∥ leaves old new ∥₁
   Made migrated old new = (new ≡ old) ⊎ ((before : Office) → StandForSoundIn version_1 old before → StandAnew new before)

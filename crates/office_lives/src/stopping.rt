@@ -1,8 +1,8 @@
 //! What a stop leaves of the two files: without what was not synced.
 
-ghost use Rattle.std.specs.Prelude.{◌≡◌, IfSome, IsTrue};
+ghost use Rattle.std.specs.Prelude.{IfSome, IsTrue};
 ghost use Rattle.sqlite.specs.Files.{file_state, image_of};
-ghost use Rattle.sqlite.specs.Held.{AreDatabases, state};
+ghost use Rattle.sqlite.specs.Held.{AreDatabases};
 ghost use Rattle.sqlite.specs.State.{HasCleanDisk};
 ghost use Rattle.sqlite.specs.Tree.{Trees};
 ghost use Rattle.sqlite.specs.WalReads.{AreClean};
@@ -14,10 +14,8 @@ ghost use Rattle.signal_office_file.specs.Files.{AreThoseOf, HoldIn};
 ghost use Rattle.signal_office_file.specs.Left.{IsCleanFile, LeavesDatabases, MayLeaveOf};
 ghost use Rattle.office_lives.specs.Life.{IsNumbered};
 
-use office_desk::office::Office;
-use office_tables::sql_shelf::SqlShelf;
 use signal_office_file::{FileLeft, FileOffice};
-use sqlite::{Alter, Connection, FileStore};
+use sqlite::{Connection, FileStore};
 use sqlite_disk::{Crash, Files};
 
 /// The files of a store as the next run finds them.
@@ -43,14 +41,6 @@ fn cut_off<D: Crash + Drop>(conn: Connection<FileStore<D>>) -> Files<D>
     crash_files(conn.into_store())
 }
 
-/// The connection of an office over tables in SQL.
-fn conn_of<S: Alter + Drop>(office: Office<SqlShelf<S>>) -> Connection<S>
-    ensures same { result ≡ office.conn }
-    ensures current { IsCurrent (state S.Store result) }
-{
-    office.into_shelf().into_conn()
-}
-
 /// Stops an office, at whichever call its disk fell silent: the files as the next run finds them.
 pub(crate) fn stop_office<D: Crash + Drop>(office: FileOffice<D>) -> Files<D>
     ensures clean { AreClean D.Disk result.log result.db →
@@ -61,7 +51,7 @@ pub(crate) fn stop_office<D: Crash + Drop>(office: FileOffice<D>) -> Files<D>
         ∥ (file_state office.conn).may_leave trees ∥₁ }
     ensures current { IsCurrent (file_state office.conn) }
 {
-    cut_off(conn_of(office))
+    cut_off(office.into_shelf().into_file_conn())
 }
 
 /// The files that could not be closed, as the next run finds them after the process ended.

@@ -1,6 +1,7 @@
 //! A shelf over the tables of the office in a database of SQL.
 
 ghost use Rattle.std.specs.Prelude.{◌≡◌, true, false, Ok, Err, IfOk, IfErr};
+ghost use Rattle.sqlite.specs.Files.{file_state};
 ghost use Rattle.sqlite.specs.State.{Survives};
 ghost use Rattle.sqlite.specs.Held.{state};
 ghost use Rattle.office_tables_statements.specs.Calls.{IsHonest, StaysOpen};
@@ -22,7 +23,8 @@ use office_tables_shelf::rows::{IntersectionRow, RowChange, Table};
 use office_tables_shelf::shelf::{Shelf, ShelfFault};
 use office_tables_sql::{change, each_row, inspection, intersection, order, register, timing};
 use signal_records::{Change, InterId, Row};
-use sqlite::{Alter, Connection};
+use sqlite::{Alter, Connection, FileStore};
+use sqlite_disk::Disk;
 use std::alloc::Global;
 use std::collections::BTreeMap;
 use std::marker::Model;
@@ -193,6 +195,18 @@ impl<S: Alter> SqlShelf<S> {
             (state S.Store result).committed ≡ (state S.Store self.conn).now }
         ensures schema { IsHonest (state S.Store result) →
             (state S.Store result).now.schema ≡ office_schema }
+    {
+        let SqlShelf { conn, .. } = self;
+        conn
+    }
+}
+
+impl<D: Disk> SqlShelf<FileStore<D>> {
+    /// As `into_conn`, of tables in files: a caller does not show again what each call of their
+    /// store promises.
+    pub fn into_file_conn(self) -> Connection<FileStore<D>>
+        ensures same { result ≡ self.conn }
+        ensures current { IsCurrent (file_state result) }
     {
         let SqlShelf { conn, .. } = self;
         conn

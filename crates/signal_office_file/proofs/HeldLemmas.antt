@@ -1,5 +1,5 @@
 -- What is known of a file up to a place, and of the bytes there, is known of it up to their end; and so it is of a sink.
-use Rattle.std.proofs.Common.{◌≡◌, ℕ, ◌+◌, ◌<◌, ◌≤◌, List, ◌++◌, length, take, drop, ap, ◌∙◌, inl, inr, Ok, Err, arith, get_or-drop, get_or-take, length-drop, length-take}
+use Rattle.std.proofs.Common.{◌≡◌, ℕ, ◌+◌, ◌<◌, List, ◌++◌, length, take, drop, ap, ◌∙◌, inl, inr, Ok, Err, arith, get_or-drop, get_or-take, length-drop, length-take}
 use Rattle.std.specs.Prelude.{IfErr, Result, ⊤}
 use Rattle.std.proofs.Math.Seq.{take-add}
 use Rattle.std.proofs.lemmas.List.{ext_get_or}

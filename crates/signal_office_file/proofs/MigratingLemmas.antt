@@ -1,12 +1,14 @@
 -- Version 1 of the tables and what becomes of it, in a database and in its files.
-use Rattle.std.proofs.Common.{◌≡◌, inl, inr, IsTrue, Result, Ok, Err, Some, sym, subst, ◌∙◌}
+use Rattle.std.proofs.Common.{◌≡◌, inl, inr, IsTrue, Result, Ok, Err, Some, sym, subst, ◌∙◌, arith}
 use Rattle.std.specs.Prelude.{IfOk, OnOk}
-use Rattle.sqlite.specs.{Closing.IsCopied, Files.file_state, Files.over_files, Held.Held, State.HasCleanDisk, State.State, Tree.Trees, WalReads.AreClean, declared.FileStore.FileStore}
+use Rattle.sqlite.specs.{Closing.IsCopied, Files.file_state, Files.over_files, Held.Held, State.HasCleanDisk, State.State, State.Survives, Tree.Trees, WalReads.AreClean, declared.FileStore.FileStore}
 use Rattle.sqlite_disk.specs.declared.Disk.{Ghosts as Disk}
 use Rattle.sqlite_disk.specs.declared.Files.{Files}
-use Rattle.office_tables.specs.{Calls.IsHonest, Migrate.IsBrought, Stored.content_of, declared.rewritten.Migrated.Migrated, declared.open.OpenFault.OpenFault}
-use Rattle.office_tables_sql.specs.{Version.current_version, Version.first_version}
+use Rattle.sqlite_store.specs.Laws.{settled_at, stays_at}
+use Rattle.office_tables.specs.{Calls.IsHonest, Calls.StaysOpen, Migrate.Brings, Migrate.IsBrought, Migrate.MayBecome, Migrate.TellsDamage, Migrate.TellsVersion, Stored.content_of, declared.rewritten.Migrated.Migrated, declared.open.OpenFault.OpenFault}
+use Rattle.office_tables_sql.specs.{Promises.KeepsCommitted, Promises.Settles, Version.current_version, Version.first_version}
 use Rattle.office_tables.proofs.Migration.{stand_anew}
+use Rattle.signal_office_file.specs.Left.{IsOpenedIn}
 use Rattle.signal_office_file.specs.Migrating.{AreMigrated, BringsToday, ClosedMigrated, MigratesOnDisk, MigratesIn, told_of_outcome}
 use Rattle.signal_office_file.proofs.FilesLemmas.{copied_alone}
 use Rattle.signal_office_in_file.specs.declared.Ended.TheVariants.{Closed}
@@ -19,7 +21,7 @@ is_committed (Err e) new settled stays = tt
 is_committed (Ok count) new settled stays = settled new.committed.trees stays
 
 -- on a clean disk what was brought is what is committed, in an open database
-pub brought_committed : (r : Result Migrated OpenFault) (old : Trees) (new : State) → (HasCleanDisk new → OnOk r (IsHonest new)) → (IsHonest new → IfOk r (IsBrought old new.now.trees))
+brought_committed : (r : Result Migrated OpenFault) (old : Trees) (new : State) → (HasCleanDisk new → OnOk r (IsHonest new)) → (IsHonest new → IfOk r (IsBrought old new.now.trees))
     → (IsHonest new → OnOk r ((trees : Trees) → new.may_leave trees → trees ≡ new.now.trees)) → (IsTrue new.is_open → new.may_leave new.committed.trees)
     → HasCleanDisk new → IfOk r (IsBrought old new.committed.trees)
 brought_committed (Err e) old new opened brought settled stays clean = tt
@@ -28,9 +30,31 @@ brought_committed (Ok count) old new opened brought settled stays clean =
     let same = is_committed (Ok count) new (settled honest) (stays honest.1) in
     subst (λ (t : Trees). IsBrought old t count) (sym same) (brought honest)
 
-pub still_open : (r : Result Migrated OpenFault) (new : State) → OnOk r (IsHonest new) → OnOk r (IsTrue new.is_open)
+still_open : (r : Result Migrated OpenFault) (new : State) → OnOk r (IsHonest new) → OnOk r (IsTrue new.is_open)
 still_open (Err e) new honest = tt
 still_open (Ok count) new honest = honest.1
+
+-- a connection found its tables in the files, and was migrated: on a clean disk alone this is what it leaves committed
+pub migrates_in : {D : Type 0} {g : Disk D} (seen_stays : (file : D) → g.may_leave file (g.seen file)) (files : Files D) (outcome : Result Migrated OpenFault) (found conn : Held (FileStore D g))
+    → IsOpenedIn files found → StaysOpen outcome (file_state conn) → Brings outcome (file_state found) (file_state conn) → Settles outcome (file_state conn)
+    → TellsVersion over_files outcome found conn → TellsDamage outcome (file_state found) (file_state conn) → KeepsCommitted outcome (file_state found) (file_state conn)
+    → Survives (file_state found) (file_state conn) (MayBecome (file_state found).committed.trees) → MigratesIn files outcome conn
+migrates_in seen_stays files outcome found conn finds opened brought settled version damaged unchanged survives = record {
+  found = found;
+  finds = finds;
+  clean = λ clean. omega (arith, clean, survives.clean);
+  migrates = record {
+    brought = brought_committed outcome (file_state found).committed.trees (file_state conn) opened brought settled (stays_at conn.store seen_stays);
+    is_open = λ clean. still_open outcome (file_state conn) (opened clean);
+    version = version;
+    damaged = damaged;
+    unchanged = unchanged;
+    crash = λ clean open_before trees left. elim (survives.crash clean trees left) [
+      | inl as_before ↦ inl (settled_at found.store seen_stays trees open_before as_before)
+      | inr became ↦ inr became
+    ];
+  };
+}
 
 -- where version 1 stood for an office, what was brought stands for it today
 versions_differ : Some current_version ≡ Some first_version → ⊥

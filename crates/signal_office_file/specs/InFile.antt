@@ -1,5 +1,5 @@
 -- The office of a file, as the jobs of the program know it.
-use Rattle.std.specs.Prelude.{◌≡◌, ◌⊎◌, Ok, Err}
+use Rattle.std.specs.Prelude.{◌⊎◌, Ok, Err}
 use Rattle.sqlite.specs.Files.{image_of}
 use Rattle.sqlite.specs.Recovery.{Image}
 use Rattle.sqlite.specs.WalReads.{AreClean}
@@ -9,7 +9,7 @@ use Rattle.office_tables.specs.Content.{Content}
 use Rattle.signal_office_faults.specs.declared.fault.Fault.{Fault}
 use Rattle.signal_office_in_file.specs.Ended.{FileView}
 use Rattle.signal_office_in_file.specs.declared.Ended.{Ended}
-use Rattle.signal_office_in_file.specs.declared.Ended.TheVariants.{Closed, Unclosed}
+use Rattle.signal_office_in_file.specs.declared.Ended.TheVariants.{Closed}
 use Rattle.signal_office_file.specs.Files.{AreNew, HoldAlone, HoldIn, KeepTables}
 use Rattle.signal_office_file.specs.Left.{IsCleanFile, IsRefusedIn, LeavesDatabases, LeavesToday, MayLeaveOf}
 use Rattle.signal_office_file.specs.Migrating.{FailedToClose, IsClosedMigrated}
@@ -55,10 +55,3 @@ view_at {D} g image = view_over g (HoldIn image) (λ known. (files : Files D) ×
 abbrev pub WasClean : {D : Type 0} (g : Disk D) {T : Type 0} → Files D → Ended T (FileLeft D g) → Type 0
 WasClean g files (Closed done back) = IsCleanFile back → AreClean g files.log files.db
 WasClean g files _ = Unit {0}
-
--- The files could not be closed: a stop leaves of them the tables that they held, or what one leaves of the work.
-abbrev pub IsUnclosed : {D : Type 0} (g : Disk D) {T : Type 0} → Files D → (leaves : Content → Content → Type 0) → Ended T (FileLeft D g) → Type 0
-IsUnclosed g files leaves (Unclosed why back) =
-    IsCleanFile back → LeavesDatabases back × ((tables : Content) → ∥ MayLeaveOf back tables ∥₁
-    → (old : Content) × HoldIn (image_of g files) old × ∥ (tables ≡ old) ⊎ leaves old tables ∥₁)
-IsUnclosed g files leaves _ = Unit {0}

@@ -14,16 +14,11 @@ use Rattle.office_tables.specs.Content.{Content}
 use Rattle.office_tables.specs.Stored.{content_now}
 use Rattle.office_tables.specs.SqlShelf.{IsCurrent, MayLeave, SqlView}
 use Rattle.office_tables_shelf.specs.Counts.{no_writes}
-use Rattle.office_tables_shelf.specs.declared.counts.WriteCounts.{WriteCounts}
 use Rattle.office_machine.specs.Office.{Office}
-use Rattle.office_desk.specs.StandFor.{StandForSound}
-use Rattle.office_http.specs.Laws.{KeepsLaws, Serves}
-use Rattle.office_http.specs.Protocol.{office_protocol, office_storage}
+use Rattle.office_http.specs.Laws.{Serves}
+use Rattle.office_http.specs.Protocol.{office_storage}
 use Rattle.office_http_framing.specs.Front.{PlainRequest}
-use Rattle.office_http_framing.specs.Serve.{Did, Ends}
-use Rattle.office_http_framing.specs.Stops.{Leaves, Storage}
-use Rattle.office_http_framing.specs.declared.engine.Served.{Served}
-use Rattle.office_http_framing.specs.declared.engine.ServeFault.{ServeFault}
+use Rattle.office_http_framing.specs.Stops.{Storage}
 use Rattle.signal_office_faults.specs.declared.fault.Fault.{Fault}
 use Rattle.signal_office_file.specs.Files.{HoldIn, HoldToday}
 use Rattle.signal_office_file.specs.Left.{IsRefusedIn, KeepsToday}
@@ -72,41 +67,3 @@ pub record ServesFiles
   pub kept : Content
   pub serves : Serves (sql_storage state_of) (λ tables. tables ≡ held)
       (record { state = before; kept = held; written = no_writes }) last kept after requests answers
-
--- ---- what a stop leaves of a stream that was served over tables
-
-module _ {S : Type 0} (state_of : Held S → State) where
-  -- A stop leaves these tables after the requests: those after the last answer that was no 503, or
-  -- after a later request that was answered 503.
-  pub record MayBeFound
-      (old : Content) (before after : Office) (requests : List PlainRequest)
-      (answers : List (List ℕ)) (found : Content) : Type 0 where
-    pub kept : Content
-    pub counts : WriteCounts
-    pub leaves : Leaves office_protocol (sql_storage state_of) (λ tables. tables ≡ old)
-        (record { state = before; kept = old; written = no_writes }) requests answers
-        (λ left. left ≡ found) (record { state = after; kept = kept; written = counts })
-
-  -- the requests were run from the office, and a stop after them leaves these tables
-  pub record RunsToAStop
-      (old : Content) (before after : Office) (found : Content) (requests : List PlainRequest)
-      (answers : List (List ℕ)) : Type 0 where
-    pub laws : KeepsLaws before requests answers after
-    pub found_so : ∥ MayBeFound old before after requests answers found ∥₁
-
-  -- a stream was served so from whichever office the tables stood for
-  abbrev pub IsServedToAStop : ℕ → Ends → Ends → Content → Result Served ServeFault → Content
-      → Type 0
-  IsServedToAStop limit start end old outcome found =
-      (before : Office) → StandForSound old before → (after : Office)
-      × Did office_protocol (RunsToAStop old before after found) limit start end outcome
-
-  -- a stream was served to a stop that leaves these tables, however the stream ended
-  abbrev pub IsCutShort : ℕ → Ends → Ends → Content → Content → Type 0
-  IsCutShort limit start end old found =
-      (outcome : Result Served ServeFault) × IsServedToAStop limit start end old outcome found
-
--- a stream over files was served to a stop that leaves these tables, however the stream ended
-abbrev pub IsCutShortIn : {D : Type 0} (g : Disk D) → ℕ → Ends → Ends → Content → Content → Type 0
-IsCutShortIn {D} g limit start end old found =
-    IsCutShort (file_state {D = D} {g = g}) limit start end old found

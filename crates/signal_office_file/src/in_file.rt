@@ -4,8 +4,7 @@ ghost use Rattle.std.specs.Prelude.{◌≡◌, [], MatchResult};
 ghost use Rattle.office_http_framing.specs.Serve.{ends_of};
 ghost use Rattle.signal_office_in_file.specs.Ended.{EndsOver, stream_work, task_work};
 ghost use Rattle.signal_office_file.specs.Calls.{calls_of};
-ghost use Rattle.signal_office_file.specs.InFile.{IsUnclosed, WasClean, files_view};
-ghost use Rattle.signal_office_file.specs.Serving.{IsCutShortIn};
+ghost use Rattle.signal_office_file.specs.InFile.{WasClean, files_view};
 
 use crate::copying::copied_in;
 use crate::left::FileLeft;
@@ -74,10 +73,6 @@ pub fn answered_in<D: Disk + Drop, R: Source, W: Sink>(
         (ends_of (R.told source.new) (W.told out.new))
         ((source.new ≡ source.old) × (out.new ≡ out.old))) result }
     ensures clean { WasClean D.Disk files result }
-    // Where they could not be closed, a stop leaves of them what one leaves of the stream.
-    ensures unclosed { IsUnclosed D.Disk files (IsCutShortIn D.Disk max_requests
-        (ends_of (R.told source.old) (W.told out.old))
-        (ends_of (R.told source.new) (W.told out.new))) result }
 {
     let (office, served) = match serve_file(alloc, files, options, source, out, max_requests) {
         Ok(served) => served,

@@ -5,7 +5,7 @@ ghost use Rattle.signal_office_file.specs.Left.{TellsError, closed_of, database_
 
 use office_tables::open::{Left, OpenFault};
 use signal_office_faults::Fault;
-use sqlite::{Error, ErrorCode, FileStore, Leftover};
+use sqlite::{Alter, Error, ErrorCode, FileStore, Leftover};
 use sqlite_disk::{Disk, Files};
 
 /// What is left of the two files of an office.
@@ -40,14 +40,16 @@ impl<D: Disk + Drop> FileLeft<D> {
     }
 }
 
+/// Lets go a database, or its store.
+fn let_go<S: Alter + Drop>(_left: Left<S>) {}
+
 // It is written out, so that a caller does not prove again how each part is dropped.
 impl<D: Disk + Drop> Drop for FileLeft<D> {
     fn drop(self) {
         match self {
             FileLeft::Closed(_files) => {}
             FileLeft::Unopened(_files) => {}
-            FileLeft::Database(Ok(_conn)) => {}
-            FileLeft::Database(Err(_store)) => {}
+            FileLeft::Database(left) => let_go(left),
         }
     }
 }

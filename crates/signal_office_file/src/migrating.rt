@@ -1,10 +1,7 @@
 //! The tables of a file of an older version, brought to today's version.
 
 ghost use Rattle.std.specs.Prelude.{◌≡◌};
-ghost use Rattle.signal_office_file.specs.Migrating.{told_of_outcome, MigratesFiles, MigratesOnDisk};
-ghost use Rattle.sqlite.specs.Held.{state};
-ghost use Rattle.sqlite.specs.State.{HasCleanDisk};
-ghost use Rattle.office_tables.specs.Arranged.{IsArrangedIfClean};
+ghost use Rattle.signal_office_file.specs.Migrating.{told_of_outcome, MigratesFiles};
 
 use crate::in_file::first_fault;
 use crate::left::{FileLeft, fault_of_opening};
@@ -14,23 +11,9 @@ use office_tables::open::OpenFault;
 use office_tables::sql_shelf::SqlShelf;
 use signal_office_faults::Fault;
 use signal_office_in_file::Ended;
-use sqlite::{Alter, Connection, Options};
+use sqlite::Options;
 use sqlite_disk::{Disk, Files};
 use std::alloc::Global;
-
-/// Brings the tables of a database to today's version, and gives it back, with what is told of its
-/// last commit.
-fn migrate_conn<S: Alter>(
-    alloc: Global,
-    mut conn: Connection<S>,
-) -> (Connection<S>, Result<Migrated, OpenFault>)
-    requires { IsArrangedIfClean (state S.Store conn) }
-    ensures migrated { MigratesOnDisk S.Store result.1 conn result.0 }
-    ensures clean { HasCleanDisk (state S.Store result.0) → HasCleanDisk (state S.Store conn) }
-{
-    let outcome = SqlShelf::migrate(alloc, &mut conn);
-    (conn, outcome)
-}
 
 /// Brings the tables in the two files to today's version, which may be refused, and closes them, so
 /// that the log is copied. What is left of the files comes back with what came of it.
@@ -45,11 +28,11 @@ pub fn migrate_file<D: Disk + Drop>(
     // the files that came back.
     ensures { MigratesFiles files result }
 {
-    let conn = match database_in(alloc, files, options) {
+    let mut conn = match database_in(alloc, files, options) {
         Ok(conn) => conn,
         Err((fault, left)) => return Ended::Refused(fault, FileLeft::Unopened(left)),
     };
-    let (conn, outcome) = migrate_conn(alloc, conn);
+    let outcome = SqlShelf::migrate(alloc, &mut conn);
     let done = rows_written(outcome);
     match close_file(conn) {
         Ok(files) => Ended::Closed(done, FileLeft::Closed(files)),

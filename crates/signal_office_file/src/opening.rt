@@ -91,19 +91,11 @@ pub(crate) fn close_file<D: Disk + Drop>(
     }
 }
 
-/// The database of an office over tables in SQL.
-fn conn_of<S: Alter + Drop>(office: Office<SqlShelf<S>>) -> Connection<S>
-    ensures same { result ≡ office.conn }
-    ensures current { IsCurrent (state S.Store result) }
-{
-    office.into_shelf().into_conn()
-}
-
 /// Closes the files of an office, and gives them back. They hold its tables then, as an opening
 /// finds them: the tables of an office, with today's version.
 pub fn close_office<D: Disk + Drop>(office: FileOffice<D>) -> Result<Files<D>, Refused<D>>
     // Where that fails, a stop leaves no more of it than before.
     ensures { ClosesOffice office.conn result }
 {
-    close_file(conn_of(office))
+    close_file(office.into_shelf().into_file_conn())
 }

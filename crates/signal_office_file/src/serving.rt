@@ -77,7 +77,7 @@ pub fn serve_file<D: Disk + Drop, R: Source, W: Sink>(
 }
 
 /// Serves the requests that the reader gives by an office over tables in SQL, and gives it back.
-fn serve_over<S: Alter + Drop, R: Source, W: Sink>(
+fn serve_over<S: Alter, R: Source, W: Sink>(
     alloc: Global,
     mut office: Office<SqlShelf<S>>,
     reader: &mut R,

@@ -1,12 +1,12 @@
 -- What a stop leaves of requests that were answered in turn.
-use Rattle.std.proofs.Common.{◌⊎◌, ℕ, List, [], ◌∷◌, inl, inr, subst, sym}
+use Rattle.std.proofs.Common.{◌⊎◌, ℕ, List, [], ◌∷◌, ap, inl, inr, subst, sym}
 use Rattle.office_http.specs.Protocol.{office_protocol, office_storage}
 use Rattle.office_http_framing.specs.Front.{PlainRequest}
 use Rattle.office_http_framing.specs.Stops.{How, stepped, unavailable, Leaves, LeavesOne, Moment, Passes, Storage}
 use Rattle.office_http_framing.proofs.StopLemmas.{may_answer}
 use Rattle.office_machine.specs.Office.{Office}
 use Rattle.office_tables_shelf.specs.{Content.Content, declared.counts.WriteCounts.WriteCounts}
-use Rattle.signal_office_in_file.specs.Stopping.{AfterRequest, AfterStepOf}
+use Rattle.signal_office_in_file.specs.Stopping.{AfterRequest, AfterStepOf, table_storage}
 
 module _ {S : Type 0} (is_honest : S → Type 0) (content : S → Content) (written : S → WriteCounts) (may_leave : S → Content → Type 0) where
   abbrev storage : Storage S Office Content
@@ -35,3 +35,19 @@ module _ {S : Type 0} (is_honest : S → Type 0) (content : S → Content) (writ
       ]
   left_of_run may first last [] (answer ∷ answers) at_end none found end = absurd none
   left_of_run may first last (request ∷ requests) [] at_end none found end = absurd none
+
+  -- a moment of any tables
+  abbrev table_moment : Moment storage → Moment table_storage
+  table_moment at = record { state = at.state; kept = at.kept; written = at.written }
+
+  -- what the requests leave of a machine they leave of its tables, and so of less that a stop leaves at the end
+  pub tables_left : (may : Content → Type 0) (first last : Moment storage) (requests : List PlainRequest) (answers : List (List ℕ)) (more less : Content → Type 0)
+      → ((left : Content) → less left → more left) → Leaves office_protocol storage may first requests answers more last
+      → Leaves office_protocol table_storage may (table_moment first) requests answers less (table_moment last)
+  tables_left may first last [] [] more less fewer it = ((λ left end. it.0 left (fewer left end)), ap table_moment it.1)
+  tables_left may first last (request ∷ requests) (answer ∷ answers) more less fewer (stepped, next, passes, rest) =
+      (stepped, table_moment next, passes, tables_left (λ left. LeavesOne office_protocol storage stepped request may first next left) next last requests answers more less fewer rest)
+  tables_left may first last (request ∷ requests) (answer ∷ answers) more less fewer (unavailable, next, passes, rest) =
+      (unavailable, table_moment next, (passes.0, ap table_moment passes.1), tables_left (λ left. LeavesOne office_protocol storage unavailable request may first next left) next last requests answers more less fewer rest)
+  tables_left may first last [] (answer ∷ answers) more less fewer none = absurd none
+  tables_left may first last (request ∷ requests) [] more less fewer none = absurd none

@@ -1,5 +1,4 @@
-use Rattle.std.proofs.Common.{inl, inr, sym, subst}
-use Rattle.std.proofs.Math.Logic.{∥∥₁_map}
+use Rattle.std.proofs.Common.{inl, sym, subst}
 use Rattle.sqlite.specs.Files.{file_state}
 use Rattle.office_desk.specs.StandFor.{StandForSound}
 use Rattle.office_http.specs.Protocol.{office_protocol}
@@ -7,7 +6,7 @@ use Rattle.office_http_framing.proofs.ServeLemmas.{Did-weaker}
 use Rattle.office_tables.specs.{Calls.IsHonest, Stored.content_now}
 use Rattle.signal_office_faults.specs.Lines.{fault_of_stream}
 use Rattle.signal_office_file.proofs.InFileLemmas.{first_told}
-use Rattle.signal_office_file.proofs.{FilesLemmas.closing_told, FilesLemmas.unclosed_leaves, ServingLemmas.served_leaves, ServingLemmas.served_to_a_stop}
+use Rattle.signal_office_file.proofs.{FilesLemmas.closing_told, FilesLemmas.unclosed_leaves, ServingLemmas.served_leaves}
 use Rattle.signal_office_file.proofs.in_file.answered_in.Goals as goal
 
 pub returns-in-Err-clause-ends : goal.returns-in-Err-clause-ends
@@ -54,25 +53,14 @@ returns-in-Err-close_office-clause-ends g c =
           let did = c.in-Ok.ensures.did left.1 in (
             did.0,
             did.1,
-            λ before stands.
-                let ran = did.2 before stands in (
-                  ran.0,
-                  Did-weaker office_protocol _ _ c.args.max_requests _ _ served.1
-                      (λ requests answers it. (it.serves.laws, (left.0, back.1, λ found may. served_leaves file_state did.0 before served.0 ran.0 requests answers it found (left.2 found may)))) ran.1,
-                ),
+            (
+              (left.0, back.1, λ found may. tt),
+              λ before stands.
+                  let ran = did.2 before stands in (
+                    ran.0,
+                    Did-weaker office_protocol _ _ c.args.max_requests _ _ served.1
+                        (λ requests answers it. (it.serves.laws, (left.0, back.1, λ found may. served_leaves file_state did.0 served.0 before ran.0 requests answers it found (left.2 found may)))) ran.1,
+                  ),
+            ),
           ),
-    )
-
-pub returns-in-Err-close_office-clause-unclosed : goal.returns-in-Err-close_office-clause-unclosed
-returns-in-Err-close_office-clause-unclosed g c clean =
-    let back = c.in-Err-close_office.ensures in
-    let served = c.in-Ok.served in
-    let left = unclosed_leaves served.0.conn c.in-Err-close_office.fault c.in-Err-close_office.left back clean in
-    let did = c.in-Ok.ensures.did left.1 in (
-      left.0,
-      λ tables may. (
-        did.0,
-        did.1,
-        ∣ inr (served.1, served_to_a_stop file_state did.0 served.0 c.args.max_requests _ _ served.1 tables did.2 (∥∥₁_map may (λ m. left.2 tables m))) ∣₁,
-      ),
     )
