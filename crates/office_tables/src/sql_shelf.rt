@@ -202,8 +202,8 @@ impl<S: Alter> SqlShelf<S> {
 }
 
 impl<D: Disk> SqlShelf<FileStore<D>> {
-    /// As `into_conn`, of tables in files: a caller does not show again what each call of their
-    /// store promises.
+    /// The connection of tables in files, with what it holds. Its type names the store of files, so
+    /// that a caller does not show again what each call of that store promises.
     pub fn into_file_conn(self) -> Connection<FileStore<D>>
         ensures same { result ≡ self.conn }
         ensures current { IsCurrent (file_state result) }
