@@ -1,4 +1,4 @@
--- Records that are tried in turn and not taken: what would come of each, and what is there where one is refused.
+-- Records of the register that are tried in turn, and none of them stored: what would come of each, and what the register holds where one is refused.
 use Rattle.std.specs.Prelude.{◌≡◌, ◌⊎◌, List, [], ◌∷◌, Option, Some, None}
 use Rattle.std.specs.FinMap.{get}
 use Rattle.cabinet_core.specs.Cabinet.{on_hand}
@@ -33,7 +33,8 @@ use Rattle.office_tables_shelf.specs.declared.rows.RowChange.{RowChange}
 
 -- ---- what is there
 
--- where that stands which a refused record is reported with: the record of its own key; but the order of a part that is used or of a closing, or what is on hand
+-- the place of the register whose content is told with a refused record: that of its own key, for an inspection, an opening, a used line that differs or a
+-- delivery that differs; the part on hand, where stock is short or any other delivery is refused; else the order that it is of
 abbrev pub place_told : RecordCommand → CabinetRefusal → Place
 place_told (asks.Inspect id asked) why = place.Inspection id asked.number
 place_told (asks.OpenOrder id asked) why = place.Order id asked.number
@@ -44,7 +45,7 @@ place_told (asks.CloseOrder id number asked) why = place.Order id number
 place_told (asks.Receive asked) refusal.DeliveryDiffers = place.Delivery asked.part asked.number
 place_told (asks.Receive asked) why = place.Part asked.part
 
--- what a register has there
+-- what a register holds at a place, if it holds anything there
 abbrev pub held_in : Register → (at : Place) → Option (RecordAt at)
 held_in r (place.Inspection id n) = get r.inspections (id, n)
 held_in r (place.Order id n) = get r.orders (id, n)
@@ -52,7 +53,7 @@ held_in r (place.Line id order line) = get r.lines (id, (order, line))
 held_in r (place.Part code) = hand_of r code
 held_in r (place.Delivery code n) = get r.deliveries (code, n)
 
--- how it is reported: nothing, or the record; or how many of a part are on hand
+-- how what was found at a place is told: the record, or nothing; of a part, how many pieces are on hand, 0 where the register has none
 abbrev pub told_there : (at : Place) → Option (RecordAt at) → There
 told_there (place.Inspection id n) None = there.Nothing
 told_there (place.Inspection id n) (Some it) = there.Inspection it
@@ -64,53 +65,55 @@ told_there (place.Part code) hand = there.OnHand code (on_hand hand)
 told_there (place.Delivery code n) None = there.Nothing
 told_there (place.Delivery code n) (Some it) = there.Delivery it
 
--- what is there where a record is refused: nothing where its intersection is not there
+-- what is told of a register with a refused record: what it holds at the place of that refusal; nothing where another refusal than one of the register is given,
+-- as when the intersection is not there
 abbrev pub there_in : Register → RecordCommand → Refusal → There
 there_in r c (OfRegister why) = told_there (place_told c why) (held_in r (place_told c why))
 there_in r c why = there.Nothing
 
--- what is read there, on the stored rows once those that are pending are written
+-- what is told of a place is read from the stored rows once the pending ones are written, and no damaged row stands there
 abbrev pub ReadsThere : Content → List RowChange → (at : Place) → There → Type 0
 ReadsThere stored pending at it = (found : Option (RecordAt at)) × StandsAt (changed_by stored pending) at found × (it ≡ told_there at found)
 
--- what is reported of it, whichever register the tables stand for then
+-- what is told with a refused record is what the register holds, whichever sound one the stored tables stand for once the pending rows are written
 abbrev pub TellsThere : Content → List RowChange → RecordCommand → Refusal → There → Type 0
 TellsThere stored pending c why it = (r : Register) → RegisterStandsSound (changed_by stored pending) r → it ≡ there_in r c why
 
 -- ---- records in turn
 
--- what would come of a record, and the office after it: one that is refused leaves it
+-- what would come of a record on this register, as it is told: a refusal comes with what the register holds there
 abbrev pub checked_by : Register → RecordCommand → Taken → Checked
 checked_by r c taken.Added = checked.Added
 checked_by r c taken.Same = checked.Same
 checked_by r c (taken.Refused why) = checked.Refused why (there_in r c why)
 
--- how an office takes a record
+-- how an office takes a record: as a new one, as one that is there already, or not, with the refusal
 abbrev pub taken_in : Office → RecordCommand → Taken
 taken_in office c = taken_by (is_known office (cabinet_of c)) (line_at office.register c)
 
--- the office after a record that was taken so
+-- the office after a record, by how it was taken: only a new record changes it
 abbrev pub office_with : Taken → Office → RecordCommand → Office
 office_with t office c = record office { register = register_with t office.register c }
 
--- each after those before it that would be taken
+-- what would come of records in turn, each on the office as those before it leave it; one that is refused leaves it as it was
 abbrev pub checked_from : Office → List RecordCommand → List Checked
 checked_from office [] = []
 checked_from office (c ∷ cs) =
     checked_by office.register c (taken_in office c) ∷ checked_from (office_with (taken_in office c) office c) cs
 
--- whichever sound office the tables stand for
+-- the list tells what would come of each record, whichever sound office the tables stand for
 abbrev pub Checks : Content → List RecordCommand → List Checked → Type 0
 Checks tables records list = (office : Office) → StandForSound tables office → list ≡ checked_from office records
 
--- a record is checked as every sound office that the tables stand for would take it, after rows that are pending
+-- what is told of a record is what would come of it in every sound office that the stored tables stand for, with the register that the rows pending before it
+-- make; and the rows pending after it make the register that follows
 abbrev pub ChecksRecord : Content → (before : List RowChange) → RecordCommand → Checked → (after : List RowChange) → Type 0
 ChecksRecord stored before c it after =
     (office : Office) → StandForSound stored office → (r : Register) → RegisterStandsSound (changed_by stored before) r
     → let t = taken_by (is_known office (cabinet_of c)) (line_at r c) in
     (it ≡ checked_by r c t) × RegisterStandsSound (changed_by stored after) (register_with t r c)
 
--- a row of the intersection of some record, or of the register under its keys, is no record
+-- for one of these records, the row of its intersection, or a row of the register under its keys, is no record
 abbrev pub MeetsCheckDamage : Content → List RecordCommand → Type 0
 MeetsCheckDamage tables [] = ⊥
 MeetsCheckDamage tables (c ∷ cs) = (HasDamagedAbout tables (cabinet_of c) ⊎ MeetsRecordDamage tables c) ⊎ MeetsCheckDamage tables cs

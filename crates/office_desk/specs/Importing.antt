@@ -29,63 +29,67 @@ use Rattle.office_desk.specs.declared.importing.Taken.TheVariants.{Added, Same, 
 use Rattle.office_machine.specs.declared.refusal.Refusal.{Refusal}
 use Rattle.office_machine.specs.declared.refusal.Refusal.TheVariants.{ImportRow, UnknownIntersection}
 
--- of whatever tables, rows of the register alone are written
+-- the changes are of rows of the register alone: they leave the rows of intersections, timing and drafts, whatever the tables hold
 abbrev pub LeavesAnyTiming : List RowChange → Type 0
 LeavesAnyTiming changes = (tables : Content) → LeavesTiming tables changes
 
--- how an import goes on after a record with a number in it
+-- how an import goes on after the record of this number, counted from 1: a refused one ends it, and the cause is that refusal's number
 abbrev pub goes_on : (at : ℕ) → Taken → (added same : Result (ℕ × ℕ × Office) Refusal) → Result (ℕ × ℕ × Office) Refusal
 goes_on at Added added same = added
 goes_on at Same added same = same
 goes_on at (Refused why) added same = Err (ImportRow at (line_of why).number)
 
--- a refusal's number is one that the table has for the record
+-- the record is taken, or its refusal's number is one that is named for a command with this record
 abbrev pub IsNamedTaken : RecordCommand → Taken → Type 0
 IsNamedTaken c (Refused why) = IsOneOf (numbers_of (command.Record c)) (number_of why)
 IsNamedTaken c _ = Unit {0}
 
--- what comes of a record, by the machine: of one whose intersection is there, its line of the table
+-- what comes of a record, by whether its intersection is there (or it is of none) and by its line of the register's table: without the intersection it is refused
 abbrev pub taken_by : (is_there : Bool) → Line → Taken
 taken_by false line = Refused UnknownIntersection
 taken_by true added_line = Added
 taken_by true same_line = Same
 taken_by true (refused_line why) = Refused (refusal_of_record why)
 
--- the register after a record
+-- the register after a record, by how it was taken: only a new one changes it
 abbrev pub register_with : Taken → Register → RecordCommand → Register
 register_with Added r c = with_record r c
 register_with Same r c = r
 register_with (Refused why) r c = r
 
--- from an office with a register: the record is taken as the machine takes it, and the pending rows make the register with it
+-- in this office with this register the record is taken as the machine takes it; and with the pending rows the stored tables stand for the register after it
 pub record TakesFrom (stored : Content) (c : RecordCommand) (taken : Taken) (pending : List RowChange) (office : Office) (r : Register) : Type 0 where
   pub told : taken ≡ taken_by (is_known office (cabinet_of c)) (line_at r c)
   pub stand : RegisterStandsSound (changed_by stored pending) (register_with taken r c)
 
--- whichever sound office the stored tables stand for, and whichever register the pending rows made of its own
+-- a record is taken as the machine takes it, whichever sound office the stored tables stand for, and whichever sound register they stand for with the rows
+-- that were pending before it
 abbrev pub TakesRecord : Content → List RowChange → RecordCommand → Taken → List RowChange → Type 0
 TakesRecord stored before c taken pending = (office : Office) → StandForSound stored office → (r : Register) → RegisterStandsSound (changed_by stored before) r → TakesFrom stored c taken pending office r
 
--- The record met no damaged row, after the rows that were pending: its intersection's row is none, and either no row stands there or no row of the register
--- that it reads is one. And its own rows overwrite none.
+-- A record met no damaged row: its intersection's row is not damaged, and either no row of that intersection stands there or, after the rows that were pending,
+-- no row of the register that the record reads is damaged. Its own rows overwrite no damaged row.
 pub record TakesWhole (stored : Content) (before : List RowChange) (c : RecordCommand) (after : List RowChange) : Type 0 where
   pub about : ¬ HasDamagedAbout stored (cabinet_of c)
   pub whole : TellsAbout stored (cabinet_of c) false ⊎ (¬ MeetsRecordDamage (changed_by stored before) c)
   pub spares : KeepsDamage (changed_by stored before) (changed_by stored after)
 
--- how a record is taken, on the rows that stand under its keys, whatever else is stored
+-- a record is taken by its line of the register's table, on the rows that stand under its keys, whatever else is stored; only a new one adds rows behind the
+-- pending ones (of a refused one this says nothing of rows)
 abbrev pub TakesLine : (stored : Content) (before : List RowChange) → RecordCommand → Taken → (after : List RowChange) → Type 0
 TakesLine stored before c Added after = (rows : List RowChange) × FollowsRegisterLine stored before c added_line rows × (after ≡ before ++ rows)
 TakesLine stored before c Same after = (rows : List RowChange) × FollowsRegisterLine stored before c same_line rows × (after ≡ before ++ rows)
 TakesLine stored before c (Refused why) after = IsRefusedAfter stored before c (number_of why)
 
--- how a record is taken after those whose rows are pending: as the machine takes it, on rows that are records, and on those alone that stand under its keys
+-- how a record is taken after those whose rows are pending: as the machine takes it, without meeting a damaged row, and by those rows alone that stand
+-- under its keys
 pub record TakesInTurn (stored : Content) (before : List RowChange) (c : RecordCommand) (taken : Taken) (after : List RowChange) : Type 0 where
   pub step : TakesRecord stored before c taken after
   pub whole : TakesWhole stored before c after
   pub line : TakesLine stored before c taken after
 
--- whatever is stored: a refusal is one that the table has for the record, and rows of the register alone are written, at most as many as it may
+-- whatever is stored: a refusal is one that is named for the record; where the rows pending before it are of the register alone, so are those after it; and
+-- the record adds to each table at most as many rows as it may write
 pub record TakesWithin (before : List RowChange) (c : RecordCommand) (taken : Taken) (after : List RowChange) : Type 0 where
   pub named : IsNamedTaken c taken
   pub leaves : LeavesAnyTiming before → LeavesAnyTiming after
@@ -93,29 +97,31 @@ pub record TakesWithin (before : List RowChange) (c : RecordCommand) (taken : Ta
 
 -- ---- a record that was decided
 
--- a record was decided: its intersection is not there, and one is asked for; or it is, and the register decided
+-- a record was decided after the pending rows: none, where it is of an intersection that is not there; else the intersection is there, or it is of none, and
+-- the register decided this
 abbrev pub DecidesAfter : (is_honest : Type 0) (stored : Content) (before : List RowChange) → RecordCommand → Option Registered → Type 0
 DecidesAfter is_honest stored before c None = IsSome (cabinet_of c) × (is_honest → TellsIntersection stored (cabinet_of c) false)
 DecidesAfter is_honest stored before c (Some told) = (is_honest → TellsIntersection stored (cabinet_of c) true) × DecidesRecord is_honest stored before c (Ok told)
 
--- what comes of a record that was decided so
+-- what comes of a record, by what the register decided; where it was not asked, the intersection is not there
 abbrev pub taken_as : Option Registered → Taken
 taken_as None = Refused UnknownIntersection
 taken_as (Some (registered.Added rows)) = Added
 taken_as (Some registered.Same) = Same
 taken_as (Some (registered.Refused why)) = Refused (refusal_of_record why)
 
--- the rows that it writes so
+-- the rows that a decided record adds; none where the register was not asked
 abbrev pub rows_decided : Option Registered → List RowChange
 rows_decided None = []
 rows_decided (Some told) = rows_told told
 
--- from an office: the pending rows made a register, and the import of all the records goes on from there with those that are left
+-- In an office, part of an import was done: the pending rows make a register, and the import of all records comes to what the import of the rest comes to from
+-- that register, the next record having this number, with so many added and so many that were there.
 pub record ImportsFrom (stored : Content) (all rest : List RecordCommand) (at added same : ℕ) (pending : List RowChange) (office : Office) : Type 0 where
   pub register : Register
   pub stand : RegisterStandsSound (changed_by stored pending) register
   pub goes : import_from 1 0 0 office all ≡ import_from at added same (record office { register = register }) rest
 
--- whichever sound office the stored tables stand for
+-- part of an import was done, with these records left and these rows pending, whichever sound office the stored tables stand for
 abbrev pub ImportsAny : Content → (all rest : List RecordCommand) → (at added same : ℕ) → List RowChange → Type 0
 ImportsAny stored all rest at added same pending = (office : Office) → StandForSound stored office → ImportsFrom stored all rest at added same pending office

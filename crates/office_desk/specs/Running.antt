@@ -25,25 +25,27 @@ use Rattle.signal_plans.specs.StreetLaws.{StreetLaws}
 abbrev pub HoldsTables : {S : Type 0} → Ghosts S → S → Content → Type 0
 HoldsTables g shelf tables = g.is_honest shelf → g.content shelf ≡ tables
 
--- What is said on a clean disk alone is said of the tables that an open database held, whether or not a failure has shut it.
+-- Where the disk has returned what was written, this is said of the tables that the database held before, if it was open then; and of any tables, if it was
+-- shut.
 abbrev pub TellsTables : {S : Type 0} → Ghosts S → (old new : S) → (Content → Type 0) → Type 0
 TellsTables g old new Says = g.is_clean new → (tables : Content) → HoldsTables g old tables → Says tables
 
--- What is said on a clean disk alone of the tables that an open database held, and of those that it holds then, which were made of them.
+-- Where the disk has returned what was written, this holds of the tables that the database held before (any tables, if it was shut) and of some that were
+-- made of them, which are those that it holds now, if it is open.
 abbrev pub MakesTables : {S : Type 0} → Ghosts S → (old new : S) → (Content → Content → Type 0) → Type 0
 MakesTables g old new Makes = TellsTables g old new (λ tables. EndsIn (g.is_honest new) (g.content new) (Makes tables))
 
--- what only reads is refused for want of memory or by the shelf, or for a row that is no record
+-- a read that fails is refused with Unavailable, for want of memory or by the shelf, or with Damaged, for a row that is no record
 abbrev pub RefusesRead : {A : Type 0} → Result A Refusal → Type 0
 RefusesRead result = IfErr result (λ why. (why ≡ Unavailable) ⊎ (why ≡ Damaged))
 
--- nothing was done, and the tables of an open database are as they were
+-- the reply is one that needs no table, Unavailable or that to an import of no records, and the tables of an open database are as they were
 abbrev pub WasIdle : Type 0 → (old new : Content) → Command → Reply → Type 0
 WasIdle is_honest old new command reply = IsIdle command reply × (is_honest → new ≡ old)
 
--- The reply and the tables are one step of the office, and a refusal leaves the tables; it is one that is named for the command, and a row that is
--- no record is reported and not passed. Where a failure has shut the database, nothing was done: the reply is still that of a step, and what an open
--- database holds is the office after it.
+-- The reply and the tables are one step of the office, and a refusal leaves the tables. A refusal is one that is named for the command, Unavailable or Damaged;
+-- the record that an import is refused for is blamed rightly; a row that is no record is reported and not passed, and Damaged reports nothing else. Where a
+-- failure has shut the database, nothing was done, and the reply is still that of a step.
 pub record IsStepped {S : Type 0} (g : Ghosts S) (command : Command) (reply : Reply) (old new : S) : Type 0 where
   pub ends : MakesTables g old new (λ tables. AnswersAny tables command reply)
   pub shut : g.is_clean new → g.is_honest new ⊎ WasIdle (g.is_honest new) (g.content old) (g.content new) command reply
@@ -53,20 +55,21 @@ pub record IsStepped {S : Type 0} (g : Ghosts S) (command : Command) (reply : Re
   pub damaged : reply ≡ Refused Damaged → TellsTables g old new (λ tables. MeetsDamage tables command)
   pub turned_away : TellsTables g old new (λ tables. MeetsDamage tables command → IsTurnedAway command reply)
 
--- The rows written are at most those of the kind of command, and none where it is refused; once some were, an answer left the database open.
+-- The rows written are at most those that the command may write, and none where it is refused; where some were, and the reply is not Unavailable, the
+-- database is still open.
 pub record IsWritten {S : Type 0} (g : Ghosts S) (command : Command) (reply : Reply) (old new : S) : Type 0 where
   pub most : g.is_clean new → RiseAtMost (g.content old) command (g.written old) (g.written new)
   pub none : IsRefused reply → g.written new ≡ g.written old
   pub still_open : reply ≢ Refused Unavailable → g.written new ≢ g.written old → g.is_clean new → g.is_honest new
 
--- A crash leaves what it could before, or the office after the command's own step; that alone where the command changed the tables, or wrote rows,
--- and was answered.
+-- A crash leaves what it could leave before the command, or the office after the command's own step. It leaves the tables of now alone, where the command
+-- changed them (and the database is still open) or wrote rows, and the reply is not Unavailable.
 pub record IsStopped {S : Type 0} (g : Ghosts S) (command : Command) (reply : Reply) (old new : S) : Type 0 where
   pub crash : (tables : Content) → g.may_leave new tables → g.may_leave old tables ⊎ (g.is_honest old × StandsAfterStep (g.content old) command tables)
   pub settled : g.is_honest new → reply ≢ Refused Unavailable → g.content new ≢ g.content old → (tables : Content) → g.may_leave new tables → tables ≡ g.content new
   pub made : reply ≢ Refused Unavailable → g.written new ≢ g.written old → (tables : Content) → g.may_leave new tables → tables ≡ g.content new
 
--- A command was run: the step that it took, the rows that were written, and what a stop may leave.
+-- A command was run: the step that it took, the rows that were written, and what a crash may leave. It makes no disk clean again, and opens no database.
 pub record IsRun {S : Type 0} (g : Ghosts S) (command : Command) (reply : Reply) (old new : S) : Type 0 where
   pub clean : g.is_clean new → g.is_clean old
   pub honest : g.is_honest new → g.is_honest old
@@ -74,7 +77,7 @@ pub record IsRun {S : Type 0} (g : Ghosts S) (command : Command) (reply : Reply)
   pub rows : IsWritten g command reply old new
   pub stop : IsStopped g command reply old new
 
--- commands that were run in turn, each on the shelf as those before it left it
+-- these replies are those of commands that were run in turn, each on the shelf as those before it left it
 abbrev pub AreRun : {S : Type 0} → Ghosts S → List Command → List Reply → (old new : S) → Type 0
 AreRun g [] [] old new = new ≡ old
 AreRun {S} g (command ∷ commands) (reply ∷ replies) old new =
@@ -84,7 +87,7 @@ AreRun g (command ∷ commands) [] old new = ⊥
 
 -- ---- what a run of them means
 
--- whichever the sound office: what each of its committed timing sets means on the street
+-- in every sound office, each committed timing set keeps the laws of the street
 abbrev pub KeepsTheStreet : Type 0
 KeepsTheStreet = (office : Office) → IsSound office → (id : ℕ) → StreetLaws (side_at office id).committed
 

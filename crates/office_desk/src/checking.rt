@@ -1,4 +1,5 @@
-//! Records of the register that are tried in turn and not taken.
+//! Records of the register that are tried in turn: what would come of each is told, and none is
+//! stored.
 ghost use Rattle.std.specs.Prelude.{◌≡◌, ◌≢◌, ◌⊎◌, ◌++◌, [], ◌∷◌, IfOk, OnOk};
 ghost use Rattle.office_tables_decisions.specs.Reads.{OnlyReads, Reports};
 ghost use Rattle.office_desk.specs.Checking.{Checks, ChecksRecord, MeetsCheckDamage, TellsThere};
@@ -16,18 +17,19 @@ use signal_records::{InterId, NoMemory};
 use std::alloc::Global;
 use std::collections::BTreeSet;
 
-/// What would come of a record.
+/// What would come of a record of the register, were it taken.
 #[derive(Drop)]
 pub enum Checked {
-    /// It is new.
+    /// The record is new, and would be added.
     Added,
-    /// An equal record is there.
+    /// An equal record is there, and nothing would be added.
     Same,
-    /// It is refused, where this is there.
+    /// The record would be refused: why, and what the register holds where it meets the record.
     Refused { refusal: Refusal, there: There },
 }
 
-/// What is there where a record is refused.
+/// What the register holds, once the pending rows are written, where a record is refused. It is
+/// nothing where the refusal is not one of the register.
 fn there_of<S: Shelf>(
     shelf: &mut S,
     alloc: Global,
@@ -46,7 +48,8 @@ fn there_of<S: Shelf>(
     }
 }
 
-/// Tries a record after those whose rows are pending, and gives these back with its own.
+/// Tries a record after those whose rows are pending, and gives these rows back with its own behind
+/// them. The row of an intersection in `found` is not read again.
 fn check_record<S: Shelf>(
     shelf: &mut S,
     alloc: Global,
@@ -74,7 +77,7 @@ fn check_record<S: Shelf>(
     }
 }
 
-/// Keeps what would come of a record, behind that of those before it.
+/// Adds what would come of a record behind what would come of those before it.
 fn keep(checked: &mut Vec<Checked>, one: Checked) -> Result<(), NoMemory>
     ensures { OnOk result (checked.new.items ≡ checked.old.items ++ one ∷ []) }
 {
@@ -82,7 +85,8 @@ fn keep(checked: &mut Vec<Checked>, one: Checked) -> Result<(), NoMemory>
     Ok(())
 }
 
-/// Tries records in turn, each after those before it that would be taken, and takes none.
+/// Tries records in turn, each after those before it that would be taken, and stores none. There is
+/// one answer for each record, in their order.
 pub(crate) fn check_records<S: Shelf>(
     shelf: &mut S,
     alloc: Global,

@@ -1,4 +1,4 @@
-//! How a command is decided over a shelf.
+//! A command of any kind is decided over a shelf.
 ghost use Rattle.std.specs.Prelude.{◌≡◌, IfOk, ◌≢◌, [], IsOkAnd};
 ghost use Rattle.office_tables_decisions.specs.Reads.{OnlyReads};
 ghost use Rattle.office_desk.specs.Blaming.{BlamesRightly};
@@ -17,7 +17,7 @@ use office_tables_decisions::decided::Decided;
 use office_tables_shelf::shelf::{Shelf, ShelfFault};
 use std::alloc::Global;
 
-/// A fault of the shelf as a refusal.
+/// A fault of the shelf as a refusal: Damaged where a stored row is no record, else Unavailable.
 pub(crate) fn shelf_refusal(fault: ShelfFault) -> Refusal
     ensures { result ≡ refusal_of fault }
 {
@@ -27,7 +27,8 @@ pub(crate) fn shelf_refusal(fault: ShelfFault) -> Refusal
     }
 }
 
-/// Decides a command by what it asks.
+/// Decides a command by its kind: the reply, and the rows to be written. The fault is that of the
+/// shelf.
 pub(crate) fn try_decide<S: Shelf>(
     shelf: &mut S,
     alloc: Global,

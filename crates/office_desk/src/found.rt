@@ -1,4 +1,4 @@
-//! Intersections that were found in the tables, so that the row of none is read twice.
+//! The intersections that were found in the tables, so that the row of none of them is read twice.
 ghost use Rattle.std.specs.Prelude.{◌≡◌, ◌≢◌, true, false, Ok, IfOk, IsSome, IsTrue, OnErr, OnOk};
 ghost use Rattle.office_tables_shelf.specs.Content.{Content};
 ghost use Rattle.office_tables_decisions.specs.Reads.{OnlyReads, Reports};
@@ -10,7 +10,7 @@ use signal_records::{InterId, NoMemory};
 use std::alloc::Global;
 use std::collections::BTreeSet;
 
-/// Whether one of these is asked for.
+/// Whether an intersection is asked for that was found before.
 fn is_among(found: &BTreeSet<InterId>, about: Option<InterId>) -> bool
     ensures { IsTrue result → IsAmong found.now about }
 {
@@ -20,7 +20,7 @@ fn is_among(found: &BTreeSet<InterId>, about: Option<InterId>) -> bool
     }
 }
 
-/// Keeps the one that was asked for, beside these.
+/// Adds the intersection that was asked for, if any, to those that were found.
 fn keep(found: &mut BTreeSet<InterId>, about: Option<InterId>) -> Result<(), NoMemory>
     ensures kept { OnOk result ((tables : Content) → AreFound tables found.old →
         TellsIntersection tables about true → AreFound tables found.new) }
@@ -33,7 +33,8 @@ fn keep(found: &mut BTreeSet<InterId>, about: Option<InterId>) -> Result<(), NoM
     Ok(())
 }
 
-/// As `is_known`, of which these are not asked again; one that is there is kept beside them.
+/// Whether the intersection is there, or none is asked for. The row of one that was found before is
+/// not read again, and one that is there now is kept among those that were found.
 pub(crate) fn is_found<S: Shelf>(
     shelf: &mut S,
     alloc: Global,

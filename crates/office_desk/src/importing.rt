@@ -1,4 +1,4 @@
-//! Imports: records of the register decided in turn, each after those before it.
+//! Imports: records of the register are decided in turn, each after those before it.
 ghost use Rattle.std.specs.Prelude.{◌≡◌, ◌++◌, IfOk, ◌≢◌, [], IsOkAnd};
 ghost use Rattle.office_tables_decisions.specs.Reads.{OnlyReads, Reports};
 ghost use Rattle.office_desk.specs.Blaming.{BlamesRightly};
@@ -25,16 +25,16 @@ use std::collections::BTreeSet;
 /// What came of a record of an import.
 #[derive(Clone, Copy)]
 pub(crate) enum Taken {
-    /// It is new.
+    /// The record is new: it is added.
     Added,
-    /// An equal record is there.
+    /// An equal record is there: nothing is added.
     Same,
-    /// It ends the import.
+    /// The record is refused, for this reason; an import ends with it.
     Refused(Refusal),
 }
 
-/// Decides a record after those whose rows are pending, where its intersection is there. Of the
-/// intersections that were found no row is read again.
+/// Decides a record after those whose rows are pending; none where its intersection is not there.
+/// The row of an intersection in `found` is not read again.
 fn decide_after<S: Shelf>(
     shelf: &mut S,
     alloc: Global,
@@ -58,7 +58,8 @@ fn decide_after<S: Shelf>(
     Ok(Some(told))
 }
 
-/// What comes of a record that was decided so, and the pending rows with its own.
+/// What comes of a record by the register's decision (none: its intersection is not there), and the
+/// pending rows with its own behind them.
 fn take_decided(decided: Option<Registered>, pending: Pending) -> Result<(Taken, Pending), NoMemory>
     ensures taken { IfOk result (λ taken. taken.0 ≡ taken_as decided) }
     ensures rows { IfOk result (λ taken. taken.1 ≡ pending ++ rows_decided decided) }
@@ -76,8 +77,8 @@ fn take_decided(decided: Option<Registered>, pending: Pending) -> Result<(Taken,
     }
 }
 
-/// Takes a record after those whose rows are pending, and gives them back with its own. Of the
-/// intersections that were found no row is read again.
+/// Takes a record after those whose rows are pending, and gives these rows back with its own behind
+/// them; nothing is written. The row of an intersection in `found` is not read again.
 pub(crate) fn take_record<S: Shelf>(
     shelf: &mut S,
     alloc: Global,
@@ -99,8 +100,8 @@ pub(crate) fn take_record<S: Shelf>(
     Ok(taken)
 }
 
-/// Decides an import: its records in turn, each after those before it; the first that is refused
-/// refuses them all.
+/// Decides an import: its records in turn, each after those before it. The first that is refused
+/// refuses them all: the reply has its place, counted from 1, and the number of its refusal.
 pub(crate) fn decide_import<S: Shelf>(
     shelf: &mut S,
     alloc: Global,

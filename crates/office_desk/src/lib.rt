@@ -1,4 +1,4 @@
-//! The commands and queries of the office, over any shelf.
+//! The commands and queries of the office, over any shelf, which stores the tables.
 #![tactic(auto)]
 
 mod checking;

@@ -1,4 +1,4 @@
-//! The office over a shelf.
+//! The office over a shelf: it decides and runs commands, and answers what pages and files ask.
 ghost use Rattle.std.specs.Prelude.{◌≡◌, ◌≢◌, ℕ, ◌<◌, ◌≤◌, ◌+◌, ◌⊎◌, [], ◌∷◌, ◌++◌, filter, map, take, Err, IfOk, OnOk, OnErr, vec_len, vec_capacity};
 ghost use Rattle.cabinet_core.specs.Orders.{is_open};
 ghost use Rattle.cabinet_core.specs.Overdue.{listed_of};
@@ -36,7 +36,7 @@ use std::alloc::Global;
 use std::collections::BTreeMap;
 use std::marker::Model;
 
-/// Adds a reply where there is room for it.
+/// Adds a reply behind the others, in room that was taken before.
 fn add_reply(replies: &mut Vec<Reply>, reply: Reply)
     requires { vec_len replies.old < vec_capacity replies.old }
     ensures items { replies.new.items ≡ replies.old.items ++ reply ∷ [] }
@@ -46,7 +46,7 @@ fn add_reply(replies: &mut Vec<Reply>, reply: Reply)
     let _fits = replies.push(reply);
 }
 
-/// The office over a shelf.
+/// An office whose tables a shelf stores. Contracts see it as that shelf.
 #[derive(Drop)]
 pub struct Office<S> {
     shelf: S,
@@ -58,7 +58,7 @@ impl<S> Model for Office<S> {
     ghost view = { λ office. office.shelf };
 }
 
-// It asks nothing of the shelf, so that its callers owe nothing for it.
+// These functions ask no trait of S, so that their callers owe no contract of a shelf.
 impl<S> Office<S> {
     /// The office whose tables the shelf keeps.
     pub fn new(shelf: S) -> Office<S>
@@ -67,14 +67,14 @@ impl<S> Office<S> {
         Office { shelf }
     }
 
-    /// The shelf, to be looked at.
+    /// The shelf that stores the tables, to be looked at.
     pub fn shelf(&self) -> &S
         ensures { result.now ≡ self.now }
     {
         &self.shelf
     }
 
-    /// Gives the shelf back.
+    /// Gives back the shelf that stores the tables, as it is now.
     pub fn into_shelf(self) -> S
         ensures { result ≡ self }
     {
@@ -83,9 +83,9 @@ impl<S> Office<S> {
 }
 
 impl<S: Shelf> Office<S> {
-    /// What a command is answered, and what is to be written for it. Nothing is written yet. Where
-    /// memory or the shelf refuses, it answers Unavailable; where a stored row is no record,
-    /// Damaged.
+    /// The reply to a command, and what is to be written for it. Nothing is written yet. Where
+    /// memory or the shelf refuses, the reply is Unavailable; where a stored row that the command
+    /// reads is no record, Damaged.
     pub fn decide(&mut self, alloc: Global, command: &Command) -> Decided
         ensures answers { IsAnswered (S.is_clean self.new) (S.content self.old)
             command.now result }
@@ -101,7 +101,8 @@ impl<S: Shelf> Office<S> {
     }
 
     /// Makes the changes of a decision in their order, all or none; where there are none, nothing
-    /// is done. Refused, it answers NoMemory or Store.
+    /// is done. The fault is NoMemory where a growth was refused, and Store where the database
+    /// refused; the tables of a database that is still open then stay as they were.
     pub fn apply(&mut self, alloc: Global, changes: &[RowChange]) -> Result<(), ShelfFault>
         ensures clean { S.is_clean self.new → S.is_clean self.old }
         ensures honest { S.is_honest self.new → S.is_honest self.old }
@@ -115,8 +116,8 @@ impl<S: Shelf> Office<S> {
         ensures written_ok { OnOk result
             (S.written self.new ≡ counts_after (S.written self.old) changes.now) }
         ensures written_err { OnErr result (S.written self.new ≡ S.written self.old) }
-        // A crash leaves what it could before, or the whole result; and that alone once changes
-        // were made.
+        // A crash leaves what it could leave before the call, or the tables with all changes; once
+        // changes were made, the latter alone.
         ensures crash { (tables : Content) → S.may_leave self.new tables →
             S.may_leave self.old tables
             ⊎ (S.is_honest self.old × (tables ≡ changed_by (S.content self.old) changes.now)) }
@@ -130,8 +131,10 @@ impl<S: Shelf> Office<S> {
         self.shelf.apply(alloc, changes)
     }
 
-    /// Runs one command: decides it, and makes its changes. Where memory or the shelf refuses, it
-    /// answers Unavailable and changes nothing; where a stored row is no record, Damaged.
+    /// Runs one command: decides it, and makes its changes. Where memory or the shelf refuses, the
+    /// reply is Unavailable; where a stored row that the command reads is no record, Damaged. A
+    /// refusal changes nothing, unless a failure has shut the database: opened again, that may hold
+    /// the changes.
     pub fn run(&mut self, alloc: Global, command: &Command) -> Reply
         ensures ran { IsRun S.Shelf command.now result self.old self.new }
     {
@@ -142,7 +145,8 @@ impl<S: Shelf> Office<S> {
         }
     }
 
-    /// Runs commands in turn. Room for the replies is taken first: refused, nothing is run.
+    /// Runs commands in turn, and gives a reply for each, in their order; a refused command stops
+    /// none after it. NoMemory means that there is no room for the replies: then none was run.
     pub fn run_all(&mut self, alloc: Global, commands: &[Command]) -> Result<Vec<Reply>, NoMemory>
         ensures ends { IfOk result (λ replies. MakesTables S.Shelf self.old self.new
             (λ tables. RunsAny tables commands.now replies.items)) }
@@ -160,10 +164,10 @@ impl<S: Shelf> Office<S> {
         Ok(replies)
     }
 
-    /// What would come of records that are taken in turn, each after those before it that would
-    /// be; one that would be refused leaves the office to those after it. Nothing is taken. Where
-    /// memory or the shelf refuses, the error is Unavailable; where a stored row that it reads is
-    /// no record, Damaged.
+    /// What would come of each of these records, in their order, were they taken in turn; one that
+    /// would be refused leaves the office as it is to those after it. Nothing is stored. Where
+    /// memory or the shelf refuses, the error is Unavailable; where a stored row that is read is no
+    /// record, Damaged.
     pub fn check(
         &mut self,
         alloc: Global,
@@ -183,10 +187,10 @@ impl<S: Shelf> Office<S> {
         }
     }
 
-    /// The first `most` of the intersections that are overdue for an inspection on a day, in the
-    /// order of their numbers: the first rows that the query Overdue shows. Rows past those need
-    /// not be read. Where memory or the shelf refuses, the error is Unavailable; where a stored row
-    /// that it reads is no record, Damaged.
+    /// The first `most` of the intersections that are overdue for an inspection on a day, in
+    /// ascending order of their numbers: the first rows that the query Overdue shows. Rows past
+    /// those need not be read. Where memory or the shelf refuses, the error is Unavailable; where a
+    /// stored row that is read is no record, Damaged.
     pub fn overdue_first(
         &mut self,
         alloc: Global,
@@ -212,13 +216,14 @@ impl<S: Shelf> Office<S> {
         }
     }
 
-    /// All intersections, in the order of their numbers. The row of an intersection is read, and
-    /// those of its plan are counted. Where memory or the shelf refuses, the error is Unavailable;
-    /// where the row of an intersection is no record, Damaged.
+    /// All intersections, in ascending order of their numbers. The row of each is read, and the
+    /// rows of its committed timing set are counted, not read. Where memory or the shelf refuses,
+    /// the error is Unavailable; where the row of an intersection is no record, Damaged.
     pub fn intersections(&mut self, alloc: Global) -> Result<Vec<ListedIntersection>, Refusal>
         ensures all { IfOk result (λ found. S.is_honest self.new → (office : OfficeState) →
             StandForSound (S.content self.old) office → found.items ≡ intersections_of office) }
-        // One for each row of the table, whatever that holds besides.
+        // There is one for each row of the table of intersections, even where the tables stand for
+        // no office.
         ensures lists { IfOk result (λ found. S.is_honest self.new →
             ListsEachIntersection (S.content self.old) found.items) }
         ensures whole { IfOk result (λ _. S.is_honest self.new →
@@ -237,9 +242,9 @@ impl<S: Shelf> Office<S> {
         }
     }
 
-    /// The open orders on each intersection that has any, in the order of their numbers. It is one
-    /// walk over all orders. Where memory or the shelf refuses, the error is Unavailable; where the
-    /// row of an order is no record, Damaged.
+    /// The open orders on each intersection that has any, under its number, in ascending order of
+    /// their own numbers. It is one walk over all orders. Where memory or the shelf refuses, the
+    /// error is Unavailable; where the row of any order is no record, Damaged.
     pub fn open_orders(&mut self, alloc: Global) -> Result<BTreeMap<InterId, Vec<Order>>, Refusal>
         ensures orders { IfOk result (λ found. S.is_honest self.new → (office : OfficeState) →
             StandForSound (S.content self.old) office → (id : ℕ) →

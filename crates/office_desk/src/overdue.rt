@@ -1,4 +1,4 @@
-//! The query Overdue.
+//! The query Overdue: the intersections whose inspection is late on a day.
 ghost use Rattle.std.specs.Prelude.{⊤};
 ghost use Rattle.office_tables_decisions.specs.Reads.{OnlyReads};
 ghost use Rattle.office_desk.specs.Deciding.{Decides};
@@ -10,10 +10,11 @@ use office_tables_decisions::decided::Decided;
 use office_tables_shelf::shelf::{Shelf, ShelfFault};
 use std::alloc::Global;
 
-/// As many as there are: more than any list holds.
+/// How many late intersections the shelf is asked for at most: more than there can be.
 const ALL: usize = usize::MAX;
 
-/// Decides Overdue.
+/// Decides the query Overdue: all intersections that are overdue for an inspection on a day. The
+/// fault is that of the shelf.
 pub(crate) fn decide_overdue<S: Shelf>(
     shelf: &mut S,
     alloc: Global,

@@ -1,4 +1,4 @@
-//! The commands of the register.
+//! One command of the register, decided and answered.
 ghost use Rattle.std.specs.Prelude.{◌≡◌, false, IsSome, OnErr, Ok, ⊤};
 ghost use Rattle.office_tables_decisions.specs.Reads.{OnlyReads, Reports};
 ghost use Rattle.office_desk_cabinet.specs.Registers.{line_told, rows_told};
@@ -30,7 +30,8 @@ pub(crate) fn cabinet_of(command: &RecordCommand) -> Option<InterId>
     }
 }
 
-/// Whether the intersection is there, where one is asked for.
+/// Whether the intersection is there, by its row; yes where none is asked for, and then no row is
+/// read.
 pub(crate) fn is_known<S: Shelf>(
     shelf: &mut S,
     alloc: Global,
@@ -50,7 +51,7 @@ pub(crate) fn is_known<S: Shelf>(
     Ok(row.is_some())
 }
 
-/// A refusal of the register as one of the office.
+/// A refusal of the register as one of the office: want of memory is Unavailable.
 pub(crate) fn register_refusal(refusal: CabinetRefusal) -> Refusal
     ensures { result ≡ refusal_of_record refusal }
 {
@@ -60,7 +61,7 @@ pub(crate) fn register_refusal(refusal: CabinetRefusal) -> Refusal
     }
 }
 
-/// What became of a command of the register, as the office answers it.
+/// The outcome of a command of the register as the office's reply, with the rows to be written.
 fn answer(alloc: Global, told: Registered) -> Decided
     ensures reply { result.reply ≡ reply_of (line_told told) }
     ensures changes { result.changes.items ≡ rows_told told }
@@ -75,7 +76,8 @@ fn answer(alloc: Global, told: Registered) -> Decided
     }
 }
 
-/// Decides a command of the register. The intersection that it is about has to be there.
+/// Decides a command of the register. Where it is about an intersection that is not there, the
+/// reply is UnknownIntersection. The fault is that of the shelf.
 pub(crate) fn decide_record_command<S: Shelf>(
     shelf: &mut S,
     alloc: Global,

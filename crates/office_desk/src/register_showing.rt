@@ -13,7 +13,8 @@ use office_tables_shelf::shelf::{Shelf, ShelfFault};
 use signal_records::InterId;
 use std::alloc::Global;
 
-/// Decides Cabinet.
+/// Decides the query Cabinet: all records of an intersection's cabinet, or UnknownIntersection. The
+/// fault is that of the shelf.
 pub(crate) fn decide_cabinet<S: Shelf>(
     shelf: &mut S,
     alloc: Global,
@@ -31,7 +32,8 @@ pub(crate) fn decide_cabinet<S: Shelf>(
     Ok(Decided::from_reply(alloc, shown))
 }
 
-/// Decides OpenOrders.
+/// Decides the query OpenOrders: the numbers of the open orders on an intersection, ascending, or
+/// UnknownIntersection. The fault is that of the shelf.
 pub(crate) fn decide_open_orders<S: Shelf>(
     shelf: &mut S,
     alloc: Global,
@@ -50,7 +52,8 @@ pub(crate) fn decide_open_orders<S: Shelf>(
     Ok(Decided::from_reply(alloc, Reply::OpenOrders(numbers)))
 }
 
-/// Decides Stock.
+/// Decides the query Stock: how many pieces of each part are on hand. The fault is that of the
+/// shelf.
 pub(crate) fn decide_stock<S: Shelf>(shelf: &mut S, alloc: Global) -> Result<Decided, ShelfFault>
     ensures decides { Decides (S.is_honest shelf.new) (S.content shelf.old) Command.Stock result }
     ensures reads { OnlyReads S.Shelf ⊤ result shelf.old shelf.new }

@@ -1,4 +1,4 @@
-//! What stands in the register where a record is refused.
+//! What the register holds where it refuses a record, to be told with the refusal.
 ghost use Rattle.std.specs.Prelude.{◌≡◌, IfOk, []};
 ghost use Rattle.office_tables_shelf.specs.Places as place;
 ghost use Rattle.office_tables_shelf.specs.Places.{DamagedAt, found_at, place_of};
@@ -14,7 +14,8 @@ use office_tables_shelf::shelf::{Shelf, ShelfFault};
 use signal_records::NoMemory;
 use std::alloc::Global;
 
-/// What stands where a record is refused.
+/// What the register holds where it refuses a record. Nothing, where no record stands there or
+/// the register was not asked.
 #[derive(Drop)]
 pub enum There {
     Nothing,
@@ -26,7 +27,7 @@ pub enum There {
     OnHand(PartCode, u32),
 }
 
-/// How many of a part are on hand, as what stands there.
+/// How many pieces of a part are on hand, to be told with a refusal: 0 where the part has no row.
 fn on_hand(part: &PartCode, hand: Option<Hand>) -> Result<There, NoMemory>
     ensures { IfOk result (λ there. there ≡ told_there (place.Part part.now) hand) }
 {
@@ -37,7 +38,7 @@ fn on_hand(part: &PartCode, hand: Option<Hand>) -> Result<There, NoMemory>
     }
 }
 
-/// What was found under a key, as what stands there.
+/// What was found under a key of the register, to be told with a refusal.
 fn there_at(key: &RegisterKey<'_>, found: Option<RegisterRecord>) -> Result<There, NoMemory>
     ensures { IfOk result (λ there.
         there ≡ told_there (place_of key.now) (found_at (place_of key.now) found)) }
@@ -63,7 +64,8 @@ fn there_at(key: &RegisterKey<'_>, found: Option<RegisterRecord>) -> Result<Ther
     }
 }
 
-/// Where that stands for which a record is refused.
+/// The key of the register whose record is told with a refused one: its own, that of its order or
+/// that of its part, by its kind and the refusal.
 fn key_told<'a>(command: &'a RecordCommand, why: CabinetRefusal) -> RegisterKey<'a>
     ensures { place_of result ≡ place_told command.now why }
 {
@@ -87,7 +89,8 @@ fn key_told<'a>(command: &'a RecordCommand, why: CabinetRefusal) -> RegisterKey<
     }
 }
 
-/// What stands where a record is refused, once the pending rows are written.
+/// What the register holds where it refuses a record, once the pending rows are written. The fault
+/// is that of the shelf.
 pub(crate) fn what_is_there<S: Shelf>(
     shelf: &mut S,
     alloc: Global,

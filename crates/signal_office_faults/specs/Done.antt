@@ -1,4 +1,4 @@
--- What a job comes to, and what an output takes of it.
+-- What a job comes to: a text with a status, or a fault; and what an output takes of the text.
 use Rattle.std.specs.Prelude.{◌≡◌, ℕ, List, Result, Ok, Err}
 use Rattle.std.specs.Io.KnownBytes.{Appends}
 use Rattle.office_http_framing.specs.Ends.{AppendsPart, FailsOrGivesNone, Told}
@@ -20,7 +20,7 @@ shows_with text status = record { text = text; status = status }
 abbrev pub shows : (text : List ℕ) → Printed
 shows text = shows_with text 0
 
--- what is printed of what was done
+-- what is printed of what a job did, and the status
 abbrev pub output_of : Done → Printed
 output_of (done.Text text status) = shows_with text.items status
 output_of (done.Fixed line) = shows line.now
@@ -31,21 +31,22 @@ abbrev pub came_to : Result Done Fault → Result Printed Fault
 came_to (Ok done) = Ok (output_of done)
 came_to (Err why) = Err why
 
--- what an output took from its start to its end, and the status that came of it, or the fault
+-- a promise of a print: of what the output had taken before and after it, and of the status or the fault that is given
 abbrev pub Output : Type 1
 Output = Told → Told → Result ℕ Fault → Type 0
 
--- nothing was output_of, and the fault is reported
+-- nothing was printed, and this fault is given
 abbrev pub TellsNothing : Fault → Output
 TellsNothing why start end result = (end ≡ start) × (result ≡ Err why)
 
--- The text was output_of, whole, and its status is given; or the output failed or took no byte, and holds the text up to some place.
+-- The text was printed as a whole, and its status is given; or the fault is Write: the output failed or took no byte, and took the
+-- text up to some place.
 abbrev pub Prints : Printed → Output
 Prints it start end (Ok given) = Appends start.bytes end.bytes it.text × (given ≡ it.status)
 Prints it start end (Err why) =
     (why ≡ fault.Write) × AppendsPart start.bytes end.bytes it.text × FailsOrGivesNone start.counts end.counts
 
--- what a job came to is output_of
+-- what a job came to is printed, and its status given; of a fault nothing is printed, and the fault is given
 abbrev pub PrintsWhat : Result Printed Fault → Output
 PrintsWhat (Ok it) = Prints it
 PrintsWhat (Err why) = TellsNothing why

@@ -1,4 +1,4 @@
--- What was put into a folder.
+-- The files that were put into a folder, and why one was not.
 use Rattle.std.specs.Prelude.{◌≡◌, ◌⊎◌, ℕ, List, ◌++◌, Option, Some, None, ⊤}
 use Rattle.signal_office_faults.specs.declared.fault.Fault.{Fault}
 use Rattle.signal_office_faults.specs.declared.fault.Fault.TheVariants as fault
@@ -17,6 +17,6 @@ AddsFiles None None added = ⊤
 AddsFiles (Some old) (Some new) added = new ≡ old ++ added
 AddsFiles _ _ added = ⊥
 
--- a file was not put: it was not written, or memory was refused
+-- this fault tells that a file was not put: it was not written, or memory was refused
 abbrev pub IsUnput : Fault → Type 0
 IsUnput why = (why ≡ fault.Write) ⊎ (why ≡ fault.Memory)

@@ -37,7 +37,7 @@ record_kind_of (name ∷ rest) =
     if bytes_eq name (codes "remove") then record { kind = kind_of_row rest; removes = true }
     else record { kind = row_kind name; removes = false }
 
--- how many fields the records of a kind have
+-- how many fields the records of a kind have, as a hint shows it: records that put a row, or remove a key
 abbrev pub widths_of : (removes : Bool) → RowKind → List ℕ
 widths_of false kind.Phase = codes "9 or 15"
 widths_of false kind.Split = codes "6"
@@ -49,7 +49,7 @@ widths_of true kind.Phase = codes "3"
 widths_of true kind.Pattern = codes "3"
 widths_of removes kind.Other = codes "none"
 
--- how many fields a record has, by its kind
+-- how many fields records of this kind have, as a hint shows it
 abbrev pub widths : RecordKind → List ℕ
 widths it = widths_of it.removes it.kind
 
@@ -81,7 +81,7 @@ field_words field.Pattern = codes "pattern"
 field_words field.Cycle = codes "cycle"
 field_words field.Offset = codes "offset"
 
--- what a field may be, as the records are read
+-- what a field of a plan's record may be, with its unit, as a hint shows it
 abbrev pub field_values : Field → List ℕ
 field_values field.Phase = codes "1 to 32"
 field_values field.Ring = codes "1 to 8"
@@ -121,15 +121,15 @@ fields_of_row true kind.Split = field.Split ∷ field.Phase ∷ []
 fields_of_row true kind.Pattern = field.Pattern ∷ []
 fields_of_row removes kind.Other = []
 
--- the fields of a record behind its kind
+-- the fields of a record behind its kind, in their order; of a removal those of the key
 abbrev pub fields_behind : RecordKind → List Field
 fields_behind it = fields_of_row it.removes it.kind
 
--- the place of the first of them, counted from 1
+-- the place of a record's first field behind its kind, counted from 1; in a removal, `remove` stands before the kind
 abbrev pub first_field_place : RecordKind → ℕ
 first_field_place it = if it.removes then 3 else 2
 
--- the field of a record at a place, counted from 1
+-- the field of a record at a place, counted from 1; none at the place of its kind and behind its last field
 abbrev pub field_at : RecordKind → ℕ → Option Field
 field_at it place = if nat_lt place (first_field_place it) then None else slice_get (fields_behind it) (place - first_field_place it)
 
@@ -141,7 +141,7 @@ hint_name (hint.Kind removed) = codes "kind"
 hint_name (hint.Count found of) = codes "fields"
 hint_name (hint.Field it is_numeral) = field_words it
 
--- the number that a hint shows before what it may be: how many fields there are
+-- how many fields the record has, where their number is wrong; else none
 abbrev pub hint_found : Hint → Option ℕ
 hint_found (hint.Count found of) = Some found
 hint_found _ = None
@@ -153,12 +153,12 @@ hint_values (hint.Kind true) = codes "phase, seq, split or pattern after remove"
 hint_values (hint.Count found of) = widths of
 hint_values (hint.Field it is_numeral) = field_values it
 
--- the end of a hint: how a number is written, where a field is none
+-- the end of a hint: how a number is written, where a field should be a number and is none; else nothing
 abbrev pub hint_ending : Hint → List ℕ
 hint_ending (hint.Field it false) = codes ", in digits without leading zeros"
 hint_ending _ = []
 
--- how many fields there are, in a hint: `7, not `, or nothing
+-- how many fields a record has, in a hint: `7, not `; nothing where their number is not wrong
 abbrev pub found_text : Option ℕ → List ℕ
 found_text None = []
 found_text (Some found) = decimal found ++ codes ", not "
@@ -167,11 +167,12 @@ found_text (Some found) = decimal found ++ codes ", not "
 abbrev pub hint_text : Hint → List ℕ
 hint_text it = hint_name it ++ codes ": " ++ found_text (hint_found it) ++ hint_values it ++ hint_ending it
 
--- the hint on a field of a record of a kind, at a place
+-- the hint on the field of a record at a place, counted from 1, if a field has this place
 abbrev pub hint_at : RecordKind → ℕ → (is_numeral : Bool) → Option Hint
 hint_at of place is_numeral = option_map (λ it. hint.Field it is_numeral) (field_at of place)
 
--- the hint on a record, by its kind, the number of its fields and its fault
+-- the hint on a record, by its kind, the number of its fields and its fault; none for want of memory, and for faults in days and
+-- texts, which no record of a plan has
 abbrev pub hint_by : RecordKind → (count : ℕ) → RowFault → Option Hint
 hint_by of count fault.Kind = Some (hint.Kind of.removes)
 hint_by of count fault.Count = Some (hint.Count count of)
@@ -187,7 +188,7 @@ hint_for fields why = hint_by (record_kind_of fields) (length fields) why
 
 -- ---- in a file
 
--- the record with a number, counted from 1
+-- the fields of the record of a CSV file with this number, counted from 1, if there is one
 abbrev pub record_numbered : List ℕ → (number : ℕ) → Option (List (List ℕ))
 record_numbered csv number = if number == 0 then None else slice_get (csv_records csv) (number - 1)
 
@@ -200,6 +201,7 @@ hint_in (Some fields) why = hint_for fields why
 abbrev pub hint_of : List ℕ → BadRow → Option Hint
 hint_of csv bad = hint_in (record_numbered csv bad.at) bad.fault
 
--- the line on which a record begins
+-- the line on which the record with this number, counted from 1, begins, by the lines of all records; 0 where there is no such
+-- record
 abbrev pub line_of_record : List ℕ → (number : ℕ) → ℕ
 line_of_record lines number = if number == 0 then 0 else get_or lines (number - 1) 0

@@ -1,4 +1,4 @@
--- How a fault is reported: its line, its status, and the faults that it stands for.
+-- How a fault is told: its line on standard error, and the status of the program; and which faults come of streams and of files.
 use Rattle.std.specs.Prelude.{◌≡◌, ◌⊎◌, ℕ, List, ◌++◌, codes}
 use Rattle.std.specs.Fmt.{decimal}
 use Rattle.office_files.specs.CsvFault.{bad_row_text, fault_text}
@@ -10,11 +10,11 @@ use Rattle.signal_office_faults.specs.declared.hints.Hint.{Hint}
 use Rattle.signal_office_faults.specs.declared.fault.Fault.{Fault}
 use Rattle.signal_office_faults.specs.declared.fault.Fault.TheVariants as fault
 
--- the second line of a bad record, as `line 36, offset: 0 to 255 seconds`
+-- the end of the line of a bad record, and its second line, as `line 36, offset: 0 to 255 seconds`
 abbrev pub hint_line : (line : ℕ) → Hint → List ℕ
 hint_line line hint = codes "\nline " ++ decimal line ++ codes ", " ++ hint_text hint
 
--- the line that tells it, or its two lines, without the end of the last
+-- the line that tells a fault, or its two lines, without the end of the last
 abbrev pub line_text : Fault → List ℕ
 line_text fault.Read = codes "fault: read"
 line_text fault.Write = codes "fault: write"
@@ -40,7 +40,7 @@ line_text (fault.HeldBy clerk) = codes "fault: NotOwner\nheld by " ++ clerk.byte
 line_text (fault.OtherCsv bad) = codes "fault: other " ++ bad_row_text bad
 line_text fault.Words = codes "the command line is not UTF-8"
 
--- the status with which the program ends: 2 where its words are no texts
+-- the status with which the program ends: 2 where the words of the command line are not UTF-8, else 1
 abbrev pub status_of : Fault → ℕ
 status_of fault.Words = 2
 status_of why = 1
@@ -51,6 +51,6 @@ fault_of_stream (stop.Read requests) = fault.Read
 fault_of_stream (stop.Write requests) = fault.Write
 fault_of_stream stop.NoMemory = fault.Memory
 
--- why the bytes of a file of the system were not read
+-- this fault tells why the bytes of a file were not read: the system did not give them, or memory was refused
 abbrev pub IsUnreadFile : Fault → Type 0
 IsUnreadFile why = (why ≡ fault.File) ⊎ (why ≡ fault.Memory)

@@ -16,7 +16,7 @@ abbrev pub is_for : Key → Option Change → Bool
 is_for key None = false
 is_for key (Some change) = eq_by_cmp key_cmp (changed_key change) key
 
--- the number of the last change of this key, among the first so many
+-- the number, counted from 1, of the last change of this key among the first so many, if one of them is of this key
 abbrev pub last_within : Key → List Change → ℕ → Option ℕ
 last_within key changes zero = None
 last_within key changes (suc n) = if is_for key (slice_get changes n) then Some (suc n) else last_within key changes n
@@ -38,19 +38,21 @@ abbrev pub record_word : (other : Bool) → List ℕ
 record_word true = codes "other record "
 record_word false = codes "record "
 
--- the note on a change of a key that an earlier record has: `note: record 12 puts pattern 1 again, after record 9`
+-- the note on a change of a key that an earlier record has: `note: record 12 puts pattern 1 again, after record 9`; nothing where
+-- none has it
 abbrev pub note_on : (other : Bool) → (number : ℕ) → Change → (earlier : Option ℕ) → List ℕ
 note_on other number change None = []
 note_on other number change (Some earlier) =
     codes "note: " ++ record_word other ++ decimal number ++ codes " " ++ deed change ++ codes " " ++ key_words (changed_key change)
     ++ codes " again, after record " ++ decimal earlier ++ codes "\n"
 
--- the note on the change at a place, counted from 0: the latest one before it of its key
+-- the note on the change at a place, counted from 0, with the number of the latest change before it of the same key; nothing where
+-- there is no such change
 abbrev pub note_at : (other : Bool) → List Change → (place : ℕ) → Option Change → List ℕ
 note_at other changes place None = []
 note_at other changes place (Some change) = note_on other (suc place) change (last_within (changed_key change) changes place)
 
--- the notes on the first so many changes
+-- the notes on the first so many changes, in their order
 abbrev pub notes_within : (other : Bool) → List Change → ℕ → List ℕ
 notes_within other changes zero = []
 notes_within other changes (suc n) = notes_within other changes n ++ note_at other changes n (slice_get changes n)

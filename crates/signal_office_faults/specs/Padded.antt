@@ -1,4 +1,4 @@
--- What a spreadsheet pads its records with, and the records without it.
+-- The empty fields with which a spreadsheet pads records at their end, and the records without them.
 use Rattle.std.specs.Prelude.{ℕ, Bool, true, false, if◌then◌else◌, List, [], ◌∷◌, codes, drop, map, take, Option, Some, None}
 use Rattle.std.specs.List.{list_all}
 use Rattle.std.specs.Str.{bytes_eq}
@@ -7,20 +7,21 @@ use Rattle.signal_office_faults.specs.Hints.{record_kind_of}
 use Rattle.signal_office_faults.specs.declared.kinds.RowKind.{RowKind}
 use Rattle.signal_office_faults.specs.declared.kinds.RowKind.TheVariants as row
 
--- a field without anything
+-- whether a field is empty
 abbrev pub is_blank : List ℕ → Bool
 is_blank [] = true
 is_blank (b ∷ bs) = false
 
--- all fields of a list are empty
+-- whether all fields of a list are empty
 abbrev pub are_blank : List (List ℕ) → Bool
 are_blank fields = list_all is_blank fields
 
--- how many fields a phase has: its pedestrian part is there where any of its fields has anything
+-- how many fields the record of a phase has: 9, or 15 with a pedestrian part, which is there where any field after the ninth is not
+-- empty
 abbrev pub phase_width : List (List ℕ) → ℕ
 phase_width fields = if are_blank (drop 9 fields) then 9 else 15
 
--- how many fields a record of the register has, by its kind
+-- how many fields a record of the register has, by the name of its kind; none where that is no kind of the register
 abbrev pub register_width : List ℕ → Option ℕ
 register_width kind =
     if bytes_eq kind (codes "inspection") then Some 6
@@ -30,12 +31,12 @@ register_width kind =
     else if bytes_eq kind (codes "delivery") then Some 5
     else None
 
--- how many fields a record that is none of a plan has, by its fields
+-- how many fields a record of the register has, by its fields, of which the first is its kind; none for other records
 abbrev pub record_width : List (List ℕ) → Option ℕ
 record_width [] = None
 record_width (kind ∷ rest) = register_width kind
 
--- how many fields a record has, by its kind
+-- how many fields a record has, by its kind as a record of a plan and by its fields; none for an unknown kind
 abbrev pub width_by : (removes : Bool) → RowKind → List (List ℕ) → Option ℕ
 width_by false row.Phase fields = Some (phase_width fields)
 width_by false row.Split fields = Some 6
@@ -48,19 +49,21 @@ width_by true row.Pattern fields = Some 3
 width_by true row.Other fields = None
 width_by false row.Other fields = record_width fields
 
--- how many fields a record has, by its kind; nothing of an unknown kind
+-- how many fields a record of a plan or of the register has, by its fields; none for an unknown kind
 abbrev pub width_of : List (List ℕ) → Option ℕ
 width_of fields = width_by (record_kind_of fields).removes (record_kind_of fields).kind fields
 
--- a record with the fields that its kind has, where all that come after them are empty; else with all of its fields
+-- a record with the fields that its kind has, where all that come after them are empty; else, or where the kind is unknown, with
+-- all of its fields
 abbrev pub kept_by : Option ℕ → List (List ℕ) → List (List ℕ)
 kept_by None fields = fields
 kept_by (Some width) fields = if are_blank (drop width fields) then take width fields else fields
 
--- THE FIELDS OF A PADDED RECORD, without those that are empty at its end and that its kind does not have
+-- THE FIELDS OF A PADDED RECORD, without those at its end that its kind does not have, if all of these are empty
 abbrev pub unpadded : List (List ℕ) → List (List ℕ)
 unpadded fields = kept_by (width_of fields) fields
 
--- the file of the records without their padding, behind a byte order mark, so that the first field is read as it stands here
+-- the file of the records without their padding, behind a byte order mark, so that a reader takes off that mark and nothing of the
+-- first field
 abbrev pub unpadded_text : List ℕ → List ℕ
 unpadded_text text = 0xEF ∷ 0xBB ∷ 0xBF ∷ csv_text (map unpadded (csv_records text))

@@ -32,7 +32,8 @@ begins_line before b = (before == 10) || ((before == 13) && not (b == 10))
 abbrev pub line_with : (line before b : ℕ) → ℕ
 line_with line before b = if begins_line before b then line + 1 else line
 
--- the lines on which records begin, from a byte on
+-- the lines on which records begin in the bytes from some place on, by where a reader stands there, and by the line and the value
+-- of the byte before
 unfoldable pub lines_from : Reading → (line before : ℕ) → List ℕ → List ℕ
 lines_from at line before [] = []
 lines_from at line before (b ∷ bs) =
@@ -44,11 +45,11 @@ lines_from at line before (b ∷ bs) =
 abbrev pub is_mark : (a b c : ℕ) → Bool
 is_mark a b c = (a == 239) && ((b == 187) && (c == 191))
 
--- the bytes of a file behind the mark that a file in UTF-8 may begin with
+-- the bytes of a file, without the mark that a file in UTF-8 may begin with
 abbrev pub unmarked : List ℕ → List ℕ
 unmarked (a ∷ b ∷ c ∷ rest) = if is_mark a b c then rest else a ∷ b ∷ c ∷ rest
 unmarked bytes = bytes
 
--- the lines on which the records of a file begin, counted from 1
+-- the lines on which the records of a CSV file begin, in order, counted from 1
 abbrev pub record_lines : List ℕ → List ℕ
 record_lines csv = lines_from reading.Between 1 32 (unmarked csv)

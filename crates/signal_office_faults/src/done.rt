@@ -7,14 +7,15 @@ use crate::fault::Fault;
 use arrayvec::ArrayString;
 use office_http_framing::ends::{Sink, write_all};
 
-/// The bytes of the longest line that needs no memory, and more.
+/// The room of a line with numbers, in bytes: more than the longest such line has.
 pub const LINE_ROOM: usize = 96;
 
-/// What is printed on standard output, and the status. What is reported of a change is a line that
-/// needs no memory, so that no change that was made is reported as a fault.
+/// What a job came to: what is printed on standard output, and the status with which the program
+/// ends. A change is told in a line that needs no memory, so that one that was made is never told
+/// as a fault for want of memory.
 #[derive(Drop)]
 pub enum Done {
-    /// A text, and the status.
+    /// A text, and the status, 0 to 255.
     Text { text: Vec<u8>, status: u8 },
     /// A fixed line, with status 0.
     Fixed(&'static str),
@@ -30,7 +31,7 @@ impl Done {
         Done::Text { text, status: 0 }
     }
 
-    /// A text, and a status.
+    /// A text, and a status, 0 to 255.
     pub fn ending(text: Vec<u8>, status: u8) -> Done
         ensures { output_of result ≡ shows_with text.items status }
     {
@@ -44,14 +45,14 @@ impl Done {
         Done::Fixed(line)
     }
 
-    /// A line, with status 0.
+    /// A line with numbers, with status 0.
     pub fn line(line: ArrayString<LINE_ROOM>) -> Done
         ensures { output_of result ≡ shows line.bytes }
     {
         Done::Line(line)
     }
 
-    /// What is printed.
+    /// The bytes that are printed on standard output.
     pub fn as_bytes(&self) -> &[u8]
         ensures { result.now ≡ (output_of self.now).text }
     {
@@ -72,7 +73,8 @@ impl Done {
         }
     }
 
-    /// Prints it, and gives the status.
+    /// Prints the text as a whole, and gives the status. The fault is `Write` where the output
+    /// failed or took no byte; it may have taken the text up to some place.
     pub fn print<W: Sink>(&self, out: &mut W) -> Result<u8, Fault>
         ensures { Prints (output_of self.now) (W.told out.old) (W.told out.new) result }
     {
@@ -80,7 +82,8 @@ impl Done {
     }
 }
 
-/// Prints a text as a whole, and gives the status.
+/// Prints a text as a whole, and gives the status. The fault is `Write` where the output failed or
+/// took no byte; it may have taken the text up to some place.
 pub fn print_text<W: Sink>(text: &[u8], status: u8, out: &mut W) -> Result<u8, Fault>
     ensures { Prints (shows_with text.now status) (W.told out.old) (W.told out.new) result }
 {
@@ -90,7 +93,8 @@ pub fn print_text<W: Sink>(text: &[u8], status: u8, out: &mut W) -> Result<u8, F
     }
 }
 
-/// Prints what a job came to, and gives its status.
+/// Prints what a job came to, and gives its status. Of a job that ended with a fault nothing is
+/// printed, and that fault is given; it is `Write` where the output failed or took no byte.
 pub fn print_done<W: Sink>(done: Result<Done, Fault>, out: &mut W) -> Result<u8, Fault>
     ensures { PrintsWhat (came_to done) (W.told out.old) (W.told out.new) result }
 {

@@ -11,7 +11,8 @@ use office_files::{BadRow, fields_in, read_records};
 use signal_records::{NoMemory, RowFault};
 use std::alloc::Global;
 
-/// The line on which a record begins, by its number, counted from 1; 0 where there is none.
+/// The line on which the record with this number, counted from 1, begins, by the lines of all
+/// records; 0 where there is no such record.
 pub fn line_of_record(lines: &[usize], number: usize) -> usize
     ensures { result ≡ line_of_record lines.now number }
 {
@@ -24,7 +25,7 @@ pub fn line_of_record(lines: &[usize], number: usize) -> usize
     }
 }
 
-/// The hint on a record, by its fields.
+/// The hint on a record, by its fields and its fault.
 fn hint_for(alloc: Global, record: &ByteRecord, fault: RowFault) -> Result<Option<Hint>, NoMemory>
     ensures { IfOk result (λ hint. hint ≡ hint_for (fields_of record.now) fault) }
 {
@@ -32,7 +33,8 @@ fn hint_for(alloc: Global, record: &ByteRecord, fault: RowFault) -> Result<Optio
     Ok(hint_by(record_kind_of(&fields), fields.len(), fault))
 }
 
-/// The hint on a bad record of a plan's CSV file; none where it is no record of that.
+/// The hint on a bad record of a plan's CSV file; none where the file has no record of that number,
+/// or no record of a plan has such a fault. `NoMemory` means that a growth was refused.
 pub fn hint_of(alloc: Global, csv: &[u8], bad: BadRow) -> Result<Option<Hint>, NoMemory>
     ensures { IfOk result (λ hint. hint ≡ hint_of csv.now bad) }
 {

@@ -1,4 +1,4 @@
-//! Why the program ends with a fault.
+//! The faults with which the program ends.
 
 ghost use Rattle.std.specs.Prelude.{◌≡◌, ◌≤◌};
 ghost use Rattle.signal_office_faults.specs.Lines.{status_of};
@@ -11,38 +11,40 @@ use office_http_framing::engine::ServeFault;
 use office_machine::refusal::Refusal;
 use signal_records::NoMemory;
 
-/// Why the program ends with a fault, or refuses its words.
+/// Why the program ends with a fault, or refuses the words of its command line.
 #[derive(Clone, Copy)]
 pub enum Fault {
-    /// The source failed.
+    /// The input failed as it was read.
     Read,
-    /// An output failed, or took no byte.
+    /// An output or a file could not be written, or an output took no byte.
     Write,
     /// A growth was refused.
     Memory,
     /// The database refused.
     Store,
-    /// The tables have another version.
+    /// The tables have another version than the program's, or a file to be migrated has none.
     Version,
     /// No version is stored and a table has a row, or a stored row is no record.
     Damaged,
     /// The port can't be listened on, or no connection could be accepted.
     Bind,
-    /// The CSV file can't be read, or the file of an office is not there and is not to be made.
+    /// A CSV file can't be read, or the file of an office is not there and is not to be made.
     File,
-    /// Something stands where a copy of an office is to be put, or beside it.
+    /// Something stands where a copy of an office is to be put, or its log or part stands beside.
     Exists,
     /// The office has no such intersection.
     UnknownIntersection,
     /// The plan has no such pattern.
     UnknownPattern,
-    /// The word spells no day from 1970-01-01 to 2199-12-31.
+    /// A word of the command line spells no day from 1970-01-01 to 2199-12-31.
     Day,
-    /// The word is no clerk's name: 1 to 40 bytes without control characters.
+    /// A word of the command line is no clerk's name: 1 to 40 bytes without control characters.
     Clerk,
-    /// The word is no intersection's name: 1 to 120 bytes without control characters.
+    /// A word of the command line is no intersection's name: 1 to 120 bytes without control
+    /// characters.
     Name,
-    /// The word is no part's code: 1 to 20 of the bytes `A` to `Z`, `0` to `9` and `-`.
+    /// A word of the command line is no part's code: 1 to 20 of the bytes `A` to `Z`, `0` to `9`
+    /// and `-`.
     Part,
     /// The office refused a command.
     Refused(Refusal),
@@ -55,10 +57,11 @@ pub enum Fault {
     Late {
         at: usize,
     },
-    /// A record of the CSV file spells nothing; where two are compared, of the first.
+    /// A record of the CSV file, or of the first of two that are compared, spells nothing; or a
+    /// growth was refused as the file was read.
     Csv(CsvFault),
-    /// A record of the CSV file spells nothing: where it is, the line of the file on which it
-    /// begins, and what is wrong there.
+    /// A record of the CSV file spells nothing: its number and fault, the line of the file on which
+    /// it begins, counted from 1, and what is wrong there.
     Explained {
         bad: BadRow,
         line: usize,
@@ -68,12 +71,13 @@ pub enum Fault {
     HeldBy(ArrayString<40>),
     /// A record of the second of two CSV files spells nothing.
     OtherCsv(BadRow),
-    /// The words are not UTF-8.
+    /// The words of the command line are not UTF-8.
     Words,
 }
 
 impl Fault {
-    /// The status with which the program ends: 2 where the words were refused, else 1.
+    /// The status with which the program ends: 2 where the words of the command line are not UTF-8,
+    /// else 1.
     pub fn status(self) -> u8
         ensures status { result ≡ status_of self }
         ensures bad { 1 ≤ result }

@@ -1,4 +1,4 @@
-//! Files of the system: the bytes of one, and whether it is there.
+//! Files of the system: a file's bytes, and whether it is there.
 
 ghost use Rattle.std.specs.Prelude.{IfErr};
 ghost use Rattle.signal_office_faults.specs.Lines.{IsUnreadFile};
@@ -8,7 +8,8 @@ use std::alloc::{AllocError, Global};
 use std::fs;
 use std::io::ErrorKind;
 
-/// The bytes of a file.
+/// The bytes of a file. The fault is `Memory` where a growth was refused, and `File` where the
+/// system did not give them for another reason.
 pub fn read_file(rt: &HostRuntime, path: &str) -> Result<Vec<u8>, Fault>
     ensures { IfErr result IsUnreadFile }
 {
@@ -19,7 +20,7 @@ pub fn read_file(rt: &HostRuntime, path: &str) -> Result<Vec<u8>, Fault>
     }
 }
 
-/// Whether a file has no byte.
+/// Whether a path leads to a file without a byte; no where the system does not tell.
 fn is_empty(rt: &HostRuntime, path: &str) -> bool {
     match fs::metadata(rt, path) {
         Ok(found) => found.is_file() && found.len() == 0,
@@ -27,8 +28,9 @@ fn is_empty(rt: &HostRuntime, path: &str) -> bool {
     }
 }
 
-/// Whether there is no such file, or an empty one without a log beside it, which has no tables.
-/// Where the system does not tell, opening it does.
+/// Whether there is no such file of an office, or an empty one without a log beside it, which has
+/// no tables. Where the system does not tell whether it is there, the answer is no, and opening it
+/// tells. The error means that a growth was refused.
 pub fn is_missing(rt: &HostRuntime, alloc: Global, path: &str) -> Result<bool, AllocError> {
     if matches!(fs::exists(rt, path), Ok(false)) {
         return Ok(true);

@@ -1,4 +1,4 @@
-//! A folder, into which files are put by their names.
+//! Folders, into which files are put by their names.
 
 use crate::fault::Fault;
 
@@ -11,7 +11,8 @@ pub trait Folder {
     ghost files: { Self → KnownFiles };
 
     /// Puts a file of this name, with this text. One that has the text stays as it is; any other
-    /// is as it was until it has the whole text.
+    /// is as it was until it has the whole text. The fault is `Write` where the file was not
+    /// written, and `Memory` where a growth was refused; the file was not put then.
     fn put(&mut self, name: &str, text: &[u8]) -> Result<(), Fault>
         ensures put { OnOk result
             (AddsFiles (files self.old) (files self.new) ((name.now, text.now) ∷ [])) }

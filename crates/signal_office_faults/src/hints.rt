@@ -7,7 +7,7 @@ ghost use Rattle.signal_office_faults.specs.Hints.{field_at, field_values, field
 use crate::kinds::{RecordKind, RowKind};
 use signal_records::RowFault;
 
-/// What a list of phases may be.
+/// What a field with a list of phases may be, as a hint shows it.
 const PHASE_LIST: &str = "phases 1 to 32, each once, one space between two";
 
 /// A field of the records of a plan.
@@ -39,7 +39,8 @@ pub enum Field {
 }
 
 impl Field {
-    /// Its name, and what it may be: numbers with their unit, or phases.
+    /// The field's name, and what it may be, as a hint shows them: numbers with their unit, or
+    /// phases.
     fn about(self) -> (&'static str, &'static str)
         ensures name { result.0.now ≡ field_words self }
         ensures values { result.1.now ≡ field_values self }
@@ -105,19 +106,21 @@ const PATTERN_FIELDS: &[Field] = &[
     Field::Sequence,
 ];
 
-/// What a record that spells nothing is reported with.
+/// What is wrong with a record of a plan that spells nothing.
 #[derive(Clone, Copy)]
 pub enum Hint {
-    /// Its kind, or that of the key that it removes, may be one of a few.
+    /// The record's kind is none of those that there are; where `removed`, the kind behind
+    /// `remove`.
     Kind { removed: bool },
-    /// It has so many fields, and its kind has others.
+    /// The record has so many fields, and records of its kind have another number.
     Count { found: usize, kind: RecordKind },
-    /// A field may be this, and is something else; or it is no number.
+    /// A field is not what it may be; where it is not `is_numeral`, it should be a number and is
+    /// not written as one.
     Field { field: Field, is_numeral: bool },
 }
 
 impl Hint {
-    /// What is wrong.
+    /// The name of what is wrong, in at most 24 bytes: the kind, the number of fields, or a field.
     #[tactic(auto, using(crate::proofs::HintLemmas::short_hint_name))]
     pub fn name(self) -> &'static str
         ensures value { result.now ≡ hint_name self }
@@ -130,7 +133,7 @@ impl Hint {
         }
     }
 
-    /// How many fields there are, where their number is wrong.
+    /// How many fields the record has, where their number is wrong; else none.
     pub fn found(self) -> Option<usize>
         ensures { result ≡ hint_found self }
     {
@@ -140,7 +143,7 @@ impl Hint {
         }
     }
 
-    /// What it may be.
+    /// What the kind, the number of fields or the field may be, in at most 60 bytes.
     #[tactic(auto, using(crate::proofs::HintLemmas::short_hint_values))]
     pub fn values(self) -> &'static str
         ensures value { result.now ≡ hint_values self }
@@ -154,7 +157,8 @@ impl Hint {
         }
     }
 
-    /// What is reported behind that: how a number is written, where a field is none.
+    /// The end of the hint, in at most 40 bytes: how a number is written, where a field should be a
+    /// number and is none; else nothing.
     #[tactic(auto, using(crate::proofs::HintLemmas::short_hint_ending))]
     pub fn ending(self) -> &'static str
         ensures value { result.now ≡ hint_ending self }
@@ -170,7 +174,7 @@ impl Hint {
     }
 }
 
-/// How many fields the records of a kind have, as it is reported.
+/// How many fields the records of a kind have, as a hint shows it.
 fn widths(of: RecordKind) -> &'static str
     ensures { result.now ≡ widths of }
 {
@@ -200,7 +204,8 @@ fn fields_behind(of: RecordKind) -> &'static [Field]
     }
 }
 
-/// The field at a place of a record, counted from 1.
+/// The field of a record at a place, counted from 1; none at the place of its kind and behind its
+/// last field.
 fn field_at(of: RecordKind, place: u8) -> Option<Field>
     ensures { result ≡ field_at of place }
 {
@@ -214,7 +219,7 @@ fn field_at(of: RecordKind, place: u8) -> Option<Field>
     }
 }
 
-/// The hint on a field at a place.
+/// The hint on the field of a record at a place, counted from 1, if a field has this place.
 fn hint_at(kind: RecordKind, place: u8, is_numeral: bool) -> Option<Hint>
     ensures { result ≡ hint_at kind place is_numeral }
 {
@@ -224,8 +229,8 @@ fn hint_at(kind: RecordKind, place: u8, is_numeral: bool) -> Option<Hint>
     }
 }
 
-/// The hint on a record by its kind, the number of its fields, and its fault. A record of a plan
-/// has no fault without a hint.
+/// The hint on a record by its kind, the number of its fields, and its fault; none for want of
+/// memory, and for faults in days and texts, which no record of a plan has.
 pub(crate) fn hint_by(kind: RecordKind, count: usize, fault: RowFault) -> Option<Hint>
     ensures { result ≡ hint_by kind count fault }
 {

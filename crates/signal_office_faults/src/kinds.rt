@@ -11,7 +11,7 @@ pub enum RowKind {
     Seq,
     Split,
     Pattern,
-    /// No kind.
+    /// No kind of row has this name, or there is no name.
     Other,
 }
 

@@ -2,8 +2,8 @@
 //!
 //! CSV files come as spreadsheets leave them, with records that are padded with empty fields; their
 //! users look for the line of a record, for what is wrong with a bad one, and for the records of a
-//! plan that put or remove a key again. Of the system there are the bytes of a file, whether it is
-//! there, and a folder into which files are put by their names, of the system or in memory.
+//! plan that put or remove a key again. A file of the system is read here, or looked for. A folder,
+//! into which files are put by their names, is one of the system or in memory.
 #![tactic(auto)]
 
 mod done;

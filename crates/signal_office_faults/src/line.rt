@@ -1,4 +1,4 @@
-//! The line that says a fault, written without memory.
+//! The line, or the two lines, that tell a fault, written without memory.
 
 ghost use Rattle.std.specs.Prelude.{◌≡◌, ◌≤◌, ◌+◌, ◌++◌, length, codes, decimal};
 ghost use Rattle.arrayvec.specs.ArrayString.{array_string_len};
@@ -16,10 +16,10 @@ use office_files::{BadRow, CsvFault};
 use office_machine::refusal::Refusal;
 use signal_records::RowFault;
 
-/// The bytes of the longest lines, and more.
+/// The room of the lines that tell a fault, in bytes: more than the longest have.
 const ROOM: usize = 512;
 
-/// The name of a refusal.
+/// The name of a refusal, in at most 24 bytes.
 #[tactic(auto, using(crate::proofs::Short::short_refusal))]
 fn refusal_name(refusal: Refusal) -> &'static str
     ensures value { result.now ≡ (line_of refusal).name }
@@ -28,7 +28,7 @@ fn refusal_name(refusal: Refusal) -> &'static str
     refusal.name()
 }
 
-/// The name of a row's fault.
+/// The name of a record's fault, in at most 24 bytes.
 #[tactic(auto, using(crate::proofs::Short::short_fault))]
 fn fault_name(fault: RowFault) -> &'static str
     ensures value { result.now ≡ fault_name fault }
@@ -63,7 +63,7 @@ fn push_bad_row(line: &mut ArrayString<ROOM>, bad: &BadRow)
     }
 }
 
-/// Writes how many fields there are behind the line, where their number is wrong.
+/// Writes behind the line how many fields a record has, as `7, not `, where their number is wrong.
 fn push_found(line: &mut ArrayString<ROOM>, found: Option<usize>)
     requires { array_string_len line.old ≤ 300 }
     ensures bytes { line.new.bytes ≡ line.old.bytes ++ found_text found }
@@ -75,7 +75,8 @@ fn push_found(line: &mut ArrayString<ROOM>, found: Option<usize>)
     }
 }
 
-/// Writes the second line of a bad record.
+/// Writes the end of a bad record's line, and its second line, as `line 36, offset: 0 to 255
+/// seconds`.
 fn push_hint(line: &mut ArrayString<ROOM>, at: usize, hint: Hint)
     requires { array_string_len line.old ≤ 200 }
     ensures bytes { line.new.bytes ≡ line.old.bytes ++ hint_line at hint }
@@ -91,7 +92,7 @@ fn push_hint(line: &mut ArrayString<ROOM>, at: usize, hint: Hint)
     line.push_str(hint.ending());
 }
 
-/// Writes a bad record with its second line.
+/// Writes the two lines of a bad record, without the end of the second.
 fn push_explained(line: &mut ArrayString<ROOM>, bad: &BadRow, at: usize, hint: Hint)
     requires { array_string_len line.old ≡ 0 }
     ensures bytes { line.new.bytes ≡ line.old.bytes ++ codes "fault: " ++ bad_row_text bad.now
@@ -103,7 +104,7 @@ fn push_explained(line: &mut ArrayString<ROOM>, bad: &BadRow, at: usize, hint: H
     push_hint(line, at, hint);
 }
 
-/// Writes what is wrong with a CSV file behind the line.
+/// Writes what is wrong with a CSV file behind the line: its bad record, or `memory`.
 fn push_csv_fault(line: &mut ArrayString<ROOM>, fault: &CsvFault)
     requires { array_string_len line.old ≤ 24 }
     ensures bytes { line.new.bytes ≡ line.old.bytes ++ fault_text fault.now }
@@ -115,7 +116,7 @@ fn push_csv_fault(line: &mut ArrayString<ROOM>, fault: &CsvFault)
     }
 }
 
-/// The line of a refused record.
+/// Writes the line of a record, by its number, that the office refused.
 fn push_record(line: &mut ArrayString<ROOM>, at: usize, refusal: Refusal)
     requires { array_string_len line.old ≤ 24 }
     ensures bytes { line.new.bytes ≡ line.old.bytes ++ codes "fault: record " ++ decimal at
@@ -128,7 +129,7 @@ fn push_record(line: &mut ArrayString<ROOM>, at: usize, refusal: Refusal)
     line.push_str(refusal_name(refusal));
 }
 
-/// The line of a record that is too late.
+/// Writes the line of a record, by its number, that has a later day than an import takes.
 fn push_late(line: &mut ArrayString<ROOM>, at: usize)
     requires { array_string_len line.old ≤ 24 }
     ensures bytes { line.new.bytes ≡ line.old.bytes ++ codes "fault: record " ++ decimal at
@@ -140,7 +141,7 @@ fn push_late(line: &mut ArrayString<ROOM>, at: usize)
     line.push_str(": Late");
 }
 
-/// Writes the line that says a fault, without the line's end.
+/// Writes the line, or the two lines, that tell a fault, without the end of the last.
 fn push_fault(line: &mut ArrayString<ROOM>, fault: Fault)
     requires { array_string_len line.old ≡ 0 }
     ensures bytes { line.new.bytes ≡ line.old.bytes ++ line_text fault }
@@ -189,7 +190,7 @@ fn push_fault(line: &mut ArrayString<ROOM>, fault: Fault)
     }
 }
 
-/// The line that says a fault on standard error, with the line's end.
+/// The line, or the two lines, that tell a fault on standard error, each with its end.
 pub fn line_of(fault: Fault) -> ArrayString<ROOM>
     ensures { result.bytes ≡ line_text fault ++ codes "\n" }
 {

@@ -1,4 +1,4 @@
-//! On which line of a CSV file each of its records begins.
+//! The lines of a CSV file on which its records begin.
 
 ghost use Rattle.std.specs.Prelude.{◌≡◌, ◌<◌, ◌-◌, ◌^◌, IfOk};
 ghost use Rattle.signal_office_faults.specs.RecordLines.{after_byte, after_plain, begins_line, begins_record, is_mark, line_with, record_lines, unmarked};
@@ -21,7 +21,8 @@ enum Reading {
     Closed,
 }
 
-/// Where a reader stands after a byte that is not in quotes.
+/// Where a reader stands after a byte that is not in quotes: a comma ends a field, and the end of a
+/// line a record.
 fn after_plain(byte: u8) -> Reading
     ensures { result ≡ after_plain byte }
 {
@@ -34,7 +35,7 @@ fn after_plain(byte: u8) -> Reading
     }
 }
 
-/// Where a reader stands after a byte.
+/// Where a reader stands after a byte, by where it stood before.
 fn after_byte(reading: Reading, byte: u8) -> Reading
     ensures { result ≡ after_byte reading byte }
 {
@@ -48,7 +49,7 @@ fn after_byte(reading: Reading, byte: u8) -> Reading
     }
 }
 
-/// Whether a record begins with a byte.
+/// Whether a record begins with a byte: one between two records that ends no line.
 fn begins_record(reading: Reading, byte: u8) -> bool
     ensures { result ≡ begins_record reading byte }
 {
@@ -82,7 +83,7 @@ fn is_mark(first: u8, second: u8, third: u8) -> bool
     first == 0xEF && second == 0xBB && third == 0xBF
 }
 
-/// The bytes behind the mark.
+/// The bytes of a file, without the mark that a file in UTF-8 may begin with.
 fn unmarked(csv: &[u8]) -> &[u8]
     ensures { result.now ≡ unmarked csv.now }
 {
@@ -93,7 +94,8 @@ fn unmarked(csv: &[u8]) -> &[u8]
 }
 
 /// The line on which each record of a CSV file begins, counted from 1. A line ends with a line
-/// feed, a carriage return, or both; a record may stand on more than one, and empty lines are none.
+/// feed, a carriage return, or both; a record may stand on more than one line, and an empty line is
+/// no record. `NoMemory` means that a growth was refused.
 pub fn record_lines(alloc: Global, csv: &[u8]) -> Result<Vec<usize>, NoMemory>
     ensures { IfOk result (λ lines. lines.items ≡ record_lines csv.now) }
 {

@@ -7,14 +7,15 @@ use crate::fault::Fault;
 use crate::folder::Folder;
 use std::alloc::{AllocError, Global};
 
-/// A file that was put.
+/// A file that was put into a folder in memory.
 #[derive(Drop)]
 pub struct KeptFile {
     pub name: String,
     pub text: Vec<u8>,
 }
 
-/// The files that were put, in their order, and how many more it takes.
+/// A folder in memory: the files that were put, in their order, and how many more it takes. Once it
+/// takes no more, `put` gives `Write`.
 #[derive(Drop)]
 pub struct MemoryFolder {
     alloc: Global,
@@ -22,7 +23,8 @@ pub struct MemoryFolder {
     pub room: usize,
 }
 
-/// Keeps a file with its own name and text.
+/// Keeps a file behind the others, with a copy of its name and text. Where a growth is refused, the
+/// files stay as they were.
 fn keep(alloc: Global, files: &mut Vec<KeptFile>, name: &str, text: &[u8]) -> Result<(), AllocError>
     ensures { MatchResult result
         (λ _. kept_files files.new.items ≡ kept_files files.old.items ++ (name.now, text.now) ∷ [])

@@ -1,4 +1,4 @@
-//! Notes on records that put or remove a key again.
+//! Notes on the records of a plan's CSV file that put or remove a key again.
 
 ghost use Rattle.std.specs.Prelude.{◌≡◌, ◌++◌, length, IfOk, OnOk, string_bytes};
 ghost use Rattle.signal_office_faults.specs.Notes.{deed, key_words, note_on, notes_in, notes_within, record_word};
@@ -9,7 +9,7 @@ use std::alloc::{AllocError, Global};
 use std::collections::BTreeMap;
 use std::fmt::Write;
 
-/// What a change does to its key.
+/// The word for what a change does to its key.
 fn deed(change: &Change) -> &'static str
     ensures { result.now ≡ deed change.now }
 {
@@ -38,7 +38,7 @@ fn push_key(text: &mut String, key: Key) -> Result<(), AllocError>
     }
 }
 
-/// Appends the note on the record with a number, where an earlier one has its key.
+/// Appends the note on the record with this number, where an earlier one has its key; else nothing.
 fn push_note(
     text: &mut String,
     other: bool,
@@ -59,7 +59,8 @@ fn push_note(
     writeln!(text, " again, after record {earlier}")
 }
 
-/// The notes on changes. The number of the latest change of each key is kept.
+/// The notes on changes, which are numbered from 1, in their order. On the way, the number of the
+/// latest change of each key is kept.
 fn notes_on(alloc: Global, other: bool, changes: &[Change]) -> Result<String, NoMemory>
     ensures { IfOk result (λ text.
         string_bytes text ≡ notes_within other changes.now (length changes.now)) }
@@ -75,7 +76,7 @@ fn notes_on(alloc: Global, other: bool, changes: &[Change]) -> Result<String, No
 
 /// A line for each record of a plan's CSV file that puts or removes a key that an earlier record
 /// has, with the latest such record; none for a file that is no plan. `other` says that the file is
-/// the second of two.
+/// the second of two. `NoMemory` means that a growth was refused.
 pub fn notes_in(alloc: Global, other: bool, csv: &[u8]) -> Result<String, NoMemory>
     ensures { IfOk result (λ text. string_bytes text ≡ notes_in other csv.now) }
 {

@@ -18,7 +18,7 @@ use std::alloc::Global;
 /// The mark that a file in UTF-8 may begin with.
 const BYTE_ORDER_MARK: &[u8] = b"\xEF\xBB\xBF";
 
-/// A record without the empty fields at its end that its kind does not have.
+/// A record without the fields at its end that its kind does not have, if all of these are empty.
 fn unpadded_record(alloc: Global, record: &ByteRecord) -> Result<ByteRecord, NoMemory>
     ensures { IfOk result (λ row. fields_of row ≡ unpadded (fields_of record.now)) }
 {
@@ -26,7 +26,8 @@ fn unpadded_record(alloc: Global, record: &ByteRecord) -> Result<ByteRecord, NoM
     ByteRecord::from_fields(alloc, unpadded(&fields))
 }
 
-/// The records, each without the empty fields at its end that its kind does not have.
+/// The records in their order, each without the fields at its end that its kind does not have, if
+/// all of these are empty.
 fn unpadded_records(alloc: Global, records: &[ByteRecord]) -> Result<Vec<ByteRecord>, NoMemory>
     ensures { IfOk result (λ rows.
         map fields_of rows.items ≡ map unpadded (map fields_of records.now)) }
@@ -38,8 +39,8 @@ fn unpadded_records(alloc: Global, records: &[ByteRecord]) -> Result<Vec<ByteRec
     Ok(rows)
 }
 
-/// The file of the records of a file, after a byte order mark, each record without the empty fields
-/// at its end that its kind does not have.
+/// The file of the records of a file, after a byte order mark, each record without the fields at
+/// its end that its kind does not have, if all of these are empty.
 fn unpadded_file(alloc: Global, bytes: &[u8]) -> Result<Vec<u8>, NoMemory>
     ensures { IfOk result (λ text. text.items ≡ unpadded_text bytes.now) }
 {
@@ -52,9 +53,10 @@ fn unpadded_file(alloc: Global, bytes: &[u8]) -> Result<Vec<u8>, NoMemory>
     Ok(text)
 }
 
-/// A CSV file whose records are those of another without the empty fields at their ends that their
-/// kinds do not have, as a spreadsheet pads them. A good record stays as it is, and so does the
-/// number of each.
+/// A CSV file with the records of another, each without the fields at its end that its kind does
+/// not have, if all of these are empty, as where a spreadsheet has padded it. Each record keeps its
+/// number, and a good one stays as it is. The file begins with a byte order mark. `NoMemory` means
+/// that a growth was refused.
 pub fn unpadded_csv(alloc: Global, bytes: &[u8]) -> Result<Vec<u8>, NoMemory>
     ensures text { IfOk result (λ text. text.items ≡ unpadded_text bytes.now) }
     ensures records { IfOk result (λ text.

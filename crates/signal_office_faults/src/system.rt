@@ -8,8 +8,8 @@ use crate::folder::Folder;
 use std::alloc::Global;
 use std::fs;
 
-/// A folder of the system, which is made as the first file is put. What its files hold no contract
-/// says.
+/// A folder of the system, which is made as the first file is put. No contract says what its files
+/// hold.
 #[derive(Drop)]
 pub struct SystemFolder<'a> {
     rt: &'a HostRuntime,
@@ -18,7 +18,7 @@ pub struct SystemFolder<'a> {
     is_there: bool,
 }
 
-/// Whether a file holds this text.
+/// Whether a path leads to a file with this text and no more; no where the system does not tell.
 fn holds(rt: &HostRuntime, path: &str, text: &[u8]) -> bool {
     let is_as_long = match fs::metadata(rt, path) {
         Ok(found) => found.is_file() && found.len() == text.len() as u64,
@@ -27,7 +27,7 @@ fn holds(rt: &HostRuntime, path: &str, text: &[u8]) -> bool {
     is_as_long && matches!(fs::read(rt, path), Ok(held) if held.as_slice() == text)
 }
 
-/// Makes a folder where there is none.
+/// Makes a folder where there is none. The fault is `Write` where that fails.
 fn make(rt: &HostRuntime, path: &str) -> Result<(), Fault>
     ensures { IfErr result IsUnput }
 {
@@ -38,7 +38,8 @@ fn make(rt: &HostRuntime, path: &str) -> Result<(), Fault>
     }
 }
 
-/// Writes a file under another name, and gives it its own. Where that fails there is no other.
+/// Writes a file under the name `part`, and then gives it the name `path`. Where that fails, the
+/// fault is `Write`, and the file `part` is removed, if the system lets it.
 fn write_beside(rt: &HostRuntime, part: &str, path: &str, text: &[u8]) -> Result<(), Fault>
     ensures { IfErr result IsUnput }
 {
@@ -51,7 +52,7 @@ fn write_beside(rt: &HostRuntime, part: &str, path: &str, text: &[u8]) -> Result
 }
 
 impl<'a> SystemFolder<'a> {
-    /// The folder of this path, which may not be there yet.
+    /// The folder of this path, which need not be there yet.
     pub fn new(rt: &'a HostRuntime, alloc: Global, path: &'a str) -> SystemFolder<'a> {
         SystemFolder {
             rt,

@@ -1,4 +1,4 @@
-//! How many fields the record of a kind has, and those that it keeps.
+//! How many fields a record has by its kind, and which fields of a padded record are its own.
 
 ghost use Rattle.std.specs.Prelude.{◌≡◌, drop, take};
 ghost use Rattle.signal_records.specs.Reading.{texts};
@@ -17,7 +17,7 @@ fn front<'f, 'a>(fields: &'f [&'a [u8]], width: usize) -> &'f [&'a [u8]]
     }
 }
 
-/// Whether fields have nothing.
+/// Whether all fields are empty.
 fn are_blank(fields: &[&[u8]]) -> bool
     ensures { result ≡ are_blank (texts fields.now) }
 {
@@ -38,14 +38,16 @@ fn are_blank_after(fields: &[&[u8]], width: usize) -> bool
     }
 }
 
-/// How many fields a phase has: its pedestrian part is there where any of its fields has anything.
+/// How many fields the record of a phase has: 9, or 15 with a pedestrian part, which is there where
+/// any field after the ninth is not empty.
 fn phase_width(fields: &[&[u8]]) -> usize
     ensures { result ≡ phase_width (texts fields.now) }
 {
     if are_blank_after(fields, 9) { 9 } else { 15 }
 }
 
-/// How many fields a record of the register has, by its kind.
+/// How many fields a record of the register has, by its kind, which is its first field; none for
+/// other records.
 fn record_width(fields: &[&[u8]]) -> Option<usize>
     ensures { result ≡ record_width (texts fields.now) }
 {
@@ -67,7 +69,8 @@ fn record_width(fields: &[&[u8]]) -> Option<usize>
     }
 }
 
-/// How many fields a record has, by its kind, if that is one.
+/// How many fields a record of a plan or of the register has, by its kind; none for an unknown
+/// kind.
 fn width_of(fields: &[&[u8]]) -> Option<usize>
     ensures { result ≡ width_of (texts fields.now) }
 {
@@ -82,7 +85,8 @@ fn width_of(fields: &[&[u8]]) -> Option<usize>
     }
 }
 
-/// The fields of a record without those that are empty at its end and that its kind does not have.
+/// The fields of a record without those at its end that its kind does not have, where all of these
+/// are empty; else all of its fields.
 pub(crate) fn unpadded<'f, 'a>(fields: &'f [&'a [u8]]) -> &'f [&'a [u8]]
     ensures { texts result.now ≡ unpadded (texts fields.now) }
 {

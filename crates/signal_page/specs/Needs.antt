@@ -16,21 +16,24 @@ use Rattle.signal_rules.specs.declared.need.NeedPart.TheVariants as need_part
 use Rattle.signal_rules.specs.declared.need.SplitNeed.{SplitNeed}
 use Rattle.signal_page.specs.Nodes.{Shown, Own, Tenths, Below, Dash, Nothing, Short}
 
--- the need of a phase in a split mode, in tenths of a second; one that is omitted needs no time
+-- the need of a phase in a split mode, in tenths of a second; none where the mode omits the phase
+-- or the phase is not there
 abbrev pub need_in : SplitMode → Option Phase → Option ℕ
 need_in PhaseOmitted phase = None
 need_in mode phase = option_map (λ p. need_of p mode) phase
 
--- the need of the phase of a split; a phase that the plan does not have has none
+-- the need of phase `p` in the mode of its split, in tenths of a second; none where the mode omits
+-- the phase or the plan does not have it
 abbrev pub need_at : Rows → ℕ → Split → Option ℕ
 need_at set p split = need_in split.mode (phase_at set p)
 
--- what the cell of a need shows, in tenths of a second
+-- the cell of a need in tenths of a second, empty where there is none
 abbrev pub need_cell : Option ℕ → Shown
 need_cell None = Nothing
 need_cell (Some need) = Tenths need
 
--- what the cell of a split's spare time shows: its time less its need, in tenths of a second
+-- the cell of a split's spare time: its time less its need, all in tenths of a second, below zero
+-- where the need is longer; empty where there is no need
 abbrev pub spare_cell : ℕ → Option ℕ → Shown
 spare_cell time None = Nothing
 spare_cell time (Some need) =
@@ -41,24 +44,25 @@ abbrev pub part_word : NeedPart → List ℕ
 part_word need_part.Green = codes "green"
 part_word need_part.Walk = codes "walk"
 
--- of a split with a time in tenths of a second, whose phase has such a pedestrian part, and of its
--- need if the walk is called: that need, and the part that governs it with what the split is short
+-- two cells of a split with a time in tenths of a second: its need if the walk is called, and the
+-- part that governs that need, with what the split is short of it; dashes without a pedestrian part
 abbrev pub walk_cells : ℕ → Option Ped → SplitNeed → List Shown
 walk_cells time None need = Dash ∷ Own (codes "-") ∷ []
 walk_cells time (Some ped) need =
     Tenths need.tenths ∷ Short (part_word need.governs) (need.tenths - time) ∷ []
 
--- the need of a split if the walk of its phase is called, by its mode or by a button, and the part
--- that governs; one that is omitted, or whose phase the plan does not have, has none
+-- two cells of a split with a time in tenths of a second: its need if the walk of its phase is
+-- called, by the mode or by a button, and the part that governs it; empty where the mode omits the
+-- phase or the plan does not have it
 abbrev pub called_cells : ℕ → SplitMode → Option Phase → List Shown
 called_cells time PhaseOmitted phase = Nothing ∷ Nothing ∷ []
 called_cells time mode None = Nothing ∷ Nothing ∷ []
 called_cells time mode (Some phase) = walk_cells time phase.ped (need_if_called phase)
 
--- splitCoordPhase marks a phase of the set in a split plan
+-- whether splitCoordPhase marks phase `p` in split plan `n`, and the set has that phase
 abbrev pub coordinates : Rows → ℕ → ℕ → Bool
 coordinates set n p = is_some (phase_at set p) && is_coordinated (split_at set n p)
 
--- the phases that a split plan coordinates
+-- the numbers of the phases that split plan `n` coordinates, ascending
 abbrev pub coordinated_in : Rows → ℕ → List ℕ
 coordinated_in set n = filter (coordinates set n) phase_numbers

@@ -10,9 +10,9 @@ use Rattle.signal_page.specs.Words.{escaped_text, marks}
 
 -- What stands in a page: markup and words of its own, numbers, tenths above and below zero, a dash
 -- in place of a number, nothing; the number that heads a row, alone or as a link to the page of an
--- intersection; phases; words with the tenths of a second by which a split is short; a day, the day
--- of the latest inspection, and the due day with the mark of what is overdue; a name or text of
--- others in the page and in its title; and the lines of an order.
+-- intersection; phases; words with the tenths of a second by which a split is short; a day by its
+-- number, the day of the latest inspection, and the due day with the mark of what is overdue; a
+-- name or text of others in the page and in its title; and the lines of an order.
 pub data Shown : Type 0 where
   Own : List ℕ → Shown
   Number : ℕ → Shown
@@ -31,7 +31,7 @@ pub data Shown : Type 0 where
   Title : List ℕ → Shown
   Parts : List UsedLine → Shown
 
--- what the code's value shows
+-- what a node of the code shows; of used lines, those of the node's order
 abbrev pub shown_by : Node → Shown
 shown_by (node.Own words) = Own words.now
 shown_by (node.Number n) = Number n
@@ -50,36 +50,37 @@ shown_by (node.Name words) = Name words.now
 shown_by (node.Title words) = Title words.now
 shown_by (node.Parts lines order) = Parts (filter (is_line_of order) lines.now)
 
--- what the code's values show
+-- what nodes of the code show, in their order
 abbrev pub shown_of : List Node → List Shown
 shown_of nodes = map shown_by nodes
 
 -- ---- the text
 
--- a day, or words where there is none
+-- a day as a date, or these words where there is none
 abbrev pub day_or : List ℕ → Option ℕ → List ℕ
 day_or words None = words
 day_or words (Some day) = day_text day
 
--- a name or text of others in the page's body, where its direction stays within it
+-- a name or text of others in the page's body, in an element that keeps its direction of writing
+-- from what stands beside it
 unfoldable pub isolated_text : List ℕ → List ℕ
 isolated_text words = codes "<bdi>" ++ escaped_text words ++ codes "</bdi>"
 
--- a line of an order: its number, and the part that was used
+-- a line of an order: its number, how many pieces were used, and of which part
 unfoldable pub order_line_text : UsedLine → List ℕ
 order_line_text line =
     codes "<div>" ++ decimal line.line ++ codes ": " ++ decimal line.count ++ codes " &times; "
     ++ isolated_text line.part ++ codes "</div>"
 
--- the words for a split that is short by so many tenths of a second
+-- the words that a split is short by so many tenths of a second
 unfoldable pub short_words : ℕ → List ℕ
 short_words n = codes " <strong class='short'>" ++ tenths n ++ codes " s short</strong>"
 
--- by how many tenths of a second a split is short, where it is
+-- the words that a split is short by so many tenths of a second; nothing where it is not short
 abbrev pub short_mark : ℕ → List ℕ
 short_mark n = if n == 0 then [] else short_words n
 
--- what is printed of each
+-- the text that is printed of what stands in a page
 abbrev pub node_text : Shown → List ℕ
 node_text (Own words) = words
 node_text (Number n) = decimal n
@@ -100,13 +101,13 @@ node_text (Name words) = isolated_text words
 node_text (Title words) = escaped_text words
 node_text (Parts lines) = when_empty lines (codes "none") ++ flat_map order_line_text lines
 
--- a page as a text
+-- the text of what stands in a page, one after the other
 abbrev pub html : List Shown → List ℕ
 html nodes = flat_map node_text nodes
 
 -- ---- its tags are its own
 
--- a line of an order with an empty part
+-- a used line without the name of its part
 abbrev pub blank_line : UsedLine → UsedLine
 blank_line line = record line { part = [] }
 
@@ -117,9 +118,9 @@ blank (Title words) = Title []
 blank (Parts lines) = Parts (map blank_line lines)
 blank other = other
 
--- The text is the page. Whatever its names and texts hold, all characters of which tags and
--- attributes are made are the page's own: they are those of the page whose names and texts are
--- empty, in their order.
+-- The text is that of these nodes. Whatever their names and texts hold, all characters of which
+-- tags and attributes are made are the page's own: they are those of the page whose names and texts
+-- are empty, in their order.
 pub record IsHtml (nodes : List Shown) (text : List ℕ) : Type 0 where
   pub text_is : text ≡ html nodes
   pub markup : marks text ≡ marks (html (map blank nodes))

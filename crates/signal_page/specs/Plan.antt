@@ -20,11 +20,12 @@ use Rattle.signal_page.specs.Rows.{PlanRemarks, plan_tables}
 
 -- ---- what a picture cannot show
 
--- the tenths of a second that a split has before yellow: less yellow and red
+-- the tenths of a second that a split has before yellow: its time less yellow and red, or 0 where
+-- these are longer
 abbrev pub before_yellow : Split → Phase → ℕ
 before_yellow split phase = 10 * split.time - (phase.yellow + phase.red)
 
--- a split that has time, and before yellow less than walk and clearance take
+-- whether a split has time, and before yellow less than walk and clearance take
 abbrev pub is_cut : Split → Phase → Ped → Bool
 is_cut split phase ped =
     nat_lt 0 split.time && nat_lt (before_yellow split phase) (10 * (ped.walk + ped.clear))
@@ -37,49 +38,52 @@ cut_words p split phase ped =
     ∷ Own (codes " s has ") ∷ Tenths (before_yellow split phase)
     ∷ Own (codes " s before yellow. The picture ends them there, at the wedge.</p>\n") ∷ []
 
--- the note on a phase with a pedestrian part and its split, where the split is too short
+-- the note on a phase, by its split and its pedestrian part; nothing where it lacks either or the
+-- split is long enough for walk and clearance
 abbrev pub cut_note : ℕ → Option Split → Phase → Option Ped → List Shown
 cut_note p (Some split) phase (Some ped) =
     if is_cut split phase ped then cut_words p split phase ped else []
 cut_note p _ phase _ = []
 
--- the note on a phase in the splits of a pattern
+-- the note on a phase in the splits of a pattern; nothing for rows other than phases
 abbrev pub cut_note_of : Rows → Pattern → Row → List Shown
 cut_note_of set pattern (row.Phase p phase) = cut_note p (split_at set pattern.split p) phase phase.ped
 cut_note_of set pattern other = []
 
 -- ---- pictures
 
--- the picture of a pattern with its notes, in a box that scrolls
+-- the picture of pattern `n`, and below it the notes on the phases in these rows, in a box that
+-- scrolls
 unfoldable pub whole_figure : Rows → List Row → ℕ → Pattern → List Shown
 whole_figure set rows n pattern =
     Own (codes "<figure tabindex='0'>\n") ∷ Own (figure_text set n)
     ∷ (flat_map (cut_note_of set pattern) rows ++ Own (codes "</figure>\n") ∷ [])
 
--- the picture of a pattern, for its row
+-- the picture with notes for the row of a pattern; nothing for other rows
 abbrev pub picture_for : Rows → List Row → Row → List Shown
 picture_for set rows (row.Pattern n pattern) = whole_figure set rows n pattern
 picture_for set rows other = []
 
--- the pictures of all patterns
+-- the pictures with notes of all patterns in the rows, in their order
 abbrev pub pictures : Rows → List Row → List Shown
 pictures set rows = flat_map (picture_for set rows) rows
 
 -- ---- the plan
 
--- a plan of some rows, with what its tables are of
+-- the pictures and tables of a plan by its rows, or the sentence that it has none; `whose` stands
+-- behind the name of each table
 unfoldable pub plan_rows : List ℕ → PlanRemarks → Rows → List Row → List Shown
 plan_rows whose remarks set rows =
     if length rows == 0 then Own (codes "<p class='none'>It has no rows.</p>\n") ∷ []
     else pictures set rows ++ plan_tables whose set remarks rows
 
--- a plan, with the remarks on its rows
+-- the pictures and tables of a plan, with the remarks on it
 abbrev pub plan_part : List ℕ → PlanRemarks → Rows → List Shown
 plan_part whose remarks set = plan_rows whose remarks set (values set)
 
 -- ---- what stands above a plan
 
--- how many reasons there are why rules are broken
+-- the sentence that tells how many reasons there are why rules are broken, or that none is broken
 unfoldable pub reasons_note : List Explained → List Shown
 reasons_note reasons =
     if length reasons == 0 then Own (codes "<p class='sound'>It breaks no rule.</p>\n") ∷ []
@@ -105,7 +109,8 @@ warned_line warning =
 abbrev pub whole_warnings : List Warning → List Shown
 whole_warnings warnings = flat_map warned_line (filter is_of_plan warnings)
 
--- how many warnings there are, and those of the plan as a whole
+-- the sentence that tells how many warnings there are, and the lines of those of the plan as a
+-- whole; nothing where there is no warning
 unfoldable pub warnings_note : List Warning → List Shown
 warnings_note warnings =
     if length warnings == 0 then []

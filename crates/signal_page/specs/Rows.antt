@@ -26,7 +26,7 @@ use Rattle.signal_page.specs.Tables.{Heading, Numbers, Words, TableLine, Row as 
 
 -- ---- the cells of a row
 
--- what a split mode asks for
+-- the words for a split mode
 abbrev pub mode_words : SplitMode → List ℕ
 mode_words mode.NoRecall = codes "none"
 mode_words mode.MinimumVehicleRecall = codes "minimum vehicle recall"
@@ -39,21 +39,21 @@ mode_words mode.PhaseOmitted = codes "phase omitted"
 abbrev pub flag_words : Bool → List ℕ
 flag_words flag = if flag then codes "yes" else codes "no"
 
--- the pedestrian part of a phase, or a dash in each cell
+-- the cells of a phase's pedestrian part, or a dash in each where there is none
 abbrev pub ped_cells : Option Ped → List Shown
 ped_cells None = Dash ∷ Dash ∷ Dash ∷ Dash ∷ Own (codes "-") ∷ Dash ∷ []
 ped_cells (Some ped) =
     Number ped.walk ∷ Number ped.clear ∷ Tenths ped.width ∷ Tenths ped.setback
     ∷ Own (flag_words ped.short) ∷ Number ped.lead ∷ []
 
--- a phase
+-- the cells of phase `p`
 abbrev pub phase_cells : ℕ → Phase → List Shown
 phase_cells p phase =
     Head p ∷ Number phase.ring ∷ Number phase.min_green ∷ Tenths phase.passage ∷ Number phase.max1
     ∷ Tenths phase.yellow ∷ Tenths phase.red ∷ (ped_cells phase.ped ++ Phases phase.mates ∷ [])
 
--- a split of a phase, with what the phase needs and what the split has to spare, and with what it
--- needs if its walk is called
+-- the cells of the split of phase `p` in split plan `n`, with what the phase needs and what the
+-- split has to spare, and with what the phase needs if its walk is called
 abbrev pub split_cells : Rows → ℕ → ℕ → Split → List Shown
 split_cells set n p split =
     Head n ∷ Head p ∷ Number split.time ∷ need_cell (need_at set p split)
@@ -61,13 +61,13 @@ split_cells set n p split =
     ∷ (called_cells (10 * split.time) split.mode (phase_at set p)
     ++ Own (mode_words split.mode) ∷ Own (flag_words split.coord) ∷ [])
 
--- a pattern, with the phases that its split plan coordinates
+-- the cells of pattern `n`, with the phases that its split plan coordinates
 abbrev pub pattern_cells : ℕ → Pattern → List ℕ → List Shown
 pattern_cells n pattern phases =
     Head n ∷ Number pattern.cycle ∷ Number pattern.offset ∷ Number pattern.split
     ∷ Number pattern.seq ∷ Phases phases ∷ []
 
--- a row of a set
+-- the cells of a row of a set, one for each column of the table of its kind
 abbrev pub cells_of : Rows → Row → List Shown
 cells_of set (row.Phase p phase) = phase_cells p phase
 cells_of set (row.Seq n ring seq) = Head n ∷ Head ring ∷ Phases seq.list ∷ []
@@ -76,7 +76,7 @@ cells_of set (row.Pattern n pattern) = pattern_cells n pattern (coordinated_in s
 
 -- ---- the remarks on a row
 
--- the remarks on a plan: why it breaks rules, and what an engineer is warned of in it
+-- the remarks on a plan: the reasons why it breaks rules, and its warnings
 pub record PlanRemarks : Type 0 where
   pub reasons : List Explained
   pub warnings : List Warning
@@ -85,7 +85,7 @@ pub record PlanRemarks : Type 0 where
 abbrev pub remarks_by : Remarks → PlanRemarks
 remarks_by remarks = record { reasons = remarks.reasons.now; warnings = remarks.warnings.now }
 
--- two subjects are one
+-- whether two subjects are the same: of one kind, with the same numbers
 abbrev pub is_same_subject : Subject → Subject → Bool
 is_same_subject (subject.Phase p) (subject.Phase q) = p == q
 is_same_subject (subject.Seq n) (subject.Seq m) = n == m
@@ -93,24 +93,24 @@ is_same_subject (subject.Split n p) (subject.Split m q) = (n == m) && (p == q)
 is_same_subject (subject.Pattern n) (subject.Pattern m) = n == m
 is_same_subject a b = false
 
--- a subject breaks a rule
+-- whether this subject is the one that breaks the rule, by the reason that was found
 abbrev pub breaks : Subject → Explained → Bool
 breaks s broken = is_same_subject s broken.violation.subject
 
--- the rules that a subject breaks, each in a row over so many columns
+-- the lines of the reasons why a subject breaks rules, each over so many columns
 abbrev pub broken_lines : ℕ → List Explained → Subject → List TableLine
 broken_lines columns reasons s = map (Broken columns) (filter (breaks s) reasons)
 
--- the scope of a warning is a subject
+-- whether the scope of a warning is this subject, and not the plan as a whole
 abbrev pub is_scope_of : Subject → Scope → Bool
 is_scope_of s (scope.Subject other) = is_same_subject s other
 is_scope_of s scope.Plan = false
 
--- a warning is of a subject
+-- whether a warning is of this subject
 abbrev pub warns_of : Subject → Warning → Bool
 warns_of s warning = is_scope_of s warning.subject
 
--- the warnings of a subject, each in a row over so many columns
+-- the lines of the warnings of a subject, each over so many columns
 abbrev pub warned_lines : ℕ → List Warning → Subject → List TableLine
 warned_lines columns warnings s = map (Warned columns) (filter (warns_of s) warnings)
 
@@ -123,7 +123,7 @@ name_of kind.Sequences = codes "Sequences"
 name_of kind.Splits = codes "Splits"
 name_of kind.Patterns = codes "Patterns"
 
--- the columns of the table of a kind
+-- the columns of the table of a kind, with the units that its cells have
 abbrev pub columns : Kind → List Heading
 columns kind.Phases =
     Numbers (codes "Phase") ∷ Numbers (codes "Ring") ∷ Numbers (codes "Min green (s)")
@@ -143,7 +143,7 @@ columns kind.Patterns =
     Numbers (codes "Pattern") ∷ Numbers (codes "Cycle (s)") ∷ Numbers (codes "Offset (s)")
     ∷ Numbers (codes "Split") ∷ Numbers (codes "Sequence") ∷ Words (codes "Coordinated phases") ∷ []
 
--- a row is of a kind
+-- whether a row is of this kind
 abbrev pub is_of_kind : Kind → Row → Bool
 is_of_kind kind.Phases (row.Phase p phase) = true
 is_of_kind kind.Sequences (row.Seq n ring seq) = true
@@ -151,24 +151,26 @@ is_of_kind kind.Splits (row.Split n p split) = true
 is_of_kind kind.Patterns (row.Pattern n pattern) = true
 is_of_kind kind other = false
 
--- a row of a set, and below it the remarks on it: the rules that it breaks, and its warnings
+-- the line of a row of a set, and below it those of its remarks: the reasons why it breaks rules,
+-- and its warnings, each over so many columns
 abbrev pub row_lines : ℕ → Rows → PlanRemarks → Row → List TableLine
 row_lines columns set remarks r =
     row_line (cells_of set r)
     ∷ (broken_lines columns remarks.reasons (subject_of r)
     ++ warned_lines columns remarks.warnings (subject_of r))
 
--- the rows of a kind, in their order
+-- the lines of the rows of a kind in the order given, each with its remarks below it
 abbrev pub kind_lines : Kind → Rows → PlanRemarks → List Row → List TableLine
 kind_lines kind set remarks rows =
     flat_map (row_lines (length (columns kind)) set remarks) (filter (is_of_kind kind) rows)
 
--- the table of a kind
+-- the table of the rows of a kind with their remarks; `whose` stands behind the table's name
 abbrev pub kind_table : List ℕ → Rows → PlanRemarks → List Row → Kind → List Shown
 kind_table whose set remarks rows kind =
     table (name_of kind) whose (columns kind) (kind_lines kind set remarks rows)
 
--- the four tables of a plan
+-- the four tables of a plan by its rows, patterns first, with the remarks on it; `whose` stands
+-- behind the name of each
 unfoldable pub plan_tables : List ℕ → Rows → PlanRemarks → List Row → List Shown
 plan_tables whose set remarks rows =
     kind_table whose set remarks rows kind.Patterns ++ kind_table whose set remarks rows kind.Sequences

@@ -34,7 +34,8 @@ cell_end (Head n) = codes "</th>"
 cell_end (Link n) = codes "</th>"
 cell_end other = codes "</td>"
 
--- two cells of a plan show the same
+-- whether two cells of a plan's tables show the same; cells of other tables, as days and names,
+-- never count as the same
 abbrev pub shows_same : Shown → Shown → Bool
 shows_same (Own words) (Own others) = bytes_eq words others
 shows_same (Number n) (Number m) = n == m
@@ -47,7 +48,7 @@ shows_same Dash Dash = true
 shows_same Nothing Nothing = true
 shows_same cell other = false
 
--- a tag that stands where a cell is marked
+-- a tag, or nothing where the cell beside shows the same
 abbrev pub unless_same : (same : Bool) → List ℕ → List ℕ
 unless_same same tag = if same then [] else tag
 
@@ -75,14 +76,15 @@ pub data TableLine : Type 0 where
   Broken : ℕ → Explained → TableLine
   Warned : ℕ → Warning → TableLine
 
--- how a row opens that was removed or added, or that was changed, as it was and as it is to be
+-- how a line of a change opens, with the word for it: the row was removed or added, or was changed,
+-- and the line has it as it was or as it is to be
 abbrev pub change_opening : Mark → List ℕ
 change_opening Removed = codes "<tr class='removed'><td class='w'>removed</td>"
 change_opening Added = codes "<tr class='added'><td class='w'>added</td>"
 change_opening Before = codes "<tr class='before'><td class='w'>changed from</td>"
 change_opening After = codes "<tr class='after'><td class='w'>changed to</td>"
 
--- a row with how it opens
+-- a row of a table: its opening, its cells and its end
 abbrev pub row_of : List ℕ → List Shown → List Shown
 row_of opening cells = Own opening ∷ (cells ++ Own (codes "</tr>\n") ∷ [])
 
@@ -90,14 +92,15 @@ row_of opening cells = Own opening ∷ (cells ++ Own (codes "</tr>\n") ∷ [])
 unfoldable pub plain_row : List Shown → List Shown
 plain_row cells = row_of (codes "<tr>") (cells_beside cells [])
 
--- a broken rule with its reason: `V12: ring 1 adds up to 59 s, the cycle is 60 s`
+-- the row of a broken rule with its reason, over so many columns: `V12: ring 1 adds up to 59 s, the
+-- cycle is 60 s`
 unfoldable pub broken_row : ℕ → Explained → List Shown
 broken_row columns broken =
     Own (codes "<tr class='why'><td colspan='") ∷ Number columns ∷ Own (codes "'><p>")
     ∷ Own (rule_text broken.violation.rule) ∷ Own (codes ": ") ∷ Own (reason_text broken.reason)
     ∷ Own (codes "</p></td></tr>\n") ∷ []
 
--- a warning: `Warning: the minimum green is 0 s`
+-- the row of a warning, over so many columns: `Warning: the minimum green is 0 s`
 unfoldable pub warned_row : ℕ → Warning → List Shown
 warned_row columns warning =
     Own (codes "<tr class='warned'><td colspan='") ∷ Number columns ∷ Own (codes "'><p>Warning: ")
@@ -130,7 +133,7 @@ heading_by (column.Words name) = Words name.now
 abbrev pub headings_by : List Column → List Heading
 headings_by columns = map heading_by columns
 
--- the heading of a column
+-- the heading cell of a column; that of words stands at the left
 abbrev pub heading : Heading → List Shown
 heading (Numbers name) = Own (codes "<th scope='col'>") ∷ Own name ∷ Own (codes "</th>") ∷ []
 heading (Words name) =
@@ -140,7 +143,7 @@ heading (Words name) =
 abbrev pub headings : List Heading → List Shown
 headings columns = flat_map heading columns
 
--- a table up to its headings, by its name and what it is of
+-- a table up to its headings: its caption is its name, and behind it what it is of
 unfoldable pub table_beginning : List ℕ → List ℕ → List Shown
 table_beginning name whose =
     Own (codes "<div class='scroll' role='group' tabindex='0' aria-label='") ∷ Own name ∷ Own whose
@@ -162,12 +165,13 @@ none_row columns =
     Own (codes "<tr><td class='none' colspan='") ∷ Number columns ∷ Own (codes "'>none</td></tr>\n")
     ∷ []
 
--- the row of a table without rows
+-- the row `none` of a table of so many columns that has no lines; nothing where it has some
 abbrev pub none_in : List TableLine → ℕ → List Shown
 none_in [] columns = none_row columns
 none_in (line ∷ lines) columns = []
 
--- the row of a table without rows, by the length of the text now and before the rows
+-- the row `none` of a table of so many columns, where the text is as long now as before the rows;
+-- nothing where it is not
 abbrev pub none_since : ℕ → ℕ → ℕ → List Shown
 none_since now before columns = if now == before then none_row columns else []
 
@@ -175,7 +179,8 @@ none_since now before columns = if now == before then none_row columns else []
 unfoldable pub table_end : List Shown
 table_end = Own (codes "</tbody>\n</table>\n</div>\n") ∷ []
 
--- a table by its name and what it is of, its columns, and its rows
+-- a table by its name and what it is of, its columns, and its lines, or the row `none` where it has
+-- no line
 unfoldable pub table : List ℕ → List ℕ → List Heading → List TableLine → List Shown
 table name whose columns lines =
     table_beginning name whose ++ headings columns ++ rows_beginning ++ lines_nodes lines

@@ -1,4 +1,4 @@
-//! What a draft changes of the committed plan.
+//! The rows in which a draft differs from the committed plan, as tables of the page.
 
 ghost use Rattle.std.specs.Prelude.{◌≡◌, ◌∷◌, ◌++◌, OnOk, codes, string_bytes};
 ghost use Rattle.std.specs.List.{list_any};
@@ -15,7 +15,8 @@ use signal_plans::Difference;
 use signal_records::{NoMemory, Row, TimingSet};
 use std::alloc::{AllocError, Global};
 
-/// Appends a row of a set beside a row of another set, with the word that tells what became of it.
+/// Appends a row of a set, with the word that tells what became of it; the cells that differ from
+/// those of the other row, of another set, are marked.
 fn push_changed(
     alloc: Global,
     text: &mut String,
@@ -34,7 +35,8 @@ fn push_changed(
     text.push_str("</tr>\n")
 }
 
-/// Appends a difference, each row as its own set has it.
+/// Appends a difference between the committed plan and the draft: one row that is removed or added,
+/// or two of a row that changes, before and after.
 fn push_change(
     alloc: Global,
     text: &mut String,
@@ -59,7 +61,7 @@ fn push_change(
     }
 }
 
-/// Whether a difference is one of a row of a kind.
+/// Whether a difference is of a row of this kind.
 fn is_change_of(kind: Kind, difference: &Difference) -> bool
     ensures { result ≡ is_change_of kind difference.now }
 {
@@ -69,7 +71,7 @@ fn is_change_of(kind: Kind, difference: &Difference) -> bool
     }
 }
 
-/// Appends the differences of a kind.
+/// Appends the differences in rows of a kind, in their order.
 fn push_changes(
     alloc: Global,
     text: &mut String,
@@ -89,7 +91,7 @@ fn push_changes(
     Ok(())
 }
 
-/// Whether a row of a kind changes.
+/// Whether a row of this kind changes.
 fn changes_any(kind: Kind, differences: &[Difference]) -> bool
     ensures { result ≡ list_any (is_change_of kind) differences.now }
 {
@@ -101,7 +103,7 @@ fn changes_any(kind: Kind, differences: &[Difference]) -> bool
     false
 }
 
-/// Opens the table of the changes of a kind.
+/// Opens the table of the changes in rows of a kind, up to its rows.
 fn open_changes(text: &mut String, kind: Kind) -> Result<(), AllocError>
     ensures { OnOk result (string_bytes text.new ≡ string_bytes text.old
         ++ html (table_beginning (name_of kind) (codes " that change")
@@ -113,7 +115,7 @@ fn open_changes(text: &mut String, kind: Kind) -> Result<(), AllocError>
     begin_rows(text)
 }
 
-/// Appends the table of the changes of a kind.
+/// Appends the table of the changes in rows of a kind.
 #[tactic(auto, using(crate::proofs::TableLemmas::table_written))]
 fn push_whole_change_table(
     alloc: Global,
@@ -133,7 +135,7 @@ fn push_whole_change_table(
     end_table(text, before, columns(kind).len() + 1)
 }
 
-/// Appends the table of the changes of a kind, where there are any.
+/// Appends the table of the changes in rows of a kind, or nothing where there are none.
 #[tactic(auto, unfolding(crate::specs::Changes::change_table))]
 fn push_change_table(
     alloc: Global,
@@ -153,7 +155,7 @@ fn push_change_table(
     }
 }
 
-/// Appends that there is no change, where that is so.
+/// Appends the sentence that the draft changes nothing, where there is no difference.
 #[tactic(auto, unfolding(crate::specs::Changes::no_changes))]
 fn push_no_changes(text: &mut String, differences: &[Difference]) -> Result<(), AllocError>
     ensures { OnOk result (string_bytes text.new ≡ string_bytes text.old
@@ -166,7 +168,8 @@ fn push_no_changes(text: &mut String, differences: &[Difference]) -> Result<(), 
     }
 }
 
-/// Appends the tables of changes, or that there is none.
+/// Appends the tables of changes, of patterns, sequences, splits and phases, or the sentence that
+/// nothing changes.
 fn push_change_tables(
     alloc: Global,
     text: &mut String,

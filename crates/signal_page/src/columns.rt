@@ -1,4 +1,4 @@
-//! The columns of the tables, with units in their headings.
+//! The columns of the tables in pages, with units in their headings.
 
 use crate::tables::Column;
 
@@ -46,7 +46,7 @@ pub(crate) const PHASE_COLUMNS: [Column; 14] = [
     Column::Words("Concurrent phases"),
 ];
 
-/// What became of a row that a draft changes.
+/// The first column of a table of changes: what became of the row.
 pub(crate) const CHANGE_COLUMN: [Column; 1] = [Column::Words("Change")];
 
 pub(crate) const OPEN_COLUMNS: [Column; 5] = [

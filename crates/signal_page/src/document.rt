@@ -20,7 +20,7 @@ use signal_records::{NoMemory, TimingSet};
 use signal_rules::reasons;
 use std::alloc::{AllocError, Global};
 
-/// What stands above the title of a page.
+/// The markup of a page up to its title.
 pub(crate) const HEAD: &str = "\
 <!DOCTYPE html>
 <html lang='en'>
@@ -29,7 +29,7 @@ pub(crate) const HEAD: &str = "\
 <meta name='viewport' content='width=device-width, initial-scale=1'>
 <title>";
 
-/// What stands between the style of a page and its heading.
+/// The markup between the style of a page and its heading.
 pub(crate) const BODY: &str = "\
 </style>
 </head>
@@ -38,7 +38,7 @@ pub(crate) const BODY: &str = "\
 <header>
 <h1>";
 
-/// Appends the head of a page, by its title and what stands after the style.
+/// Appends the head of a page, by its title and the markup that stands after the style.
 pub(crate) fn push_head(
     text: &mut String,
     title: &[Node<'_>],
@@ -62,14 +62,15 @@ pub(crate) fn end_page(text: &mut String) -> Result<(), AllocError>
     text.push_str("</main>\n</body>\n</html>\n")
 }
 
-/// A link, where it is wanted.
+/// A link where it is wanted, else nothing.
 fn link_if(wanted: bool, link: &'static str) -> &'static str
     ensures { result.now ≡ link_if wanted link.now }
 {
     if wanted { link } else { "" }
 }
 
-/// Appends links to the index, where that is wanted, and to the parts of the page.
+/// Appends links to the index, where that is wanted, and to the parts of the page; to the draft
+/// where there is one.
 fn push_links(text: &mut String, linked: bool, drafted: bool) -> Result<(), AllocError>
     ensures { OnOk result (string_bytes text.new
         ≡ string_bytes text.old ++ html (links linked drafted)) }
@@ -91,7 +92,8 @@ fn push_links(text: &mut String, linked: bool, drafted: bool) -> Result<(), Allo
     )
 }
 
-/// Appends the head of the page of an intersection, and its heading.
+/// Appends the head of the page of an intersection, its heading, and the beginning of the list of
+/// facts.
 fn push_heading(text: &mut String, shown: &IntersectionShown<'_>) -> Result<(), AllocError>
     ensures { OnOk result (string_bytes text.new ≡ string_bytes text.old
         ++ html (heading (shown_by shown.now))) }
@@ -120,7 +122,8 @@ fn push_heading(text: &mut String, shown: &IntersectionShown<'_>) -> Result<(), 
     )
 }
 
-/// Appends what stands above the plan, with how many warnings the committed plan has.
+/// Appends all that stands above the plan: the heading, the facts of cabinet and plan, with how
+/// many warnings the committed plan has, and the links.
 fn push_header(
     text: &mut String,
     linked: bool,
@@ -138,7 +141,8 @@ fn push_header(
     push_links(text, linked, shown.draft.is_some())
 }
 
-/// Appends the committed plan, with the remarks on it.
+/// Appends the section of the committed plan: how many warnings it has, and its pictures and tables
+/// with the remarks on it.
 fn push_plan_section(
     alloc: Global,
     text: &mut String,
@@ -158,7 +162,8 @@ fn push_plan_section(
     push_own(text, "</section>\n")
 }
 
-/// Appends how many rules a draft breaks, its warnings, what it changes, and the whole of it.
+/// Appends how many reasons there are why a draft breaks rules, how many warnings, what it changes
+/// of the committed plan, and the whole of it.
 fn push_draft_body(
     alloc: Global,
     text: &mut String,
@@ -197,7 +202,7 @@ fn push_open_draft(
     push_own(text, "</section>\n")
 }
 
-/// Appends the draft, where there is one.
+/// Appends the section of the draft, where there is one.
 fn push_draft_section(
     alloc: Global,
     text: &mut String,
@@ -216,7 +221,7 @@ fn push_draft_section(
     }
 }
 
-/// Appends the register of the cabinet.
+/// Appends the section of the cabinet, with its register.
 fn push_cabinet_section(text: &mut String, shown: &IntersectionShown<'_>) -> Result<(), AllocError>
     ensures { OnOk result (string_bytes text.new
         ≡ string_bytes text.old ++ html (cabinet_section (shown_by shown.now))) }
@@ -230,7 +235,8 @@ fn push_cabinet_section(text: &mut String, shown: &IntersectionShown<'_>) -> Res
     push_own(text, "</section>\n")
 }
 
-/// The page by the changes of the draft, and by the remarks on the committed plan and on the draft.
+/// The page of an intersection, by the changes of the draft, and by the remarks on the committed
+/// plan and on the draft.
 fn whole_page(
     alloc: Global,
     linked: bool,
@@ -258,20 +264,21 @@ fn whole_page(
     Ok(text.into_bytes())
 }
 
-/// The page of an intersection: how it stands, the pictures and tables of the committed plan with
-/// its warnings, its draft with what it changes, the rules that it breaks, each with its reason
-/// below its row, and its warnings, and the register of its cabinet, open orders first. It is one
-/// HTML text, which needs nothing else, and has a link to `index.html` beside it where that is
-/// wanted.
+/// The page of an intersection as one HTML text in UTF-8, which needs no other file: facts,
+/// pictures and tables of the committed plan with its warnings, the draft, if there is one, with
+/// what it changes, why it breaks rules, and its warnings, and the register of the cabinet. Where
+/// it is `linked`, it has a link to `index.html` beside it. `NoMemory` means that a growth was
+/// refused.
 #[tactic(auto, using(crate::proofs::Restored::restored))]
 pub fn intersection_page(
     alloc: Global,
     linked: bool,
     shown: &IntersectionShown<'_>,
 ) -> Result<Vec<u8>, NoMemory>
-    // It is that of its definition, and whatever names and texts hold, its tags are its own.
+    // The text is the page as it is defined, and whatever names and texts hold, its tags are its
+    // own.
     ensures page { IfOk result (λ text. IsPage linked (shown_by shown.now) text.items) }
-    // A reader takes each name and text back as it was.
+    // Whoever reads the page's characters takes each name and text back as it was.
     ensures read { (words : List ℕ) → unescaped_text (escaped_text words) ≡ words }
 {
     let advice = warnings(alloc, shown.committed)?;
@@ -318,8 +325,9 @@ fn whole_plan_page(
     Ok(text.into_bytes())
 }
 
-/// The page of a plan alone: how many rules it breaks, its pictures, and its tables with the rules
-/// that each row breaks below it, each with its reason, and its warnings.
+/// The page of a plan alone as one HTML text in UTF-8, which needs no other file: how many reasons
+/// there are why it breaks rules, its warnings, its pictures, and its tables, each row with its
+/// reasons and warnings below it. `NoMemory` means that a growth was refused.
 pub fn plan_page(alloc: Global, plan: &TimingSet) -> Result<Vec<u8>, NoMemory>
     ensures { IfOk result (λ text. IsPlanPage plan.now text.items) }
 {

@@ -1,4 +1,4 @@
-//! How an intersection stands, above its plan.
+//! The facts of an intersection that stand above its plan: of its cabinet, its plan and its draft.
 
 ghost use Rattle.std.specs.Prelude.{◌≡◌, ◌++◌, OnOk, string_bytes};
 ghost use Rattle.cabinet_core.specs.Overdue.{latest_day};
@@ -22,7 +22,7 @@ fn verdict_words(verdict: Verdict) -> &'static str
     }
 }
 
-/// Who holds a draft.
+/// The name of the clerk who holds a draft, or `nobody`.
 fn owner_node(owner: &Option<Words<40>>) -> Node<'_>
     ensures { shown_by result ≡ owner_node owner.now }
 {
@@ -42,7 +42,8 @@ pub(crate) fn date_of(day: Option<Day>) -> Option<Date>
     }
 }
 
-/// The day on which the next inspection falls due, by the latest one.
+/// The date on which the next inspection falls due, an interval of days after the latest one; none
+/// where there was no inspection.
 pub(crate) fn due_day(interval: Interval, latest: Option<Day>) -> Option<Date>
     ensures { result ≡ due_day interval latest }
 {
@@ -52,7 +53,7 @@ pub(crate) fn due_day(interval: Interval, latest: Option<Day>) -> Option<Date>
     }
 }
 
-/// How many there are, or that there is none.
+/// A count, or the word `none` where it is 0.
 fn number_or_none(count: usize) -> Node<'static>
     ensures { shown_by result ≡ number_or_none count }
 {
@@ -62,7 +63,7 @@ fn number_or_none(count: usize) -> Node<'static>
     }
 }
 
-/// Appends how the plan and its draft stand, with how many warnings the committed plan has.
+/// Appends the facts of the plan and its draft, with how many warnings the committed plan has.
 pub(crate) fn push_draft_facts(
     text: &mut String,
     state: &IntersectionState,
@@ -91,7 +92,8 @@ pub(crate) fn push_draft_facts(
     )
 }
 
-/// Appends how the cabinet stands.
+/// Appends the facts of the cabinet: the latest inspection, when the next is due, and how many
+/// orders are open.
 pub(crate) fn push_cabinet_facts(
     text: &mut String,
     interval: Interval,

@@ -1,4 +1,4 @@
-//! The index page.
+//! The index page of an office: its intersections, the open orders on them, and the stock.
 
 ghost use Rattle.std.specs.Prelude.{◌≡◌, ◌++◌, IfOk, List, OnOk, length, map, string_bytes, ℕ};
 ghost use Rattle.signal_page.specs.Index.{IsIndex, day_note, entry_line, holder_node, index, intersections_part, named_line, named_orders_part, overdue_note, stock_line, stock_part};
@@ -20,7 +20,7 @@ use signal_records::state::Holder;
 use signal_records::{Interval, NoMemory};
 use std::alloc::{AllocError, Global};
 
-/// What stands between the style of the index and its note on a day.
+/// The markup between the style of the index and its note on a day.
 pub(crate) const INDEX_BODY: &str = "\
 </style>
 </head>
@@ -38,7 +38,7 @@ fn is_past_due(day: Day, interval: Interval, last: Option<Day>) -> bool
     }
 }
 
-/// Whether the inspection of an intersection is overdue on a day, if one is given.
+/// Whether an intersection is overdue for an inspection on the day; without a day, none is.
 fn is_overdue(day: &Option<Day>, entry: &IndexEntry) -> bool
     ensures { result ≡ is_overdue day.now entry.now }
 {
@@ -48,7 +48,7 @@ fn is_overdue(day: &Option<Day>, entry: &IndexEntry) -> bool
     }
 }
 
-/// Who holds the draft of an intersection.
+/// The name of the clerk who holds the draft of an intersection, or `nobody`.
 fn holder_node(holder: &Option<Holder>) -> Node<'_>
     ensures { shown_by result ≡ holder_node holder.now }
 {
@@ -58,7 +58,7 @@ fn holder_node(holder: &Option<Holder>) -> Node<'_>
     }
 }
 
-/// Appends the row of an intersection.
+/// Appends the row of an intersection, whose due day is marked where it is overdue on the day.
 #[tactic(auto, unfolding(crate::specs::Index::entry_line))]
 fn push_entry(text: &mut String, day: &Option<Day>, entry: &IndexEntry) -> Result<(), AllocError>
     ensures { OnOk result (string_bytes text.new
@@ -99,7 +99,7 @@ fn push_overdue(
     Ok(())
 }
 
-/// Appends the rows of the other intersections.
+/// Appends the rows of the intersections that are not overdue.
 fn push_others(
     text: &mut String,
     day: &Option<Day>,
@@ -129,7 +129,7 @@ fn push_entries(
     push_others(text, day, entries)
 }
 
-/// Appends the table of the intersections.
+/// Appends the table of the intersections, those that are overdue first.
 fn push_intersections(
     text: &mut String,
     day: &Option<Day>,
@@ -173,7 +173,7 @@ fn push_each_named(text: &mut String, orders: &[NamedOrder]) -> Result<(), Alloc
     Ok(())
 }
 
-/// Appends the table of the open orders of all.
+/// Appends the table of the open orders on all intersections, in the order given.
 fn push_named_orders(text: &mut String, orders: &[NamedOrder]) -> Result<(), AllocError>
     ensures { OnOk result (string_bytes text.new
         ≡ string_bytes text.old ++ html (named_orders_part orders.now)) }
@@ -184,7 +184,7 @@ fn push_named_orders(text: &mut String, orders: &[NamedOrder]) -> Result<(), All
     end_table(text, before, NAMED_ORDER_COLUMNS.len())
 }
 
-/// Appends the row of a part.
+/// Appends the row of a part, with the pieces that are on hand.
 fn push_part(text: &mut String, part: &(PartCode, Hand)) -> Result<(), AllocError>
     ensures { OnOk result (string_bytes text.new
         ≡ string_bytes text.old ++ html (line_nodes (stock_line part.now))) }
@@ -220,7 +220,7 @@ fn push_stock(text: &mut String, parts: &[(PartCode, Hand)]) -> Result<(), Alloc
     end_table(text, before, STOCK_COLUMNS.len())
 }
 
-/// How many of the intersections are overdue on the day.
+/// How many of the intersections are overdue on the day; 0 without a day.
 fn overdue_count(day: &Option<Day>, entries: &[IndexEntry]) -> usize
     ensures { result ≡ length (overdue_among day.now entries.now) }
 {
@@ -233,7 +233,7 @@ fn overdue_count(day: &Option<Day>, entries: &[IndexEntry]) -> usize
     count
 }
 
-/// Appends how many of all intersections are overdue on a day.
+/// Appends the sentence that so many of all intersections are overdue on a day.
 #[tactic(auto, unfolding(crate::specs::Index::overdue_note))]
 fn push_overdue_note(
     text: &mut String,
@@ -258,7 +258,7 @@ fn push_overdue_note(
     )
 }
 
-/// Appends how many intersections are overdue on a day, if one is given.
+/// Appends how many of the intersections are overdue on the day; nothing without a day.
 fn push_day_note(
     text: &mut String,
     day: &Option<Day>,
@@ -274,7 +274,7 @@ fn push_day_note(
     }
 }
 
-/// The page by its definition.
+/// The index page on a day or without one, by its nodes.
 fn whole_index(
     alloc: Global,
     shown: &IndexShown,
@@ -296,18 +296,20 @@ fn whole_index(
     Ok(text.into_bytes())
 }
 
-/// The index page of an office: its intersections, those whose inspection is overdue on the day
-/// first and marked, the open orders of all, and the stock. It is one HTML text, which needs
-/// nothing but the pages that it links to.
+/// The index page of an office as one HTML text in UTF-8: its intersections, those whose inspection
+/// is overdue on the day first and marked, the open orders on all of them, and the stock. Each
+/// intersection links to its page beside the index, as `7.html`. `NoMemory` means that a growth was
+/// refused.
 pub fn index_page(
     alloc: Global,
     shown: &IndexShown,
     stock: &[(PartCode, Hand)],
     day: Option<Day>,
 ) -> Result<Vec<u8>, NoMemory>
-    // It is that of its definition, its tags are its own, and each intersection has its row.
+    // The text is the index as it is defined, its tags are its own, and each intersection has its
+    // row.
     ensures page { IfOk result (λ text. IsIndex day shown.now stock.now text.items) }
-    // A reader takes each name and text back as it was.
+    // Whoever reads the page's characters takes each name and text back as it was.
     ensures read { (words : List ℕ) → unescaped_text (escaped_text words) ≡ words }
 {
     whole_index(alloc, shown, stock, &day)

@@ -1,4 +1,4 @@
-//! What the index shows.
+//! What the index page shows of an office, beside its stock.
 
 ghost use Rattle.std.specs.Prelude.{◌≡◌, ◌∷◌, ◌++◌, [], IfOk, OnOk};
 ghost use Rattle.signal_page.specs.Index.{index_entry};
@@ -10,24 +10,24 @@ use office_machine::reply::CabinetShown;
 use signal_records::state::Holder;
 use signal_records::{Listing, NoMemory};
 
-/// An intersection as the index shows it.
+/// An intersection as the index page shows it.
 #[derive(Drop)]
 pub struct IndexEntry {
     pub listed: ListedIntersection,
     /// The day of the latest inspection, if there was one.
     pub last: Option<Day>,
-    /// How many orders on it are open.
+    /// How many orders on the intersection are open.
     pub open_orders: usize,
-    /// How many warnings its committed plan has.
+    /// How many warnings the intersection's committed plan has.
     pub warnings: usize,
 }
 
-/// What the index shows of an office, beside its stock.
+/// What the index page shows of an office, beside its stock.
 #[derive(Drop)]
 pub struct IndexShown {
     /// The intersections, by their numbers.
     pub entries: Listing<IndexEntry>,
-    /// The open orders of all.
+    /// The open orders on all intersections.
     pub orders: Listing<NamedOrder>,
 }
 
@@ -76,7 +76,7 @@ fn index_entry(
 }
 
 /// Appends what the index shows of an intersection that is listed, by what the register holds of
-/// it, and by how many warnings its committed plan has.
+/// it, and by how many warnings its committed plan has. `NoMemory` means that a growth was refused.
 pub fn add_entry(
     found: &mut Vec<IndexEntry>,
     listed: &ListedIntersection,

@@ -1,8 +1,8 @@
 //! The pages of an office as HTML texts: that of an intersection, that of a plan alone, and the
-//! index of all intersections. Each needs nothing but the pages that it links to.
+//! index of all intersections. Each needs no file but those of the pages that it links to.
 //!
-//! `specs/` has what stands in each, as a list of nodes; `nodes` prints them, so that no character
-//! of a name or text of others is markup.
+//! `specs/` defines what stands in each page, as a list of nodes; `nodes` prints nodes so that no
+//! character of a name or text of others is markup.
 #![tactic(auto)]
 
 mod changes;

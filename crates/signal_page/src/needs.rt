@@ -11,8 +11,8 @@ use signal_records::{NoMemory, Phase, PhaseNo, Split, SplitMode, SplitNo, Timing
 use signal_rules::{NeedPart, has_phase, is_coordinated, need_if_called, phase_at, split_at};
 use std::alloc::Global;
 
-/// The need of the phase of a split, in tenths of a second. An omitted phase needs no time, and a
-/// phase that the plan does not have has no need.
+/// The need of phase `p` in the mode of its split, in tenths of a second. None where the mode omits
+/// the phase or the plan does not have it.
 pub(crate) fn need_at(set: &TimingSet, p: PhaseNo, split: &Split) -> Option<u32>
     ensures { result ≡ need_at set.now p split.now }
 {
@@ -22,7 +22,7 @@ pub(crate) fn need_at(set: &TimingSet, p: PhaseNo, split: &Split) -> Option<u32>
     }
 }
 
-/// The cell of a need in tenths of a second.
+/// The cell of a need in tenths of a second, empty where there is none.
 pub(crate) fn need_cell(need: Option<u32>) -> Node<'static>
     ensures { shown_by result ≡ need_cell need }
 {
@@ -32,7 +32,8 @@ pub(crate) fn need_cell(need: Option<u32>) -> Node<'static>
     }
 }
 
-/// The cell of a split's spare time: its time less its need, in tenths of a second.
+/// The cell of a split's spare time: its time less its need, all in tenths of a second, below zero
+/// where the need is longer; empty where there is no need.
 pub(crate) fn spare_cell(time: u32, need: Option<u32>) -> Node<'static>
     ensures { shown_by result ≡ spare_cell time need }
 {
@@ -43,7 +44,7 @@ pub(crate) fn spare_cell(time: u32, need: Option<u32>) -> Node<'static>
     }
 }
 
-/// The part that governs a need.
+/// The word for the part that governs a need.
 fn part_word(part: NeedPart) -> &'static str
     ensures { result.now ≡ part_word part }
 {
@@ -53,15 +54,16 @@ fn part_word(part: NeedPart) -> &'static str
     }
 }
 
-/// The cells of what a split needs if the walk of its phase is called.
+/// Two cells of a split: its need if the walk of its phase is called, and what governs that need.
 #[derive(Clone, Copy)]
 pub(crate) struct CalledCells {
     pub(crate) need: Node<'static>,
-    /// The part that governs that need, and what the split is short of it.
+    /// The part that governs the need, with the tenths of a second that the split is short of it.
     pub(crate) governs: Node<'static>,
 }
 
-/// The cells of a phase that the plan has, or dashes where it has no pedestrian part.
+/// The cells of a split with a time in tenths of a second, if the walk of its phase is called;
+/// dashes where the phase has no pedestrian part.
 fn walk_cells(time: u32, phase: &Phase) -> CalledCells
     ensures { shown_of (result.need ∷ result.governs ∷ [])
         ≡ walk_cells time phase.now.ped (need_if_called phase.now) }
@@ -82,7 +84,8 @@ fn walk_cells(time: u32, phase: &Phase) -> CalledCells
     }
 }
 
-/// The cells of a split, with nothing in them where its phase is omitted or not in the plan.
+/// The cells of the split of phase `p`, if the walk is called; empty where its mode omits the phase
+/// or the plan does not have it, and dashes where the phase has no pedestrian part.
 pub(crate) fn called_cells(set: &TimingSet, p: PhaseNo, split: &Split) -> CalledCells
     ensures { shown_of (result.need ∷ result.governs ∷ [])
         ≡ called_cells (10 * split.now.time) split.now.mode (phase_at set.now p) }
@@ -101,7 +104,7 @@ pub(crate) fn called_cells(set: &TimingSet, p: PhaseNo, split: &Split) -> Called
     }
 }
 
-/// The phases that a split plan coordinates, ascending.
+/// The phases of the set that split plan `n` coordinates, ascending.
 pub(crate) fn coordinated_in(
     alloc: Global,
     set: &TimingSet,

@@ -1,4 +1,4 @@
-//! What stands in a page, and its one printer.
+//! What stands in a page, as nodes, and the one printer of them.
 
 ghost use Rattle.std.specs.Prelude.{◌≡◌, ◌∷◌, ◌++◌, [], OnOk, filter, flat_map, string_bytes};
 ghost use Rattle.std.specs.List.{list_any};
@@ -13,14 +13,14 @@ use signal_records::{PhaseNo, RecordNo};
 use std::alloc::AllocError;
 use std::fmt::Write;
 
-/// What stands in a page.
+/// A piece of what stands in a page.
 #[derive(Clone, Copy)]
 pub(crate) enum Node<'a> {
     /// Markup or words of the page's own.
     Own(&'static str),
     Number(u64),
     Tenths(u32),
-    /// Tenths below zero.
+    /// So many tenths below zero.
     Below(u32),
     /// A dash in place of a number.
     Dash,
@@ -38,15 +38,15 @@ pub(crate) enum Node<'a> {
     /// The day on which the next inspection falls due, if there was one before, and whether it is
     /// overdue.
     Due(Option<Date>, bool),
-    /// A name or text of others.
+    /// A name or text of others, in the body of a page.
     Name(&'a str),
-    /// A name or text of others in the title of a page, which has no elements.
+    /// A name or text of others in the title of a page, where no element may stand.
     Title(&'a str),
-    /// The lines of the order of a number.
+    /// Of these lines, those of the order with this number.
     Parts(&'a [UsedLine], RecordNo),
 }
 
-/// Appends a number of tenths, as whole part, point and tenth.
+/// Appends a number of tenths, as whole part, point and one digit: 45 as `4.5`.
 fn push_tenths(text: &mut String, n: u32) -> Result<(), AllocError>
     ensures { OnOk result (string_bytes text.new ≡ string_bytes text.old ++ tenths n) }
 {
@@ -55,7 +55,7 @@ fn push_tenths(text: &mut String, n: u32) -> Result<(), AllocError>
     write!(text, "{whole}.{tenth}")
 }
 
-/// Appends how many tenths of a second a split is short.
+/// Appends the words that a split is short by so many tenths of a second.
 fn push_short_words(text: &mut String, n: u32) -> Result<(), AllocError>
     ensures { OnOk result (string_bytes text.new ≡ string_bytes text.old ++ short_words n) }
 {
@@ -64,7 +64,7 @@ fn push_short_words(text: &mut String, n: u32) -> Result<(), AllocError>
     push_own(text, " s short</strong>")
 }
 
-/// Appends how many tenths of a second a split is short, if it is.
+/// Appends the words that a split is short by so many tenths of a second; nothing where it is not.
 fn push_short_mark(text: &mut String, n: u32) -> Result<(), AllocError>
     ensures { OnOk result (string_bytes text.new ≡ string_bytes text.old ++ short_mark n) }
 {
@@ -75,7 +75,7 @@ fn push_short_mark(text: &mut String, n: u32) -> Result<(), AllocError>
     }
 }
 
-/// Appends a day, or words where there is none.
+/// Appends a day as a date, or these words where there is none.
 fn push_day_or(text: &mut String, words: &str, day: Option<Date>) -> Result<(), AllocError>
     ensures { OnOk result (string_bytes text.new ≡ string_bytes text.old ++ day_or words.now day) }
 {
@@ -85,7 +85,7 @@ fn push_day_or(text: &mut String, words: &str, day: Option<Date>) -> Result<(), 
     }
 }
 
-/// Appends when the next inspection falls due, with the mark of what is overdue.
+/// Appends when the next inspection falls due, with the mark of what is overdue, if it is.
 fn push_due(text: &mut String, day: Option<Date>, late: bool) -> Result<(), AllocError>
     ensures { OnOk result (string_bytes text.new
         ≡ string_bytes text.old ++ node_text (Due day late)) }
@@ -98,7 +98,8 @@ fn push_due(text: &mut String, day: Option<Date>, late: bool) -> Result<(), Allo
     }
 }
 
-/// Appends a name or text of others, whose direction stays within it.
+/// Appends a name or text of others in an element that keeps its direction of writing from what
+/// stands beside it.
 #[tactic(auto, unfolding(crate::specs::Nodes::isolated_text))]
 fn push_isolated(text: &mut String, words: &str) -> Result<(), AllocError>
     ensures { OnOk result
@@ -109,7 +110,7 @@ fn push_isolated(text: &mut String, words: &str) -> Result<(), AllocError>
     text.push_str("</bdi>")
 }
 
-/// Appends a line of an order: its number, and the part that was used.
+/// Appends a line of an order: its number, how many pieces were used, and of which part.
 fn push_part(text: &mut String, line: &UsedLine) -> Result<(), AllocError>
     ensures { OnOk result (string_bytes text.new
         ≡ string_bytes text.old ++ order_line_text line.now) }
@@ -121,7 +122,7 @@ fn push_part(text: &mut String, line: &UsedLine) -> Result<(), AllocError>
     text.push_str("</div>")
 }
 
-/// Whether an order has lines.
+/// Whether one of these lines is of the order.
 fn has_lines(order: RecordNo, lines: &[UsedLine]) -> bool
     ensures { result ≡ list_any (is_line_of order) lines.now }
 {
@@ -133,7 +134,7 @@ fn has_lines(order: RecordNo, lines: &[UsedLine]) -> bool
     false
 }
 
-/// Appends the lines of an order, if it has any.
+/// Appends those of the lines that are of the order.
 fn push_each_part(text: &mut String, lines: &[UsedLine], order: RecordNo) -> Result<(), AllocError>
     ensures { OnOk result (string_bytes text.new
         ≡ string_bytes text.old ++ flat_map order_line_text (filter (is_line_of order) lines.now)) }
@@ -146,7 +147,7 @@ fn push_each_part(text: &mut String, lines: &[UsedLine], order: RecordNo) -> Res
     Ok(())
 }
 
-/// Appends the lines of an order, or that there are none.
+/// Appends those of the lines that are of the order, or the word `none`.
 fn push_parts(text: &mut String, lines: &[UsedLine], order: RecordNo) -> Result<(), AllocError>
     ensures { OnOk result (string_bytes text.new
         ≡ string_bytes text.old ++ node_text (Parts (filter (is_line_of order) lines.now))) }
@@ -157,7 +158,7 @@ fn push_parts(text: &mut String, lines: &[UsedLine], order: RecordNo) -> Result<
     }
 }
 
-/// Appends what stands in a page.
+/// Appends the text of a node.
 pub(crate) fn push_node(text: &mut String, node: &Node<'_>) -> Result<(), AllocError>
     ensures { OnOk result (string_bytes text.new
         ≡ string_bytes text.old ++ node_text (shown_by node.now)) }
@@ -188,7 +189,7 @@ pub(crate) fn push_node(text: &mut String, node: &Node<'_>) -> Result<(), AllocE
     }
 }
 
-/// Appends what stands in a page, one after the other.
+/// Appends the texts of nodes, one after the other.
 pub(crate) fn push_nodes(text: &mut String, nodes: &[Node<'_>]) -> Result<(), AllocError>
     ensures { OnOk result (string_bytes text.new
         ≡ string_bytes text.old ++ html (shown_of nodes.now)) }

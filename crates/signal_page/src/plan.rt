@@ -15,7 +15,7 @@ use signal_rules::{Explained, split_at};
 use std::alloc::{AllocError, Global};
 use std::fmt::Write;
 
-/// Appends the picture of the pattern of a number.
+/// Appends the picture of pattern `n`; nothing where the set has no such pattern.
 fn push_figure(
     alloc: Global,
     text: &mut String,
@@ -31,7 +31,7 @@ fn push_figure(
     }
 }
 
-/// The tenths of a second that a split has before yellow.
+/// The tenths of a second that a split has before yellow: its time less yellow and red, or 0.
 fn before_yellow(split: &Split, phase: &Phase) -> u32
     ensures { result ≡ before_yellow split.now phase.now }
 {
@@ -49,7 +49,7 @@ fn is_cut(split: &Split, phase: &Phase, ped: &Ped) -> bool
     0 < split.time && before_yellow(split, phase) < 10 * over
 }
 
-/// Appends that the picture ends walk and clearance of a phase where yellow begins.
+/// Appends the note that the picture ends walk and clearance of a phase where yellow begins.
 fn push_cut_words(
     text: &mut String,
     p: PhaseNo,
@@ -76,7 +76,9 @@ fn push_cut_words(
     )
 }
 
-/// Appends that, where it is so.
+/// Appends the note that the picture ends walk and clearance of a phase where yellow begins;
+/// nothing where the split is long enough for them, or the phase has no split or no pedestrian
+/// part.
 fn push_cut_note(
     text: &mut String,
     p: PhaseNo,
@@ -94,7 +96,8 @@ fn push_cut_note(
     }
 }
 
-/// Appends that of each phase in the splits of a pattern.
+/// Appends the notes on the phases whose walk and clearance the splits of a pattern are too short
+/// for.
 fn push_cut_notes(
     text: &mut String,
     set: &TimingSet,
@@ -112,7 +115,7 @@ fn push_cut_notes(
     Ok(())
 }
 
-/// Appends the picture of a pattern, and what it cannot show.
+/// Appends the picture of a pattern, and below it the notes on what it cannot show.
 fn push_whole_figure(
     alloc: Global,
     text: &mut String,
@@ -130,7 +133,7 @@ fn push_whole_figure(
     push_own(text, "</figure>\n")
 }
 
-/// Appends the pictures of all patterns.
+/// Appends the pictures of all patterns in the rows, with their notes.
 fn push_pictures(
     alloc: Global,
     text: &mut String,
@@ -148,7 +151,8 @@ fn push_pictures(
     Ok(())
 }
 
-/// Appends a plan by its rows.
+/// Appends the pictures and tables of a plan by its rows, or the sentence that it has none; `whose`
+/// stands behind the name of each table.
 #[tactic(auto, unfolding(crate::specs::Plan::plan_rows))]
 fn push_plan_rows(
     alloc: Global,
@@ -168,7 +172,8 @@ fn push_plan_rows(
     push_plan_tables(alloc, text, whose, set, remarks, rows)
 }
 
-/// Appends a plan, with what its tables are of and the remarks on it.
+/// Appends the pictures and tables of a plan with the remarks on it; `whose` stands behind the name
+/// of each table.
 pub(crate) fn push_plan(
     alloc: Global,
     text: &mut String,
@@ -183,7 +188,7 @@ pub(crate) fn push_plan(
     push_plan_rows(alloc, text, whose, remarks, set, &rows)
 }
 
-/// Appends how many reasons there are why rules are broken.
+/// Appends how many reasons there are why rules are broken, or that none is broken.
 #[tactic(auto, unfolding(crate::specs::Plan::reasons_note))]
 pub(crate) fn push_reasons_note(text: &mut String, reasons: &[Explained]) -> Result<(), AllocError>
     ensures { OnOk result (string_bytes text.new
@@ -225,7 +230,8 @@ fn push_whole_warnings(text: &mut String, warnings: &[Warning]) -> Result<(), Al
     Ok(())
 }
 
-/// Appends how many warnings there are, and those of the plan as a whole.
+/// Appends how many warnings there are, and the lines of those of the plan as a whole; nothing
+/// where there is no warning.
 #[tactic(auto, unfolding(crate::specs::Plan::warnings_note))]
 pub(crate) fn push_warnings_note(text: &mut String, warnings: &[Warning]) -> Result<(), AllocError>
     ensures { OnOk result (string_bytes text.new

@@ -1,5 +1,5 @@
-//! The register of a cabinet in the page: the due day and the next free numbers, open orders first,
-//! then closed ones, and the inspections.
+//! The register of a cabinet in the page: the due day, the next free numbers, open orders, closed
+//! ones and inspections, each table with the greatest numbers first.
 
 ghost use Rattle.std.specs.Prelude.{◌≡◌, ◌∷◌, ◌++◌, [], OnOk, string_bytes};
 ghost use Rattle.signal_page.specs.Nodes.{html, Day as day_node, Name};
@@ -35,7 +35,7 @@ fn push_open<'a>(
     )
 }
 
-/// Appends the row of an order with its closing.
+/// Appends the row of a closed order, with when and by whom it was closed.
 fn push_closed<'a>(
     text: &mut String,
     lines: &'a [UsedLine],
@@ -73,7 +73,7 @@ fn push_each_open(text: &mut String, lines: &[UsedLine], orders: &[Order]) -> Re
     Ok(())
 }
 
-/// Appends the table of open orders.
+/// Appends the table of those orders that are open, the greatest number first.
 fn push_open_orders(
     text: &mut String,
     lines: &[UsedLine],
@@ -105,7 +105,7 @@ fn push_each_closed(
     Ok(())
 }
 
-/// Appends the table of closed orders.
+/// Appends the table of those orders that are closed, the greatest number first.
 fn push_closed_orders(
     text: &mut String,
     lines: &[UsedLine],
@@ -147,7 +147,7 @@ fn push_each_inspection(text: &mut String, inspections: &[Inspection]) -> Result
     Ok(())
 }
 
-/// Appends the table of inspections.
+/// Appends the table of inspections, the greatest number first.
 fn push_inspections(text: &mut String, inspections: &[Inspection]) -> Result<(), AllocError>
     ensures { OnOk result (string_bytes text.new
         ≡ string_bytes text.old ++ html (inspections_part inspections.now)) }
@@ -158,7 +158,7 @@ fn push_inspections(text: &mut String, inspections: &[Inspection]) -> Result<(),
     end_table(text, before, INSPECTION_COLUMNS.len())
 }
 
-/// Appends when the next inspection is due.
+/// Appends when the next inspection is due, or that there was no inspection.
 fn push_due_words(
     text: &mut String,
     interval: Interval,
@@ -196,7 +196,8 @@ fn push_interval_note(text: &mut String, days: u64) -> Result<(), AllocError>
     )
 }
 
-/// Appends when the next inspection is due, and how many days there are from one to the next.
+/// Appends when the next inspection is due, and how many days there are from one inspection to the
+/// next.
 #[tactic(auto, unfolding(crate::specs::Register::due_note))]
 fn push_due_note(
     text: &mut String,
@@ -210,7 +211,7 @@ fn push_due_note(
     push_interval_note(text, u64::from(interval.get()))
 }
 
-/// Appends the next free numbers.
+/// Appends the paragraph of the numbers that the next inspection and the next order may have.
 #[tactic(auto, unfolding(crate::specs::Register::next_note))]
 fn push_next_note(text: &mut String, view: &CabinetView) -> Result<(), AllocError>
     ensures { OnOk result (string_bytes text.new
@@ -221,7 +222,7 @@ fn push_next_note(text: &mut String, view: &CabinetView) -> Result<(), AllocErro
     text.push_str("</p>\n")
 }
 
-/// Appends the register of a cabinet.
+/// Appends the register of a cabinet, whose inspections have this interval.
 #[tactic(auto, unfolding(crate::specs::Register::register))]
 pub(crate) fn push_register(
     text: &mut String,

@@ -1,4 +1,4 @@
-//! The rows of a timing set as rows of tables.
+//! The rows of a timing set as rows of tables, a table for each kind.
 
 ghost use Rattle.std.specs.Prelude.{◌≡◌, ◌++◌, [], ◌∷◌, OnOk, length, string_bytes};
 ghost use Rattle.signal_page.specs.Nodes.{html, shown_of, Head, Phases};
@@ -26,16 +26,16 @@ pub(crate) enum Kind {
     Patterns,
 }
 
-/// The remarks on a plan.
+/// The remarks on a plan that stand in its page.
 #[derive(Clone, Copy)]
 pub(crate) struct Remarks<'a> {
-    /// Why it breaks rules.
+    /// The reasons why the plan breaks rules.
     pub(crate) reasons: &'a [Explained],
-    /// What an engineer is warned of in it.
+    /// The plan's warnings.
     pub(crate) warnings: &'a [Warning],
 }
 
-/// The name of a table.
+/// The name of the table of a kind.
 pub(crate) fn name_of(kind: Kind) -> &'static str
     ensures { result.now ≡ name_of kind }
 {
@@ -47,7 +47,7 @@ pub(crate) fn name_of(kind: Kind) -> &'static str
     }
 }
 
-/// The columns of a table.
+/// The columns of the table of a kind.
 pub(crate) fn columns(kind: Kind) -> &'static [Column]
     ensures headings { headings_by result.now ≡ columns kind }
     ensures count { length result.now ≡ length (columns kind) }
@@ -60,7 +60,7 @@ pub(crate) fn columns(kind: Kind) -> &'static [Column]
     }
 }
 
-/// Whether a row is of a kind.
+/// Whether a row is of this kind.
 pub(crate) fn is_of(kind: Kind, row: &Row) -> bool
     ensures { result ≡ is_of_kind kind row.now }
 {
@@ -73,7 +73,7 @@ pub(crate) fn is_of(kind: Kind, row: &Row) -> bool
     }
 }
 
-/// What a split mode asks for.
+/// The words for a split mode.
 fn mode_words(mode: SplitMode) -> &'static str
     ensures { result.now ≡ mode_words mode }
 {
@@ -93,7 +93,7 @@ fn flag_words(flag: bool) -> &'static str
     if flag { "yes" } else { "no" }
 }
 
-/// The cells of a pedestrian part.
+/// The cells of a phase's pedestrian part.
 #[derive(Clone, Copy)]
 struct PedCells {
     walk: Node<'static>,
@@ -104,7 +104,7 @@ struct PedCells {
     lead: Node<'static>,
 }
 
-/// The cells of a pedestrian part, or a dash in each.
+/// The cells of a phase's pedestrian part, or a dash in each where there is none.
 fn ped_cells(ped: &Option<Ped>) -> PedCells
     ensures { shown_of (result.walk ∷ result.clear ∷ result.width ∷ result.setback ∷ result.short
         ∷ result.lead ∷ []) ≡ ped_cells ped.now }
@@ -129,7 +129,7 @@ fn ped_cells(ped: &Option<Ped>) -> PedCells
     }
 }
 
-/// The cells of a phase.
+/// The cells of phase `p`.
 fn phase_cells(p: PhaseNo, phase: &Phase) -> [Node<'_>; 14]
     ensures { shown_of result ≡ phase_cells p phase.now }
 {
@@ -159,7 +159,7 @@ fn phase_cells(p: PhaseNo, phase: &Phase) -> [Node<'_>; 14]
     ]
 }
 
-/// The cells of a ring's sequence.
+/// The cells of a ring's phases in sequence `n`.
 fn sequence_cells(n: SeqNo, ring: RingNo, seq: &SeqRow) -> [Node<'_>; 3]
     ensures { shown_of result ≡ Head n ∷ Head ring ∷ Phases seq.now.list ∷ [] }
 {
@@ -170,7 +170,7 @@ fn sequence_cells(n: SeqNo, ring: RingNo, seq: &SeqRow) -> [Node<'_>; 3]
     ]
 }
 
-/// The cells of a split of a phase.
+/// The cells of the split of phase `p` in split plan `n`, with what the phase needs.
 fn split_cells(set: &TimingSet, n: SplitNo, p: PhaseNo, split: &Split) -> [Node<'static>; 9]
     ensures { shown_of result ≡ split_cells set.now n p split.now }
 {
@@ -189,7 +189,7 @@ fn split_cells(set: &TimingSet, n: SplitNo, p: PhaseNo, split: &Split) -> [Node<
     ]
 }
 
-/// The cells of a pattern, with the phases that its split plan coordinates.
+/// The cells of pattern `n`, with the phases that its split plan coordinates.
 fn pattern_cells<'a>(n: PatternNo, pattern: &Pattern, phases: &'a [PhaseNo]) -> [Node<'a>; 6]
     ensures { shown_of result ≡ pattern_cells n pattern.now phases.now }
 {
@@ -203,7 +203,8 @@ fn pattern_cells<'a>(n: PatternNo, pattern: &Pattern, phases: &'a [PhaseNo]) -> 
     ]
 }
 
-/// Appends the cells of a row of a set beside other cells.
+/// Appends the cells of a row of a set; those that differ from the other cells in their columns are
+/// marked.
 fn push_cells_of(
     alloc: Global,
     text: &mut String,
@@ -225,7 +226,8 @@ fn push_cells_of(
     }
 }
 
-/// Appends the cells of a row beside another row, each with its set.
+/// Appends the cells of a row of a set; those that differ from the cells of another row, of its own
+/// set, are marked.
 pub(crate) fn push_cells_beside(
     alloc: Global,
     text: &mut String,
@@ -258,7 +260,7 @@ pub(crate) fn push_cells_beside(
     }
 }
 
-/// Appends a row of a set with how it opens.
+/// Appends a row of a set after its opening, with no cell marked.
 pub(crate) fn push_row_alone(
     alloc: Global,
     text: &mut String,
@@ -274,7 +276,7 @@ pub(crate) fn push_row_alone(
     text.push_str("</tr>\n")
 }
 
-/// Whether two subjects are one.
+/// Whether two subjects are the same: of one kind, with the same numbers.
 fn is_same(a: &Subject, b: &Subject) -> bool
     ensures { result ≡ is_same_subject a.now b.now }
 {
@@ -287,7 +289,7 @@ fn is_same(a: &Subject, b: &Subject) -> bool
     }
 }
 
-/// Appends the rules that a subject breaks, each in a row over so many columns.
+/// Appends the reasons why a subject breaks rules, each in a row over so many columns.
 fn push_broken_rows(
     text: &mut String,
     columns: usize,
@@ -305,7 +307,7 @@ fn push_broken_rows(
     Ok(())
 }
 
-/// Whether a warning is of a subject.
+/// Whether a warning is of this subject.
 fn warns_of(subject: &Subject, warning: &Warning) -> bool
     ensures { result ≡ warns_of subject.now warning.now }
 {
@@ -333,7 +335,8 @@ fn push_warned_rows(
     Ok(())
 }
 
-/// Appends a row, and below it the remarks on it.
+/// Appends a row of a set, and below it the reasons why it breaks rules and its warnings, each over
+/// so many columns.
 #[tactic(auto, unfolding(crate::specs::Tables::plain_row))]
 fn push_row_and_remarks(
     alloc: Global,
@@ -352,7 +355,7 @@ fn push_row_and_remarks(
     push_warned_rows(text, columns, remarks.warnings, &subject)
 }
 
-/// Appends the rows of a kind.
+/// Appends the rows of a kind in the order given, each with the remarks on it below.
 fn push_rows(
     alloc: Global,
     text: &mut String,
@@ -373,7 +376,7 @@ fn push_rows(
     Ok(())
 }
 
-/// Appends the table of a kind, with what it is of.
+/// Appends the table of the rows of a kind with their remarks; `whose` stands behind its name.
 #[tactic(auto, using(crate::proofs::TableLemmas::opened_written))]
 fn push_kind_table(
     alloc: Global,
@@ -394,7 +397,8 @@ fn push_kind_table(
     end_table(text, before, columns.len())
 }
 
-/// Appends the four tables of a set by its rows, with what they are of.
+/// Appends the four tables of a set by its rows, patterns first, with the remarks on it; `whose`
+/// stands behind the name of each.
 #[tactic(auto, unfolding(crate::specs::Rows::plan_tables))]
 pub(crate) fn push_plan_tables(
     alloc: Global,

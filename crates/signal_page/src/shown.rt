@@ -1,9 +1,9 @@
-//! What the page of an intersection shows.
+//! What is lent for the page of an intersection.
 
 use office_machine::reply::{CabinetShown, IntersectionState};
 use signal_records::TimingSet;
 
-/// An intersection as the office's queries show it.
+/// An intersection as the office's queries State, Timing, Draft and Cabinet show it.
 #[derive(Clone, Copy)]
 pub struct IntersectionShown<'a> {
     pub state: &'a IntersectionState,

@@ -1,4 +1,4 @@
-//! The tables of a page.
+//! The tables of a page: headings of columns, and rows of cells.
 
 ghost use Rattle.std.specs.Prelude.{◌≡◌, ◌++◌, [], OnOk, length, true, string_bytes};
 ghost use Rattle.std.specs.Str.{bytes_eq};
@@ -19,18 +19,19 @@ pub(crate) enum Column {
     Words(&'static str),
 }
 
-/// What became of a row.
+/// What a draft does to a row: to one of the committed plan, or to one that it adds.
 #[derive(Clone, Copy)]
 pub(crate) enum Mark {
     Removed,
     Added,
-    /// It was changed, and stands as it was.
+    /// The row was changed; this is how it was.
     Before,
-    /// It was changed, and stands as it is to be.
+    /// The row was changed; this is how it is to be.
     After,
 }
 
-/// How a row opens: with the word that tells what became of it.
+/// How a line of a change opens: its tag, and a cell with the word that tells what became of the
+/// row.
 pub(crate) fn change_opening(mark: Mark) -> &'static str
     ensures { result.now ≡ change_opening mark }
 {
@@ -71,7 +72,8 @@ fn are_same(phases: &[PhaseNo], others: &[PhaseNo]) -> bool
     phases == others
 }
 
-/// Whether two cells of a plan show the same.
+/// Whether two cells of a plan's tables show the same. Cells of other tables, as days and names,
+/// never count as the same.
 #[tactic(auto, using(crate::proofs::Alike::same_text))]
 fn shows_same(node: &Node<'_>, other: &Node<'_>) -> bool
     ensures same { result ≡ shows_same (shown_by node.now) (shown_by other.now) }
@@ -91,7 +93,7 @@ fn shows_same(node: &Node<'_>, other: &Node<'_>) -> bool
     }
 }
 
-/// A tag, where a cell is marked.
+/// A tag, or nothing where the cell beside shows the same.
 fn unless_same(same: bool, tag: &'static str) -> &'static str
     ensures { result.now ≡ unless_same same tag.now }
 {
@@ -110,7 +112,8 @@ fn push_cell(text: &mut String, same: bool, node: &Node<'_>) -> Result<(), Alloc
     text.push_str(cell_end(node))
 }
 
-/// Appends the cells of a row beside those of another row, in the order of their columns.
+/// Appends the cells of a row in the order of their columns; one is marked where the cell of the
+/// other row in its column shows something else.
 pub(crate) fn push_cells(
     text: &mut String,
     cells: &[Node<'_>],
@@ -128,7 +131,7 @@ pub(crate) fn push_cells(
     Ok(())
 }
 
-/// Appends a row of cells.
+/// Appends a row of cells, none of them marked.
 #[tactic(auto, unfolding(crate::specs::Tables::plain_row))]
 pub(crate) fn push_row(text: &mut String, cells: &[Node<'_>]) -> Result<(), AllocError>
     ensures { OnOk result (string_bytes text.new
@@ -196,8 +199,8 @@ pub(crate) fn push_headings(text: &mut String, columns: &[Column]) -> Result<(),
     Ok(())
 }
 
-/// Begins a table up to its headings, by its name and what it is of, in a box that scrolls where
-/// the page is narrow.
+/// Begins a table up to its headings, in a box that scrolls where the page is narrow. Its caption
+/// is its name, and behind it what it is of.
 #[tactic(auto, unfolding(crate::specs::Tables::table_beginning))]
 pub(crate) fn begin_table(text: &mut String, name: &str, whose: &str) -> Result<(), AllocError>
     ensures { OnOk result (string_bytes text.new
@@ -210,7 +213,7 @@ pub(crate) fn begin_table(text: &mut String, name: &str, whose: &str) -> Result<
     )
 }
 
-/// Goes from the headings of a table to its rows.
+/// Appends the markup between the headings of a table and its rows.
 #[tactic(auto, unfolding(crate::specs::Tables::rows_beginning))]
 pub(crate) fn begin_rows(text: &mut String) -> Result<(), AllocError>
     ensures { OnOk result (string_bytes text.new ≡ string_bytes text.old ++ html rows_beginning) }
@@ -218,7 +221,7 @@ pub(crate) fn begin_rows(text: &mut String) -> Result<(), AllocError>
     text.push_str("</tr></thead>\n<tbody>")
 }
 
-/// Opens a table up to its rows, by its name, what it is of, and its columns.
+/// Opens a table up to its rows, by its name and what it is of, and its columns.
 #[tactic(auto, unfolding(crate::specs::Tables::table_opening))]
 pub(crate) fn open_table(
     text: &mut String,
@@ -234,7 +237,7 @@ pub(crate) fn open_table(
     begin_rows(text)
 }
 
-/// Appends that a table of so many columns has no row.
+/// Appends the row `none` of a table of so many columns that has no row.
 #[tactic(auto, unfolding(crate::specs::Tables::none_row))]
 fn push_none(text: &mut String, columns: usize) -> Result<(), AllocError>
     ensures { OnOk result (string_bytes text.new
@@ -246,7 +249,8 @@ fn push_none(text: &mut String, columns: usize) -> Result<(), AllocError>
     )
 }
 
-/// Appends that a table has no row, where none was appended since the text had a length.
+/// Appends the row `none` of a table of so many columns, where the text is still as long as it was
+/// before the rows.
 fn push_none_since(text: &mut String, before: usize, columns: usize) -> Result<(), AllocError>
     ensures { OnOk result (string_bytes text.new ≡ string_bytes text.old
         ++ html (none_since (length (string_bytes text.old)) before columns)) }
@@ -258,7 +262,8 @@ fn push_none_since(text: &mut String, before: usize, columns: usize) -> Result<(
     }
 }
 
-/// Ends a table of so many columns, whose rows were appended since the text had a length.
+/// Ends a table of so many columns, by how long the text was before the rows: where it is still as
+/// long, the table gets the row `none`.
 #[tactic(auto, unfolding(crate::specs::Tables::table_end))]
 pub(crate) fn end_table(text: &mut String, before: usize, columns: usize) -> Result<(), AllocError>
     ensures { OnOk result (string_bytes text.new ≡ string_bytes text.old

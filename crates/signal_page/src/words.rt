@@ -1,11 +1,12 @@
-//! Names and texts of others in a page.
+//! Names and texts of others in a page, written so that none of their characters is markup.
 
 ghost use Rattle.std.specs.Prelude.{◌≡◌, ◌++◌, OnOk, encode_utf8, flat_map, string_bytes};
 ghost use Rattle.signal_page.specs.Words.{escaped_text, escaped_byte};
 
 use std::alloc::AllocError;
 
-/// Appends a character, and in place of a markup character the entity that stands for it.
+/// Appends a character; in place of `&`, `<`, `>` and the two quotes, the entity that stands for
+/// it.
 fn push_character(text: &mut String, c: char) -> Result<(), AllocError>
     ensures { OnOk result (string_bytes text.new
         ≡ string_bytes text.old ++ flat_map escaped_byte (encode_utf8 c)) }
