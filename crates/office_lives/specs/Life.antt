@@ -39,7 +39,7 @@ pub data Lived : Type 1 where
   -- the file was refused, or nothing was changed
   refused : Lived
 
--- the tables in the files, whatever their version
+-- the tables in the files hold this content, whatever their version
 pub record HoldFormerly (image : Image) (tables : Content) : Type 0 where
   pub trees : Trees
   pub those : AreThoseOf image trees
@@ -56,19 +56,20 @@ module _ {D : Type 0} (g : Disk D) where
   Made migrated old new = (new ≡ old) ⊎ ((before : Office) → StandForSoundIn version_1 old before → StandAnew new before)
   Made refused old new = new ≡ old
 
-  -- runs in turn, from the tables that the file held to those that it holds
+  -- these runs in turn, each from the tables that the one before it left, lead from the old tables to the last ones
   abbrev pub Life : Content → List Lived → Content → Type 0
   Life old [] last = last ≡ old
   Life old (run ∷ runs) last = (next : Content) × Made run old next × Life next runs last
 
 module _ {D : Type 0} {g : Disk D} where
-  -- The tables of a store that a failed closing gave back are numbered in its schema, as those of each connection are: what an opening asks of it.
+  -- If a failed closing left the store alone, its tables are numbered in its schema: tree t is the object with the rowid t + 1 there. An opening
+  -- needs that; the tables of a connection always are.
   abbrev pub IsNumbered : FileLeft D g → Type 0
   IsNumbered (left.Database (Err store)) = IsTrue (view store).is_numbered
   IsNumbered _ = Unit {0}
 
 module _ {D : Type 0} {g : Disk D} {T : Type 0} where
-  -- work came to this, and these are its files, closed
+  -- the work came to `done`, and these are its files, which were closed after it
   abbrev pub IsClosedWith : Ended T (FileLeft D g) → T → Files D → Type 0
   IsClosedWith ended done files = ended ≡ Closed done (left.Closed files)
 

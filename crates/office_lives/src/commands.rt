@@ -1,4 +1,4 @@
-//! A command among the runs over the same files.
+//! A command between two streams, over the same files.
 
 ghost use Rattle.std.specs.Prelude.{◌∷◌, [], IfSome};
 ghost use Rattle.sqlite.specs.Files.{image_of};
@@ -18,7 +18,8 @@ use sqlite::Options;
 use sqlite_disk::{Disk, Files};
 use std::alloc::Global;
 
-/// How two streams ended with a command between them, what that gave, and the files after them.
+/// How two streams ended, what the command between them gave, and the files, closed after all
+/// three.
 #[derive(Drop)]
 pub struct Around<D: Disk, Done> {
     pub first: Outcome,
@@ -27,7 +28,8 @@ pub struct Around<D: Disk, Done> {
     pub files: Files<D>,
 }
 
-/// Does a task by the office over the tables in the two files, and closes them.
+/// Does a task by the office over the tables in the two files, and closes them. `None` says that
+/// they were refused or could not be closed.
 fn done_once<D: Disk + Drop, Done: Drop, T: OfficeTask<Done>, W: Sink>(
     rt: &HostRuntime,
     alloc: Global,
@@ -47,7 +49,8 @@ fn done_once<D: Disk + Drop, Done: Drop, T: OfficeTask<Done>, W: Sink>(
 }
 
 /// Serves a first stream, does a command over the files that came back, and serves a second stream
-/// over those that came back from it. The files are closed each time.
+/// over those that came back from the command; each stream is of at most `MOST` requests. The files
+/// are closed each time. `None` says that once they were refused or could not be closed.
 pub fn served_around<D: Disk + Drop, Done: Drop, T: OfficeTask<Done>, R: Source, W: Sink>(
     rt: &HostRuntime,
     alloc: Global,

@@ -21,7 +21,8 @@ use sqlite::Options;
 use sqlite_disk::{Crash, Disk, Files};
 use std::alloc::Global;
 
-/// What a command gave that was stopped, how the stream after it ended, and the files after both.
+/// What a command gave that was stopped, how the stream after it ended, and the files, closed after
+/// both.
 #[derive(Drop)]
 pub struct CutShort<D: Disk, Done> {
     pub done: Result<Done, Fault>,
@@ -29,8 +30,9 @@ pub struct CutShort<D: Disk, Done> {
     pub files: Files<D>,
 }
 
-/// Does a command, stops, and serves a stream over what a stop leaves of the files. A stop at any
-/// moment of the command is one: its disk does nothing more from then on.
+/// Does a command, stops, and serves a stream of at most `MOST` requests over what a stop leaves of
+/// the files. This covers a stop at any moment of the command, as a disk that does nothing more
+/// from then on. `None` says that the files were refused, or not closed after the stream.
 pub fn served_after_a_command<D: Crash + Drop, Done: Drop, T: OfficeTask<Done>, R: Source, W: Sink>(
     rt: &HostRuntime,
     alloc: Global,
@@ -61,7 +63,8 @@ pub fn served_after_a_command<D: Crash + Drop, Done: Drop, T: OfficeTask<Done>, 
     })
 }
 
-/// Does a command over files that cannot be closed after it, and gives what is left of them.
+/// Does a command over files that cannot be closed after it, and gives what is left of them. `None`
+/// says that they were refused, or could be closed.
 pub fn done_unclosed<D: Disk + Drop, Done: Drop, T: OfficeTask<Done>, W: Sink>(
     rt: &HostRuntime,
     alloc: Global,

@@ -7,7 +7,7 @@ use signal_office_file::FileLeft;
 use signal_office_in_file::Ended;
 use sqlite_disk::{Disk, Files};
 
-/// What came of work, and its files, where they were closed after it.
+/// What came of work, and its files, if they were closed after it; else `None`.
 pub(crate) fn closed_after<D: Disk + Drop, T: Drop>(
     ended: Ended<T, FileLeft<D>>,
 ) -> Option<(T, Files<D>)>
@@ -19,7 +19,7 @@ pub(crate) fn closed_after<D: Disk + Drop, T: Drop>(
     }
 }
 
-/// What is left of files that could not be closed after work.
+/// What is left of files, if they could not be closed after work; else `None`.
 pub(crate) fn left_after<D: Disk + Drop, T: Drop>(
     ended: Ended<T, FileLeft<D>>,
 ) -> Option<FileLeft<D>>

@@ -18,7 +18,8 @@ use sqlite::Options;
 use sqlite_disk::{Crash, Disk, Files};
 use std::alloc::Global;
 
-/// Serves a stream over files that cannot be closed after it, and gives what is left of them.
+/// Serves a stream of at most `MOST` requests over files that cannot be closed after it, and gives
+/// what is left of them. `None` says that they were refused, or could be closed.
 pub fn served_unclosed<D: Disk + Drop, R: Source, W: Sink>(
     alloc: Global,
     files: Files<D>,
@@ -35,8 +36,9 @@ pub fn served_unclosed<D: Disk + Drop, R: Source, W: Sink>(
     left_after(ended)
 }
 
-/// Serves a stream over what a run left of files that it could not close, as an opening finds them
-/// after its process ended.
+/// Serves a stream of at most `MOST` requests over what a run left of files that it could not
+/// close, as an opening finds them after the process of that run ended. `None` says that no
+/// database was left, or that the files were refused or could not be closed.
 pub fn served_over<D: Crash + Drop, R: Source, W: Sink>(
     alloc: Global,
     left: FileLeft<D>,

@@ -1,4 +1,5 @@
-//! Two runs over the same files, closed or stopped in between.
+//! Two runs over the same files: two streams, with the files closed or the first run stopped in
+//! between; or a migration and a stream.
 
 ghost use Rattle.std.specs.Prelude.{◌∷◌, [], IfSome};
 ghost use Rattle.sqlite.specs.Files.{image_of};
@@ -23,7 +24,7 @@ pub const MOST: u32 = 1_000;
 /// How a stream ended.
 pub type Outcome = Result<Served, ServeFault>;
 
-/// How two streams ended, and the files after them.
+/// How two streams ended, and the files, closed after both.
 #[derive(Drop)]
 pub struct Twice<D: Disk> {
     pub first: Outcome,
@@ -31,7 +32,8 @@ pub struct Twice<D: Disk> {
     pub files: Files<D>,
 }
 
-/// Serves a stream by the office over the tables in the two files, and closes them.
+/// Serves a stream of at most `MOST` requests by the office over the tables in the two files, and
+/// closes them. `None` says that they were refused or could not be closed.
 pub(crate) fn served_once<D: Disk + Drop, R: Source, W: Sink>(
     alloc: Global,
     files: Files<D>,
@@ -50,7 +52,9 @@ pub(crate) fn served_once<D: Disk + Drop, R: Source, W: Sink>(
     closed_after(ended)
 }
 
-/// Serves a first stream, closes the files, opens those that came back, and serves a second one.
+/// Serves a first stream, closes the files, opens those that came back, and serves a second stream,
+/// each of at most `MOST` requests. `None` says that once the files were refused or could not be
+/// closed.
 pub fn served_twice<D: Disk + Drop, R: Source, W: Sink>(
     alloc: Global,
     files: Files<D>,
@@ -59,7 +63,8 @@ pub fn served_twice<D: Disk + Drop, R: Source, W: Sink>(
     second_reader: &mut R,
     second_writer: &mut W,
 ) -> Option<Twice<D>>
-    // Each run was served from the tables that the one before it left.
+    // On a clean disk, the first stream was served from the tables that the files held, and the
+    // second one from those that the first left.
     ensures { IfSome result (λ it. AreClean D.Disk it.files.log it.files.db →
         (old : Content) × (last : Content) × HoldIn (image_of D.Disk files) old
         × Life D.Disk old (in_order MOST
@@ -79,8 +84,10 @@ pub fn served_twice<D: Disk + Drop, R: Source, W: Sink>(
     })
 }
 
-/// Serves a first stream, stops, and serves a second one over what a stop leaves of the files. A
-/// stop at any moment of the first run is one: its disk does nothing more from then on.
+/// Serves a first stream, stops, and serves a second one over what a stop leaves of the files, each
+/// of at most `MOST` requests. This covers a stop at any moment of the first run, as a disk that
+/// does nothing more from then on. `None` says that the files were refused, or not closed after the
+/// second stream.
 pub fn served_after_a_stop<D: Crash + Drop, R: Source, W: Sink>(
     alloc: Global,
     files: Files<D>,
@@ -119,7 +126,8 @@ pub fn served_after_a_stop<D: Crash + Drop, R: Source, W: Sink>(
     })
 }
 
-/// Brings the tables in the files to today's version and closes them, if that is not refused.
+/// Brings the tables in the files to today's version, and closes the files. `None` says that the
+/// files or the migration were refused, or that the files could not be closed.
 fn brought_today<D: Disk + Drop>(alloc: Global, files: Files<D>) -> Option<Files<D>>
     ensures { IfSome result (λ back. AreClean D.Disk back.log back.db →
         (old : Content) × (new : Content) × HoldFormerly (image_of D.Disk files) old
@@ -131,8 +139,9 @@ fn brought_today<D: Disk + Drop>(alloc: Global, files: Files<D>) -> Option<Files
     }
 }
 
-/// Brings the tables in the files to today's version, closes them, and serves a stream over the
-/// files that came back.
+/// Brings the tables in the files to today's version, closes them, and serves a stream of at most
+/// `MOST` requests over the files that came back. `None` says that the files or the migration were
+/// refused, or that the files could not be closed.
 pub fn migrated_and_served<D: Disk + Drop, R: Source, W: Sink>(
     alloc: Global,
     files: Files<D>,

@@ -1,4 +1,4 @@
-//! What a stop leaves of the two files: without what was not synced.
+//! What a stop leaves of the two files of an office: what was not synced may be lost.
 
 ghost use Rattle.std.specs.Prelude.{IfSome, IsTrue};
 ghost use Rattle.sqlite.specs.Files.{file_state, image_of};
@@ -18,10 +18,11 @@ use signal_office_file::{FileLeft, FileOffice};
 use sqlite::{Connection, FileStore};
 use sqlite_disk::{Crash, Files};
 
-/// The files of a store as the next run finds them.
+/// The files of a store after a stop, as the next run finds them.
 fn crash_files<D: Crash + Drop>(store: FileStore<D>) -> Files<D>
     ensures clean { AreClean D.Disk result.log result.db → IsClean (view store) }
-    // What an open finds in them is what a stop may leave.
+    // On a clean disk, an opening finds in the files only trees that a stop may leave of the store,
+    // if its trees are numbered in its schema and a stop leaves only databases.
     ensures found { AreClean D.Disk result.log result.db → IsTrue (view store).is_numbered →
         AreDatabases (recovers store) → (trees : Trees) →
         AreThoseOf (image_of D.Disk result) trees → ∥ recovers store trees ∥₁ }
@@ -32,7 +33,7 @@ fn crash_files<D: Crash + Drop>(store: FileStore<D>) -> Files<D>
     Files { log, db }
 }
 
-/// The files of a connection as the next run finds them.
+/// The files of a connection after a stop, as the next run finds them.
 fn cut_off<D: Crash + Drop>(conn: Connection<FileStore<D>>) -> Files<D>
     ensures clean { AreClean D.Disk result.log result.db → HasCleanDisk (file_state conn) }
     ensures found { AreClean D.Disk result.log result.db → (trees : Trees) →
@@ -41,11 +42,13 @@ fn cut_off<D: Crash + Drop>(conn: Connection<FileStore<D>>) -> Files<D>
     crash_files(conn.into_store())
 }
 
-/// Stops an office, at whichever call its disk fell silent: the files as the next run finds them.
+/// Stops an office, at whichever call its disk fell silent, and gives its files as the next run
+/// finds them.
 pub(crate) fn stop_office<D: Crash + Drop>(office: FileOffice<D>) -> Files<D>
     ensures clean { AreClean D.Disk result.log result.db →
         HasCleanDisk (file_state office.conn) }
-    // What an open finds in them is what a stop may leave.
+    // On a clean disk, an opening finds in the files only trees that a stop may leave of the
+    // office.
     ensures found { AreClean D.Disk result.log result.db → (trees : Trees) →
         AreThoseOf (image_of D.Disk result) trees →
         ∥ (file_state office.conn).may_leave trees ∥₁ }
@@ -54,7 +57,8 @@ pub(crate) fn stop_office<D: Crash + Drop>(office: FileOffice<D>) -> Files<D>
     cut_off(office.into_shelf().into_file_conn())
 }
 
-/// The files that could not be closed, as the next run finds them after the process ended.
+/// The files of a database that could not be closed, as the next run finds them after the process
+/// ended. `None` says that no such database is left.
 pub(crate) fn abandon_files<D: Crash + Drop>(left: FileLeft<D>) -> Option<Files<D>>
     ensures clean { IfSome result (λ files. AreClean D.Disk files.log files.db →
         IsCleanFile left) }

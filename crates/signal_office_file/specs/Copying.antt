@@ -8,7 +8,8 @@ use Rattle.signal_office_in_file.specs.Ended.{IsUncopied}
 use Rattle.sqlite_disk.specs.declared.Disk.{Ghosts as Disk}
 use Rattle.sqlite_disk.specs.declared.Files.{Files}
 
--- the file is as it was, also after a stop
+-- The file was only read: its bytes are as they were, it may still be used, a stop leaves nothing that it could not
+-- leave before, and if its disk is clean, it was so before.
 pub record StaysAsRead {D : Type 0} (g : Disk D) (old new : D) : Type 0 where
   pub seen : g.seen new ≡ g.seen old
   pub usable : IsTrue (g.is_usable new)
@@ -19,7 +20,8 @@ pub record StaysAsRead {D : Type 0} (g : Disk D) (old new : D) : Type 0 where
 abbrev pub CopyBreaksOff : (start end : Told) → Fault → Type 0
 CopyBreaksOff start end why = (why ≡ fault.Store) ⊎ ((why ≡ fault.Write) × FailsOrGivesNone start.counts end.counts)
 
--- the bytes of the database file were written, and both files are as they were; or that broke off
+-- the log is as it was, and the database file was only read; on a clean disk all its bytes were written, or the
+-- fault says why not
 pub record PoursAs {D : Type 0} (g : Disk D) (files : Files D) (start end : Told) (done : Result ⊤ Fault) (back : Files D) : Type 0 where
   pub log : back.log ≡ files.log
   pub read : StaysAsRead g files.db back.db

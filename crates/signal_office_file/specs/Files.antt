@@ -13,23 +13,24 @@ use Rattle.office_tables.specs.Stored.{content_of}
 use Rattle.office_tables.specs.Found.{Hold}
 use Rattle.office_tables_sql.specs.Version.{AreToday}
 
--- the trees are those of the office's tables with today's version, and hold what the others hold
+-- the trees found are those of the office's tables with today's version, and hold the content that the given trees
+-- hold
 pub record IsAlike (trees found : Trees) : Type 0 where
   pub today : AreToday found
   pub content : content_of found ≡ content_of trees
 
--- the trees are those that an open finds in the files: of a database, its own
+-- the trees are those that an opening finds in the files: of a database, its own; where there is none, empty ones
 pub record AreThoseOf (image : Image) (trees : Trees) : Type 0 where
   pub holds : (db : Trees) → HoldsDatabase image db → trees ≡ db
   pub reads : AreFoundIn image trees
 
--- that is what the tables in the files hold; a table that they lack holds nothing
+-- the tables in the files hold this content; a table that they lack holds nothing
 pub record HoldIn (image : Image) (tables : Content) : Type 0 where
   pub trees : Trees
   pub those : AreThoseOf image trees
   pub hold : Hold trees tables
 
--- A file of these bytes, with no log beside it, holds the office's tables, with today's version.
+-- A file of these bytes, with no log beside it, holds the office's tables with this content and today's version.
 pub record HoldAlone (bytes : List ℕ) (tables : Content) : Type 0 where
   pub trees : Trees
   pub holds : ∥ HoldsDatabase (record { log = []; db = bytes }) trees ∥₁
@@ -37,21 +38,23 @@ pub record HoldAlone (bytes : List ℕ) (tables : Content) : Type 0 where
   pub content : content_of trees ≡ tables
 
 module _ {D : Type 0} (g : Disk D) (files : Files D) where
-  -- no sync of either has failed
+  -- no sync of the log or of the database file has failed
   abbrev pub AreUsable : Type 0
   AreUsable = IsTrue (g.is_usable files.log) × IsTrue (g.is_usable files.db)
 
-  -- nothing has happened to the files since they were opened, when they held this
+  -- nothing has happened to the files since they were opened: the disk is clean, and they hold this image, as they
+  -- did then, also after a stop
   pub record AreNew (image : Image) : Type 0 where
     pub clean : AreClean g files.log files.db
     pub seen : image_of g files ≡ image
     pub left : (after : Image) → outcomes g files.log files.db after → after ≡ image
 
-  -- the two files as they read now, or after a stop
+  -- the image is that of the two files as they read now, or one that a stop may leave
   abbrev pub IsImageOf : Image → Type 0
   IsImageOf image = (image ≡ image_of g files) ⊎ outcomes g files.log files.db image
 
-  -- The files hold these trees and no others, now and after a stop: the tables of the office, with today's version.
+  -- The files hold these trees and no others, with their log and without it, now and after a stop: the tables of
+  -- the office, with today's version.
   pub record HoldToday (trees : Trees) : Type 0 where
     pub alone : (image : Image) → IsImageOf image → HoldsAlone image trees
     pub today : AreToday trees

@@ -22,15 +22,17 @@ module _ {D : Type 0} {g : Disk D} where
   IsKept (left.Closed back) tables = KeepTables g back tables
   IsKept _ tables = ⊥
 
-  -- The files are not closed: whatever a stop leaves of them is a database with today's version, and its tables are such.
+  -- The files are not closed: whatever a stop leaves of them is a database, on a clean disk with today's version, and
+  -- `Holds` is true of its tables.
   abbrev pub LeavesTables : FileLeft D g → (Content → Type 0) → Type 0
   LeavesTables back Holds = LeavesDatabases back × LeavesToday back × ((found : Content) → MayLeaveOf back found → Holds found)
 
-  -- why the files were refused, or their tables not migrated
+  -- the files were refused with this fault, or were closed after a migration that was refused with it
   abbrev pub IsRefusedFor : Files D → Fault → FileLeft D g → Type 0
   IsRefusedFor files why back = IsRefusedIn files why back ⊎ IsClosedMigrated files (Err why) back
 
--- what the jobs know of files that held such tables as they were opened, and are among those of which this is so
+-- what the jobs know of files that held such tables as they were opened; `is_so` says that something is so of the files
+-- as they were opened
 abbrev view_over : {D : Type 0} (g : Disk D) → (Content → Type 0) → ((Files D → Type 0) → Type 0) → FileView (FileLeft D g)
 view_over g held is_so = record {
   held = held;
@@ -43,15 +45,15 @@ view_over g held is_so = record {
   unclosed = λ back why. is_so (λ files. FailedToClose files why back);
 }
 
--- of two files
+-- what the jobs know of two given files
 abbrev pub files_view : {D : Type 0} (g : Disk D) → Files D → FileView (FileLeft D g)
 files_view g files = view_over g (HoldIn (image_of g files)) (λ known. known files)
 
--- of files of which it is known what they held as they were opened
+-- what the jobs know of the files at a path: these are some files, just opened, that held this image
 abbrev pub view_at : {D : Type 0} (g : Disk D) → Image → FileView (FileLeft D g)
 view_at {D} g image = view_over g (HoldIn image) (λ known. (files : Files D) × AreNew g files image × known files)
 
--- Work over two files ended, and they were closed after it, on a disk that returned what was written: so before it.
+-- if the files were closed after work and their disk is clean, it was clean before the work too
 abbrev pub WasClean : {D : Type 0} (g : Disk D) {T : Type 0} → Files D → Ended T (FileLeft D g) → Type 0
 WasClean g files (Closed done back) = IsCleanFile back → AreClean g files.log files.db
 WasClean g files _ = Unit {0}

@@ -27,8 +27,9 @@ use Rattle.signal_office_file.specs.Left.{IsOpenedIn, IsRefusedIn, IsUnclosed, t
 use Rattle.signal_office_file.specs.declared.left.FileLeft.{FileLeft}
 use Rattle.signal_office_file.specs.declared.left.FileLeft.TheVariants as left
 
--- What `SqlShelf::migrate` says of a database, with what it leaves committed, on a clean disk
--- alone. A stop leaves what was committed, or what becomes of it.
+-- What a migration of a database did, as far as it is known on a clean disk. Done, it brought the committed
+-- tables to today's version; refused, it left them in an open database as they were; Version and Damaged are
+-- told of what was stored. A stop leaves what was committed before, or what becomes of it.
 pub record MigratesOnDisk
     {S : Type 0} (g : Ghosts S) (outcome : Result Migrated OpenFault)
     (old new : Held S) : Type 0 where
@@ -41,12 +42,13 @@ pub record MigratesOnDisk
   pub crash : HasCleanDisk (state g new) → IsTrue (state g old).is_open → (trees : Trees) → (state g new).may_leave trees
       → (trees ≡ (state g old).committed.trees) ⊎ MayBecome (state g old).committed.trees trees
 
--- what became of tables, or they are as they were where that was refused
+-- the trees are those that the old ones were brought to, with this count; or the old ones, if that was
+-- refused
 abbrev pub AreMigrated : Trees → Trees → Result Migrated OpenFault → Type 0
 AreMigrated was trees (Ok count) = IsBrought was trees count
 AreMigrated was trees (Err cause) = trees ≡ was
 
--- the fault of a migration, or how many rows it wrote anew
+-- how many rows a migration wrote anew, of `timing` and `draft` together, or the fault that is reported of it
 abbrev pub told_of_outcome : Result Migrated OpenFault → Result ℕ Fault
 told_of_outcome (Ok count) = Ok (count.timing + count.draft)
 told_of_outcome (Err cause) = Err (told_of cause)
@@ -68,7 +70,8 @@ module _ {D : Type 0} (g : Disk D) where
     pub damaged : outcome ≡ Err why.Damaged → HasDamagedFormer was
 
 module _ {D : Type 0} {g : Disk D} where
-  -- a connection found its tables in the files, and they were migrated on disk
+  -- a connection was opened over the files and found its tables there, and a migration with this outcome made
+  -- `conn` of it
   pub record MigratesIn
       (files : Files D) (outcome : Result Migrated OpenFault)
       (conn : Held (FileStore D g)) : Type 0 where
@@ -77,7 +80,8 @@ module _ {D : Type 0} {g : Disk D} where
     pub clean : HasCleanDisk (file_state conn) → HasCleanDisk (file_state found)
     pub migrates : MigratesOnDisk over_files outcome found conn
 
-  -- The files could not be closed after a migration was tried. A fault from before comes first.
+  -- The files could not be closed after a migration was tried. The fault is that of the migration, if it was
+  -- refused, or else that of closing.
   pub record FailedToClose (files : Files D) (told : Fault) (back : FileLeft D g) : Type 0 where
     pub outcome : Result Migrated OpenFault
     pub conn : Held (FileStore D g)
@@ -86,21 +90,23 @@ module _ {D : Type 0} {g : Disk D} where
     pub unclosed : IsUnclosed conn closing back
     pub told_is : MatchResult (told_of_outcome outcome) (λ _. told ≡ closing) (λ cause. told ≡ cause)
 
-  -- The files are closed after a migration, and hold what became of their tables.
+  -- The files are closed, and may be used, after a migration that came to this. On a clean disk they hold
+  -- what became of their tables, or, if it was refused, the tables as they were.
   abbrev pub IsClosedMigrated : Files D → Result ℕ Fault → FileLeft D g → Type 0
   IsClosedMigrated files told (left.Closed back) =
       (outcome : Result Migrated OpenFault) × (told ≡ told_of_outcome outcome) × AreUsable g back
       × (AreClean g back.log back.db → ClosedMigrated g files outcome back)
   IsClosedMigrated files told _ = ⊥
 
-  -- how a migration of files ended
+  -- how a migration ended of files that the system had opened
   abbrev pub EndsMigration : Files D → Ended (Result ℕ Fault) (FileLeft D g) → Type 0
   EndsMigration files (Unopened told) = ⊥
   EndsMigration files (Refused told back) = IsRefusedIn files told back
   EndsMigration files (Closed told back) = IsClosedMigrated files told back
   EndsMigration files (Unclosed told back) = FailedToClose files told back
 
-  -- a migration that was done: tables that stood formerly for an office stand for it today, in the closed files
+  -- A migration that was done, on a clean disk: if the tables in the files stood for an office in version 1,
+  -- the closed files hold tables that stand for it today.
   abbrev pub BringsToday : Files D → Ended (Result ℕ Fault) (FileLeft D g) → Type 0
   BringsToday files (Closed (Ok count) (left.Closed back)) =
       AreClean g back.log back.db → (before : Office)
@@ -108,7 +114,7 @@ module _ {D : Type 0} {g : Disk D} where
       → (trees : Trees) × HoldToday g back trees × StandAnew (content_of trees) before
   BringsToday files _ = Unit {0}
 
-  -- a migration of files ended so, and if it was done, it brought their tables to today's version
+  -- how a migration of files ended; and if it was done, what it made of an office that their tables stood for
   pub record MigratesFiles (files : Files D) (ended : Ended (Result ℕ Fault) (FileLeft D g)) : Type 0 where
     pub ends : EndsMigration files ended
     pub today : BringsToday files ended

@@ -24,14 +24,14 @@ use Rattle.signal_office_file.specs.Files.{HoldIn, HoldToday}
 use Rattle.signal_office_file.specs.Left.{IsRefusedIn, KeepsToday}
 use Rattle.signal_office_file.specs.declared.left.FileLeft.{FileLeft}
 
--- how the office is stored in the tables of a database, whose connection has these states
+-- how the office is stored in the tables of a database; `state_of` gives the state of its connection
 abbrev pub sql_storage : {S : Type 0} → (Held S → State) → Storage (SqlView S) Office Content
 sql_storage state_of =
     office_storage (λ shelf. IsHonest (state_of shelf.conn))
     (λ shelf. content_now (state_of shelf.conn)) (λ shelf. shelf.counts)
     (λ shelf tables. MayLeave (state_of shelf.conn) tables)
 
--- the tables hold what the files held, and so does whatever a crash may leave of them; no row was
+-- the database is open, its tables hold what the files held, and so does whatever a crash may leave of them; no row was
 -- written yet
 pub record AreOpenedIn
     {S : Type 0} (state_of : Held S → State) (image : Image) (opened : SqlView S) : Type 0 where
@@ -42,25 +42,28 @@ pub record AreOpenedIn
   pub unwritten : opened.counts ≡ no_writes
 
 module _ {D : Type 0} {g : Disk D} (files : Files D) where
-  -- An office was opened over the tables in the files. Nothing makes a disk clean again; on a clean one the tables hold what the files held.
+  -- An office was opened over the tables in the files. If its disk is clean, it was so before, and the tables hold what
+  -- the files held.
   pub record OpenedOffice (office : SqlView (FileStore D g)) : Type 0 where
     pub clean : HasCleanDisk (file_state office.conn) → AreClean g files.log files.db
     pub opened : HasCleanDisk (file_state office.conn) → AreOpenedIn file_state (image_of g files) office
     -- today's version is stored, also in whatever a crash may leave
     pub current : IsCurrent (file_state office.conn)
 
-  -- Files were refused with the fault that they have, and are left as they were: so today's tables never for their version or their rows.
+  -- Files were refused, for a cause that the fault tells, and this is left of them. On a clean disk, files of today's
+  -- tables are never refused for their version or their rows, and keep their content.
   pub record RefusedFiles (told : Fault) (back : FileLeft D g) : Type 0 where
     pub refused : IsRefusedIn files told back
     pub kept : (trees : Trees) → HoldToday g files trees → KeepsToday trees told back
 
-  -- an office was opened over the tables in the files, or they were refused
+  -- an office was opened over the tables in the files, or the files were refused
   abbrev pub OpensFiles : Result (SqlView (FileStore D g)) (Fault × FileLeft D g) → Type 0
   OpensFiles (Ok office) = OpenedOffice office
   OpensFiles (Err e) = RefusedFiles e.0 e.1
 
--- What was done over the requests from an office, and their answers, where the files held these
--- tables, which were all that a crash could leave before.
+-- The requests were run from the office `before`, with these answers and by its laws, where the files held these
+-- tables, which were all that a crash could leave then. The tables that are kept stand for the office `after`, and a
+-- crash leaves no more than the run lets it.
 pub record ServesFiles
     {S : Type 0} (state_of : Held S → State) (held : Content) (before : Office) (last : SqlView S)
     (after : Office) (requests : List PlainRequest) (answers : List (List ℕ)) : Type 0 where

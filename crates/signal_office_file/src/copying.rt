@@ -20,7 +20,9 @@ use sqlite_disk::{Disk, Files};
 use std::alloc::Global;
 
 /// Opens the office in the two files and closes it, so that its log is copied into the database
-/// file, whose bytes are then written to the sink: a file of these alone is the whole office.
+/// file, and then writes the bytes of that file to the sink: they alone are the whole office. The
+/// copy of closed files fails with `Store` if the file is not read, `Memory` before any byte is
+/// written, or `Write` if the sink fails or takes no byte.
 pub fn copied_in<D: Disk + Drop, W: Sink>(
     alloc: Global,
     files: Files<D>,
@@ -43,10 +45,11 @@ pub fn copied_in<D: Disk + Drop, W: Sink>(
     }
 }
 
-/// The bytes that are read at a time.
+/// How many bytes are read at a time, at most: 1 MiB.
 const BLOCK: usize = 1_048_576;
 
-/// Reads the bytes at a place of a file, and writes them to the sink.
+/// Fills the block with the bytes of a file from the offset `at` on, and writes them to the sink.
+/// It fails with `Store` if they are not read, and with `Write` if the sink fails or takes no byte.
 fn copy_block<D: Disk, W: Sink>(
     file: &mut D,
     at: usize,
@@ -71,8 +74,8 @@ fn copy_block<D: Disk, W: Sink>(
     }
 }
 
-/// Writes so many bytes of a file to the sink, from the first to the last, each time as many as the
-/// block has.
+/// Writes the first `len` bytes of a file to the sink, in their order, at most a block of them at a
+/// time. It fails with `Store` or `Write`.
 fn copy_blocks<D: Disk, W: Sink>(
     file: &mut D,
     len: usize,
@@ -98,14 +101,15 @@ fn copy_blocks<D: Disk, W: Sink>(
     Ok(())
 }
 
-/// Writes all bytes of a file to the sink, from the first to the last.
+/// Writes all bytes of a file to the sink, from the first to the last. It fails with `Store`, with
+/// `Memory` before any byte is written, or with `Write`.
 fn copy_all<D: Disk, W: Sink>(alloc: Global, file: &mut D, out: &mut W) -> Result<(), Fault>
     requires { IsTrue (D.Disk.is_usable file.old) }
-    // On a disk that has returned what was written.
+    // On a clean disk, one that has returned what was written, the sink took all bytes of the file.
     ensures copied { OnOk result (IsTrue (D.Disk.is_clean file.new) →
         Appends (W.told out.old).bytes (W.told out.new).bytes (D.Disk.seen file.old)) }
     ensures fault { IfErr result (IsUncopied (W.told out.old) (W.told out.new)) }
-    // The file is as it was.
+    // The file is as it was, also after a stop.
     ensures read { StaysAsRead D.Disk file.old file.new }
 {
     let Ok(len) = file.len() else {

@@ -20,7 +20,8 @@ use sqlite::{FileFrom, Options, Start, Wary};
 use sqlite_disk::{Disk, Files};
 use std::alloc::Global;
 
-/// The first of two faults: that of the work, or else that of closing.
+/// The fault that is reported of work whose files were not closed: that of the work, if it had one,
+/// or else `closing`.
 pub(crate) fn first_fault<T: Drop, E>(done: Result<T, E>, closing: Fault) -> Fault
 where
     Fault: From<E>,
@@ -33,7 +34,8 @@ where
     }
 }
 
-/// Does a task over the tables in the two files, and closes them.
+/// Does a task over the tables in the two files, which are made where there are none, and closes
+/// the files. The task writes to `out`.
 pub fn done_in<D: Disk + Drop, Done: Drop, T: OfficeTask<Done>, W: Sink>(
     rt: &HostRuntime,
     alloc: Global,
@@ -42,7 +44,8 @@ pub fn done_in<D: Disk + Drop, Done: Drop, T: OfficeTask<Done>, W: Sink>(
     task: &T,
     out: &mut W,
 ) -> Ended<Result<Done, Fault>, FileLeft<D>>
-    // The output took what the task says before the files are closed, whatever the disk did.
+    // Where the files were opened, the output took what the task says, whatever the disk did; where
+    // they were refused, it took nothing.
     ensures ends { EndsOver (files_view D.Disk files) (task_work (T.effect task.now)
         (W.told out.old) (W.told out.new) (out.new ≡ out.old)) result }
     ensures clean { WasClean D.Disk files result }
@@ -58,8 +61,9 @@ pub fn done_in<D: Disk + Drop, Done: Drop, T: OfficeTask<Done>, W: Sink>(
     }
 }
 
-/// Answers the requests of the source over the tables in the two files, and closes them. What was
-/// answered stands in the files before that.
+/// Answers at most `max_requests` requests of the source over the tables in the two files, which
+/// are made where there are none, and closes the files. A change that was answered, and not by 503,
+/// stands in the files before they are closed.
 pub fn answered_in<D: Disk + Drop, R: Source, W: Sink>(
     alloc: Global,
     files: Files<D>,
@@ -84,8 +88,9 @@ pub fn answered_in<D: Disk + Drop, R: Source, W: Sink>(
     }
 }
 
-/// The end of work over a file. One that the store refused is noted: no write to it follows, so its
-/// lock may go with the reading.
+/// Gives back how work over the file at `path` ended. If the file was refused with `Store`, a note
+/// on standard error says what it holds. Reading it may give up its lock, which no write needs any
+/// more.
 fn noted<T, L>(rt: &HostRuntime, path: &str, ended: Ended<T, L>) -> Ended<T, L>
     ensures { result ≡ ended }
 {
@@ -95,15 +100,15 @@ fn noted<T, L>(rt: &HostRuntime, path: &str, ended: Ended<T, L>) -> Ended<T, L>
     ended
 }
 
-/// The tables of databases in files of the system, and the calls that were made. What a file held
-/// as it was opened is `Wary`'s: no clause ties that to the path.
+/// The opener of the offices in files of the system, with the calls that were made of it. `Wary`
+/// stands for what a file held as it was opened, which no clause ties to the path.
 #[derive(Drop)]
 pub struct TablesInFile {
     calls: Vec<Call>,
 }
 
 impl TablesInFile {
-    /// No call was made.
+    /// An opener that has noted no call yet. It will note calls in memory of `alloc`.
     pub fn new(alloc: Global) -> TablesInFile
         ensures { calls_of result.calls.items ≡ [] }
     {

@@ -8,18 +8,18 @@ use signal_office_faults::Fault;
 use sqlite::{Alter, Error, ErrorCode, FileStore, Leftover};
 use sqlite_disk::{Disk, Files};
 
-/// What is left of the two files of an office.
+/// What is left of the two files of an office after work, or after they were refused.
 pub enum FileLeft<D: Disk> {
     /// The files, closed: the log is copied into the database file.
     Closed(Files<D>),
-    /// The files, in which no database was opened.
+    /// What is left of files in which no database was opened.
     Unopened(Leftover<D>),
     /// The database, which is not closed: its connection, or its store.
     Database(Left<FileStore<D>>),
 }
 
 impl<D: Disk + Drop> FileLeft<D> {
-    /// The files, where they are closed. Anything else is let go.
+    /// The files, if they are closed. Anything else is let go.
     pub fn closed(self) -> Option<Files<D>>
         ensures { result ≡ closed_of self }
     {
@@ -29,7 +29,7 @@ impl<D: Disk + Drop> FileLeft<D> {
         }
     }
 
-    /// The database that was not closed: its connection, or its store. Anything else is let go.
+    /// The database, if it was not closed: its connection, or its store. Anything else is let go.
     pub fn database(self) -> Option<Left<FileStore<D>>>
         ensures { result ≡ database_of self }
     {
@@ -43,7 +43,7 @@ impl<D: Disk + Drop> FileLeft<D> {
 /// Lets go a database, or its store.
 fn let_go<S: Alter + Drop>(_left: Left<S>) {}
 
-// It is written out, so that a caller does not prove again how each part is dropped.
+// The drop is written out, so that a caller does not prove again how each part is dropped.
 impl<D: Disk + Drop> Drop for FileLeft<D> {
     fn drop(self) {
         match self {
@@ -54,10 +54,11 @@ impl<D: Disk + Drop> Drop for FileLeft<D> {
     }
 }
 
-/// Why a file was refused, and what is left of it.
+/// Why the files of an office were refused or not closed, and what is left of them.
 pub type Refused<D> = (Fault, FileLeft<D>);
 
-/// The fault that is reported of an error of the database.
+/// The fault that is reported of an error of the database: `Memory` if memory was refused, else
+/// `Store`.
 pub(crate) fn fault_of_database(error: Error) -> Fault
     ensures { TellsError error result }
 {
@@ -67,7 +68,7 @@ pub(crate) fn fault_of_database(error: Error) -> Fault
     }
 }
 
-/// The fault that is reported of tables that were refused.
+/// The fault that is reported of tables which were refused as they were opened or migrated.
 pub(crate) fn fault_of_opening(fault: OpenFault) -> Fault
     ensures { result ≡ told_of fault }
 {

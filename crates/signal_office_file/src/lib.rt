@@ -1,5 +1,7 @@
-//! The office over the tables of a file, opened, served and closed; and files of an older version,
-//! brought to today's. Each call takes the two files and gives back what is left of them.
+//! The office over the tables of a file: opened, used for a task or a stream of requests, closed,
+//! copied, and brought from version 1 to today's. A call takes the two files of an office, the log
+//! and the database file, and gives back what is left of them; `TablesInFile` opens those at a
+//! path.
 #![tactic(auto)]
 
 mod copying;

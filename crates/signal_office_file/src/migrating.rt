@@ -1,4 +1,4 @@
-//! The tables of a file of an older version, brought to today's version.
+//! The tables of a file, brought from version 1 to today's version.
 
 ghost use Rattle.std.specs.Prelude.{◌≡◌};
 ghost use Rattle.signal_office_file.specs.Migrating.{told_of_outcome, MigratesFiles};
@@ -15,17 +15,19 @@ use sqlite::Options;
 use sqlite_disk::{Disk, Files};
 use std::alloc::Global;
 
-/// Brings the tables in the two files to today's version, which may be refused, and closes them, so
-/// that the log is copied. What is left of the files comes back with what came of it.
+/// Brings the tables in the two files from version 1 to today's, which may be refused, and closes
+/// the files, so that the log is copied. It gives how many rows were written anew (none if today's
+/// version was stored) or the fault, and what is left of the files.
 pub fn migrate_file<D: Disk + Drop>(
     alloc: Global,
     files: Files<D>,
     options: Options,
 ) -> Ended<Result<u128, Fault>, FileLeft<D>>
-    // Closed, they hold what became of their tables, with the count of what was written anew, or,
-    // where that was refused, their tables; else a stop leaves either. Done, the tables of an
-    // office of version 1 are its tables today: so the headline of `serve_file` holds of a run over
-    // the files that came back.
+    // On a clean disk, closed files hold what became of their tables, with the count of the rows
+    // that were written anew, or where that was refused, the tables as they were; of files that
+    // could not be closed a stop leaves either. Tables that stood for an office in version 1 stand
+    // for it today, once that was done: so the headline of `serve_file` holds of a run over the
+    // files that came back.
     ensures { MigratesFiles files result }
 {
     let mut conn = match database_in(alloc, files, options) {
@@ -40,7 +42,8 @@ pub fn migrate_file<D: Disk + Drop>(
     }
 }
 
-/// What came of a migration: how many rows were written anew.
+/// How many rows a migration wrote anew, of `timing` and of `draft` together, or the fault that is
+/// reported of it.
 fn rows_written(outcome: Result<Migrated, OpenFault>) -> Result<u128, Fault>
     ensures { result ≡ told_of_outcome outcome }
 {

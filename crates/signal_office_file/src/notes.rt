@@ -1,15 +1,16 @@
-//! What is said on standard error, beside the fault, of a file that can't be opened. A note that
-//! can't be written is passed over.
+//! What is said on standard error, beside the fault, of a file in which no office can be opened,
+//! and of one that another run has open. A note that can't be written is passed over.
 
 use sqlite_std_file::OpenError;
 use std::fs::{self, File};
 use std::io::{self, ErrorKind, Read, Write};
 use std::os::unix::fs::MetadataExt;
 
-/// The first bytes of each file that SQLite makes.
+/// The first 16 bytes of each database file of SQLite that is not empty.
 const HEAD: &[u8] = b"SQLite format 3\0";
 
-/// Says a line on standard error: a path between two texts.
+/// Says a line on standard error: `note: `, then a path, with its special characters escaped,
+/// between two texts.
 fn note(rt: &HostRuntime, before: &str, path: &str, after: &str) {
     let path = path.escape_debug();
     if let Ok(line) = format!(in rt.alloc(); "note: {before}{path}{after}\n") {
@@ -22,14 +23,15 @@ pub(crate) fn note_wait(rt: &HostRuntime, path: &str) {
     note(rt, "another run has ", path, " open; waiting");
 }
 
-/// Says why the system opens no file.
+/// Says with which error the system refuses to open or to read the file at a path.
 fn note_system(rt: &HostRuntime, path: &str, error: io::Error) {
     if let Ok(why) = format!(in rt.alloc(); ": {error}") {
         note(rt, "the system refuses ", path, why.as_str());
     }
 }
 
-/// What stands at a path where a file of one name is needed.
+/// What is wrong with what stands at a path where a plain file with one name is needed, as the end
+/// of a note.
 fn what_stands(rt: &HostRuntime, path: &str) -> &'static str {
     match fs::metadata(rt, path) {
         Ok(found) if found.is_dir() => " is a folder",
@@ -61,7 +63,7 @@ pub(crate) fn note_refusal(rt: &HostRuntime, path: &str, error: &OpenError, wait
     }
 }
 
-/// Says that SQLite takes a name for something else than a file.
+/// Says that SQLite takes a path for something else than the name of a file, and how to write it.
 pub(crate) fn note_name(rt: &HostRuntime, path: &str) {
     let named = path.escape_debug();
     if let Ok(after) = format!(in rt.alloc(); " names no file for SQLite; write ./{named}") {
@@ -69,7 +71,7 @@ pub(crate) fn note_name(rt: &HostRuntime, path: &str) {
     }
 }
 
-/// The first bytes of a file, as many as a head has, or all.
+/// The first 16 bytes of a file, or all that it has.
 fn first_bytes(rt: &HostRuntime, path: &str) -> io::Result<Vec<u8>> {
     let mut bytes = Vec::new(rt.alloc());
     File::open(rt, path)?
@@ -78,7 +80,8 @@ fn first_bytes(rt: &HostRuntime, path: &str) -> io::Result<Vec<u8>> {
     Ok(bytes)
 }
 
-/// Says what a file holds in which no office could be opened.
+/// Says what a file holds in which no office could be opened: nothing, a database or something
+/// else; or why it can't be read.
 pub(crate) fn note_content(rt: &HostRuntime, path: &str) {
     let bytes = match first_bytes(rt, path) {
         Ok(bytes) => bytes,

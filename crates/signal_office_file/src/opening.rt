@@ -21,8 +21,8 @@ use std::alloc::Global;
 /// An office over tables in files.
 pub type FileOffice<D> = Office<SqlShelf<FileStore<D>>>;
 
-/// The database in the two files, which is made where they are empty. Files of which a sync has
-/// failed are not used.
+/// The database in the two files, which is made where the database file is empty. Files of which a
+/// sync has failed are not used. A refusal is `Store` or `Memory`, with what is left of the files.
 pub(crate) fn database_in<D: Disk + Drop>(
     alloc: Global,
     files: Files<D>,
@@ -41,7 +41,7 @@ pub(crate) fn database_in<D: Disk + Drop>(
 }
 
 /// The office over the tables of a database that was just opened, whose rows are known to be in
-/// order. They are made where there are none.
+/// order. The tables are made where there are none. A refusal gives what is left of the database.
 fn office_over<S: Alter + Drop>(
     alloc: Global,
     conn: Connection<S>,
@@ -60,8 +60,10 @@ fn office_over<S: Alter + Drop>(
     }
 }
 
-/// The office over the tables in the two files, which are made where there are none. Where it
-/// refuses, what is left of the files comes back with the fault.
+/// The office over the tables in the two files, which are made where there are none. A refusal
+/// gives what is left of the files, with `Version` if another version is stored, `Damaged` if a
+/// table has a row and no version is stored, `Store` if the files or the database refused, or
+/// `Memory`.
 pub fn open_file<D: Disk + Drop>(
     alloc: Global,
     files: Files<D>,
@@ -79,7 +81,8 @@ pub fn open_file<D: Disk + Drop>(
     }
 }
 
-/// Closes a database, and gives its files back.
+/// Closes a database, so that its log is copied, and gives its files back. Where that fails, with
+/// `Store` or `Memory`, its store is left.
 pub(crate) fn close_file<D: Disk + Drop>(
     conn: Connection<FileStore<D>>,
 ) -> Result<Files<D>, Refused<D>>
@@ -91,10 +94,11 @@ pub(crate) fn close_file<D: Disk + Drop>(
     }
 }
 
-/// Closes the files of an office, and gives them back. They hold its tables then, as an opening
-/// finds them: the tables of an office, with today's version.
+/// Closes the files of an office, and gives them back: on a clean disk they then hold its tables,
+/// with today's version, as the next opening finds them. A fault is `Store` or `Memory`, with what
+/// is left of the files.
 pub fn close_office<D: Disk + Drop>(office: FileOffice<D>) -> Result<Files<D>, Refused<D>>
-    // Where that fails, a stop leaves no more of it than before.
+    // Where closing fails, a stop leaves no more of the database than before.
     ensures { ClosesOffice office.conn result }
 {
     close_file(office.into_shelf().into_file_conn())

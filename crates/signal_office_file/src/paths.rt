@@ -1,5 +1,5 @@
-//! The two files of an office at a path, opened at once, or as soon as no other run has them open,
-//! and the calls that were made of them.
+//! The two files of an office at a path, opened at once or, within the seconds of a call, as soon
+//! as no other run has them open; and the calls that asked for them.
 
 ghost use Rattle.std.specs.Prelude.{◌≡◌, IfOk, IfErr, ◌++◌, ◌∷◌, [], OnErr, OnOk, ◌<◌, ◌↔◌, IsTrue};
 ghost use Rattle.sqlite.specs.WalFiles.{image_at};
@@ -20,7 +20,8 @@ use std::io::ErrorKind;
 use std::thread;
 use std::time::Duration;
 
-/// The fault that is reported of files that were not opened.
+/// The fault that is reported of files that were not opened: `Memory` if memory was refused, else
+/// `Store`.
 fn fault_of_refusal(error: &OpenError) -> Fault
     ensures { IsStoreOrMemory result }
 {
@@ -31,9 +32,9 @@ fn fault_of_refusal(error: &OpenError) -> Fault
     }
 }
 
-/// The two files at a path, which are made where they are missing. Where another run has them open,
-/// they are tried again for so many seconds. `S` stands for what they held: no clause ties that to
-/// the path.
+/// The two files at a path, which are made where they are missing. While another run has them open,
+/// they are tried again for up to `wait` seconds. A path that SQLite takes for no name of a file is
+/// refused with `Store`. `S` stands for what the files held: no clause ties that to the path.
 fn pair_at<S: Begin>(rt: &HostRuntime, path: &str, wait: u32) -> Result<Files<FileFrom<S>>, Fault>
     ensures new { IfOk result (λ files.
         AreNew ⟦<FileFrom<S> as Disk>⟧ files (image_at S.Start)) }
@@ -53,7 +54,8 @@ fn pair_at<S: Begin>(rt: &HostRuntime, path: &str, wait: u32) -> Result<Files<Fi
     }
 }
 
-/// How a database in files is kept, with numbers of its log that are drawn at random.
+/// How a database in files is kept, with a random number for the salts of its log. Where the system
+/// gives none, the fault is `Store`.
 fn options(rt: &HostRuntime) -> Result<Options, Fault>
     ensures { IfErr result (λ fault. fault ≡ Fault.Store) }
 {
@@ -63,9 +65,9 @@ fn options(rt: &HostRuntime) -> Result<Options, Fault>
     }
 }
 
-/// The two files at a path, and how their database is kept. The call is noted before they are
-/// opened; where memory for that is refused, they are not. Where another run has them open, they
-/// are tried again for `wait` seconds.
+/// The two files at a path, and how their database is kept; a fault is `Store` or `Memory`. The
+/// call is noted before the files are opened; where memory for that is refused, they are not
+/// opened. While another run has them open, they are tried again for up to `wait` seconds.
 pub(crate) fn files_at<S: Begin>(
     rt: &HostRuntime,
     alloc: Global,
@@ -90,7 +92,8 @@ pub(crate) fn files_at<S: Begin>(
     Ok((files, options))
 }
 
-/// A call: the path, for how many seconds another run is waited for, and what is done.
+/// A call of an opener: the path, for how many seconds at most another run is waited for, and what
+/// is done.
 #[derive(Drop)]
 pub struct Call {
     path: String,
@@ -98,7 +101,7 @@ pub struct Call {
     kind: Kind,
 }
 
-/// Notes a call.
+/// Notes a call behind those that were noted. Where memory is refused, the list is as it was.
 #[tactic(auto, using(crate::proofs::CallsLemmas::one_more))]
 fn note(
     calls: &mut Vec<Call>,
@@ -116,14 +119,16 @@ fn note(
     Ok(())
 }
 
-/// How long a turn is, in milliseconds.
+/// How long a turn of waiting for another run is, in milliseconds.
 const TURN: u64 = 50;
 
-/// How many turns a second has.
+/// How many turns of waiting a second has.
 const TURNS_IN_A_SECOND: u64 = 20;
 
-/// What a file held as it was opened, of which a value can be had for each try.
+/// What files held as they were opened, as a `Start` of which a value can be made for each try to
+/// open them.
 pub trait Begin: Start {
+    /// A value for one try to open files.
     fn begin() -> Self;
 }
 
@@ -146,13 +151,14 @@ fn tries_again(error: &OpenError, left: u64) -> bool
     }
 }
 
-/// How many turns so many seconds have.
+/// How many turns of waiting so many seconds have.
 fn turns_in(seconds: u32) -> u64 {
     u64::from(seconds) * TURNS_IN_A_SECOND
 }
 
-/// The two files at a path, which are made where they are missing. Where another run has them open
-/// that is noted, and they are tried again, at most for so many turns.
+/// The two files at a path, which are made where they are missing. If another run has them open, a
+/// note says so once, and they are tried again, at most `turns` times. A refusal is that of the
+/// last try, with the turns that were left.
 fn open_in_turns<S: Begin>(
     rt: &HostRuntime,
     path: &str,

@@ -27,13 +27,13 @@ use sqlite::{Alter, Options};
 use sqlite_disk::{Disk, Files};
 use std::alloc::Global;
 
-/// An office that was served, and how the stream ended.
+/// An office that served a stream of requests, and how that ended.
 pub type ServedOffice<D> = (FileOffice<D>, Result<Served, ServeFault>);
 
-/// Serves the requests that the reader gives by the office over the tables in the two files, and
-/// gives the office back. The headline holds of it where the tables in the files stood for a sound
-/// office, and the disk has returned what was written. Where it answers a fault of its own, the
-/// files were refused, and nothing was read or written: what is left of them comes back.
+/// Serves at most `max_requests` requests that the reader gives, by the office over the tables in
+/// the two files, which are made where there are none, and gives the office back, not closed. An
+/// error is the fault with which the files were refused, `Version`, `Damaged`, `Store` or `Memory`,
+/// with what is left of them; then nothing was read from the reader or written to the writer.
 pub fn serve_file<D: Disk + Drop, R: Source, W: Sink>(
     alloc: Global,
     files: Files<D>,
@@ -42,14 +42,15 @@ pub fn serve_file<D: Disk + Drop, R: Source, W: Sink>(
     writer: &mut W,
     max_requests: u32,
 ) -> Result<ServedOffice<D>, Refused<D>>
-    // Nothing makes a disk clean again.
+    // A disk that is clean after the run, as it has returned what was written, was so before.
     ensures clean { IfOk result (λ served. HasCleanDisk (file_state served.0.conn) →
         AreClean D.Disk files.log files.db) }
-    // On a clean disk, whether or not a failure shut the database: the bytes answered are those of
-    // the office machine, run over the requests of the bytes read, from the office for which stood
-    // what the files held; the tables that are kept stand for the office after them; a crash leaves
-    // the office after the last request that was answered and changed rows, or after a later one;
-    // and the run keeps the laws of the office.
+    // The headline. On a clean disk, whether or not a failure shut the database, and where the
+    // tables in the files stood for a sound office: the bytes answered are those of the office
+    // machine, run from that office over the requests of the bytes read; the tables that are kept
+    // stand for the office after them; a crash leaves the office after the last request that
+    // changed it and was not answered 503, or after a later one that was; and the run keeps the
+    // laws of the office.
     ensures did { IfOk result (λ served. HasCleanDisk (file_state served.0.conn) →
         (held : Content) × HoldIn (image_of D.Disk files) held
         × ((before : OfficeState) → StandForSound held before → (after : OfficeState)
@@ -58,14 +59,15 @@ pub fn serve_file<D: Disk + Drop, R: Source, W: Sink>(
         (ends_of (R.told reader.new) (W.told writer.new)) served.1)) }
     // Today's version is stored, also in whatever a crash may leave.
     ensures current { IfOk result (λ served. IsCurrent (file_state served.0.conn)) }
-    // Read and Write are answered only where that end told a fault.
+    // `Read` and `Write` are told only if a call of that end failed, or the writer took no byte.
     ensures fault { IfOk result (λ served. TellsFault
         (ends_of (R.told reader.old) (W.told writer.old))
         (ends_of (R.told reader.new) (W.told writer.new)) served.1) }
     ensures refused { IfErr result (λ e. RefusedFiles files e.0 e.1) }
     ensures untouched { IfErr result (λ _.
         (reader.new ≡ reader.old) × (writer.new ≡ writer.old)) }
-    // The reader is called only while a request is awaited, and so often at most.
+    // The reader is called only while a request is awaited, and in all at most once for each byte
+    // that `max_requests` requests and one more can have, and once more.
     ensures asks { OnlyAsks R.told max_requests reader.old reader.new }
     ensures reads { (R.told reader.new).counts.calls
         ≤ (R.told reader.old).counts.calls + longest_request * (max_requests + 1) + 1 }
@@ -76,7 +78,8 @@ pub fn serve_file<D: Disk + Drop, R: Source, W: Sink>(
     }
 }
 
-/// Serves the requests that the reader gives by an office over tables in SQL, and gives it back.
+/// Serves at most `max_requests` requests that the reader gives, by an office over tables in SQL,
+/// and gives the office back, with how the stream ended.
 fn serve_over<S: Alter, R: Source, W: Sink>(
     alloc: Global,
     mut office: Office<SqlShelf<S>>,
@@ -86,7 +89,8 @@ fn serve_over<S: Alter, R: Source, W: Sink>(
 ) -> (Office<SqlShelf<S>>, Result<Served, ServeFault>)
     ensures clean { HasCleanDisk (state S.Store result.0.conn)
         → HasCleanDisk (state S.Store office.conn) }
-    // What `serve` says, of an office that served nothing before.
+    // On a clean disk, of an office that was just opened over files and wrote no row yet: the
+    // answers are those of the office machine, from the sound office for which its tables stood.
     ensures did { HasCleanDisk (state S.Store result.0.conn) →
         (image : Image) → AreOpenedIn (state S.Store) image office → (before : OfficeState) →
         StandForSound (content_now (state S.Store office.conn)) before → (after : OfficeState)

@@ -6,25 +6,27 @@ use Rattle.signal_office_in_file.specs.declared.Ended.{Ended}
 use Rattle.signal_office_in_file.specs.declared.Ended.TheVariants.{Unopened}
 use Rattle.signal_office_in_file.specs.declared.Kind.{Kind}
 
--- a call: the path, for how many seconds another run is waited for, and what is done
+-- a call of an opener of files: the bytes of the path, for how many seconds at most it waits while another run has the file open,
+-- and what it does
 pub record FileCall : Type 0 where
   pub path : List ℕ
   pub wait : ℕ
   pub kind : Kind
 
--- the call of a kind at a path
+-- a call of a kind at a path, with the seconds that it waits at most
 abbrev pub called : (path : List ℕ) → (wait : ℕ) → Kind → FileCall
 called path wait kind = record { path = path; wait = wait; kind = kind }
 
--- a call was made; or it was not, and this is so
+-- the call was noted behind the others; or none was noted, and `unmade` is so
 abbrev pub IsCalled : (old new : List FileCall) → FileCall → (unmade : Type 0) → Type 0
 IsCalled old new call unmade = (new ≡ old ++ call ∷ []) ⊎ ((new ≡ old) × unmade)
 
--- how work ends whose call could not be noted
+-- how work ends whose call could not be noted: the file was not opened, since memory was refused
 abbrev pub unmade : {T Left : Type 0} → Ended T Left
 unmade = Unopened fault.Memory
 
--- these calls were made; or none, and a fault is reported; where there are none to be made, none was
+-- all these calls were noted, in their order, behind the others; or none was, and the result is a fault; where there are none to
+-- note, none was noted, whatever the result
 abbrev pub AreCalled : {T : Type 0} → (old new calls : List FileCall) → Result T Fault → Type 0
 AreCalled old new [] result = new ≡ old
 AreCalled old new (call ∷ calls) result = (new ≡ old ++ call ∷ calls) ⊎ ((new ≡ old) × (why : Fault) × (result ≡ Err why))

@@ -20,49 +20,55 @@ use Rattle.office_tables_shelf.specs.declared.shelf.Shelf.{Ghosts}
 abbrev pub LeavesAlone : {S : Type 0} → Ghosts S → S → Content → Type 0
 LeavesAlone g shelf tables = (found : Content) → g.may_leave shelf found → found ≡ tables
 
--- Work was begun over tables that alone a stop left. On a clean disk a stop after it leaves these of them.
+-- On a clean disk: if before the work a stop could leave only the tables that the shelf held, a stop after it leaves only tables of which `Leaves`
+-- holds, begun over those.
 abbrev pub StopsWithin : {S : Type 0} → Ghosts S → (old new : S) → (Content → Content → Type 0) → Type 0
 StopsWithin g old new Leaves =
     TellsTables g old new (λ tables. LeavesAlone g old tables → (found : Content) → g.may_leave new found → Leaves tables found)
 
--- the tables as they were, or such as are left after a change
+-- the tables found are the old ones, or such as `After` lets a change of these leave
 abbrev pub SameOr : (Content → Content → Type 0) → Content → Content → Type 0
 SameOr After old found = (found ≡ old) ⊎ After old found
 
--- the tables stand for the office after the request's own step
+-- the tables stand for a sound office that the request's own step, with whichever answer, makes of the one before
 abbrev pub AfterStepOf : Office → PlainRequest → Content → Type 0
 AfterStepOf before request found =
     (answer : List ℕ) × (after : Office) × office_protocol.step before request answer after × StandForSound found after
 
--- the tables stand for the office after one of the requests, whether or not that was answered so; the requests before it were answered in turn
+-- the tables stand for the office after the own step of one of the requests, whatever was answered to it; those before it were answered in turn with
+-- these answers
 abbrev pub AfterRequest : Office → List PlainRequest → List (List ℕ) → Content → Type 0
 AfterRequest before (request ∷ requests) (answer ∷ answers) found =
     AfterStepOf before request found
     ⊎ ((middle : Office) × MayAnswer office_protocol before request answer middle × AfterRequest middle requests answers found)
 AfterRequest before _ _ found = ⊥
 
--- how tables store the office: by what they hold, and how often each was written to
+-- the office as stored in plain tables, with the count of row writes of each: whatever happens they hold it, and a stop leaves what they hold
 abbrev pub table_storage : Storage (Content × WriteCounts) Office Content
 table_storage = office_storage (λ _. ⊤) (λ held. held.0) (λ held. held.1) (λ held tables. tables ≡ held.0)
 
--- A stop leaves these tables after the requests: those after the last answer that was no 503, or after a later request that was answered 503.
+-- Tables that a stop may leave after the requests: those after the last request that changed them and was not answered 503 (the old ones, if there is
+-- none), or those that the step of a later request, which was answered 503, makes.
 pub record MayBeFound (old : Content) (before after : Office) (requests : List PlainRequest) (answers : List (List ℕ)) (found : Content) : Type 0 where
   pub kept : Content
   pub counts : WriteCounts
   pub leaves : Leaves office_protocol table_storage (λ tables. tables ≡ old) (record { state = before; kept = old; written = no_writes }) requests answers
       (λ left. left ≡ found) (record { state = after; kept = kept; written = counts })
 
--- the requests were run from the office, and a stop after them leaves these tables
+-- the requests were run from the office `before`, with these answers and by the laws of the office, and a stop after them may leave these tables
 pub record RunsToAStop (old : Content) (before after : Office) (found : Content) (requests : List PlainRequest) (answers : List (List ℕ)) : Type 0 where
   pub laws : KeepsLaws before requests answers after
   pub found_so : ∥ MayBeFound old before after requests answers found ∥₁
 
--- a stream was served to a stop that leaves these tables, from whichever office its tables stood for
+-- from whichever sound office the old tables stood for, a stream of at most `limit` requests was served between these moments of its ends, with this
+-- outcome, and a stop after it may leave the tables found
 abbrev pub IsServedToAStop : ℕ → Ends → Ends → Content → Result Served ServeFault → Content → Type 0
 IsServedToAStop limit start end old outcome found =
     (before : Office) → StandForSound old before → (after : Office) × Did office_protocol (RunsToAStop old before after found) limit start end outcome
 
--- What a stop leaves of a stream. It was served from whichever office its tables stood for, and these are what its requests may leave.
+-- From whichever sound office the old tables stood for, a stream of at most `limit` requests was served with this outcome, and a stop leaves only
+-- tables that may be found after its requests. `leaves Such` says that a stop leaves only tables that are such; without a condition it holds even
+-- where the old tables stood for no office.
 abbrev pub AnswersToAStop : ℕ → Ends → Ends → Content → Result Served ServeFault → (leaves : (Content → Type 0) → Type 0) → Type 0
 AnswersToAStop limit start end old outcome leaves =
     leaves (λ _. ⊤) × ((before : Office) → StandForSound old before → (after : Office)

@@ -1,5 +1,5 @@
-//! How the office of a file is opened, used and closed again: what the program's jobs ask for, and
-//! what the tables of a file give. Neither side knows the other.
+//! The traits between the program's jobs and the office of a file: a task that a job has done by an
+//! office, and the opener that opens, uses and closes a file. Neither side knows the other.
 #![tactic(auto)]
 
 ghost use Rattle.std.specs.Prelude.{◌≡◌};
@@ -12,22 +12,24 @@ use office_tables_shelf::shelf::Shelf;
 use signal_office_faults::Fault;
 use std::alloc::Global;
 
-/// How work over the tables of a file ended. What is left of the file comes with it.
+/// How work over a file ended: `T` is what came of the work, `L` what is left of the file.
 #[derive(Drop)]
 pub enum Ended<T, L> {
-    /// The system did not open the file.
+    /// The file was not opened for the work, of which nothing was done. The fault is `Store` or
+    /// `Memory`.
     Unopened(Fault),
-    /// The file was refused, and nothing was done.
+    /// The file was opened and refused, and no work was done: why, and what is left of it.
     Refused(Fault, L),
-    /// The work was done, and the file closed.
+    /// The file was closed. What came of the work may be a fault of its own.
     Closed(T, L),
-    /// The file could not be closed. A fault of the work comes first.
+    /// The file could not be closed. The fault is that of the work, if it had one, or else that of
+    /// closing.
     Unclosed(Fault, L),
 }
 
 impl<T, L: Drop> Ended<T, L> {
-    /// What came of the work, where the file was closed after it, or why not. What is left of the
-    /// file is let go.
+    /// What came of the work, if the file was closed; else the fault with which it was not opened,
+    /// refused or not closed. What is left of the file is let go.
     pub fn told(self) -> Result<T, Fault>
         ensures { result ≡ told_by self }
     {
@@ -40,39 +42,43 @@ impl<T, L: Drop> Ended<T, L> {
     }
 }
 
-/// What is done over a file.
+/// What a call does over a file.
 #[derive(Clone, Copy)]
 pub enum Kind {
-    /// A task that leaves its tables as they were.
+    /// A task that leaves the tables as they were.
     Look,
-    /// A task that may change them.
+    /// A task that may change the tables.
     Change,
-    /// Requests that are answered.
+    /// The requests of a stream are answered.
     Requests,
-    /// They are brought to today's version.
+    /// The tables are brought to today's version.
     Migration,
-    /// Its bytes are copied.
+    /// The bytes of the file are copied to an output.
     Copy,
 }
 
-/// What an office over any tables does, and gives.
+/// A task that an office does, over whichever tables. It may write to an output, and gives a `Done`
+/// or a fault.
 pub trait OfficeTask<Done> {
     ghost use Rattle.std.specs.Prelude.{◌≡◌};
     ghost use Rattle.signal_office_in_file.specs.Ended.{Effect};
     ghost use Rattle.signal_office_in_file.specs.Doing.{DoesTask, IsLook, KeepsTables};
     ghost use Rattle.signal_office_in_file.specs.declared.Kind.{Kind};
 
-    // What it does to the tables of an office and to its output.
+    // What the task does to the tables of an office, what a stop may leave of them, and what it
+    // writes.
     ghost effect: { Self → Effect Done };
 
-    // Whether it looks at them, or changes them.
+    // Which kind of work the task is.
     ghost kind: { Self → Kind };
 
-    /// Whether it looks at the tables, or changes them.
+    /// The kind under which a call of the task is noted. It is `Look` only if the task leaves the
+    /// tables as they were.
     fn call_kind(&self) -> Kind
         ensures { result ≡ kind self.now };
 
-    /// Does it by an office, which is given back.
+    /// Does the task by an office, and gives the office back, with what the task gave or the fault
+    /// that ended it. What the task writes goes to `out`.
     fn done_with<S: Shelf, W: Sink>(
         &self,
         rt: &HostRuntime,
@@ -83,13 +89,14 @@ pub trait OfficeTask<Done> {
         ensures { DoesTask S.Shelf office result.0 (effect self.now) result.1
             (W.told out.old) (W.told out.new) };
 
-    // What only looks leaves the tables as they were.
+    // A task of the kind `Look` leaves the tables as they were.
     ghost keeps: { (it : Self) → IsLook (kind it) → KeepsTables (effect it) };
 }
 
-/// The opener of the offices of files: how each is opened, used and closed again. The jobs know no
-/// database. Each call is noted before the file is opened; where memory for that is refused, it is
-/// not made. Where another run has the file open, each tries again to open it for `wait` seconds.
+/// The opener of the offices of files: a call opens the file at `path`, does its work and closes
+/// the file. While another run has the file open, the call tries for up to `wait` seconds to open
+/// it. Each call is noted first; where memory for that is refused, it ends as
+/// `Unopened(Fault::Memory)`.
 pub trait OfficeInFile {
     ghost use Rattle.std.specs.Prelude.{◌≡◌, List, Err};
     ghost use Rattle.office_http_framing.specs.Serve.{ends_of};
@@ -97,16 +104,17 @@ pub trait OfficeInFile {
     ghost use Rattle.signal_office_in_file.specs.Ended.{EndsOver, FileView, IsCounted, copy_work, stream_work, task_work};
     ghost use Rattle.signal_office_in_file.specs.declared.Kind.TheVariants as kind;
 
-    /// What is left of the file.
+    /// What is left of a file after a call.
     type Left: Drop;
 
-    // What is known of the file, and of what is left of it.
+    // What is known of a file that a call opens, and of what is left of it.
     ghost known: { FileView Self.Left };
 
-    // The calls that were made, in their order.
+    // The calls that were noted, in their order.
     ghost calls: { Self → List FileCall };
 
-    /// Does a task over the tables of a file, which are made where there are none.
+    /// Does a task over the tables of the file at `path`, which are made where there are none. The
+    /// task writes to `out`.
     fn do_task<Done: Drop, T: OfficeTask<Done>, W: Sink>(
         &mut self,
         rt: &HostRuntime,
@@ -121,7 +129,8 @@ pub trait OfficeInFile {
         ensures noted { IsCalled (calls self.old) (calls self.new)
             (called path.now wait (T.kind task.now)) (result ≡ unmade) };
 
-    /// Answers the requests of the source over the tables of a file.
+    /// Answers at most `max_requests` requests of the source over the tables of the file at `path`,
+    /// which are made where there are none. The answers go to `out`.
     fn answer<R: Source, W: Sink>(
         &mut self,
         rt: &HostRuntime,
@@ -139,7 +148,8 @@ pub trait OfficeInFile {
         ensures noted { IsCalled (calls self.old) (calls self.new)
             (called path.now wait kind.Requests) (result ≡ unmade) };
 
-    /// Brings the tables of a file to today's version, and gives how many rows were written anew.
+    /// Brings the tables of the file at `path` to today's version, and gives how many rows were
+    /// written anew. With a fault, the tables of a file that was closed are as they were.
     fn migrate(
         &mut self,
         rt: &HostRuntime,
@@ -151,7 +161,10 @@ pub trait OfficeInFile {
         ensures noted { IsCalled (calls self.old) (calls self.new)
             (called path.now wait kind.Migration) (result ≡ unmade) };
 
-    /// Copies the log of a file into it, and then the file's bytes into the output.
+    /// Opens the office in the file at `path` and closes it, so that its log is copied into the
+    /// file, and then writes the bytes of the file to `out`. The copy of a closed file fails with
+    /// `Store` if the file is not read, `Memory` before any byte is written, or `Write` if `out`
+    /// fails or takes no byte.
     fn copy<W: Sink>(
         &mut self,
         rt: &HostRuntime,
