@@ -16,37 +16,37 @@ use Rattle.signal_office_faults.specs.Done.{Printed, shows}
 use Rattle.signal_office_faults.specs.declared.fault.Fault.{Fault}
 use Rattle.signal_office_faults.specs.declared.fault.Fault.TheVariants as told
 
--- On a clean disk a stop leaves what it could before, or such tables, made of those that an open database held.
+-- On a clean disk a stop leaves only what it could leave before, or tables that are After those that an open database held before.
 abbrev pub StopLeaves : {S : Type 0} → Ghosts S → (old new : S) → (Content → Content → Type 0) → Type 0
 StopLeaves g old new After =
     TellsTables g old new (λ tables. (found : Content) → g.may_leave new found → g.may_leave old found ⊎ After tables found)
 
--- An office was changed: nothing makes a disk clean again, or an office honest; on a clean disk its tables were made so of those that an open database held; and a stop
--- leaves those, or such.
+-- An office was changed: nothing makes a disk clean again, or opens a database that a failure had shut; on a clean disk the tables are Made of those that an open
+-- database held before; and a stop leaves what it could leave before, or tables that are After those.
 pub record ChangesShelf {S : Type 0} (g : Ghosts S) (old new : S) (Made After : Content → Content → Type 0) : Type 0 where
   pub clean : g.is_clean new → g.is_clean old
   pub honest : g.is_honest new → g.is_honest old
   pub makes : MakesTables g old new Made
   pub stop : StopLeaves g old new After
 
--- tables after the own step of one of the commands, whether or not it was answered; those before it were run in turn
+-- tables after the own step of one of the commands, whether or not it was answered; the commands before that one were answered in turn
 abbrev pub AfterOneOf : List Command → Content → Content → Type 0
 AfterOneOf [] old found = ⊥
 AfterOneOf (asked ∷ more) old found =
     StandsAfterStep old asked found
     ⊎ ((given : Reply) × (middle : Content) × AnswersAny old asked given middle × AfterOneOf more middle found)
 
--- tables after the own step of a command
+-- tables after the own step of a command, whether or not it was answered
 abbrev pub AfterStep : Command → Content → Content → Type 0
 AfterStep asked old found = StandsAfterStep old asked found
 
 -- ---- one command
 
--- the line that tells how many records of an import were new, and how many were there
+-- the line that tells how many records of an import were new, and how many were there: `added 5, same 2`
 abbrev pub imported_line : (added same : ℕ) → List ℕ
 imported_line added same = codes "added " ++ decimal added ++ codes ", same " ++ decimal same ++ codes "\n"
 
--- what is printed of the reply to a command that adds, imports or drops
+-- what is printed of the reply to a command that adds, imports or drops; any other reply is the fault Store
 abbrev pub line_of_reply : Reply → Result Printed Fault
 line_of_reply reply.Added = Ok (shows (codes "added\n"))
 line_of_reply reply.Same = Ok (shows (codes "same\n"))
@@ -54,7 +54,7 @@ line_of_reply (reply.Imported added same) = Ok (shows (imported_line added same)
 line_of_reply (reply.Moved revision state verdict) = Ok (shows (codes "abandoned\n"))
 line_of_reply other = Err told.Store
 
--- A command was run, and its reply is told.
+-- A command was run, and its reply is told, or the fault for which it was refused.
 abbrev pub RunsCommand : Command → Content → Content → Result Printed Fault → Type 0
 RunsCommand asked old new result = Makes line_of_reply (asked ∷ []) old new result
 
@@ -62,7 +62,7 @@ RunsCommand asked old new result = Makes line_of_reply (asked ∷ []) old new re
 abbrev pub Changes : Command → Content → Content → Result Printed Fault → Type 0
 Changes asked old new result = RunsCommand asked old new result ⊎ ((result ≡ Err told.Memory) × (new ≡ old))
 
--- All records of a file were imported; or they were not read, and nothing was changed.
+-- The records of a file were read, and the import of all of them was run and told; or why they were not read is told, and nothing was changed.
 abbrev pub Imports : (csv : List ℕ) → Content → Content → Result Printed Fault → Type 0
 Imports csv old new result =
     ((records : List RecordCommand) × (commands_of csv ≡ Ok records) × RunsCommand (command.Import records) old new result)

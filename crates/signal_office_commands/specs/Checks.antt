@@ -13,16 +13,16 @@ use Rattle.signal_office_faults.specs.Done.{Printed, shows_with}
 use Rattle.signal_office_faults.specs.declared.fault.Fault.{Fault}
 use Rattle.signal_office_faults.specs.declared.fault.Fault.TheVariants as fault
 
--- the fault of a check that the office refused
+-- the fault of a check that the office refused: a damaged row, or else Store
 abbrev pub check_fault : Refusal → Fault
 check_fault refusal.Damaged = fault.Damaged
 check_fault why = fault.Store
 
--- the status of records that were tried: 1 where one would be refused
+-- the status of records that were tried: 1 where one would be refused, else 0
 abbrev pub refused_status : (refused : ℕ) → ℕ
 refused_status refused = if refused == 0 then 0 else 1
 
--- what is printed of records that were tried
+-- what is printed of records that were tried, which begin on these lines of a file, and the status
 abbrev pub checks_told : (lines : List ℕ) → List Checked → Printed
 checks_told lines all = shows_with (checks_text lines all (counts_of all)) (refused_status (counts_of all).refused)
 

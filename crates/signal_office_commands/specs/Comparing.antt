@@ -12,18 +12,20 @@ use Rattle.signal_office_faults.specs.declared.fault.Fault.TheVariants as told
 use Rattle.signal_office_queries.specs.Comparison.{Compares}
 use Rattle.signal_records.specs.TimingSet.{Rows}
 
--- the first bad record of the second file is reported as that
+-- the first bad record of the second of two files is reported as one of the other file
 abbrev pub IsOtherUnread : {A : Type 0} → Result A CsvFault → Fault → Type 0
 IsOtherUnread read fault =
     (bad : BadRow) × (fault ≡ told.OtherCsv bad) × (read ≡ Err (file.Row bad))
 
--- the first bad record of the first file; that of the second only where the first spells a plan
+-- the first bad record of the first file is reported, or want of memory as it was read; that of the
+-- second file only where the first spells a plan
 abbrev pub IsFirstBad : (first second : List ℕ) → Fault → Type 0
 IsFirstBad first second why =
     IsUnread (changes_of first) why
     ⊎ ((before : Rows) × IsPlan first before × IsOtherUnread (changes_of second) why)
 
--- what the plans of two files differ in is told, or the first bad record
+-- what the plans of two files differ in is told; or the first bad record, or that memory was
+-- refused
 abbrev pub ComparesFiles : (csv : Bool) → (first second : List ℕ) → Result Printed Fault → Type 0
 ComparesFiles csv first second (Ok it) =
     (before : Rows) × (after : Rows) × IsPlan first before × IsPlan second after × Compares csv before after it

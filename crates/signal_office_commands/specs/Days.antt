@@ -9,7 +9,7 @@ use Rattle.signal_office_queries.specs.Comparison.{IsUnread}
 use Rattle.signal_office_faults.specs.declared.fault.Fault.{Fault}
 use Rattle.signal_office_faults.specs.declared.fault.Fault.TheVariants as fault
 
--- the day of a record; a used part has none
+-- the day of a record, in days after 1970-01-01; a used part has none
 abbrev pub record_day : RecordCommand → Option ℕ
 record_day (Inspect id inspection) = Some inspection.day
 record_day (OpenOrder id opening) = Some opening.day
@@ -17,15 +17,16 @@ record_day (UsePart id line) = None
 record_day (CloseOrder id order closing) = Some closing.day
 record_day (Receive delivery) = Some delivery.day
 
--- it is later than this one
+-- the record has a day that is later than this one
 abbrev pub is_late : (until : ℕ) → RecordCommand → Bool
 is_late until c = option_map_or (nat_lt until) (record_day c) false
 
--- the first record that is, counted from 1
+-- the number of the first record with a day later than this one, counted from 1
 abbrev pub first_late : (until : ℕ) → List RecordCommand → Option ℕ
 first_late until records = option_map (λ index. index + 1) (position (is_late until) records)
 
--- No record of the file is of a later day than one that is given; or the first that is, is reported; or why they are not looked at. Without a day nothing is looked at.
+-- Where a day is given, no record of the file is of a later one; or the first that is, is reported by its number; or why the file is not read. Without a day nothing is
+-- read.
 abbrev pub AreInTime : (until : Option ℕ) → (csv : List ℕ) → Result ⊤ Fault → Type 0
 AreInTime None csv result = result ≡ Ok tt
 AreInTime (Some until) csv (Ok tt) = (records : List RecordCommand) × (commands_of csv ≡ Ok records) × (first_late until records ≡ None)

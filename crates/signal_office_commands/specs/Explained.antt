@@ -18,12 +18,12 @@ use Rattle.signal_office_queries.specs.declared.seen.Seen.{Seen}
 
 -- ---- the record of a plan's CSV file that spells nothing
 
--- a bad record on a line, with the hint on it, if there is one
+-- a bad record with its line and a hint at what is wrong there; without a hint the bad record alone
 abbrev pub with_hint : BadRow → (line : ℕ) → Option Hint → Fault
 with_hint bad line (Some hint) = fault.Explained bad line hint
 with_hint bad line None = fault.Csv (file.Row bad)
 
--- a bad record is reported with its line, and what is wrong there; each other fault as it is
+-- a bad record is reported with its line and what is wrong there, if there is a hint at that; each other fault as it is
 abbrev pub explained_file : (csv lines : List ℕ) → Fault → Fault
 explained_file csv lines (fault.Csv (file.Row bad)) = with_hint bad (line_of_record lines bad.at) (hint_of csv bad)
 explained_file csv lines why = why
@@ -38,7 +38,7 @@ IsFileExplained csv lines why told = (told ≡ explained_file csv lines why) ⊎
 abbrev pub not_owner : Fault
 not_owner = fault.Refused (refusal.Draft draft.NotOwner)
 
--- the owner of a draft is reported, or that it is another clerk where the office shows none
+-- the owner of a draft is reported; or, where the office shows none, that the clerk is not its owner
 abbrev pub TellsOwner : (owner : Option (List ℕ)) → Fault → Type 0
 TellsOwner (Some owner) told = (clerk : ArrayString 40) × (clerk.bytes ≡ owner) × (told ≡ fault.HeldBy clerk)
 TellsOwner None told = told ≡ not_owner
@@ -56,12 +56,13 @@ IsOwnerTold tables id told =
 
 -- ---- an edit that is refused
 
--- the fault of an edit is explained: another owner by name, a bad record with its line and what is wrong there
+-- the fault of an edit is explained: another owner by name, a bad record with its line and what is wrong there; each other fault stays; or memory
+-- for that is refused
 abbrev pub IsEditExplained : (csv lines : List ℕ) → (id : ℕ) → Content → (why told : Fault) → Type 0
 IsEditExplained csv lines id tables (fault.Refused (refusal.Draft draft.NotOwner)) told = IsOwnerTold tables id told
 IsEditExplained csv lines id tables why told = IsFileExplained csv lines why told
 
--- a refused edit is reported, with its explanation where that is asked
+-- the fault of a refused edit is reported, and explained where that is asked for
 abbrev pub IsEditRefused : (explain : Bool) → (csv lines : List ℕ) → (id : ℕ) → Content → (why told : Fault) → Type 0
 IsEditRefused true csv lines id tables why told = IsEditExplained csv lines id tables why told
 IsEditRefused false csv lines id tables why told = told ≡ why

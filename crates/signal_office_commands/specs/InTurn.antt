@@ -14,32 +14,34 @@ use Rattle.signal_office_faults.specs.declared.fault.Fault.{Fault}
 use Rattle.signal_office_queries.specs.Refused.{fault_of}
 use Rattle.signal_office_queries.specs.Parts.{◌>>=◌}
 
--- The office answered one command. A row that the command reads and that is no record was reported, and none was passed over.
+-- The office answered one command, whichever sound office the tables stood for. Damaged is replied only where a row that the command reads is no record, and where one
+-- is, the command is refused.
 pub record Answered (old : Content) (asked : Command) (given : Reply) (new : Content) : Type 0 where
   pub step : AnswersAny old asked given new
   pub damaged : given ≡ reply.Refused refusal.Damaged → MeetsDamage old asked
   pub turned_away : MeetsDamage old asked → IsTurnedAway asked given
 
--- the refusal says that a step of the transaction is not due: one is under way, or its draft was not handed over, or not checked
+-- the refusal says that a step of a transaction is not due: to begin one, where one is under way; to check its draft, where that was not handed over; or to open the
+-- draft again, where it was not checked
 abbrev pub is_not_due : Command → Refusal → Bool
 is_not_due (command.Begin id clerk) (refusal.Draft NotNormal) = true
 is_not_due (command.Check id clerk) (refusal.Draft NotVerify) = true
 is_not_due (command.Reopen id clerk) (refusal.Draft NotDone) = true
 is_not_due asked why = false
 
--- a refusal ends a run of commands, but for one that says that the step is not due
+-- a refusal ends a run of commands with its fault, but for one that says that the step is not due
 abbrev pub passed : Command → Reply → Result Unit Fault
 passed asked (reply.Refused why) = if is_not_due asked why then Ok tt else Err (fault_of why)
 passed asked other = Ok tt
 
--- A RUN: each command was answered over the tables that the one before it left. The last reply comes of it, where there is no command the one that was there before; or the
--- fault of the first command that was refused, after which none was run.
+-- A RUN: each command was answered over the tables that the one before it left. It gives the last reply, and without a command the one that is handed in; or the fault
+-- of the first command that was refused, but not because its step was not due, after which none was run.
 abbrev pub RunsInTurn : (last : Reply) → List Command → Content → Content → Result Reply Fault → Type 0
 RunsInTurn last [] old new result = (new ≡ old) × (result ≡ Ok last)
 RunsInTurn last (asked ∷ more) old new result =
     (given : Reply) × (middle : Content) × Answered old asked given middle
     × MatchResult (passed asked given) (λ _. RunsInTurn given more middle new result) (λ why. (new ≡ middle) × (result ≡ Err why))
 
--- commands were run, and this is made of the last reply, or why they ended
+-- commands were run in turn, and this is made of the last reply; or it is the fault with which the run ended
 abbrev pub Makes : {A : Type 0} → (made : Reply → Result A Fault) → List Command → Content → Content → Result A Fault → Type 0
 Makes made commands old new result = (last : Result Reply Fault) × RunsInTurn reply.Same commands old new last × (result ≡ (last >>= made))

@@ -19,14 +19,14 @@ use Rattle.signal_rules.specs.Lookup.{pattern_at}
 use Rattle.signal_rules.specs.Violations.{reasons_of, violations_of}
 use Rattle.signal_rules.specs.declared.violation.Violation.{Violation}
 
--- this is told, or memory for it was refused
+-- this is what is printed, with its status; or memory for it was refused
 abbrev pub TellsAs : Printed → Result Printed Fault → Type 0
 TellsAs it (Ok done) = done ≡ it
 TellsAs it (Err why) = why ≡ told.Memory
 
 -- ---- remarks
 
--- the rules that a plan breaks; or those with their reasons
+-- the text of the rules that a plan breaks; where reasons are asked for, with them, as the plan's rows give them
 abbrev pub broken_text : (explain : Bool) → Rows → List Violation → List ℕ
 broken_text true set violations = explained_text_of (reasons_of set)
 broken_text false set violations = violations_text violations
@@ -35,18 +35,19 @@ broken_text false set violations = violations_text violations
 abbrev pub advice_lines : Rows → List ℕ
 advice_lines set = warnings_text_of (warnings_of set)
 
--- the rules that a plan breaks, and behind them its warnings where they are asked
+-- the text of the rules that a plan breaks, with reasons where they are asked for, and behind it a line for each warning where those are
 abbrev pub remarks_text : (explain advise : Bool) → Rows → List Violation → List ℕ
 remarks_text explain true set violations = broken_text explain set violations ++ advice_lines set
 remarks_text explain false set violations = broken_text explain set violations
 
--- the status of a plan that was checked: 3 where it breaks a rule
+-- the status of a plan that was checked: 3 where it breaks a rule, else 0
 abbrev pub checked_status : List Violation → ℕ
 checked_status violations = if length violations == 0 then 0 else 3
 
 -- ---- the plan in a CSV file
 
--- what is shown of a plan: its remarks, with the status whether it breaks a rule; the picture of a pattern, or that it lacks the pattern; its page
+-- what is shown of a plan: its remarks, with status 3 if it breaks a rule; the picture of a pattern, or the fault that it lacks the pattern; its
+-- page. Or memory was refused.
 abbrev pub ShowsOf : PlanShown → Rows → Result Printed Fault → Type 0
 ShowsOf (plan.Violations explain advise) set result =
     TellsAs (shows_with (remarks_text explain advise set (violations_of set)) (checked_status (violations_of set))) result
@@ -55,7 +56,7 @@ ShowsOf (plan.Diagram pattern) set (Err why) = (why ≡ told.Memory) ⊎ ((patte
 ShowsOf plan.Page set (Ok it) = IsPlanPage set it.text × (it.status ≡ 0)
 ShowsOf plan.Page set (Err why) = why ≡ told.Memory
 
--- why a file shows no plan: where reasons are asked for, a bad record is reported with its line and what is wrong there
+-- why a file shows no plan: its first bad record, or want of memory. Where rules are shown with reasons, a bad record is explained.
 abbrev pub ShowsNone : PlanShown → (csv lines : List ℕ) → Fault → Type 0
 ShowsNone (plan.Violations true advise) csv lines why = (unread : Fault) × IsUnread (changes_of csv) unread × IsFileExplained csv lines unread why
 ShowsNone other csv lines why = IsUnread (changes_of csv) why

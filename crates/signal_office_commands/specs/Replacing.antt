@@ -13,31 +13,32 @@ use Rattle.signal_office_commands.specs.declared.revising.Revised.TheVariants.{S
 use Rattle.signal_records.specs.TimingSet.{Rows, after_changes}
 use Rattle.signal_records.specs.declared.record.Change.{Change}
 
--- the draft as a set, where a clerk holds one
+-- the rows of the draft, where a clerk holds one
 abbrev pub draft_set : TimingSide → Option Rows
 draft_set side = option_map (λ (d : Draft). d.set) side.draft
 
--- what a transaction goes on with
+-- the rows that a transaction goes on with: the draft, or the committed set where there is none
 abbrev pub base_at : TimingSide → Rows
 base_at side = base_from side.committed (draft_set side)
 
--- the plan that a file asks for: its own, where it is the whole plan; else what it makes of what stood
+-- the plan that a file asks for by its changes: what they make of no rows, where the file is the whole plan; else what they make of the rows that
+-- stood
 abbrev pub plan_wanted : (replace : Bool) → Rows → List Change → Rows
 plan_wanted true base asked = after_changes empty asked
 plan_wanted false base asked = after_changes base asked
 
--- the plan that is left: the draft that stays open, or the committed set
+-- the plan that a revision leaves in an intersection: the draft, if that is told to stay open; else the committed set
 abbrev pub plan_left : Revised → TimingSide → Option Rows
 plan_left (Open draft) side = draft_set side
 plan_left other side = Some side.committed
 
--- the draft that was shown has these rows
+-- a draft that is told, as open or committed, has these rows
 abbrev pub HasShownRows : Revised → Rows → Type 0
 HasShownRows Same set = ⊤
 HasShownRows (Open draft) set = draft.rows ≡ set
 HasShownRows (Committed draft) set = draft.rows ≡ set
 
--- the draft would be the committed set
+-- it is told that the draft would be the committed set
 abbrev pub is_same : Revised → Bool
 is_same Same = true
 is_same other = false
@@ -47,7 +48,8 @@ abbrev pub TellsNoChange : (commit : Bool) → (committed wanted : Rows) → (to
 TellsNoChange false committed wanted told = told ≡ false
 TellsNoChange true committed wanted told = TellsSame committed wanted told
 
--- of one office: what its intersection had, and has after it
+-- For one office that the old tables stood for: the file spells changes; the edit's intersection is there before and after it, in an office that the
+-- new tables stand for; the plan that is left is the one asked for; a draft that is told has its rows; and whether nothing changes is told rightly.
 pub record LeftPlan (bytes : List ℕ) (edit : Edit) (before : Office) (new : Content) (done : Revised) : Type 0 where
   pub asked : List Change
   pub spelled : changes_of bytes ≡ Ok asked

@@ -39,43 +39,45 @@ abbrev pub committing : (commit same : Bool) → ℕ → List ℕ → List Comma
 committing true false id clerk = command.Verify id clerk ∷ command.Check id clerk ∷ command.Commit id clerk ∷ []
 committing commit same id clerk = []
 
--- the draft that was shown
+-- the draft that was shown; any other reply is the fault Store
 abbrev pub drafted : Reply → Result OpenDraft Fault
 drafted (reply.Draft draft) = Ok draft
 drafted other = Err told.Store
 
--- the commands that are run after those that showed the draft: none where it breaks a rule
+-- the commands that are run after a draft was shown with these violations: none where it breaks a rule
 abbrev pub commands_due : List Violation → (more : List Command) → List Command
 commands_due [] more = more
 commands_due (violation ∷ others) more = []
 
 -- ---- what is reported
 
--- rows of the timing set were written, which a commit alone does
+-- rows of the timing set were written between two counts, which of the commands of an edit a commit alone does
 abbrev pub wrote_timing : (old new : WriteCounts) → Bool
 wrote_timing old new = not (count_of new table.Timing == count_of old table.Timing)
 
--- what became of a draft that was shown: it would be the committed set; or it is, where commands to commit it were run, and rows of it were written; else it stays open
+-- what became of a draft that was shown: it would be the committed set; or it stays open, where no command to commit it was run; or it was committed, if rows of the
+-- timing set were written, and if none were, the fault Store is told
 abbrev pub revised_by : (same wrote : Bool) → (committed : List Command) → OpenDraft → Result Revised Fault
 revised_by true wrote committed draft = Ok Same
 revised_by false wrote [] draft = Ok (Open draft)
 revised_by false true (asked ∷ more) draft = Ok (Committed draft)
 revised_by false false (asked ∷ more) draft = Err told.Store
 
--- the draft was changed and shown; now it is committed where it breaks no rule
+-- a draft was changed and shown, or else the fault is told and no more is run; more commands are run where it breaks no rule, and what became of it is told, or their
+-- fault
 abbrev pub CommitsDraft : (same wrote : Bool) → (more : List Command) → Result OpenDraft Fault → Content → Content → Result Revised Fault → Type 0
 CommitsDraft same wrote more (Err why) middle new result = (new ≡ middle) × (result ≡ Err why)
 CommitsDraft same wrote more (Ok draft) middle new result =
     (ended : Result Reply Fault) × RunsInTurn reply.Same (commands_due draft.violations more) middle new ended
     × (result ≡ (ended >>= λ _. revised_by same wrote (commands_due draft.violations more) draft))
 
--- the draft is changed, and then committed where that is due
+-- the commands of an edit are run: the draft is changed and shown, and committed where that is asked for and it breaks no rule
 abbrev pub Drafts : (wrote : Bool) → Revision → Content → Content → Result Revised Fault → Type 0
 Drafts wrote it old new result =
     (middle : Content) × (shown : Result OpenDraft Fault) × Makes drafted it.first.items old middle shown
     × CommitsDraft it.same wrote it.more.items shown middle new result
 
--- tables after one of the commands that change a draft; or, where they were run, after one of those that commit it where that is due
+-- tables after the own step of one of the commands that change a draft; or, where these were run and showed it, of one of those that commit it, where they are due
 abbrev pub AfterRevision : Revision → Content → Content → Type 0
 AfterRevision it old found =
     AfterOneOf it.first.items old found
@@ -84,7 +86,7 @@ AfterRevision it old found =
 
 -- ---- what an edit comes to
 
--- whether the draft would be the committed set, which is asked where a commit is
+-- the answer says whether these changes make the draft the committed set, where a commit is asked for; else it is no
 abbrev pub WouldBe : (commit : Bool) → StandingRows → List Change → (same : Bool) → Type 0
 WouldBe false standing changes same = same ≡ false
 WouldBe true standing changes same = TellsSame standing.committed (after_changes (base_of standing) changes) same
@@ -93,14 +95,14 @@ WouldBe true standing changes same = TellsSame standing.committed (after_changes
 abbrev pub is_idle : (same : Bool) → StandingRows → Bool
 is_idle same standing = same && is_none standing.draft
 
--- the commands are those of the edit, or there are none, where nothing is to be done
+-- the commands are those of the edit by these changes; or there are none, exactly where nothing is to be done
 abbrev pub Revises : (idle same : Bool) → Edit → List Change → Option Revision → Type 0
 Revises idle same edit changes None = idle ≡ true
 Revises idle same edit changes (Some it) =
     (idle ≡ false) × (it.first.items ≡ drafting edit.id edit.clerk changes)
     × (it.more.items ≡ committing edit.commit same edit.id edit.clerk) × (it.same ≡ same)
 
--- what an edit wants of what stands: the changes that were asked for, or those that make the plan of the file, and whether they make the committed set; and its commands
+-- what an edit comes to over what stands: changes, which are those of the file, or those that make its whole plan; whether they make the committed set; and the commands
 pub record IsRevision (edit : Edit) (standing : StandingRows) (asked : List Change) (it : Option Revision) : Type 0 where
   pub changes : List Change
   pub wanted : AreWanted edit.replace (base_of standing) asked changes
@@ -114,20 +116,20 @@ ComesTo bytes edit tables (Ok it) =
     (asked : List Change) × (changes_of bytes ≡ Ok asked) × (standing : StandingRows) × ShowsStanding tables edit.id standing × IsRevision edit standing asked it
 ComesTo bytes edit tables (Err why) = IsUnread (changes_of bytes) why ⊎ (IsNotStanding tables edit.id why ⊎ (why ≡ told.Memory))
 
--- nothing is done where the plan is as it stands, or the edit is not made; else the draft is changed
+-- what an edit came to is done: its commands are run; without commands the plan is told to be the committed set, and a fault is told, and nothing was changed
 abbrev pub EndsAs : (wrote : Bool) → Result (Option Revision) Fault → Content → Content → Result Revised Fault → Type 0
 EndsAs wrote (Ok (Some it)) old new result = Drafts wrote it old new result
 EndsAs wrote (Ok None) old new result = (result ≡ Ok Same) × (new ≡ old)
 EndsAs wrote (Err why) old new result = (result ≡ Err why) × (new ≡ old)
 
--- WHAT A FILE DOES TO A PLAN, where rows of its timing set were written or not
+-- WHAT A FILE DOES TO A PLAN, by whether rows of the timing set were written
 abbrev pub RevisesSo : (wrote : Bool) → (bytes : List ℕ) → Edit → Content → Content → Result Revised Fault → Type 0
 RevisesSo wrote bytes edit old new result = (found : Result (Option Revision) Fault) × ComesTo bytes edit old found × EndsAs wrote found old new result
 
--- what a file does to a plan, whichever rows were written
+-- what a file does to a plan, whether or not rows of the timing set were written
 abbrev pub RevisesAs : (bytes : List ℕ) → Edit → Content → Content → Result Revised Fault → Type 0
 RevisesAs bytes edit old new result = (wrote : Bool) × RevisesSo wrote bytes edit old new result
 
--- tables after a step of an edit by a file, or of its commit
+-- tables after the own step of one of the commands of an edit by a file, those of its commit among them
 abbrev pub AfterRevising : (bytes : List ℕ) → Edit → Content → Content → Type 0
 AfterRevising bytes edit old found = (it : Revision) × ComesTo bytes edit old (Ok (Some it)) × AfterRevision it old found

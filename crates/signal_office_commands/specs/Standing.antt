@@ -16,49 +16,51 @@ pub record StandingRows : Type 0 where
   pub committed : Rows
   pub draft : Option Rows
 
--- the rows of what is lent of it
+-- the rows of a standing plan, which lends its sets
 abbrev pub standing_rows : StandingPlan → StandingRows
 standing_rows standing = record { committed = standing.committed.now; draft = option_copied standing.draft }
 
--- the rows of what is lent, or the fault
+-- the rows of a standing plan, or the fault why there is none
 abbrev pub rows_in : Result StandingPlan Fault → Result StandingRows Fault
 rows_in (Ok standing) = Ok (standing_rows standing)
 rows_in (Err why) = Err why
 
--- what stands of a plan, by what a look at its committed set and at its draft saw; a draft that is not open is none
+-- what stands of a plan, by what a look at its committed set and then at its draft saw, or the fault of a refused
+-- one; where nobody holds a draft, there is none
 abbrev pub standing_seen : List Seen → Result StandingRows Fault
 standing_seen found = do
   runs ← timing_in (slice_get found 0)
   drafted ← open_draft_in (slice_get found 1)
   Ok (record { committed = runs.rows; draft = drafted })
 
--- what stands of a plan is what the office shows; or the fault is reported of the query that is refused
+-- what stands of an intersection's plan, as an office over these tables shows it; or the fault why it is not shown
 abbrev pub StandsAs : Content → ℕ → Result StandingRows Fault → Type 0
 StandsAs tables id result = IsMadeOfAnswers (query.Timing id ∷ query.Draft id ∷ []) (λ found it. it ≡ standing_seen found) tables result
 
--- this is what the office shows of a plan
+-- this stands of an intersection's plan, as an office over these tables shows it
 abbrev pub ShowsStanding : Content → ℕ → StandingRows → Type 0
 ShowsStanding tables id standing = StandsAs tables id (Ok standing)
 
--- this is why the office shows no plan
+-- this fault is why an office over these tables does not show what stands of an intersection's plan
 abbrev pub IsNotStanding : Content → ℕ → Fault → Type 0
 IsNotStanding tables id why = StandsAs tables id (Err why)
 
--- what a transaction goes on with: a draft, or the committed set where there is none
+-- the rows that a transaction goes on with: a draft, or the committed set where there is none
 abbrev pub base_from : Rows → Option Rows → Rows
 base_from committed None = committed
 base_from committed (Some draft) = draft
 
--- what a transaction goes on with, by what stands
+-- the rows that a transaction goes on with, by what stands: the draft, or the committed set where there is none
 abbrev pub base_of : StandingRows → Rows
 base_of standing = base_from standing.committed standing.draft
 
--- the changes that an edit makes of it: those of a file; or, where the file is the whole plan, such as make its plan
+-- the changes that an edit makes of the rows that a transaction goes on with: those of a file; or, where the file is
+-- the whole plan, such as make its plan
 abbrev pub AreWanted : (replace : Bool) → (base : Rows) → (asked wanted : List Change) → Type 0
 AreWanted false base asked wanted = wanted ≡ asked
 AreWanted true base asked wanted = after_changes base wanted ≡ after_changes empty asked
 
--- whether two sets are the same
+-- the answer says whether two sets are the same
 abbrev pub TellsSame : Rows → Rows → Bool → Type 0
 TellsSame first second true = first ≡ second
 TellsSame first second false = first ≢ second

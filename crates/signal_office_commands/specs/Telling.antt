@@ -5,12 +5,13 @@ use Rattle.office_http_framing.specs.Ends.{AppendsPart, FailsOrGivesNone, Told}
 use Rattle.signal_office_faults.specs.Lines.{line_text}
 use Rattle.signal_office_faults.specs.declared.fault.Fault.{Fault}
 
--- the output took the line, whole; or it failed or took no byte, and holds the line up to some place
+-- the output took the whole line; or a call of it failed or took no byte, and it took the line up to
+-- some place
 abbrev pub SaysLine : List ℕ → Told → Told → Type 0
 SaysLine line old new =
     Appends old.bytes new.bytes line
     ⊎ (AppendsPart old.bytes new.bytes line × FailsOrGivesNone old.counts new.counts)
 
--- the one line of the fault is said
+-- the one line of the fault is said, with a line feed, as far as the output takes it
 abbrev pub SaysFault : Fault → Told → Told → Type 0
 SaysFault why old new = SaysLine (line_text why ++ codes "\n") old new

@@ -20,7 +20,7 @@ use signal_office_line::Name;
 use signal_records::{InterId, Interval};
 use std::alloc::Global;
 
-/// Writes a number behind the line.
+/// Writes a number in decimal digits behind the line.
 fn push_number<N: Integer>(line: &mut ArrayString<LINE_ROOM>, number: N)
     requires { array_string_len line.old ≤ 56 }
     ensures bytes { line.new.bytes ≡ line.old.bytes ++ N.text number }
@@ -30,7 +30,8 @@ fn push_number<N: Integer>(line: &mut ArrayString<LINE_ROOM>, number: N)
     line.push_str(digits.format(number));
 }
 
-/// How many records of an import were new, and how many were there.
+/// The line that tells how many records of an import were new, and how many were there: `added 5,
+/// same 2`.
 fn imported_line(added: usize, same: usize) -> ArrayString<LINE_ROOM>
     ensures { result.bytes ≡ imported_line added same }
 {
@@ -43,7 +44,8 @@ fn imported_line(added: usize, same: usize) -> ArrayString<LINE_ROOM>
     line
 }
 
-/// What is printed of the reply to a command that adds, imports or drops. It needs no memory.
+/// What is printed of the reply to a command that adds, imports or drops, which needs no memory;
+/// any other reply is the fault `Store`.
 fn reply_line(reply: &Reply) -> Result<Done, Fault>
     ensures { came_to result ≡ line_of_reply reply.now }
 {
@@ -56,7 +58,7 @@ fn reply_line(reply: &Reply) -> Result<Done, Fault>
     }
 }
 
-/// Runs a command, and tells its reply.
+/// Runs a command, and tells its reply, or the fault for which it is refused.
 fn change<S: Shelf>(alloc: Global, office: &mut Office<S>, command: Command) -> Result<Done, Fault>
     ensures { ChangesShelf S.Shelf office.old office.new
         (λ old new. RunsCommand command old new (came_to result)) (AfterStep command) }
@@ -65,8 +67,8 @@ fn change<S: Shelf>(alloc: Global, office: &mut Office<S>, command: Command) -> 
     reply_line(&reply)
 }
 
-/// Adds an intersection. One that is there stays, and is told as the same where name and interval
-/// are; else it is refused. Out of memory is told only where nothing was changed.
+/// Adds an intersection. One that is there stays: if its name and interval are these it is told as
+/// the same, else the command is refused. Out of memory is told only where nothing was changed.
 pub fn add<S: Shelf>(
     alloc: Global,
     office: &mut Office<S>,

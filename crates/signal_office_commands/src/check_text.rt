@@ -1,4 +1,4 @@
-//! What is reported of records that would be refused.
+//! What is reported of records that were tried: those that would be refused, and how many.
 
 ghost use Rattle.std.specs.Prelude.{◌≡◌, ◌+◌, ◌++◌, OnOk, IfOk, string_bytes};
 ghost use Rattle.signal_office_commands.specs.Texts.{by_text, checked_line, checked_lines, checks_text, closed_text, order_text, there_text, refused_line, used_text};
@@ -12,7 +12,7 @@ use signal_records::{NoMemory, Words};
 use std::alloc::{AllocError, Global};
 use std::fmt::Write;
 
-/// Appends a day, a clerk and a text.
+/// Appends a day, a clerk and a text: `2026-03-01 Ana Fan cleaned`.
 fn push_by(
     text: &mut String,
     day: Day,
@@ -28,7 +28,7 @@ fn push_by(
     write!(text, " {clerk} {what}")
 }
 
-/// Appends how an order was closed, where it was.
+/// Appends how an order was closed, if it was: `, closed 2026-05-02 Bo`.
 fn push_closed(text: &mut String, closing: &Option<Closing>) -> Result<(), AllocError>
     ensures { OnOk result (string_bytes text.new ≡
         string_bytes text.old ++ closed_text closing.now) }
@@ -42,7 +42,7 @@ fn push_closed(text: &mut String, closing: &Option<Closing>) -> Result<(), Alloc
     write!(text, " {closer}")
 }
 
-/// Appends an order.
+/// Appends a work order: `2026-03-01 Ana Fan is loud, closed 2026-05-02 Bo`.
 fn push_order(text: &mut String, order: &Order) -> Result<(), AllocError>
     ensures { OnOk result (string_bytes text.new ≡ string_bytes text.old ++ order_text order.now) }
 {
@@ -50,7 +50,7 @@ fn push_order(text: &mut String, order: &Order) -> Result<(), AllocError>
     push_closed(text, &order.closing)
 }
 
-/// Appends a used line.
+/// Appends a used part that is there, and its pieces: `: there is RELAY 2`.
 fn push_used(text: &mut String, line: &UsedLine) -> Result<(), AllocError>
     ensures { OnOk result (string_bytes text.new ≡ string_bytes text.old ++ used_text line.now) }
 {
@@ -59,7 +59,8 @@ fn push_used(text: &mut String, line: &UsedLine) -> Result<(), AllocError>
     write!(text, ": there is {part} {count}")
 }
 
-/// Appends what is there.
+/// Appends what the register holds where it refuses a record: a record, or the pieces on hand, as
+/// `: RELAY, 2 on hand`; or nothing.
 fn push_there(text: &mut String, there: &There) -> Result<(), AllocError>
     ensures { OnOk result (string_bytes text.new ≡ string_bytes text.old ++ there_text there.now) }
 {
@@ -87,7 +88,7 @@ fn push_there(text: &mut String, there: &There) -> Result<(), AllocError>
     }
 }
 
-/// Appends the line of a refused record.
+/// Appends the line of a refused record: `record 5, line 6: NoStock: RELAY, 2 on hand`.
 fn push_refused(
     text: &mut String,
     at: usize,
@@ -104,7 +105,7 @@ fn push_refused(
     text.push_str("\n")
 }
 
-/// Appends the line of a record, where it is refused.
+/// Appends the line of a record that was tried, if it would be refused.
 fn push_checked(
     text: &mut String,
     at: usize,
@@ -120,7 +121,8 @@ fn push_checked(
     }
 }
 
-/// Appends the lines of the records that are refused, of which each has a line of the file.
+/// Appends a line for each record that would be refused, with its number, counted from 1, and the
+/// line of the file on which it begins, of `lines`.
 fn push_all(text: &mut String, lines: &[usize], all: &[Checked]) -> Result<(), AllocError>
     ensures { OnOk result (string_bytes text.new ≡
         string_bytes text.old ++ checked_lines 0 lines.now all.now) }
@@ -132,7 +134,7 @@ fn push_all(text: &mut String, lines: &[usize], all: &[Checked]) -> Result<(), A
 }
 
 /// A line for each record that would be refused, with its number, the line of the file on which it
-/// begins, the name of the refusal, and what is there; then how many of each kind they are.
+/// begins, the name of the refusal, and what is there; then a line with these counts.
 pub(crate) fn checks_text(
     alloc: Global,
     lines: &[usize],

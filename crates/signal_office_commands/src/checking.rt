@@ -22,7 +22,7 @@ use std::alloc::Global;
 /// The status where a record would be refused.
 const HAS_REFUSED: u8 = 1;
 
-/// The fault of a check that the office refused.
+/// The fault of a check that the office refused: a damaged row, or else `Store`.
 fn fault_told(refusal: Refusal) -> Fault
     ensures { result ≡ check_fault refusal }
 {
@@ -32,7 +32,8 @@ fn fault_told(refusal: Refusal) -> Fault
     }
 }
 
-/// What would come of records.
+/// What would come of each record, were they taken in turn. `Damaged` says that a row that one of
+/// them reads is no record, `Store` that memory or the database refused.
 fn checked<S: Shelf>(
     alloc: Global,
     office: &mut Office<S>,
@@ -52,8 +53,8 @@ fn checked<S: Shelf>(
     }
 }
 
-/// Tells each record that would be refused, and the counts. That any would be is told by the
-/// status.
+/// Tells each record that would be refused, and the counts. The status is 1 if any would be
+/// refused, else 0.
 fn tell_checked(alloc: Global, lines: &[usize], all: &[Checked]) -> Result<Done, Fault>
     ensures { TellsAs (checks_told lines.now all.now) (came_to result) }
 {
@@ -64,8 +65,9 @@ fn tell_checked(alloc: Global, lines: &[usize], all: &[Checked]) -> Result<Done,
 }
 
 /// Tries the records of a CSV file in turn, each after those before it that would be taken, and
-/// tells each that would be refused, with the line of the file on which it begins. Nothing is
-/// taken. The first record that spells nothing is reported.
+/// tells each that would be refused, with the line of the file on which it begins, of `lines`, and
+/// status 1. Nothing is taken. A fault is the first record that spells nothing, a row that a record
+/// reads and that is no record, or a refusal of memory or the database.
 pub fn check<S: Shelf>(
     alloc: Global,
     office: &mut Office<S>,

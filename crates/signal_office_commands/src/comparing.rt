@@ -26,8 +26,9 @@ fn other_plan(alloc: Global, bytes: &[u8]) -> Result<TimingSet, Fault>
     }
 }
 
-/// What the plans in two CSV files differ in, in the order of their keys, as a text or as CSV; or
-/// the first bad record. That of the second file is reported only where the first spells a plan.
+/// What the plans in two CSV files differ in, in the order of their keys, as a text or as CSV, with
+/// status 4 if there is a difference; or the first bad record, or that memory was refused. A bad
+/// record of the second file is reported only where the first file spells a plan.
 pub fn compare_files(alloc: Global, first: &[u8], second: &[u8], csv: bool) -> Result<Done, Fault>
     ensures { ComparesFiles csv first.now second.now (came_to result) }
 {

@@ -1,11 +1,11 @@
-//! How many records are of each kind.
+//! How many of the records that were tried are new, are there, and would be refused.
 
 ghost use Rattle.std.specs.Prelude.{◌≡◌};
 ghost use Rattle.signal_office_commands.specs.Texts.{counts_of};
 
 use office_desk::Checked;
 
-/// How many records would be new, are there, and would be refused.
+/// How many records would be added, are there already, and would be refused.
 #[derive(Clone, Copy)]
 pub(crate) struct Counts {
     pub(crate) added: usize,
@@ -13,7 +13,7 @@ pub(crate) struct Counts {
     pub(crate) refused: usize,
 }
 
-/// How many records are of each kind.
+/// Counts the records that were tried, by what would come of them.
 pub(crate) fn counts_of(all: &[Checked]) -> Counts
     ensures { result ≡ counts_of all.now }
 {

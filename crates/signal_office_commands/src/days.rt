@@ -22,7 +22,7 @@ fn record_day(record: &RecordCommand) -> Option<Day>
     }
 }
 
-/// Whether a record has a later day.
+/// Whether a record has a day later than `until`.
 fn is_late(until: Day, record: &RecordCommand) -> bool
     ensures { result ≡ is_late until record.now }
 {
@@ -32,7 +32,7 @@ fn is_late(until: Day, record: &RecordCommand) -> bool
     }
 }
 
-/// The place of the first record that has a later day.
+/// The place of the first record with a day later than `until`, counted from 0.
 fn late_place(until: Day, records: &[RecordCommand]) -> Option<usize>
     ensures found { result ≡ position (is_late until) records.now }
     ensures bound { IfSome result (λ index. index < length records.now) }
@@ -40,7 +40,7 @@ fn late_place(until: Day, records: &[RecordCommand]) -> Option<usize>
     records.iter().position(|record| is_late(until, record))
 }
 
-/// The first record that has a later day, counted from 1.
+/// The number of the first record with a day later than `until`, counted from 1.
 fn first_late(until: Day, records: &[RecordCommand]) -> Option<usize>
     ensures { result ≡ first_late until records.now }
 {
@@ -50,9 +50,9 @@ fn first_late(until: Day, records: &[RecordCommand]) -> Option<usize>
     }
 }
 
-/// Looks whether no record of a CSV file has a later day than one that is given; without that
-/// nothing is looked at. The first that has is told by its number, and so is the first that spells
-/// nothing.
+/// Checks that no record of a CSV file has a day later than `until`; without that day nothing is
+/// read. `Late` gives the number of the first record that has one, `Csv` the first that spells
+/// nothing, or that memory was refused.
 pub fn check_days(alloc: Global, csv: &[u8], until: Option<Day>) -> Result<(), Fault>
     ensures { AreInTime until csv.now result }
 {

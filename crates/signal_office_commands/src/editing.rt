@@ -20,14 +20,14 @@ use signal_rules::Violation;
 use std::alloc::Global;
 use std::fmt::Write;
 
-/// What is told of a commit that was asked for and not made.
+/// The line of a draft that was to be committed and stays open.
 const NOT_COMMITTED: &str =
     "not committed: the draft stays open; go on with edit, or drop it with abandon\n";
 
-/// What is told of a commit whose warnings memory was refused for.
+/// What is told of a draft that was committed, if memory for its warnings was refused.
 const UNREAD_WARNINGS: &str = "no violations\ncommitted\nits warnings could not be read\n";
 
-/// The line that a draft stays open: whose it is, or that it was to be committed.
+/// The line of a draft that stays open: that it was to be committed and was not; else whose it is.
 fn open_line(alloc: Global, commit: bool, clerk: &str) -> Result<String, NoMemory>
     ensures { IfOk result (λ line. string_bytes line ≡ open_line commit clerk.now) }
 {
@@ -44,7 +44,7 @@ fn open_line(alloc: Global, commit: bool, clerk: &str) -> Result<String, NoMemor
     Ok(line)
 }
 
-/// The status of a draft that stays open, and was to be committed or not.
+/// The status of a draft that stays open: 3 if it was to be committed and breaks a rule, else 0.
 fn open_status(commit: bool, violations: &[Violation]) -> u8
     ensures { result ≡ open_status commit violations.now }
 {
@@ -55,9 +55,9 @@ fn open_status(commit: bool, violations: &[Violation]) -> u8
     }
 }
 
-/// Tells of a draft that stays open: the rules that it breaks, its warnings where those are asked,
-/// and whose it is. A commit that was asked for and not made is told in place of that, and by the
-/// status.
+/// Tells of a draft that stays open: the rules that it breaks, its warnings where those are asked
+/// for, and whose it is; or, if it was to be committed, that it was not, with status 3 if it breaks
+/// a rule.
 fn tell_open(alloc: Global, edit: &Edit<'_>, draft: &OpenDraft) -> Result<Done, Fault>
     ensures { TellsAs (open_told edit.now draft.now) (came_to result) }
 {
@@ -69,7 +69,7 @@ fn tell_open(alloc: Global, edit: &Edit<'_>, draft: &OpenDraft) -> Result<Done, 
     Ok(Done::ending(text, open_status(edit.commit, violations)))
 }
 
-/// The text of a draft that was committed, with its warnings.
+/// What is told of a draft that was committed, with a line for each of its warnings.
 fn committed_text(alloc: Global, plan: &TimingSet) -> Result<Vec<u8>, NoMemory>
     ensures { IfOk result (λ text. text.items ≡ committed_text plan.now) }
 {
@@ -80,8 +80,8 @@ fn committed_text(alloc: Global, plan: &TimingSet) -> Result<Vec<u8>, NoMemory>
     Ok(text)
 }
 
-/// Tells of a draft that was committed; where its warnings are asked for and memory is refused for
-/// them, that.
+/// Tells that a draft was committed, with its warnings if those are asked for; or, if memory for
+/// these is refused, that they could not be read.
 fn tell_committed(alloc: Global, plan: &TimingSet, advise: bool) -> Done
     ensures { TellsCommitted advise plan.now (output_of result) }
 {
@@ -94,7 +94,7 @@ fn tell_committed(alloc: Global, plan: &TimingSet, advise: bool) -> Done
     }
 }
 
-/// Tells what became of a draft.
+/// Tells what became of a draft. Only of one that stays open may it fail, for want of memory.
 fn tell_revised(alloc: Global, edit: &Edit<'_>, revised: &Revised) -> Result<Done, Fault>
     ensures { TellsRevised edit.now revised.now (came_to result) }
 {
@@ -106,8 +106,8 @@ fn tell_revised(alloc: Global, edit: &Edit<'_>, revised: &Revised) -> Result<Don
 }
 
 /// Edits the draft of an intersection by a plan's CSV file, whose records begin on these lines, and
-/// commits it where that is asked; tells what became of it, or why the edit is refused. Once it was
-/// committed, no want of memory is told as a fault.
+/// commits it if that is asked for and it breaks no rule; tells what became of the draft, or why
+/// the edit is refused. Once the draft was committed, no want of memory is told as a fault.
 pub fn edit<S: Shelf>(
     alloc: Global,
     office: &mut Office<S>,

@@ -20,7 +20,8 @@ use signal_office_queries::{Query, Seen, look, state_in};
 use signal_records::{InterId, Words};
 use std::alloc::Global;
 
-/// A bad record on a line, with the hint on it, if there is one.
+/// A bad record with its line and a hint at what is wrong there; without a hint the bad record
+/// alone.
 fn with_hint(bad: BadRow, line: usize, hint: Option<Hint>) -> Fault
     ensures { result ≡ with_hint bad line hint }
 {
@@ -30,7 +31,8 @@ fn with_hint(bad: BadRow, line: usize, hint: Option<Hint>) -> Fault
     }
 }
 
-/// A bad record of a plan's CSV file, with its line and what is wrong there.
+/// A bad record of a plan's CSV file, with its line and what is wrong there, if there is a hint at
+/// that; or `Memory`, where memory for the hint is refused.
 fn explained_row(alloc: Global, csv: &[u8], lines: &[usize], bad: BadRow) -> Fault
     ensures { IsFileExplained csv.now lines.now (fault.Csv (file.Row bad)) result }
 {
@@ -40,7 +42,8 @@ fn explained_row(alloc: Global, csv: &[u8], lines: &[usize], bad: BadRow) -> Fau
     }
 }
 
-/// Why a plan's CSV file is not taken: of a bad record also its line, and what is wrong there.
+/// Why a plan's CSV file is not taken: of a bad record also its line, of `lines`, and what is wrong
+/// there; any other fault as it is.
 pub(crate) fn explained_file(alloc: Global, csv: &[u8], lines: &[usize], why: Fault) -> Fault
     ensures { IsFileExplained csv.now lines.now why result }
 {
@@ -59,7 +62,7 @@ fn name_of(clerk: &Words<40>) -> ArrayString<40>
     name
 }
 
-/// Tells the clerk who owns a draft.
+/// Tells the clerk who owns a draft; without one, that the clerk of the edit does not own it.
 fn held_by(owner: &Option<Words<40>>) -> Fault
     ensures { TellsOwner owner.now result }
 {
@@ -69,7 +72,8 @@ fn held_by(owner: &Option<Words<40>>) -> Fault
     }
 }
 
-/// Tells the clerk who owns the draft of an intersection, as it was seen.
+/// Tells the clerk who owns the draft of an intersection, by what a look at its state saw; or why
+/// that was refused.
 fn owner_in(seen: &[Seen]) -> Fault
     ensures { TellsOwnerIn (state_in (slice_get seen.now 0)) result }
 {
@@ -79,7 +83,8 @@ fn owner_in(seen: &[Seen]) -> Fault
     }
 }
 
-/// Tells the clerk who owns the draft of an intersection.
+/// Tells the clerk who owns the draft of an intersection, by a look at the office; or why that is
+/// refused.
 fn owner_told<S: Shelf>(alloc: Global, office: &mut Office<S>, id: InterId) -> Fault
     ensures { OnlyLooks S.Shelf office.old office.new (λ tables. IsOwnerTold tables id result) }
 {
@@ -89,7 +94,8 @@ fn owner_told<S: Shelf>(alloc: Global, office: &mut Office<S>, id: InterId) -> F
     }
 }
 
-/// Why an edit is refused, with more than its line.
+/// Why an edit is refused, with an explanation: who owns the draft, or the line of a bad record and
+/// what is wrong there; any other fault as it is.
 fn explained_edit<S: Shelf>(
     alloc: Global,
     office: &mut Office<S>,
@@ -107,7 +113,7 @@ fn explained_edit<S: Shelf>(
     }
 }
 
-/// Why an edit is refused, with more where that is asked.
+/// Why an edit is refused, explained if the edit asks for that.
 pub(crate) fn refused_edit<S: Shelf>(
     alloc: Global,
     office: &mut Office<S>,

@@ -14,8 +14,9 @@ use signal_office_faults::Fault;
 use signal_office_queries::fault_of;
 use std::alloc::Global;
 
-/// Whether a refusal says that a step of the transaction is not due: one is under way, or its draft
-/// was not handed over, or not checked.
+/// Whether a refusal says that a step of a transaction is not due: to begin one, where one is under
+/// way; to check its draft, where that was not handed over; or to open the draft again, where it
+/// was not checked.
 fn is_not_due(command: &Command, refusal: Refusal) -> bool
     ensures { result ≡ is_not_due command.now refusal }
 {
@@ -30,7 +31,8 @@ fn is_not_due(command: &Command, refusal: Refusal) -> bool
     }
 }
 
-/// Whether the next command may be run after a reply, or why not.
+/// Whether the next command may be run after a reply: any but a refusal, or a refusal that says
+/// that the step is not due. Else the fault.
 fn passed(command: &Command, reply: &Reply) -> Result<(), Fault>
     ensures { result ≡ passed command.now reply.now }
 {
@@ -41,8 +43,9 @@ fn passed(command: &Command, reply: &Reply) -> Result<(), Fault>
     }
 }
 
-/// Runs commands in turn, up to the first that is refused, and gives the reply to the last one;
-/// where there is none, the one that is handed in.
+/// Runs commands in turn, and gives the reply to the last one, or without commands the one that is
+/// handed in; or the fault of the first command that was refused, after which none is run. A step
+/// that is not due is passed over.
 pub(crate) fn run_in_turn<S: Shelf>(
     alloc: Global,
     office: &mut Office<S>,

@@ -1,6 +1,5 @@
-//! The commands of the program, over any office: what is brought in, or tried before it is; plans
-//! that are edited; and plans in CSV files, shown and compared. Each gives what is printed of it,
-//! and its status.
+//! The commands of the program that change an office or try records on it, and those that show or
+//! compare plans in CSV files. Each gives what is printed of it and its status, or a fault.
 #![tactic(auto)]
 
 mod changing;

@@ -12,7 +12,7 @@ use std::alloc::Global;
 /// The status where a plan that is checked, or is to be committed, breaks a rule.
 const HAS_VIOLATIONS: u8 = 3;
 
-/// The status of a plan that was checked.
+/// The status of a plan that was checked: 3 if it breaks a rule, else 0.
 pub(crate) fn checked_status(violations: &[Violation]) -> u8
     ensures { result ≡ checked_status violations.now }
 {
@@ -23,7 +23,8 @@ pub(crate) fn checked_status(violations: &[Violation]) -> u8
     }
 }
 
-/// The rules that a plan breaks, with their reasons where that is asked.
+/// The text of the rules that a plan breaks; with their reasons, found in the plan, where those are
+/// asked for.
 fn broken_text(
     alloc: Global,
     plan: &TimingSet,
@@ -46,8 +47,8 @@ pub(crate) fn advice_text(alloc: Global, plan: &TimingSet) -> Result<Vec<u8>, No
     warnings_text(alloc, &warnings(alloc, plan)?)
 }
 
-/// The rules that a plan breaks, with their reasons where that is asked; and behind them its
-/// warnings where those are.
+/// The text of the rules that a plan breaks, with their reasons where those are asked for, and
+/// behind it a line for each warning where those are.
 pub(crate) fn remarks_text(
     alloc: Global,
     plan: &TimingSet,

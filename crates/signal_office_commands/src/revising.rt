@@ -29,22 +29,23 @@ use std::alloc::Global;
 /// What came of a plan that was revised, with the draft as the office showed it.
 #[derive(Drop)]
 pub enum Revised {
-    /// It would be the committed set, so nothing was committed, nor begun.
+    /// A commit was asked for, and the draft would be the committed set: nothing was committed, and
+    /// no transaction begun for it.
     Same,
-    /// It stays open.
+    /// The draft stays open: no commit was asked for, or it breaks a rule.
     Open(OpenDraft),
-    /// It is the committed set.
+    /// The draft was committed.
     Committed(OpenDraft),
 }
 
 /// The commands of an edit, made before the first is run.
 #[derive(Drop)]
 struct Revision {
-    /// Those that change the draft and show it.
+    /// The commands that change the draft and show it.
     first: Vec<Command>,
-    /// Those that commit it, where that is asked and would change what is committed.
+    /// The commands that commit the draft, if that is asked for and would change the committed set.
     more: Vec<Command>,
-    /// The draft would be the committed set.
+    /// A commit is asked for, and the draft would be the committed set.
     same: bool,
 }
 
@@ -72,8 +73,8 @@ fn drafting(
     ]?)
 }
 
-/// The commands that hand a draft over, check it and make it the committed set, where a commit is
-/// asked for and the draft would not be that set.
+/// The commands that hand a draft over, check it and make it the committed set, if a commit is
+/// asked for and the draft would not be that set; else none.
 fn committing(
     alloc: Global,
     id: InterId,
@@ -94,7 +95,7 @@ fn committing(
     ]?)
 }
 
-/// Whether the draft would be the committed set, which is asked where a commit is.
+/// Whether these changes make the draft the committed set, if a commit is asked for; else no.
 fn would_be(
     alloc: Global,
     standing: &StandingPlan<'_>,
@@ -109,8 +110,8 @@ fn would_be(
     standing.stays_with(alloc, changes)
 }
 
-/// The commands that change what stands, by the changes of a file; none where nothing is to be
-/// done.
+/// The commands that change what stands, by the changes of a file; `None` says that nothing is to
+/// be done: the plan would be the committed set, and nobody holds a draft.
 fn revision_of(
     alloc: Global,
     edit: &Edit<'_>,
@@ -130,7 +131,7 @@ fn revision_of(
     Ok(Some(Revision { first, more, same }))
 }
 
-/// The draft that was shown.
+/// The draft that was shown; any other reply is the fault `Store`.
 fn drafted(reply: Reply) -> Result<OpenDraft, Fault>
     ensures { result ≡ drafted reply }
 {
@@ -140,7 +141,8 @@ fn drafted(reply: Reply) -> Result<OpenDraft, Fault>
     }
 }
 
-/// The commands that are run after those that showed the draft: none where it breaks a rule.
+/// The commands that are run after a draft was shown with these violations: none if it breaks a
+/// rule.
 fn commands_due<'a>(violations: &[Violation], more: &'a [Command]) -> &'a [Command]
     ensures { result.now ≡ commands_due violations.now more.now }
 {
@@ -150,8 +152,9 @@ fn commands_due<'a>(violations: &[Violation], more: &'a [Command]) -> &'a [Comma
     }
 }
 
-/// What became of a draft, by the commands that were run to commit it, and whether they wrote rows
-/// of it. Where they wrote none it is not committed, whatever they were answered.
+/// What became of a draft, by the commands that were run to commit it, and whether rows of the
+/// timing set were written. If such commands were run and no row was written, the fault is `Store`,
+/// whatever the replies said.
 fn revised_by(
     same: bool,
     wrote: bool,
@@ -171,7 +174,9 @@ fn revised_by(
     }
 }
 
-/// The commands of an edit by the records of a CSV file, of what stands. The office is as it was.
+/// The commands of an edit by the records of a CSV file, over what stands of the plan; `None` says
+/// that nothing is to be done. A fault is the first bad record, a refused look, or want of memory.
+/// The office is only looked at.
 fn revision_in<S: Shelf>(
     alloc: Global,
     office: &mut Office<S>,
@@ -202,7 +207,8 @@ fn has_risen(before: u64, after: u64) -> bool
     after != before
 }
 
-/// Changes the draft, and shows it.
+/// Runs the commands that change a draft and show it, and gives the draft that was shown; or the
+/// fault of the first command that was refused.
 fn show_draft<S: Shelf>(
     alloc: Global,
     office: &mut Office<S>,
@@ -215,7 +221,8 @@ fn show_draft<S: Shelf>(
     drafted(reply)
 }
 
-/// Changes the draft, and commits it where that is due.
+/// Runs the commands of an edit: changes the draft, and commits it if that is asked for and it
+/// breaks no rule. A fault is that of the first command that was refused, or `Store`.
 fn run_revision<S: Shelf>(
     alloc: Global,
     office: &mut Office<S>,
@@ -235,10 +242,11 @@ fn run_revision<S: Shelf>(
 
 /// Revises the plan of an intersection by the records of a CSV file, in a transaction of a clerk:
 /// one that is begun, or that clerk's own, which is opened again where its draft was handed over or
-/// checked. The draft is what the records make of it; or, where the file is the whole plan, that
-/// plan. It stays open; but where a commit is asked for and it breaks no rule, it is committed. One
-/// that would be the committed set is not committed, and none is begun for it. Out of memory is
-/// told only where nothing was changed.
+/// checked. The draft becomes what the records make of it, or with `replace` the plan of the file
+/// alone. It stays open; but if a commit is asked for and it breaks no rule, it is committed. Where
+/// a commit would change nothing, none is made, and no transaction is begun for it. A fault is the
+/// first bad record, or why a look or a command was refused; out of memory is told only where
+/// nothing was changed.
 pub fn revise_plan<S: Shelf>(
     alloc: Global,
     office: &mut Office<S>,
@@ -247,7 +255,7 @@ pub fn revise_plan<S: Shelf>(
 ) -> Result<Revised, Fault>
     ensures revises { MakesTables S.Shelf office.old office.new
         (λ old new. RevisesAs bytes.now edit.now old new result) }
-    // It is reported as committed only where rows of the timing set were written.
+    // The draft is reported as committed only where rows of the timing set were written.
     ensures writes { ChangesShelf S.Shelf office.old office.new (λ old new. RevisesSo
         (wrote_timing (S.written office.old) (S.written office.new)) bytes.now edit.now old new
         result) (AfterRevising bytes.now edit.now) }

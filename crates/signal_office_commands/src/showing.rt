@@ -16,7 +16,8 @@ use signal_records::{PatternNo, TimingSet};
 use signal_rules::violations;
 use std::alloc::Global;
 
-/// The rules that a plan breaks, and its warnings where those are asked.
+/// The rules that a plan breaks, with reasons where those are asked for, and its warnings where
+/// those are; the status is 3 if it breaks a rule, else 0.
 fn show_remarks(alloc: Global, plan: &TimingSet, explain: bool, advise: bool) -> Result<Done, Fault>
     ensures { ShowsOf (PlanShown.Violations explain advise) plan.now (came_to result) }
 {
@@ -25,7 +26,7 @@ fn show_remarks(alloc: Global, plan: &TimingSet, explain: bool, advise: bool) ->
     Ok(Done::ending(text, checked_status(&broken)))
 }
 
-/// The picture of a pattern, which the plan has to have.
+/// The picture of a pattern of a plan; `UnknownPattern` says that the plan does not have it.
 fn draw(alloc: Global, plan: &TimingSet, pattern: PatternNo) -> Result<Done, Fault>
     ensures { ShowsOf (PlanShown.Diagram pattern) plan.now (came_to result) }
 {
@@ -35,7 +36,8 @@ fn draw(alloc: Global, plan: &TimingSet, pattern: PatternNo) -> Result<Done, Fau
     }
 }
 
-/// What is shown of a plan.
+/// What is shown of a plan: what breaks rules or is warned of, the picture of a pattern, or its
+/// page.
 fn show(alloc: Global, plan: &TimingSet, shown: PlanShown) -> Result<Done, Fault>
     ensures { ShowsOf shown plan.now (came_to result) }
 {
@@ -46,8 +48,8 @@ fn show(alloc: Global, plan: &TimingSet, shown: PlanShown) -> Result<Done, Fault
     }
 }
 
-/// Why the file of a plan is not taken: where reasons are asked for, a bad record is told with its
-/// line and what is wrong there.
+/// Why the file of a plan is not taken. Where rules are shown with reasons, a bad record is told
+/// with its line and what is wrong there.
 fn refused_plan(alloc: Global, csv: &[u8], lines: &[usize], shown: PlanShown, why: Fault) -> Fault
     ensures { IsUnread (changes_of csv.now) why → ShowsNone shown csv.now lines.now result }
 {
@@ -57,8 +59,9 @@ fn refused_plan(alloc: Global, csv: &[u8], lines: &[usize], shown: PlanShown, wh
     }
 }
 
-/// Shows the plan in a CSV file, whose records begin on these lines; or reports its first bad
-/// record, with its line where reasons are asked for.
+/// Shows the plan in a CSV file, whose records begin on these lines, with status 3 if its rules are
+/// shown and it breaks one. A fault is its first bad record, explained where rules are shown with
+/// reasons; a pattern that the plan lacks; or want of memory.
 pub fn show_plan(
     alloc: Global,
     csv: &[u8],

@@ -17,7 +17,8 @@ pub(crate) struct StandingPlan<'a> {
     draft: Option<&'a TimingSet>,
 }
 
-/// What stands of a plan, as it was seen.
+/// What stands of a plan, by what a look at its committed set and then at its draft saw, or the
+/// fault of a refused one; where nobody holds a draft, there is none.
 pub(crate) fn standing_seen(seen: &[Seen]) -> Result<StandingPlan<'_>, Fault>
     ensures { rows_in result ≡ standing_seen seen.now }
 {
@@ -27,7 +28,7 @@ pub(crate) fn standing_seen(seen: &[Seen]) -> Result<StandingPlan<'_>, Fault>
     })
 }
 
-/// Whether two sets differ nowhere.
+/// Whether there are no differences between two sets.
 fn are_none(differences: &[Difference]) -> bool
     ensures { result ≡ (length differences.now == 0) }
 {
@@ -39,7 +40,8 @@ impl StandingPlan<'_> {
     ghost use Rattle.signal_office_commands.specs.Standing.{AreWanted, TellsSame, base_of, standing_rows};
     ghost use Rattle.signal_records.specs.TimingSet.{after_changes};
 
-    /// What a transaction goes on with: the draft, or the committed set where there is none.
+    /// The rows that a transaction goes on with: the draft, or the committed set where there is
+    /// none.
     fn base(&self) -> &TimingSet
         ensures { result.now ≡ base_of (standing_rows self.now) }
     {
@@ -49,8 +51,8 @@ impl StandingPlan<'_> {
         }
     }
 
-    /// The changes that an edit makes of what stands: those of a file; or, where the file is to be
-    /// the whole plan, those that make its plan.
+    /// The changes that an edit makes of the draft, or of the committed set where there is none:
+    /// those of a file; or with `replace`, where the file is the whole plan, such as make its plan.
     pub(crate) fn wanted(
         &self,
         alloc: Global,
@@ -68,14 +70,16 @@ impl StandingPlan<'_> {
         Ok(Changes::new(changes(alloc, &differences)?))
     }
 
-    /// Whether nothing is to be done: the draft would be the committed set, and nobody holds one.
+    /// Whether nothing is to be done: the plan would be the committed set, as `same` says, and
+    /// nobody holds a draft.
     pub(crate) fn is_idle(&self, same: bool) -> bool
         ensures { result ≡ (same && is_none (standing_rows self.now).draft) }
     {
         same && self.draft.is_none()
     }
 
-    /// Whether changes of what stands make the committed set.
+    /// Whether changes of the draft, or of the committed set where there is none, make the
+    /// committed set.
     pub(crate) fn stays_with(&self, alloc: Global, changes: &[Change]) -> Result<bool, NoMemory>
         ensures { IfOk result (λ same. TellsSame (standing_rows self.now).committed
             (after_changes (base_of (standing_rows self.now)) changes.now) same) }

@@ -1,4 +1,4 @@
-//! How a fault is reported.
+//! How a fault is reported on standard error.
 
 ghost use Rattle.std.specs.Prelude.{◌≡◌, ◌≤◌};
 ghost use Rattle.signal_office_commands.specs.Telling.{SaysFault, SaysLine};
@@ -14,7 +14,8 @@ fn say<W: Sink>(err: &mut W, line: &[u8])
     let _ = write_all(err, line);
 }
 
-/// Says a fault on standard error, as far as that takes it, and gives the status.
+/// Says the line of a fault on standard error, as far as that takes it, and gives the status with
+/// which the program ends, which is not 0.
 pub fn report<W: Sink>(err: &mut W, fault: Fault) -> u8
     ensures line { SaysFault fault (W.told err.old) (W.told err.new) }
     ensures status { result ≡ status_of fault }

@@ -29,12 +29,12 @@ abbrev pub Stated : Type 0 → Type 0
 Stated A = Result A NoJob
 
 infixl 10 ◌>>=◌
--- what comes next, where something is stated
+-- what the next step states of a value that is stated; a reason why nothing is stated stays
 abbrev pub ◌>>=◌ : {A B : Type 0} → Stated A → (A → Stated B) → Stated B
 Ok given >>= next = next given
 Err why >>= next = Err why
 
--- a value that has to be there
+-- a value that has to be there: without one nothing is stated
 abbrev pub needed : {A : Type 0} → Option A → Stated A
 needed given = ok_or given Unstated
 
@@ -44,7 +44,7 @@ needed given = ok_or given Unstated
 abbrev pub are_digits : Text → Bool
 are_digits digits = nat_lt 0 (length digits) && list_all (λ c. nat_lt (digit_value c) 10) digits
 
--- the number that digits write, where it is one from least to most
+-- the number that decimal digits write, if it is one from least to most; leading zeros are taken
 abbrev pub number_of : (least most : ℕ) → Text → Option ℕ
 number_of least most digits =
     if are_digits digits && (nat_le least (digits_value 10 digits)
@@ -52,21 +52,24 @@ number_of least most digits =
     then Some (digits_value 10 digits)
     else None
 
--- the number from least to most that an argument's word spells; a plus may stand first
+-- the number from least to most that an argument's word spells; a plus may stand before its digits;
+-- None where the word is missing or spells no such number
 abbrev pub number_from : (least most : ℕ) → Text → List Row → Option ℕ
 number_from least most id rows =
     option_and_then (λ (word : Text). number_of least most (without_leading_plus word)) (first_of id rows)
 
--- the number that a word spells which may be left out, where it is one from least to most
+-- the number of a word that may be left out: Some None without a word, and None where the word
+-- spells no number from least to most; a plus may stand before its digits
 abbrev pub choice_of : (least most : ℕ) → Option Text → Option (Option ℕ)
 choice_of least most None = Some None
 choice_of least most (Some word) = option_map Some (number_of least most (without_leading_plus word))
 
--- the number of an argument that may be left out, by its word
+-- the number of an argument that may be left out: Some None if it is, and None where its word
+-- spells no number from least to most
 abbrev pub choice_from : (least most : ℕ) → Text → List Row → Option (Option ℕ)
 choice_from least most id rows = choice_of least most (first_of id rows)
 
--- the number of an intersection
+-- the number of the intersection in the argument ID, 1 to 9999, which has to be there
 abbrev pub intersection_at : List Row → Stated ℕ
 intersection_at rows = needed (number_from 1 9_999 (codes "ID") rows)
 
@@ -76,42 +79,45 @@ flag_at id rows = option_map_or (λ word. bytes_eq word (codes "true")) (first_o
 
 -- ---- words
 
--- an argument's word, which has to be there
+-- an argument's word, which has to be there: without one nothing is stated
 abbrev pub word_at : Text → List Row → Stated Text
 word_at id rows = needed (first_of id rows)
 
--- the name that an argument's word is; or else it is bad
+-- the name of at most so many bytes that an argument's word is, which has to be there; any other
+-- word is refused as the given bad word
 abbrev pub name_at : BadWord → (most : ℕ) → Text → List Row → Stated Text
 name_at bad most id rows = do
   word ← word_at id rows
   ok_or (words_of most word) (Bad bad)
 
--- the day that an argument's word spells
+-- the day that an argument's word spells as YYYY-MM-DD, which has to be there; any other word is
+-- refused as a bad day
 abbrev pub day_at : Text → List Row → Stated ℕ
 day_at id rows = do
   word ← word_at id rows
   ok_or (day_of word) (Bad wrong.Day)
 
--- the value of a word that may be left out; or else it is bad
+-- the value of a word that may be left out; a word without a value is refused as the given bad word
 abbrev pub any_of : {A : Type 0} → BadWord → (Text → Option A) → Option Text → Stated (Option A)
 any_of bad value_of None = Ok None
 any_of bad value_of (Some word) = do
   value ← ok_or (value_of word) (Bad bad)
   Ok (Some value)
 
--- the CSV file of an argument, and whether its records are padded
+-- the CSV file of an argument, if it is given, and whether its records are padded: `--padded`
 abbrev pub csv_at : Text → List Row → Option CsvFile
 csv_at id rows = option_map (λ path. record { path = path; padded = flag_at (codes "padded") rows }) (first_of id rows)
 
--- `--db FILE [--wait SECONDS]`: the file of an office, and how long a run waits for another one
--- that has it open: ten seconds where no number is given
+-- `--db FILE [--wait SECONDS]`: the file of an office, and for how many seconds, 0 to 3600, a run
+-- waits for another one that has the file open: ten where no number is given
 abbrev pub db_at : List Row → Stated OfficeFile
 db_at rows = do
   path ← word_at (codes "db") rows
   wait ← needed (choice_from 0 3_600 (codes "wait") rows)
   Ok (record { path = path; wait = unwrap_or wait 10 })
 
--- `[--db FILE [--wait SECONDS]]`: without a file there is nothing to wait for
+-- `[--db FILE [--wait SECONDS]]`: the file of an office, if one is given; seconds without a file
+-- state nothing
 abbrev pub any_db_of : (db wait : Option Text) → List Row → Stated (Option OfficeFile)
 any_db_of None None rows = Ok None
 any_db_of None (Some word) rows = Err Unstated
@@ -119,7 +125,7 @@ any_db_of (Some path) wait rows = do
   db ← db_at rows
   Ok (Some db)
 
--- the file of an office, where one is given
+-- the file of an office, if `--db` gives one; `--wait` without `--db` states nothing
 abbrev pub any_db_at : List Row → Stated (Option OfficeFile)
 any_db_at rows = any_db_of (first_of (codes "db") rows) (first_of (codes "wait") rows) rows
 
@@ -127,14 +133,15 @@ any_db_at rows = any_db_of (first_of (codes "db") rows) (first_of (codes "wait")
 
 -- In the usages below `--db FILE` stands for `--db FILE [--wait SECONDS]`.
 
--- `overdue --db FILE [--first N] [--csv] DAY`; without a number all are listed
+-- `overdue --db FILE [--first N] [--csv] DAY`, N from 1 to 9999; without N all are listed
 unfoldable pub overdue_at : List Row → Stated Request
 overdue_at rows = do
   first ← needed (choice_from 1 9_999 (codes "first") rows)
   day ← day_at (codes "DAY") rows
   Ok (request.Show (shown.Overdue day (unwrap_or first 9_999) (flag_at (codes "csv") rows)))
 
--- `add --db FILE ID INTERVAL NAME`
+-- `add --db FILE ID INTERVAL NAME`: an intersection, 1 to 9999, its days from one inspection to the
+-- next, 1 to 3650, and its name of 1 to 120 bytes
 unfoldable pub add_at : List Row → Stated Request
 add_at rows = do
   id ← intersection_at rows
@@ -150,14 +157,15 @@ import_at rows = do
   Ok (request.Import csv until (flag_at (codes "check") rows))
 
 -- what is exported: the committed timing set, but with `--draft` the draft, with `--cabinet` the
--- cabinet
+-- cabinet; both flags together name nothing
 abbrev pub view_of : Bool → Bool → Option View
 view_of false false = Some view.Timing
 view_of true false = Some view.Draft
 view_of false true = Some view.Cabinet
 view_of true true = None
 
--- `export --db FILE [--draft] [--cabinet] ID`, or `export --db FILE --all DIR`
+-- `export --db FILE [--draft | --cabinet] ID`, or `export --db FILE --all DIR`, by the flags; DIR
+-- stands in the argument ID
 abbrev pub export_of : (all draft cabinet : Bool) → List Row → Stated Request
 export_of true false false rows = do
   dir ← word_at (codes "ID") rows
@@ -168,7 +176,7 @@ export_of false draft cabinet rows = do
   view ← needed (view_of draft cabinet)
   Ok (request.Show (shown.Export id view))
 
--- what is exported, by the flags that are given
+-- what `export` asks for, by its flags `--all`, `--draft` and `--cabinet`
 unfoldable pub export_at : List Row → Stated Request
 export_at rows = export_of (flag_at (codes "all") rows) (flag_at (codes "draft") rows) (flag_at (codes "cabinet") rows) rows
 
@@ -179,7 +187,8 @@ pages_at rows = do
   day ← any_of wrong.Day day_of (first_of (codes "day") rows)
   Ok (request.Fill dir (folder.Pages day))
 
--- the file of an edit, which may be left out where a draft is committed as it is
+-- the file of an edit, which may be left out with `--commit` and without `--replace`: then a draft
+-- is committed as it is; else None says that the file is missing
 abbrev pub edited_file : Option CsvFile → (commit replace : Bool) → Option (Option CsvFile)
 edited_file (Some csv) commit replace = Some (Some csv)
 edited_file None commit replace = if commit && not replace then Some None else None
@@ -205,7 +214,7 @@ edit_at rows = do
 abbrev pub under : {A : Type 0} → Text → List (Text × A) → Option A
 under name among = option_map (λ c. c.1) (find (λ c. bytes_eq name c.0) among)
 
--- something of one intersection is shown
+-- the request to show something of the intersection in the argument ID
 abbrev pub shown_at : (ℕ → Shown) → List Row → Stated Request
 shown_at show rows = do
   id ← intersection_at rows
@@ -231,11 +240,12 @@ requests =
     ∷ (codes "overdue", overdue_at) ∷ (codes "add", add_at) ∷ (codes "import", import_at)
     ∷ (codes "export", export_at) ∷ (codes "pages", pages_at) ∷ (codes "edit", edit_at) ∷ []
 
--- what the command of a name asks of the office of a file
+-- what the command of a name asks of the office of a file; a name of no such command states nothing
 unfoldable pub request_at : Text → List Row → Stated Request
 request_at name rows = option_map_or (λ what. what rows) (under name requests) (Err Unstated)
 
--- a request, of the office of a file
+-- the job to do a request in the office of the file that `--db` gives; what the file lacks is told
+-- before what the request lacks
 abbrev pub office_of : Stated Request → List Row → Stated Job
 office_of asked rows = do
   db ← db_at rows
@@ -244,7 +254,8 @@ office_of asked rows = do
 
 -- ---- jobs
 
--- `serve --port N [--count K] [--db FILE]`; without a count the most connections are served
+-- `serve --port N [--count K] [--db FILE]`: a port, 1 to 65535, and how many connections are
+-- served, 1 to 1,000,000; without K the most
 unfoldable pub serve_at : List Row → Stated Job
 serve_at rows = do
   port ← needed (number_from 1 65_535 (codes "port") rows)
@@ -265,13 +276,14 @@ comparison_of (Some db) (Some other) rows = do
   Ok (job.Office db (request.Show (shown.CompareRunning id other (flag_at (codes "csv") rows))))
 comparison_of None None rows = Err Unstated
 
--- a comparison, by whether an office and another file are given
+-- what `compare` asks for, by whether `--db` and OTHER are given
 unfoldable pub compare_at : List Row → Stated Job
 compare_at rows = do
   db ← any_db_at rows
   comparison_of db (csv_at (codes "OTHER") rows) rows
 
--- `diagram --db FILE ID PATTERN`, or `diagram --file CSV [--padded] PATTERN`
+-- `diagram --db FILE ID PATTERN`, or `diagram --file CSV [--padded] PATTERN`, a pattern from 1 to
+-- 48, which with `--file` stands in the argument ID; other words state nothing
 abbrev pub drawing_of : Option OfficeFile → Option CsvFile → Option Text → List Row → Stated Job
 drawing_of (Some db) None (Some word) rows = do
   id ← intersection_at rows
@@ -282,13 +294,13 @@ drawing_of None (Some file) None rows = do
   Ok (job.ShowPlan file (plan.Diagram pattern))
 drawing_of _ _ _ rows = Err Unstated
 
--- a picture, by whether an office, a file and a pattern are given
+-- what `diagram` asks for, by whether `--db`, `--file` and PATTERN are given
 unfoldable pub diagram_at : List Row → Stated Job
 diagram_at rows = do
   db ← any_db_at rows
   drawing_of db (csv_at (codes "file") rows) (first_of (codes "PATTERN") rows) rows
 
--- `page --db FILE ID`, or `page --file CSV [--padded]`
+-- `page --db FILE ID`, or `page --file CSV [--padded]`; other words state nothing
 abbrev pub showing_of : Option OfficeFile → Option CsvFile → Option Text → List Row → Stated Job
 showing_of (Some db) None (Some word) rows = do
   id ← intersection_at rows
@@ -296,13 +308,13 @@ showing_of (Some db) None (Some word) rows = do
 showing_of None (Some file) None rows = Ok (job.ShowPlan file plan.Page)
 showing_of _ _ _ rows = Err Unstated
 
--- a page, by whether an office, a file and an intersection are given
+-- what `page` asks for, by whether `--db`, `--file` and ID are given
 unfoldable pub page_at : List Row → Stated Job
 page_at rows = do
   db ← any_db_at rows
   showing_of db (csv_at (codes "file") rows) (first_of (codes "ID") rows) rows
 
--- the other commands
+-- the commands that may do without the office of a file, or that take its file as a whole
 abbrev pub jobs : List (Text × (List Row → Stated Job))
 jobs =
     -- `batch [--db FILE]`
@@ -319,11 +331,13 @@ jobs =
     )
     ∷ (codes "serve", serve_at) ∷ (codes "compare", compare_at) ∷ (codes "diagram", diagram_at) ∷ (codes "page", page_at) ∷ []
 
--- what the command of a name asks for, or why its values state no job
+-- the job that the command of a name states by its values, or why they state none; a name that is
+-- not among `jobs` is one of `requests`, or states nothing
 abbrev pub job_at : Text → List Row → Stated Job
 job_at name rows = option_map_or (λ what. what rows) (under name jobs) (office_of (request_at name rows) rows)
 
--- what the found command asks for
+-- the job that the command found in a command line states, by its name and values; where none was
+-- found nothing is stated
 abbrev pub job_in : Option (Text × List Row) → Stated Job
 job_in None = Err Unstated
 job_in (Some found) = job_at found.0 found.1

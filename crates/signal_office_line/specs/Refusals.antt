@@ -17,27 +17,28 @@ use Rattle.signal_office_line.specs.declared.job.NoJob.TheVariants.{Unstated, Ba
 use Rattle.signal_office_line.specs.CommandLine.{signal_app}
 use Rattle.signal_office_line.specs.Job.{Stated, job_in, number_from}
 
--- the kinds of refusal that `clap` answers to the words, help that they ask for among them; words
--- that it takes have none
+-- the kinds of refusal that `clap` answers to the words, help that they ask for among them, beside out
+-- of memory, which may come of any words; words that `clap` takes have none
 unfoldable pub clap_refusals : List Text → Kinds
 clap_refusals words = fault_of signal_app words
 
--- an error of `clap` is reported as it is, but out of memory by itself
+-- an error of `clap` is reported as the refusal that it is, but out of memory as NoMemory
 abbrev pub IsToldAs : Error → JobFault → Type 0
 IsToldAs error told =
     ((kind_of error ≡ kind.OutOfMemory) × (told ≡ fault.NoMemory))
     ⊎ ((kind_of error ≢ kind.OutOfMemory) × (told ≡ fault.Refused error))
 
--- the word of an argument is given, and is no number of its range
+-- this word of an argument is given, and spells no number from least to most
 abbrev pub IsWrongNumber : (id : Text) → (least most : ℕ) → (word : Text) → List Row → Type 0
 IsWrongNumber id least most word rows = (first_of id rows ≡ Some word) × (number_from least most id rows ≡ None)
 
--- a refusal that `clap` was asked for is reported as it is, or that it was out of memory
+-- the refusal that `clap` was asked to make is reported, or NoMemory where memory for it was refused
 abbrev pub IsRefusalTold : Result Error AllocError → JobFault → Type 0
 IsRefusalTold (Ok error) told = told ≡ fault.Refused error
 IsRefusalTold (Err no_memory) told = told ≡ fault.NoMemory
 
--- what is found by what the command and its values state: that, or the refusal of a value
+-- the job that a command and its values state is found; one bad word is reported as it is; values that
+-- state nothing are refused as such, or memory for that refusal ran out
 abbrev pub IsJobFound : Stated Job → Result Job JobFault → Type 0
 IsJobFound (Ok job) (Ok found) = found ≡ job
 IsJobFound (Err (Bad bad)) (Err told) = told ≡ fault.Bad bad
@@ -45,14 +46,15 @@ IsJobFound (Err Unstated) (Err (fault.Refused error)) = kind_of error ≡ kind.V
 IsJobFound (Err Unstated) (Err fault.NoMemory) = ⊤
 IsJobFound _ _ = ⊥
 
--- what is reported of the words, by what `clap` answered to them: that, or what is found in it
+-- what is reported of the words, by what `clap` answered to them: what the command and values that it
+-- found state, or its error
 abbrev pub IsJudged : Result ArgMatches Error → Result Job JobFault → Type 0
 IsJudged (Ok matches) result = IsJobFound (job_in (subcommand_rows_of matches)) result
 IsJudged (Err error) (Err told) = IsToldAs error told
 IsJudged (Err error) (Ok job) = ⊥
 
--- WHAT IS FOUND IN WORDS: `clap` answers to them the command that they name with its values, where it takes them, or else one of their refusals, or that memory ran out; and
--- of that the job is found that the values state, or why they state none.
+-- WHAT IS FOUND IN WORDS: if `clap` takes the words, it answers with the command that they name and its values, or that memory ran out; else with one of their refusals, or
+-- that memory ran out. Of this answer comes the job that the values state, or why they state none.
 pub record IsFoundInWords (words : List Text) (result : Result Job JobFault) : Type 0 where
   pub answer : Result ArgMatches Error
   pub found : IfOk answer (λ matches. subcommand_rows_of matches ≡ subcommand_of signal_app words)

@@ -24,8 +24,8 @@ pub(crate) enum Form {
     Choice(&'static str),
 }
 
-/// An argument of a command: its name, how it is given, and from which number to which it is, where
-/// it is to be one.
+/// An argument of a command: its name, how it is given, and the least and the most of its number,
+/// if it is to be one.
 #[derive(Clone, Copy)]
 pub(crate) struct Argument(pub &'static str, pub Form, pub Option<(u32, u32)>);
 
@@ -33,7 +33,7 @@ pub(crate) struct Argument(pub &'static str, pub Form, pub Option<(u32, u32)>);
 #[derive(Clone, Copy)]
 pub(crate) struct Usage(pub &'static str, pub &'static [Argument]);
 
-/// An argument of a command as `clap` takes it.
+/// An argument of a command as `clap` takes it, with its help.
 fn arg_of<'a>(alloc: Global, command: &str, argument: &Argument) -> Arg<'a>
     ensures rule { rule_of result ≡ rule_for argument.now }
     ensures local { result.global ≡ false }
@@ -49,7 +49,7 @@ fn arg_of<'a>(alloc: Global, command: &str, argument: &Argument) -> Arg<'a>
     }
 }
 
-/// A command as `clap` takes it.
+/// A command with its arguments and help, as `clap` takes it; or memory for it was refused.
 pub(crate) fn command_of<'a>(alloc: Global, usage: &Usage) -> Result<Command<'a>, AllocError>
     ensures { IfOk result (λ c. ParsesAs c (app_for usage.now)) }
 {
@@ -63,7 +63,8 @@ pub(crate) fn command_of<'a>(alloc: Global, usage: &Usage) -> Result<Command<'a>
     Ok(command)
 }
 
-/// The program with one command more. It alone lets commands go, where memory runs out.
+/// The program with one command more, if there was memory for the command. Only this function drops
+/// commands, where memory ran out.
 fn with_command<'a>(
     program: Command<'a>,
     command: Result<Command<'a>, AllocError>,
@@ -78,7 +79,7 @@ fn with_command<'a>(
     }
 }
 
-/// The program with these commands more, in their order.
+/// The program with these commands more, in their order; or memory for them was refused.
 pub(crate) fn with_commands<'a>(
     alloc: Global,
     program: Command<'a>,

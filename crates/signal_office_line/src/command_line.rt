@@ -7,10 +7,13 @@ use crate::arguments::{Argument, Form, Usage, command_of, with_commands};
 use clap::Command;
 use std::alloc::{AllocError, Global};
 
-/// The program's version, as the newest heading of CHANGELOG.md has it, and that of its tables.
+/// The program's version, which is the newest heading of CHANGELOG.md: a day, and the version of
+/// the tables.
 const VERSION: &str = "2026-11-28, tables of version 2";
 
-// The arguments of the commands, one line for each.
+// The arguments of the commands: the name of each, how it is given, and the least and the most of
+// its number, if it is one. ANY_DB, ANY_ID and ANY_RECORDS may be left out, where DB, ID and
+// RECORDS have to be given.
 const DB: Argument = Argument("db", Form::Needed("FILE"), None);
 
 const ANY_DB: Argument = Argument("db", Form::Choice("FILE"), None);
@@ -119,14 +122,15 @@ const COMMANDS: &[Usage] = &[
     Usage("page", &[ANY_DB, WAIT, FILE, PADDED, ANY_ID]),
 ];
 
-// The table is named in one function, since it counts in every one that names it.
+/// The commands with their arguments. Only this function names the table, since a proof pays for it
+/// in each function that does.
 fn commands() -> &'static [Usage]
     ensures { map app_for result.now ≡ commands }
 {
     COMMANDS
 }
 
-/// The command line of the program.
+/// The command line of the program, with each of its commands; or memory for it was refused.
 pub(crate) fn command_line<'a>(alloc: Global) -> Result<Command<'a>, AllocError>
     ensures { IfOk result (λ c. ParsesAs c signal_app) }
 {
@@ -137,7 +141,7 @@ pub(crate) fn command_line<'a>(alloc: Global) -> Result<Command<'a>, AllocError>
     with_commands(alloc, program, commands())
 }
 
-/// The command of a name.
+/// The command of a name with its arguments, if the program has it.
 pub(crate) fn usage_of(name: &str) -> Option<Usage> {
     for usage in commands() {
         let Usage(own, ..) = *usage;

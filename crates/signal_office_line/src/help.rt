@@ -1,9 +1,9 @@
 //! What the help says of the commands and of their arguments. Nothing is proved of these texts.
 
-/// What the help of a command says of its statuses.
+/// What the help says of the statuses of a command that reads no CSV file.
 const STATUSES: &str = "Status: 0 done, 1 a fault, 2 refused words";
 
-/// What the help says of the records of a plan, and of the statuses of a command that reads them.
+/// What the help says of the records of a plan, and of the statuses of a command that reads a plan.
 const PLAN_RECORDS: &str = "\
 A CSV file may be -, which is standard input.
 Records of CSV, the fields in this order:
@@ -55,8 +55,8 @@ pub(crate) fn ending_of(command: &str) -> &'static str {
 }
 
 /// What the help says of the commands and of their arguments: a line for each,
-/// `COMMAND itself: TEXT` or `COMMAND ARGUMENT: TEXT`; what is said of an argument of `any` command
-/// holds where it has no line of its own.
+/// `COMMAND itself: TEXT` or `COMMAND ARGUMENT: TEXT`. A line `any ARGUMENT: TEXT` is for each
+/// command that has no such line of its own, and stands behind those: the first that fits holds.
 const HELP: &str = "\
 batch itself: Reads HTTP requests from standard input, at most 1,000,000, and writes the answers \
 to standard output
@@ -155,7 +155,8 @@ any commit: Commit the draft if it breaks no rule; ends with status 3 if it brea
 that would not change is not committed
 ";
 
-/// What the help says of an argument of a command.
+/// What the help says of an argument of a command, or of the command for `itself`; empty if it says
+/// nothing.
 pub(crate) fn help_of(command: &str, argument: &str) -> &'static str {
     for line in HELP.lines() {
         if let Some((subject, text)) = line.split_once(": ") {

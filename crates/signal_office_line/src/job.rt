@@ -20,8 +20,8 @@ use clap::{ArgMatches, Error};
 use signal_values::{InterId, Interval};
 use std::alloc::{AllocError, Global};
 
-/// The file of an office, and for how many seconds, 0 to 3600, a run tries again to open it where
-/// another run has it open.
+/// The file of an office, and for how many seconds, 0 to 3600, a run tries again to open this file
+/// where another run has it open.
 #[derive(Drop)]
 pub struct OfficeFile<'a> {
     pub path: Path<'a>,
@@ -31,17 +31,18 @@ pub struct OfficeFile<'a> {
 /// What a folder is filled with.
 #[derive(Clone, Copy)]
 pub enum Folder {
-    /// The lists, and what is kept of each intersection as CSV.
+    /// CSV files: the lists of intersections and of stock, and for each intersection its committed
+    /// timing set and its cabinet.
     Records,
-    /// The pages of all intersections and an index, which marks those that are overdue on a day, if
-    /// one is given.
+    /// The HTML pages of all intersections and an index, which marks those that are overdue for
+    /// inspection on a day, if one is given.
     Pages { day: Option<Day> },
 }
 
-/// An edit of an intersection's plan by a CSV file, in a transaction of a clerk. Without a file the
-/// clerk's draft is committed as it is. Where the file is the whole plan, rows that it does not
-/// have are removed. The draft is committed where that is asked, and its violations are printed
-/// with their reasons where that is, and its warnings behind them where those are.
+/// An edit of an intersection's plan by a CSV file, in the draft of a clerk. Without a file, which
+/// only `commit` without `replace` allows, the draft is taken as it is. `replace` removes the rows
+/// that the file lacks, `commit` commits a draft that breaks no rule, `explain` adds the reasons of
+/// broken rules and of faults, and `advise` warnings.
 #[derive(Drop)]
 pub struct Edit<'a> {
     pub id: InterId,
@@ -56,9 +57,9 @@ pub struct Edit<'a> {
 /// What is asked of the office of one file.
 #[derive(Drop)]
 pub enum Request<'a> {
-    /// Print what is shown of it.
+    /// Print what is shown of the office.
     Show(Shown<'a>),
-    /// Fill a folder with what it shows.
+    /// Fill a folder, which is made if there is none, with files of what the office shows.
     Fill {
         dir: Path<'a>,
         folder: Folder,
@@ -69,9 +70,9 @@ pub enum Request<'a> {
         interval: Interval,
         name: Name<'a, 120>,
     },
-    /// Take the records of a CSV file in turn: all of them, or none. None is taken where one is of
-    /// a later day than one that is given, or where they are only tried: then those that would be
-    /// refused are reported.
+    /// Take the records of a CSV file in turn: all of them, or none. None is taken if one is of a
+    /// later day than `until`. With `check` none is taken either, and those that would be refused
+    /// are reported.
     Import {
         csv: CsvFile<'a>,
         until: Option<Day>,
@@ -79,7 +80,7 @@ pub enum Request<'a> {
     },
     /// Change a plan by a CSV file.
     Edit(Edit<'a>),
-    /// Drop the draft of an intersection, whoever holds it.
+    /// Drop the draft of an intersection, whoever holds it; `clerk` is who drops it.
     Abandon {
         id: InterId,
         clerk: Name<'a, 40>,
@@ -89,12 +90,13 @@ pub enum Request<'a> {
 /// What the words ask the program to do.
 #[derive(Drop)]
 pub enum Job<'a> {
-    /// Answer the requests on standard input, over a file or memory.
+    /// Answer the HTTP requests on standard input, over the office of a file, or without one over
+    /// an office in memory.
     Batch {
         db: Option<OfficeFile<'a>>,
     },
-    /// Answer so many connections on a port, 1 to 65535. The count is 1 to 1,000,000, the most
-    /// where none is given.
+    /// Answer the HTTP requests of `count` connections, 1 to 1,000,000, on `port`, 1 to 65535, over
+    /// the office of a file, or without one over an office in memory.
     Serve {
         port: u16,
         count: u32,
@@ -109,7 +111,7 @@ pub enum Job<'a> {
     Migrate {
         db: OfficeFile<'a>,
     },
-    /// Copy the office of a file into another, which is replaced where that is asked.
+    /// Copy the office of a file into another file; with `force` one that is there is replaced.
     Backup {
         db: OfficeFile<'a>,
         to: Path<'a>,
@@ -128,33 +130,33 @@ pub enum Job<'a> {
     },
 }
 
-/// A word that is not what it is to be.
+/// What a word of the command line was to be, and is not.
 #[derive(Clone, Copy)]
 pub enum BadWord {
-    /// It spells no day from 1970-01-01 to 2199-12-31.
+    /// A day from 1970-01-01 to 2199-12-31, as `YYYY-MM-DD`.
     Day,
-    /// It is no clerk's name: 1 to 40 bytes without control characters.
+    /// A clerk's name: 1 to 40 bytes without control characters.
     Clerk,
-    /// It is no intersection's name: 1 to 120 bytes without control characters.
+    /// An intersection's name: 1 to 120 bytes without control characters.
     Name,
-    /// It is no part's code: 1 to 20 of the bytes `A` to `Z`, `0` to `9` and `-`.
+    /// A part's code: 1 to 20 of the bytes `A` to `Z`, `0` to `9` and `-`.
     Part,
 }
 
 /// Why the values of a command state no job.
 #[derive(Clone, Copy)]
 pub(crate) enum NoJob {
-    /// They are too few or too many, or a number is out of its range.
+    /// The values are too few or too many, do not go together, or a number is out of its range.
     Unstated,
     Bad(BadWord),
 }
 
-/// Why there is nothing to do.
+/// Why the words of a command line give no job to do.
 #[derive(Drop)]
 pub enum JobFault {
-    /// The words were refused, or ask for help.
+    /// The words are refused, or ask for help or for the version.
     Refused(Error),
-    /// A job is stated, but for one word.
+    /// The values would state a job, but a word is not what it was to be.
     Bad(BadWord),
     NoMemory,
 }
@@ -172,7 +174,7 @@ impl From<Error> for JobFault {
     }
 }
 
-/// What `clap` answers to the words.
+/// What `clap` answers to the words, the first being the program's name.
 fn matches_of<'a>(alloc: Global, words: &'a [&'a str]) -> Result<ArgMatches<'a>, Error>
     ensures found { IfOk result (λ matches. subcommand_rows_of matches
         ≡ subcommand_of signal_app (map (λ word. word.now) words.entry.now)) }
@@ -184,7 +186,7 @@ fn matches_of<'a>(alloc: Global, words: &'a [&'a str]) -> Result<ArgMatches<'a>,
     command_line(alloc)?.try_get_matches_from(words)
 }
 
-/// What the found command and its values state.
+/// The job that the command that `clap` found and its values state, or why they state none.
 fn stated<'a>(matches: &ArgMatches<'a>) -> Result<Job<'a>, NoJob>
     ensures { result ≡ job_in (subcommand_rows_of matches.now) }
 {
@@ -194,8 +196,8 @@ fn stated<'a>(matches: &ArgMatches<'a>) -> Result<Job<'a>, NoJob>
     }
 }
 
-/// The refusal of a value, by what `clap` answered. Out of memory is reported exactly where `clap`
-/// told it.
+/// The fault of values that state no job: the refusal that was made of them, or that memory for it
+/// was refused.
 fn value_refused(answer: Result<Error, AllocError>) -> JobFault
     ensures { IsRefusalTold answer result }
 {
@@ -205,7 +207,8 @@ fn value_refused(answer: Result<Error, AllocError>) -> JobFault
     }
 }
 
-/// The job that the found command and its values state, or why they state none.
+/// The job that the command that `clap` found and its values state, or the fault to report of
+/// values that state none.
 fn job_in<'a>(alloc: Global, matches: &ArgMatches<'a>) -> Result<Job<'a>, JobFault>
     ensures { IsJobFound (job_in (subcommand_rows_of matches.now)) result }
 {
@@ -216,8 +219,8 @@ fn job_in<'a>(alloc: Global, matches: &ArgMatches<'a>) -> Result<Job<'a>, JobFau
     }
 }
 
-/// What the words ask for, by what `clap` answered to them. Out of memory is told where `clap` told
-/// it.
+/// What the words ask for, by what `clap` answered to them: the job that the values it found state,
+/// or the fault of those values; or its error.
 fn judged<'a>(alloc: Global, answer: Result<ArgMatches<'a>, Error>) -> Result<Job<'a>, JobFault>
     ensures { IsJudged answer.entry result }
 {
@@ -227,9 +230,9 @@ fn judged<'a>(alloc: Global, answer: Result<ArgMatches<'a>, Error>) -> Result<Jo
     }
 }
 
-/// What the words ask for, the first being the program's name: a job; or the one word of a job that
-/// is not what it is to be; or a refusal, or help, of words that state no job. Words that state one
-/// are refused only where memory ran out.
+/// What the words ask for, the first being the program's name: a job; or what a bad word was to be;
+/// or a refusal, or help, of words that state no job; or that memory ran out, the only fault of
+/// words that state one.
 pub fn job_of<'a>(alloc: Global, words: &'a [&'a str]) -> Result<Job<'a>, JobFault>
     ensures { IsFoundInWords (map (λ word. word.now) words.entry.now) result }
 {

@@ -1,4 +1,5 @@
-//! What each command asks for, by the values that were found for its arguments.
+//! What each command asks for, by the values that were found for its arguments. In the usages below
+//! `--db FILE` stands for `--db FILE [--wait SECONDS]`.
 
 ghost use Rattle.std.specs.Prelude.{◌≡◌};
 ghost use Rattle.clap.specs.Matches.{found_of};
@@ -14,27 +15,29 @@ use crate::values::{
 use clap::ArgMatches;
 use signal_values::{InterId, Interval, PatternNo};
 
-/// The most connections that a server serves.
+/// The most connections that a server serves, and how many it serves if no count is given.
 const MOST_CONNECTIONS: u32 = 1_000_000;
 
-/// The most intersections of an office.
+/// The most intersections of an office, and how many are listed if no number is given.
 const ALL_INTERSECTIONS: u32 = 9_999;
 
-/// The number of a pattern.
+/// The number of a pattern, 1 to 48, if the argument's word was given and spells one.
 fn pattern(matches: &ArgMatches<'_>, id: &str) -> Option<PatternNo>
     ensures { result ≡ number_from 1 48 id.now (rows_of (found_of matches.now)) }
 {
     PatternNo::new(number_from(matches, id, 1, 48)?)
 }
 
-/// The days from one inspection to the next.
+/// The days from one inspection to the next, 1 to 3650, if the argument's word was given and spells
+/// them.
 fn interval(matches: &ArgMatches<'_>, id: &str) -> Option<Interval>
     ensures { result ≡ number_from 1 3_650 id.now (rows_of (found_of matches.now)) }
 {
     Interval::new(number_from(matches, id, 1, 3_650)?)
 }
 
-/// The number of an intersection, where it was given. None where its word is none.
+/// The number of an intersection, 1 to 9999, that may be left out: `Some(None)` if it was, and
+/// `None` where the argument's word spells none.
 fn chosen_intersection(matches: &ArgMatches<'_>, id: &str) -> Option<Option<InterId>>
     ensures { result ≡ choice_from 1 9_999 id.now (rows_of (found_of matches.now)) }
 {
@@ -87,7 +90,8 @@ fn import<'a>(matches: &ArgMatches<'a>) -> Result<Request<'a>, NoJob>
     Ok(Request::Import { csv, until, check })
 }
 
-/// What is exported: the committed timing set where no flag asks for something else.
+/// What is exported: the committed timing set, or what the one flag asks for; with both flags
+/// nothing.
 fn view_of(draft: bool, cabinet: bool) -> Option<View>
     ensures { result ≡ view_of draft cabinet }
 {
@@ -102,7 +106,8 @@ fn view_of(draft: bool, cabinet: bool) -> Option<View>
     }
 }
 
-/// `export --db FILE [--draft] [--cabinet] ID`, or `export --db FILE --all DIR`.
+/// `export --db FILE [--draft | --cabinet] ID`, or `export --db FILE --all DIR`; the argument `ID`
+/// has DIR.
 #[tactic(auto, unfolding(crate::specs::Job::export_at))]
 fn export<'a>(matches: &ArgMatches<'a>) -> Result<Request<'a>, NoJob>
     ensures { result ≡ export_at (rows_of (found_of matches.now)) }
@@ -136,7 +141,8 @@ fn pages<'a>(matches: &ArgMatches<'a>) -> Result<Request<'a>, NoJob>
     Ok(Request::Fill { dir, folder })
 }
 
-/// The file of an edit, which may be left out where a draft is committed as it is.
+/// The file of an edit. It may be left out with `commit` and without `replace`, `Some(None)`: then
+/// a draft is committed as it is. Else `None` says that it is missing.
 fn edited_file<'a>(
     csv: Option<CsvFile<'a>>,
     commit: bool,
@@ -177,7 +183,8 @@ fn edit<'a>(matches: &ArgMatches<'a>) -> Result<Request<'a>, NoJob>
     }))
 }
 
-/// What the command of a name asks of the office of a file.
+/// What the command of a name asks of the office of a file, or why its values, or another name,
+/// state nothing.
 #[tactic(auto, unfolding(crate::specs::Job::request_at))]
 fn request_at<'a>(command: &str, matches: &ArgMatches<'a>) -> Result<Request<'a>, NoJob>
     ensures { result ≡ request_at command.now (rows_of (found_of matches.now)) }
@@ -216,7 +223,8 @@ fn request_at<'a>(command: &str, matches: &ArgMatches<'a>) -> Result<Request<'a>
     Ok(Request::Show(shown))
 }
 
-/// A request, of the office of a file.
+/// The job to do a request in the office of the file of `--db`; or what the file, or else the
+/// request, lacks.
 fn office<'a>(matches: &ArgMatches<'a>, asked: Result<Request<'a>, NoJob>) -> Result<Job<'a>, NoJob>
     ensures { result ≡ office_of asked.entry (rows_of (found_of matches.now)) }
 {
@@ -271,7 +279,8 @@ fn compare<'a>(matches: &ArgMatches<'a>) -> Result<Job<'a>, NoJob>
     }
 }
 
-/// `diagram --db FILE ID PATTERN`, or `diagram --file CSV [--padded] PATTERN`.
+/// `diagram --db FILE ID PATTERN`, or `diagram --file CSV [--padded] PATTERN`, where the argument
+/// `ID` has PATTERN.
 #[tactic(auto, unfolding(crate::specs::Job::diagram_at))]
 fn diagram<'a>(matches: &ArgMatches<'a>) -> Result<Job<'a>, NoJob>
     ensures { result ≡ diagram_at (rows_of (found_of matches.now)) }
@@ -317,7 +326,7 @@ fn page<'a>(matches: &ArgMatches<'a>) -> Result<Job<'a>, NoJob>
     }
 }
 
-/// What the command of a name asks for, where its values are there and what they are to be.
+/// The job that the command of a name states by its values, or why they state none.
 pub(crate) fn job_at<'a>(command: &str, matches: &ArgMatches<'a>) -> Result<Job<'a>, NoJob>
     ensures { result ≡ job_at command.now (rows_of (found_of matches.now)) }
 {

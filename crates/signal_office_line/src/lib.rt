@@ -1,9 +1,10 @@
 //! The command line of the program: the job that its words ask for.
 //!
-//! A new command is a line of `COMMANDS` (`command_line.rt`), with texts in `help.rt`. What it asks
-//! of the office of a file is a variant of `Shown` (`shows.rt`) or of `Request` (`job.rt`) and an
-//! arm of `request_at` (`jobs.rt`); each other one is a variant of `Job` and an arm of `job_at`. In
-//! `specs` it has a line of `commands`, and of `requests` or of `jobs`.
+//! A new command is a line of `COMMANDS` (`command_line.rt`), with texts in `help.rt`. A command
+//! that always asks the office of a file is a variant of `Shown` (`shows.rt`) or of `Request`
+//! (`job.rt`), and an arm of `request_at` (`jobs.rt`); any other is a variant of `Job` (`job.rt`),
+//! and an arm of `job_at` (`jobs.rt`). In `specs` each command has a line of `commands`, and one of
+//! `requests` or of `jobs`.
 #![tactic(auto)]
 
 mod arguments;

@@ -1,4 +1,5 @@
-//! What is said of words that `clap` takes and that state no job.
+//! What is said of words that `clap` takes and that state no job: a number out of its range, or
+//! what the command takes.
 
 ghost use Rattle.std.specs.Prelude.{◌≡◌, IfOk, IfSome};
 ghost use Rattle.clap.specs.Matches.{found_of};
@@ -13,7 +14,8 @@ use clap::error::ErrorKind;
 use clap::{ArgMatches, Error};
 use std::alloc::{AllocError, Global};
 
-/// What a command's argument is to be, by what else is given.
+/// The argument that a command takes in the place of this one, by what else is given: its name, its
+/// form and its range.
 fn taken_as(command: &str, argument: &Argument, matches: &ArgMatches<'_>) -> Argument {
     let draws_file = command == "diagram" && word(matches, "file").is_some();
     match argument.0 {
@@ -28,7 +30,8 @@ fn taken_as(command: &str, argument: &Argument, matches: &ArgMatches<'_>) -> Arg
     }
 }
 
-/// What a command takes, where each of its numbers is one.
+/// What is said of a command's words that state no job though each number is one of its range: what
+/// the command takes.
 fn forms_of(name: &str, matches: &ArgMatches<'_>) -> &'static str {
     let waits_for_none = word(matches, "wait").is_some() && word(matches, "db").is_none();
     match name {
@@ -43,7 +46,8 @@ fn forms_of(name: &str, matches: &ArgMatches<'_>) -> &'static str {
     }
 }
 
-/// The word of an argument, where it is given, is to be a number, and is none of its range.
+/// The word of an argument and the range of its number, least and most, if the word is given and
+/// spells no number of that range; `None` also for an argument without a range.
 fn wrong_word<'a>(
     id: &str,
     range: Option<(u32, u32)>,
@@ -102,7 +106,8 @@ fn refusal_of(alloc: Global, name: &str, reason: &str) -> Result<Error, AllocErr
     command_named(alloc, name)?.error(ErrorKind::ValueValidation, reason)
 }
 
-/// The refusal of words that `clap` takes and that state no job.
+/// The refusal of words that `clap` takes and that state no job, with the reason and the command's
+/// usage; or memory for it was refused.
 pub(crate) fn value_refusal(alloc: Global, matches: &ArgMatches<'_>) -> Result<Error, AllocError>
     ensures { IfOk result (λ error. kind_of error ≡ ErrorKind.ValueValidation) }
 {

@@ -4,7 +4,8 @@ use crate::words::{Part, Path};
 use cabinet_core::Day;
 use signal_values::{InterId, PatternNo};
 
-/// A CSV file, and whether its records are padded with empty fields.
+/// A CSV file, or `-` for standard input, and whether its records may be padded with empty fields,
+/// which are then dropped.
 #[derive(Drop)]
 pub struct CsvFile<'a> {
     pub path: Path<'a>,
@@ -14,11 +15,11 @@ pub struct CsvFile<'a> {
 /// What of an intersection is exported as CSV.
 #[derive(Clone, Copy)]
 pub enum View {
-    /// Its committed timing set.
+    /// The committed timing set of the intersection.
     Timing,
-    /// The draft of its timing set.
+    /// The draft of the intersection's timing set.
     Draft,
-    /// Its cabinet.
+    /// The records of the intersection's cabinet.
     Cabinet,
 }
 
@@ -29,7 +30,8 @@ pub enum Shown<'a> {
     Sheet {
         id: InterId,
     },
-    /// The intersections that are overdue on a day, at most so many, as a report or as CSV.
+    /// The intersections that are overdue for inspection on a day, at most `most` of them, 1 to
+    /// 9999, as a text or as CSV.
     Overdue {
         day: Day,
         most: usize,
@@ -62,7 +64,7 @@ pub enum Shown<'a> {
         id: InterId,
         view: View,
     },
-    /// A pattern of an intersection's committed timing set.
+    /// The picture of a pattern of an intersection's committed timing set, as SVG.
     Diagram {
         id: InterId,
         pattern: PatternNo,
@@ -79,12 +81,13 @@ pub enum Shown<'a> {
         plan: CsvFile<'a>,
         csv: bool,
     },
-    /// The page of an intersection, linked to the index of all or not.
+    /// The HTML page of an intersection, with a link to the index of all or without.
     Page {
         id: InterId,
         linked: bool,
     },
-    /// The index page of all intersections, with those that are overdue on a day, if one is given.
+    /// The HTML index page of all intersections, which marks those that are overdue for inspection
+    /// on a day, if one is given.
     Index {
         day: Option<Day>,
     },
@@ -93,11 +96,11 @@ pub enum Shown<'a> {
 /// What is printed of the plan in a CSV file.
 #[derive(Clone, Copy)]
 pub enum PlanShown {
-    /// The rules that it breaks, with their reasons where that is asked, and where that is asked
-    /// what an engineer is warned of in it.
+    /// The rules that the plan breaks, with their reasons if `explain`, and behind them what an
+    /// engineer is warned of in it, if `advise`.
     Violations { explain: bool, advise: bool },
-    /// A pattern of it.
+    /// The picture of a pattern of the plan, as SVG.
     Diagram { pattern: PatternNo },
-    /// Its page.
+    /// The HTML page of the plan.
     Page,
 }

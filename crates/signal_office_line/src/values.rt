@@ -13,20 +13,21 @@ use cabinet_core::Day;
 use clap::ArgMatches;
 use signal_values::InterId;
 
-/// The most seconds for which a run waits for another one that has the file open.
+/// The most seconds for which a run waits for another one that has its file open.
 const LONGEST_WAIT: u32 = 3_600;
 
-/// For how many it waits where no number is given.
+/// For how many seconds a run waits for another one that has its file open, if no number is given.
 const USUAL_WAIT: u32 = 10;
 
-/// The word of an argument, where it was given.
+/// The word of an argument, if it was given.
 pub(crate) fn word<'a>(matches: &ArgMatches<'a>, id: &str) -> Option<&'a str>
     ensures { option_map (λ s. s.now) result ≡ first_of id.now (rows_of (found_of matches.now)) }
 {
     matches.get_str(id)
 }
 
-/// The number that an argument's word spells, where it is one from `least` to `most`.
+/// The number that an argument's word spells, if the word was given and the number is one from
+/// `least` to `most`.
 pub(crate) fn number_from(matches: &ArgMatches<'_>, id: &str, least: u32, most: u32) -> Option<u32>
     ensures { result ≡ number_from least most id.now (rows_of (found_of matches.now)) }
 {
@@ -38,22 +39,23 @@ pub(crate) fn number_from(matches: &ArgMatches<'_>, id: &str, least: u32, most: 
     Some(number)
 }
 
-/// The number of an intersection, where the argument's word spells one.
+/// The number of an intersection, 1 to 9999, if the argument's word was given and spells one.
 pub(crate) fn any_intersection(matches: &ArgMatches<'_>, id: &str) -> Option<InterId>
     ensures { result ≡ number_from 1 9_999 id.now (rows_of (found_of matches.now)) }
 {
     InterId::new(number_from(matches, id, 1, 9_999)?)
 }
 
-/// The number of the intersection of a command.
+/// The number of the intersection, 1 to 9999, in the argument `ID`; `Unstated` says that there is
+/// none.
 pub(crate) fn intersection(matches: &ArgMatches<'_>) -> Result<InterId, NoJob>
     ensures { result ≡ intersection_at (rows_of (found_of matches.now)) }
 {
     any_intersection(matches, "ID").ok_or(NoJob::Unstated)
 }
 
-/// The number of an argument, where it was given. None where its word spells no number from `least`
-/// to `most`.
+/// The number of an argument that may be left out: `Some(None)` if it was, and `None` where its
+/// word spells no number from `least` to `most`.
 pub(crate) fn choice_from(
     matches: &ArgMatches<'_>,
     id: &str,
@@ -81,7 +83,7 @@ pub(crate) fn flag(matches: &ArgMatches<'_>, id: &str) -> bool
     }
 }
 
-/// The path of an argument's word, which has to be there.
+/// The path that an argument's word is; `Unstated` says that the word is missing.
 pub(crate) fn path<'a>(matches: &ArgMatches<'a>, id: &str) -> Result<Path<'a>, NoJob>
     ensures { result ≡ word_at id.now (rows_of (found_of matches.now)) }
 {
@@ -91,7 +93,8 @@ pub(crate) fn path<'a>(matches: &ArgMatches<'a>, id: &str) -> Result<Path<'a>, N
     Ok(Path::new(word))
 }
 
-/// The name that an argument's word is, which has to be there; or else the word is bad.
+/// The name of 1 to `MAX` bytes that an argument's word is; `Unstated` says that the word is
+/// missing, `bad` that it is no such name.
 pub(crate) fn name<'a, const MAX: usize>(
     matches: &ArgMatches<'a>,
     id: &str,
@@ -105,7 +108,8 @@ pub(crate) fn name<'a, const MAX: usize>(
     Name::parse(word).ok_or(NoJob::Bad(bad))
 }
 
-/// The day that an argument's word spells, which has to be there.
+/// The day that an argument's word spells as `YYYY-MM-DD`; `Unstated` says that the word is
+/// missing, `Bad` that it spells no day.
 pub(crate) fn day(matches: &ArgMatches<'_>, id: &str) -> Result<Day, NoJob>
     ensures { result ≡ day_at id.now (rows_of (found_of matches.now)) }
 {
@@ -115,7 +119,8 @@ pub(crate) fn day(matches: &ArgMatches<'_>, id: &str) -> Result<Day, NoJob>
     day_of(word).ok_or(NoJob::Bad(BadWord::Day))
 }
 
-/// The day that an argument's word spells, where it was given.
+/// The day that an argument's word spells as `YYYY-MM-DD`, if it was given; `Bad` says that it
+/// spells no day.
 pub(crate) fn any_day(matches: &ArgMatches<'_>, id: &str) -> Result<Option<Day>, NoJob>
     ensures { result
         ≡ any_of BadWord.Day day_of (first_of id.now (rows_of (found_of matches.now))) }
@@ -129,7 +134,8 @@ pub(crate) fn any_day(matches: &ArgMatches<'_>, id: &str) -> Result<Option<Day>,
     }
 }
 
-/// The part whose code an argument's word is, where it was given.
+/// The part whose code an argument's word is, if it was given; `Bad` says that it is no part's
+/// code.
 pub(crate) fn any_part<'a>(matches: &ArgMatches<'a>, id: &str) -> Result<Option<Part<'a>>, NoJob>
     ensures { result
         ≡ any_of BadWord.Part part_of (first_of id.now (rows_of (found_of matches.now))) }
@@ -143,7 +149,7 @@ pub(crate) fn any_part<'a>(matches: &ArgMatches<'a>, id: &str) -> Result<Option<
     }
 }
 
-/// The CSV file of an argument, where it was given.
+/// The CSV file of an argument, if it was given, and whether `--padded` was.
 pub(crate) fn csv_file<'a>(matches: &ArgMatches<'a>, id: &str) -> Option<CsvFile<'a>>
     ensures { result ≡ csv_at id.now (rows_of (found_of matches.now)) }
 {
@@ -152,7 +158,8 @@ pub(crate) fn csv_file<'a>(matches: &ArgMatches<'a>, id: &str) -> Option<CsvFile
     Some(CsvFile { path, padded })
 }
 
-/// `--db FILE [--wait SECONDS]`.
+/// The file of an office, of `--db FILE [--wait SECONDS]`. `Unstated` says that FILE is missing, or
+/// that SECONDS is no number from 0 to 3600.
 pub(crate) fn office_file<'a>(matches: &ArgMatches<'a>) -> Result<OfficeFile<'a>, NoJob>
     ensures { result ≡ db_at (rows_of (found_of matches.now)) }
 {
@@ -164,7 +171,8 @@ pub(crate) fn office_file<'a>(matches: &ArgMatches<'a>) -> Result<OfficeFile<'a>
     })
 }
 
-/// `[--db FILE [--wait SECONDS]]`.
+/// The file of an office, if one is given, of `[--db FILE [--wait SECONDS]]`. `Unstated` says that
+/// SECONDS is given without FILE, or is no number from 0 to 3600.
 pub(crate) fn any_office_file<'a>(matches: &ArgMatches<'a>) -> Result<Option<OfficeFile<'a>>, NoJob>
     ensures { result ≡ any_db_at (rows_of (found_of matches.now)) }
 {

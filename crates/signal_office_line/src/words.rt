@@ -8,7 +8,8 @@ use signal_values::{NoMemory, Words};
 use std::alloc::Global;
 use std::marker::Model;
 
-/// The path of a file or a folder. It is seen as the list of its bytes.
+/// The path of a file or a folder, or `-` for standard input in place of a CSV file. It is seen as
+/// the list of its bytes.
 #[derive(Drop)]
 pub struct Path<'a> {
     text: &'a str,
@@ -23,13 +24,14 @@ impl<'a> Model for Path<'a> {
 }
 
 impl<'a> Path<'a> {
+    /// The path that a word is; any word is one.
     pub(crate) fn new(text: &'a str) -> Path<'a>
         ensures { result ≡ text.now }
     {
         Path { text }
     }
 
-    /// The path.
+    /// The path as the text that the command line has.
     pub fn as_str(&self) -> &str
         ensures { result.now ≡ self.now }
     {
@@ -55,6 +57,7 @@ impl<'a, const MAX: usize> Model for Name<'a, MAX> {
 }
 
 impl<'a, const MAX: usize> Name<'a, MAX> {
+    /// The name that a word is, if it has 1 to `MAX` bytes and no control character.
     pub(crate) fn parse(word: &'a str) -> Option<Name<'a, MAX>>
         ensures { result ≡ words_of MAX word.now }
     {
@@ -62,7 +65,7 @@ impl<'a, const MAX: usize> Name<'a, MAX> {
         Some(Name { text })
     }
 
-    /// The name, in memory of its own.
+    /// The name, in memory of its own; or that memory was refused.
     pub fn to_words(&self, alloc: Global) -> Result<Words<MAX>, NoMemory>
         ensures { IfOk result (λ words. words ≡ self.now) }
     {
@@ -70,7 +73,8 @@ impl<'a, const MAX: usize> Name<'a, MAX> {
     }
 }
 
-/// The code of a part. It is seen as the list of its bytes.
+/// The code of a part: 1 to 20 of the bytes `A` to `Z`, `0` to `9` and `-`. It is seen as the list
+/// of its bytes.
 #[derive(Drop)]
 pub struct Part<'a> {
     text: &'a str,
@@ -88,6 +92,7 @@ impl<'a> Model for Part<'a> {
 }
 
 impl<'a> Part<'a> {
+    /// The part whose code a word is, if it is one.
     pub(crate) fn parse(word: &'a str) -> Option<Part<'a>>
         ensures { result ≡ part_of word.now }
     {
@@ -95,7 +100,7 @@ impl<'a> Part<'a> {
         Some(Part { text })
     }
 
-    /// The code, in memory of its own.
+    /// The code, in memory of its own; or that memory was refused.
     pub fn to_code(&self, alloc: Global) -> Result<PartCode, NoMemory>
         ensures { IfOk result (λ code. code ≡ self.now) }
     {
@@ -103,7 +108,7 @@ impl<'a> Part<'a> {
     }
 }
 
-/// The day that a word spells as `YYYY-MM-DD`.
+/// The day that a word spells as `YYYY-MM-DD`, if it is one from 1970-01-01 to 2199-12-31.
 pub(crate) fn day_of(word: &str) -> Option<Day>
     ensures { result ≡ day_of word.now }
 {
