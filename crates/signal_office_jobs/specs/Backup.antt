@@ -10,16 +10,17 @@ use Rattle.signal_office_jobs.specs.InFile.{IsMissing, outcome_over}
 use Rattle.signal_office_jobs.specs.Requests.{outcome_as}
 use Rattle.signal_office_jobs.specs.declared.backup.Standing.{Standing}
 
--- A copy may be put where no log lies, which would bring another office back, nor a copy that was not finished; a file is replaced only by force.
+-- Whether a copy may be put at a place: not beside a log, which would bring another office back, nor beside a copy that was not finished; over a file only by
+-- force.
 abbrev pub leaves_room : (force : Bool) → Standing → Bool
 leaves_room force found = not found.log && (not found.part && (force || not found.file))
 
--- a copy that was made is put in its place, or that fails
+-- a copy that was made is put in its place, or the fault is Write; where none was made, the fault is that of copying
 abbrev pub IsPut : (copied result : Result ⊤ Fault) → Type 0
 IsPut (Ok done) result = (result ≡ Ok done) ⊎ (result ≡ Err fault.Write)
 IsPut (Err why) result = result ≡ Err why
 
--- a copy may be put at a place; or something stands there, or memory for the names was refused
+-- a copy may be put at a place; or the fault is Exists, since something stands there or beside it, or Memory, for the names of what may stand beside it
 abbrev pub FindsRoom : (force : Bool) → Result ⊤ Fault → Type 0
 FindsRoom force (Ok done) = (found : Standing) × (leaves_room force found ≡ true)
 FindsRoom force (Err why) = (why ≡ fault.Memory) ⊎ ((why ≡ fault.Exists) × ((found : Standing) × (leaves_room force found ≡ false)))
@@ -33,11 +34,12 @@ module _ {Left : Type 0} (view : FileView Left) where
     pub over : EndsOver view (copy_work view.alone start end) ended
     pub put : IsPut (outcome_over ended) result
 
-  -- the office of the file was copied; or there was no output, or no memory for its name
+  -- copying the office of the file ended with this result; or the fault is Write, since no new file was made for the copy, or Memory, for the name of that
   abbrev pub CopiesTo : Result ⊤ Fault → Type 0
   CopiesTo result = CopiesOffice result ⊎ ((result ≡ Err fault.Write) ⊎ (result ≡ Err fault.Memory))
 
-  -- a copy was made where the place was free, or was to be replaced, and what came of it is printed; or the file is not there, or the place is not free, and that is reported
+  -- Where the place was free, or is to be replaced, a copy was tried, and what came of it is printed or reported; or the file is not there, or the place is
+  -- not free, or memory for names was refused, and that is reported.
   abbrev pub BacksUpFile : Bool → Output
   BacksUpFile force start end result =
       (FindsRoom force (Ok tt) × (copied : Result ⊤ Fault) × CopiesTo copied × PrintsWhat (outcome_as (codes "copied\n") copied) start end result)

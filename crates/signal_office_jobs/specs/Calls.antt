@@ -9,12 +9,12 @@ use Rattle.signal_office_line.specs.declared.job.Job.TheVariants as job
 use Rattle.signal_office_line.specs.declared.job.JobFault.{JobFault}
 use Rattle.signal_office_line.specs.declared.job.OfficeFile.{OfficeFile}
 
--- one call of a kind, where a file is given
+-- one call of a kind where a file is given, else none
 abbrev pub calls_over : Kind → Option OfficeFile → List FileCall
 calls_over kind None = []
 calls_over kind (Some db) = called db.path db.wait kind ∷ []
 
--- THE CALLS OF EACH JOB: one over the file that it names
+-- THE CALLS OF EACH JOB: one over the office file that it names, none where it names none
 abbrev pub calls_of : Job → List FileCall
 calls_of (job.Batch db) = calls_over kind.Requests db
 calls_of (job.Serve port count db) = calls_over kind.Change db
@@ -23,7 +23,7 @@ calls_of (job.Migrate db) = calls_over kind.Migration (Some db)
 calls_of (job.Backup db to force) = calls_over kind.Copy (Some db)
 calls_of _ = []
 
--- words that ask for no job make none
+-- the calls for what was found in the words: those of the job, or none where no job was found
 abbrev pub calls_found : Result Job JobFault → List FileCall
 calls_found (Ok job) = calls_of job
 calls_found (Err why) = []

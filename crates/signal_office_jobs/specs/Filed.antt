@@ -18,7 +18,8 @@ file_name (file.Cabinet id) = decimal id ++ codes "-cabinet.csv"
 file_name (file.Index day) = codes "index.html"
 file_name (file.Page id) = decimal id ++ codes ".html"
 
--- what it shows: what the command prints that shows this; an index with those that are overdue on its day, or a page that is linked to it
+-- what a file of a folder shows of the office: a list or an export as CSV, the index, which marks those that are overdue on its day, if it has one, or a page
+-- that links to the index
 abbrev pub file_shown : FileOf → Shown
 file_shown file.Intersections = shown.List true
 file_shown file.Stock = shown.Stock true
@@ -32,11 +33,11 @@ abbrev pub files_on : Folder → (id : ℕ) → List FileOf
 files_on folder.Records id = file.Plan id ∷ file.Cabinet id ∷ []
 files_on (folder.Pages day) id = file.Page id ∷ []
 
--- what a folder has beside those: the lists, or an index of all
+-- the files of a folder of a kind that are of no single intersection: the lists of the intersections and of the stock, or the index of all
 abbrev pub first_files : Folder → List FileOf
 first_files folder.Records = file.Intersections ∷ file.Stock ∷ []
 first_files (folder.Pages day) = file.Index day ∷ []
 
--- THE FILES of a folder of a kind, over some intersections
+-- THE FILES of a folder of a kind over some intersections, in the order in which they are put
 abbrev pub files_in : Folder → List ListedIntersection → List FileOf
 files_in folder listed = first_files folder ++ flat_map (λ (one : ListedIntersection). files_on folder one.id) listed

@@ -15,12 +15,12 @@ use Rattle.signal_office_queries.specs.Seen.{IsMadeOfAnswers}
 use Rattle.signal_office_queries.specs.declared.seen.Query.TheVariants as query
 use Rattle.signal_office_reports.specs.Reports.{IsShown}
 
--- a damaged row that is met once all texts were made is a fault of the database
+-- the outcome of putting files once all texts were made: a damaged row that is met only then is told as the fault Store, any other outcome as it is
 abbrev pub late_outcome : Result ⊤ Fault → Result ⊤ Fault
 late_outcome (Err fault.Damaged) = Err fault.Store
 late_outcome outcome = outcome
 
--- these are all intersections of the office, each once, by their numbers; or they are not listed
+-- these are all intersections of the office, each once, in ascending order of their numbers; or the fault tells why they are not listed
 abbrev pub ListsOffice : Content → Result (List ListedIntersection) Fault → Type 0
 ListsOffice = IsMadeOfAnswers (query.Intersections ∷ []) (λ found it. it ≡ intersections_in (slice_get found 0))
 
@@ -39,7 +39,7 @@ PutsFiles tables files old new result =
     (n : ℕ) × (put : List NamedText) × AllZip (IsFileOf tables) (take n files) put × AddsFiles old new put
     × MatchResult result (λ _. length files ≤ n) (IsNotPut tables files)
 
--- the texts of the files were made and let go, or one was not
+-- the texts of all these files were made and let go, or the fault tells why not all were
 abbrev pub MakesTexts : Content → List FileOf → Result ⊤ Fault → Type 0
 MakesTexts tables files = PutsFiles tables files None None
 

@@ -9,7 +9,7 @@ use Rattle.signal_office_in_file.specs.Ended.{Effect, EndsOver, FileView, IsCoun
 use Rattle.signal_office_in_file.specs.declared.Ended.{Ended}
 use Rattle.signal_office_queries.specs.Parts.{◌>>=◌}
 
--- what came of work over a file that was closed after it, or why it was not
+-- what came of work over a file that was closed after it; else the fault with which the file was not opened, refused or not closed
 abbrev pub outcome_over : {T Left : Type 0} → Ended (Result T Fault) Left → Result T Fault
 outcome_over ended = told_by ended >>= (λ done. done)
 
@@ -21,11 +21,12 @@ pub record WorksOver {Left : Type 0} (view : FileView Left) (effect : Effect Don
   pub over : EndsOver view (task_work effect start middle (middle ≡ start)) ended
   pub prints : PrintsWhat (came_to (outcome_over ended)) middle end result
 
--- The file is not there, or empty without a log, and is not to be made; or memory for the name of its log was refused.
+-- this fault is `absent`: the file is not there, or empty without a log, and is not to be made; or it is Memory, for the name of its log
 abbrev pub IsMissing : (absent : Fault) → Fault → Type 0
 IsMissing absent why = (why ≡ absent) ⊎ (why ≡ fault.Memory)
 
--- work over a file, which is made where there is none, or has to be there
+-- work over a file, which is made where there is none if `makes` says so; else, where it is not there, nothing is done, and the fault is File, or Memory for
+-- the name of its log
 abbrev pub InFile : {Left : Type 0} → FileView Left → (makes : Bool) → Effect Done → Output
 InFile view makes effect start end result =
     WorksOver view effect start end result
@@ -36,8 +37,8 @@ abbrev pub migration_as : Result ℕ Fault → Result Printed Fault
 migration_as (Ok rows) = Ok (shows (codes "migrated " ++ decimal rows ++ codes " rows\n"))
 migration_as (Err why) = Err why
 
--- A file was migrated, and the line tells how many rows were written anew, as they were counted, or why not; or it is not there, or empty without a log, which is
--- reported as another version.
+-- A file was migrated, and the line tells how many rows were written anew, as they were counted, or why not; or it is not there, or empty without a log, and
+-- the fault is Version, or Memory for the name of its log.
 abbrev pub MigratesFile : {Left : Type 0} → FileView Left → Output
 MigratesFile {Left} view start end result =
     ((ended : Ended (Result ℕ Fault) Left) × IsCounted view ended × PrintsWhat (migration_as (outcome_over ended)) start end result)

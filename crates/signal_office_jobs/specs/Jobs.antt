@@ -32,7 +32,7 @@ Exchange = Ends → Ends → Result ℕ Fault → Type 0
 
 -- ---- requests
 
--- the most requests of one run
+-- the most requests that one run of `batch` answers
 abbrev pub batch_limit : ℕ
 batch_limit = 1_000_000
 
@@ -46,7 +46,8 @@ abbrev pub status_over : Result (Result Served ServeFault) Fault → Result ℕ 
 status_over (Ok outcome) = stream_status outcome
 status_over (Err why) = Err why
 
--- the requests of a run were answered by a new office in memory, or, where a file is given, by its office
+-- the requests of a run, at most `batch_limit`, were answered by a new office in memory, or, where a file is given, by the office of that; or the fault tells
+-- why not all were
 abbrev pub Batches : {Left T : Type 0} → FileView Left → (db : Option T) → Exchange
 Batches view None start end result =
     (outcome : Result Served ServeFault) × (after : Office) × Did office_protocol (ServesInMemory after) batch_limit start end outcome
@@ -55,13 +56,13 @@ Batches {Left} view (Some db) start end result =
     (ended : Ended (Result Served ServeFault) Left) × EndsOver view (stream_work batch_limit start end (end ≡ start)) ended
     × (result ≡ status_over (told_by ended))
 
--- a port was served by a new office in memory
+-- `count` connections on a port were served by a new office in memory; or the fault tells why not all
 abbrev pub ServesNew : (port count : ℕ) → Output
 ServesNew port count start end result =
     (old : Content) × StandForSound old new_office × (new : Content) × (done : Result Done Fault) × (middle : Told)
     × ServesAs port count old done new start middle × PrintsWhat (came_to done) middle end result
 
--- a port is served by a new office in memory, or by that of a file where one is given
+-- a port was served by a new office in memory, or by that of a file where one is given
 abbrev pub ServesOn : {Left T : Type 0} → FileView Left → (port count : ℕ) → (db : Option T) → Output
 ServesOn files port count None = ServesNew port count
 ServesOn files port count (Some db) = InFile files true (serving port count)
@@ -72,7 +73,7 @@ ServesOn files port count (Some db) = InFile files true (serving port count)
 abbrev pub OnlyPrints : Output → Exchange
 OnlyPrints prints start end result = (end.source ≡ start.source) × prints start.sink end.sink result
 
--- something was made of what was read, and that is printed
+-- something was made of what was read, and is printed, or the fault for which nothing was made is given
 abbrev pub Made : (Result Printed Fault → Type 0) → Output
 Made makes start end result = (it : Result Printed Fault) × makes it × PrintsWhat it start end result
 

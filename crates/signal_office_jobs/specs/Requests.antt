@@ -21,7 +21,7 @@ use Rattle.signal_office_line.specs.declared.job.Request.{Request}
 use Rattle.signal_office_line.specs.declared.job.Request.TheVariants as request
 use Rattle.signal_office_reports.specs.Reports.{IsShown}
 
--- what work comes to that has a line to tell: its fault, or that
+-- what is printed of work: this line, with status 0, if it was done; else its fault
 abbrev pub outcome_as : (line : List ℕ) → Result ⊤ Fault → Result Printed Fault
 outcome_as line (Ok done) = Ok (shows line)
 outcome_as line (Err why) = Err why
@@ -32,11 +32,11 @@ pub data Asking : Type 1 where
   looks : ((text lines : List ℕ) → Content → Result Printed Fault → Type 0) → Asking
   changes : (makes : (text lines : List ℕ) → Content → Content → Result Printed Fault → Type 0) → (after : (text : List ℕ) → Content → Content → Type 0) → Asking
 
--- a folder of the system was filled, of which nothing is known, and nothing is told
+-- a folder of the system, of whose files nothing is known, was filled, and nothing is printed; or the fault tells why it was not filled
 abbrev pub FillsAs : Folder → Content → Result Printed Fault → Type 0
 FillsAs folder tables it = (outcome : Result ⊤ Fault) × FillsWith folder tables None None outcome × (it ≡ outcome_as [] outcome)
 
--- one command is run
+-- one command of the office is run, which changes the tables
 abbrev pub by_command : Command → Asking
 by_command asked = changes (λ text lines. Changes asked) (λ text. AfterStep asked)
 
@@ -56,7 +56,7 @@ abbrev pub makes_file : Request → Bool
 makes_file (request.Add id interval name) = true
 makes_file _ = false
 
--- what is asked looks at the tables or changes them
+-- whether what is asked looks at the tables or changes them
 abbrev pub kind_asked : Asking → Kind
 kind_asked (looks tells) = kind.Look
 kind_asked (changes makes after) = kind.Change

@@ -23,11 +23,11 @@ use Rattle.signal_office_line.specs.declared.job.BadWord.TheVariants as word
 use Rattle.signal_office_jobs.specs.Calls.{calls_found}
 use Rattle.signal_office_jobs.specs.Jobs.{Course, RunsJob}
 
--- the words ask for help
+-- the words ask for help, or for the version of the program
 abbrev pub IsHelp : ErrorKind → Type 0
 IsHelp asked = (asked ≡ kind.DisplayHelp) ⊎ (asked ≡ kind.DisplayVersion)
 
--- help is printed, and has status 0; why words are refused goes to standard error, and has status 2
+-- help or the version is printed, with status 0; why words are refused goes to standard error, with status 2
 pub record ShowsText (asked : ErrorKind) (text : List ℕ) (out ended err said : Told) (result : Result ℕ Fault) : Type 0 where
   pub help : IsHelp asked → Prints (shows_with text 0) out ended result × (said ≡ err)
   pub refused : (IsHelp asked → ⊥) → (ended ≡ out) × Prints (shows_with text 2) err said result
@@ -45,11 +45,11 @@ fault_of_word word.Clerk = fault.Clerk
 fault_of_word word.Name = fault.Name
 fault_of_word word.Part = fault.Part
 
--- nothing was read or printed, and this is reported
+-- nothing was read or printed, and this fault is given
 abbrev pub OnlyTells : Fault → Course
 OnlyTells why start end err said result = (end ≡ start) × (said ≡ err) × (result ≡ Err why)
 
--- What was found is done: the job, or the refusal is shown, or a bad word is reported, or that memory ran out.
+-- What was found in the words is done: the job, or the refusal or the help is shown, or a bad word is reported, or that memory ran out.
 abbrev pub DoesFound : {Left : Type 0} → FileView Left → Result Job JobFault → Course
 DoesFound files (Ok job) start end err said result = RunsJob files job start end err said result
 DoesFound files (Err (Refused error)) start end err said result =
@@ -62,7 +62,8 @@ abbrev pub EndsWith : Result ℕ Fault → (said ended : Told) → (status : ℕ
 EndsWith (Ok given) said ended status = (ended ≡ said) × (status ≡ given)
 EndsWith (Err why) said ended status = SaysFault why said ended × (status ≡ status_of why)
 
--- A RUN OF THE PROGRAM, by its words: what they ask for is done, by the calls of it, and its status is that of the run.
+-- A RUN OF THE PROGRAM, by its words: what they ask for is done, with the calls of the opener of files that the job has, and the run ends with the status
+-- that comes of it.
 pub record RunsWords {Left : Type 0} (files : FileView Left) (words : List Text) (old new : List FileCall) (start end : Ends) (err ended : Told) (status : ℕ) : Type 0 where
   pub found : Result Job JobFault
   pub is_found : IsFoundInWords words found

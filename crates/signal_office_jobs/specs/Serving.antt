@@ -27,8 +27,8 @@ use Rattle.signal_office_jobs.specs.Requests.{outcome_as}
 abbrev pub listening_line : ℕ → List ℕ
 listening_line port = codes "listening on 127.0.0.1:" ++ decimal port ++ codes "\n"
 
--- The line was written; or memory for it was refused, and nothing was written; or the sink failed or took no byte, and holds
--- the line up to some place.
+-- The line that a port is listened on was written; or the fault is Memory, and nothing was written; or it is Write: the sink failed or took no byte, and
+-- holds the line up to some place.
 abbrev pub SaysListening : ℕ → Told → Told → Result ⊤ Fault → Type 0
 SaysListening port old new (Ok done) = Appends old.bytes new.bytes (listening_line port)
 SaysListening port old new (Err fault.Memory) = new ≡ old
@@ -41,12 +41,12 @@ abbrev pub fault_of_stop : ServeStop → Fault
 fault_of_stop stop.Accept = fault.Bind
 fault_of_stop stop.NoMemory = fault.Memory
 
--- the outcome that tells how serving a listener ended
+-- how serving a listener ended: done, or the fault that tells why it was not served to the last connection
 abbrev pub ended_as : Result ⊤ ServeStop → Result ⊤ Fault
 ended_as (Ok done) = Ok done
 ended_as (Err why) = Err (fault_of_stop why)
 
--- Where the line was not written, that is the fault, and no connection was accepted. Else a new listener counted how many were,
+-- Where the line that a port is listened on was not written, that is the fault, and no connection was accepted. Else a new listener counted how many were,
 -- and the outcome tells why it ended after the connections that were served.
 abbrev pub ServesOnceSaid : ℕ → Result ⊤ Fault → ListenCounts → List Connected → Result ⊤ Fault → Type 0
 ServesOnceSaid count (Err why) counts served result = (result ≡ Err why) × (counts ≡ no_listening) × (served ≡ [])
@@ -54,8 +54,8 @@ ServesOnceSaid count (Ok done) counts served result =
     (ended : Result ⊤ ServeStop) × EndsListening count (counts_alone no_listening) (counts_alone counts) served ended
     × (result ≡ ended_as ended)
 
--- How serving a port ended after these connections, as its listener counted them. Without a listener the port was not to be
--- had: nothing was said, and no connection was served.
+-- How serving a port ended after these connections, as its listener counted them. Without a listener the fault is Bind, since the port was not to be had:
+-- nothing was said, and no connection was served.
 abbrev pub ServesPort : ℕ → ℕ → Told → Told → Option ListenCounts → List Connected → Result ⊤ Fault → Type 0
 ServesPort port count old new None served result = (result ≡ Err fault.Bind) × (new ≡ old) × (served ≡ [])
 ServesPort port count old new (Some counts) served result =
@@ -87,23 +87,23 @@ ServedFrom before connection after Holds =
     (outcome : Result Served ServeFault)
     × Did office_protocol (λ requests answers. KeepsLaws before requests answers after × Holds requests answers) connection_limit connection.start connection.end outcome
 
--- the tables after a request of one of the connections; those before it were served in turn
+-- these are the tables after a request of one of the connections; the connections before that one were served in turn
 abbrev pub AfterConnection : Office → List Connected → Content → Type 0
 AfterConnection before [] found = ⊥
 AfterConnection before (connection ∷ connections) found =
     (middle : Office) × (ServedFrom before connection middle (λ requests answers. AfterRequest before requests answers found)
     ⊎ (ServedFrom before connection middle (λ _ _. ⊤) × AfterConnection middle connections found))
 
--- whichever office the tables stood for
+-- what a stop may leave of serving a port: the old tables, or, from whichever office they stood for, those after a request of one of its connections
 abbrev pub AfterServing : Content → Content → Type 0
 AfterServing old found =
     (before : Office) → StandForSound old before → (connections : List Connected) × SameOr (λ _. AfterConnection before connections) old found
 
--- a port that is served says that it listens
+-- what the output took of serving a port: the line that it is listened on, a part of that, or nothing
 abbrev pub SaysPort : (port count : ℕ) → (start end : Told) → Type 0
 SaysPort port count start end =
     (counts : Option ListenCounts) × (outcome : Result ⊤ Fault) × (served : List Connected) × ServesPort port count start end counts served outcome
 
--- a port that is served by the office of a file
+-- serving `count` connections on a port as a task: what it does to the tables, what a stop may leave of them, and what the output took
 abbrev pub serving : (port count : ℕ) → Effect Done
 serving port count = record { does = ServesAs port count; leaves = AfterServing; says = SaysPort port count }

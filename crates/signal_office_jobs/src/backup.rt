@@ -1,4 +1,4 @@
-//! The office of a file, copied into another.
+//! The office of a file, copied into another file.
 
 ghost use Rattle.std.specs.Prelude.{◌≡◌, ◌∷◌, []};
 ghost use Rattle.signal_office_in_file.specs.Calls.{AreCalled, called};
@@ -16,8 +16,8 @@ use std::fs::{File, OpenOptions};
 use std::os::unix::fs::{MetadataExt, OpenOptionsExt};
 use std::{fs, io};
 
-/// What stands where a copy is to be put, and beside it: a file, its log, and a copy that was not
-/// finished.
+/// What stands where a copy is to be put: anything at its path, beside it a log that has a byte
+/// (`-wal`), and a copy that was not finished (`.part`).
 #[derive(Clone, Copy)]
 struct Standing {
     file: bool,
@@ -26,8 +26,8 @@ struct Standing {
 }
 
 impl Standing {
-    /// Whether a copy may be put there. A log would bring another office back, so that of no file
-    /// is replaced.
+    /// Whether a copy may be put where this was found: not beside a log, which would bring another
+    /// office back, nor beside a copy that was not finished; over a file only by `force`.
     fn leaves_room(self, force: bool) -> bool
         ensures { result ≡ leaves_room force self }
     {
@@ -35,7 +35,8 @@ impl Standing {
     }
 }
 
-/// Whether there is a file that has a byte.
+/// Whether there is a file at the path that has a byte. Where the system does not tell, the answer
+/// is no.
 fn has_bytes(rt: &HostRuntime, path: &str) -> bool {
     match fs::metadata(rt, path) {
         Ok(found) => found.len() > 0,
@@ -43,7 +44,8 @@ fn has_bytes(rt: &HostRuntime, path: &str) -> bool {
     }
 }
 
-/// What stands at a path, as the system tells.
+/// What stands at a path and beside it, as the system tells. The error means that memory for the
+/// names was refused.
 fn standing_at(rt: &HostRuntime, alloc: Global, path: &str) -> Result<Standing, AllocError> {
     let log = format!(in alloc; "{path}-wal")?;
     let part = format!(in alloc; "{path}.part")?;
@@ -54,7 +56,8 @@ fn standing_at(rt: &HostRuntime, alloc: Global, path: &str) -> Result<Standing, 
     })
 }
 
-/// Finds out whether a copy may be put at a path.
+/// Finds out whether a copy may be put at a path. The fault is Exists if not, and Memory where
+/// memory for the names of what may stand beside it was refused.
 fn room_at(rt: &HostRuntime, alloc: Global, path: &str, force: bool) -> Result<(), Fault>
     ensures { FindsRoom force result }
 {
@@ -65,7 +68,8 @@ fn room_at(rt: &HostRuntime, alloc: Global, path: &str, force: bool) -> Result<(
     }
 }
 
-/// Makes a new file, which those may read who may read the other one.
+/// Makes a new file with the permissions of another one, as far as the system grants them. Where
+/// something stands at the path, that is an error.
 fn make_like(rt: &HostRuntime, other: &str, path: &str) -> io::Result<File> {
     let mode = fs::metadata(rt, other)?.mode() & 0o777;
     OpenOptions::new()
@@ -75,13 +79,15 @@ fn make_like(rt: &HostRuntime, other: &str, path: &str) -> io::Result<File> {
         .open(rt, path)
 }
 
-/// Puts a file that was written whole in the place of another.
+/// Syncs a file that was written whole, and renames it to the path where it is to stand; a file
+/// there is replaced.
 fn put_in_place(rt: &HostRuntime, file: &File, part: &str, to: &str) -> io::Result<()> {
     file.sync_all()?;
     fs::rename(rt, part, to)
 }
 
-/// Puts a copy that was made in its place. One that was not made is removed.
+/// Puts a copy that was made in its place. One that was not made, or could not be put there, is
+/// removed; the fault is that of copying, or Write.
 fn put_copy(
     rt: &HostRuntime,
     file: &File,
@@ -104,7 +110,9 @@ fn put_copy(
     }
 }
 
-/// Copies the office of a file into a new one beside another, and puts that in its place.
+/// Copies the office of a file into a new file, `.part` beside the path `to`, and puts that there.
+/// The fault is Memory for the name, Write where the new file was not made, written or put, or that
+/// of copying.
 fn copy_to<F: OfficeInFile>(
     files: &mut F,
     rt: &HostRuntime,
@@ -126,8 +134,9 @@ fn copy_to<F: OfficeInFile>(
     put_copy(rt, &sink.writer, outcome_over(ended), part.as_str(), to)
 }
 
-/// Copies the office of a file into another, where that is free or is to be replaced, and prints
-/// that. The file has to be there.
+/// Copies the office of a file into another file, where that place is free or is to be replaced,
+/// and prints `copied`. The fault is File where the office is not there, and Exists where the place
+/// is not free.
 pub(crate) fn backup<F: OfficeInFile, W: Sink>(
     files: &mut F,
     rt: &HostRuntime,

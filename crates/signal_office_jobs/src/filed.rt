@@ -9,7 +9,7 @@ use signal_office_line::{Folder as FolderKind, Shown, View};
 use signal_records::{InterId, NoMemory};
 use std::alloc::{AllocError, Global};
 
-/// A file of a folder.
+/// A file of a folder that is filled with what an office shows.
 #[derive(Clone, Copy)]
 pub enum FileOf {
     /// The list of all intersections as CSV.
@@ -20,9 +20,9 @@ pub enum FileOf {
     Plan { id: InterId },
     /// The cabinet of an intersection as CSV.
     Cabinet { id: InterId },
-    /// The index page, with those that are overdue on a day, if one is given.
+    /// The index page, which marks those that are overdue on a day, if one is given.
     Index { day: Option<Day> },
-    /// The page of an intersection.
+    /// The page of an intersection, with a link to the index.
     Page { id: InterId },
 }
 
@@ -30,7 +30,7 @@ impl FileOf {
     ghost use Rattle.std.specs.Prelude.{◌≡◌, IfOk, string_bytes};
     ghost use Rattle.signal_office_jobs.specs.Filed.{file_name, file_shown};
 
-    /// Its name in the folder.
+    /// The name of the file in its folder, in UTF-8. The error means that a growth was refused.
     pub(crate) fn name(self, alloc: Global) -> Result<String, AllocError>
         ensures { IfOk result (λ name. string_bytes name ≡ file_name self) }
     {
@@ -53,7 +53,7 @@ impl FileOf {
         }
     }
 
-    /// What it shows.
+    /// What the file shows of an office.
     pub(crate) fn shown(self) -> Shown<'static>
         ensures { result ≡ file_shown self }
     {
@@ -89,7 +89,7 @@ fn first_files(alloc: Global, kind: &FolderKind) -> Result<Vec<FileOf>, NoMemory
     Ok(files)
 }
 
-/// Appends the files of an intersection.
+/// Appends the files of an intersection in a folder of a kind.
 fn push_files(files: &mut Vec<FileOf>, kind: &FolderKind, id: InterId) -> Result<(), NoMemory>
     ensures { OnOk result (files.new.items ≡ files.old.items ++ files_on kind.now id) }
 {
@@ -103,7 +103,8 @@ fn push_files(files: &mut Vec<FileOf>, kind: &FolderKind, id: InterId) -> Result
     Ok(())
 }
 
-/// The files of a folder over these intersections.
+/// The files of a folder of a kind over these intersections, in the order in which they are put.
+/// `NoMemory` means that a growth was refused.
 pub(crate) fn files_in(
     alloc: Global,
     kind: &FolderKind,

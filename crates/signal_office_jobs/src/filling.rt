@@ -28,7 +28,8 @@ impl Folder for NoFolder {
     }
 }
 
-/// The files of a kind of all intersections of an office.
+/// The files of a folder of a kind over all intersections of an office, in the order in which they
+/// are put.
 fn files_of_all<S: Shelf>(
     alloc: Global,
     office: &mut Office<S>,
@@ -42,7 +43,8 @@ fn files_of_all<S: Shelf>(
     Ok(files_in(alloc, kind, listed.as_slice())?)
 }
 
-/// Makes the text of each file in their order, and puts it.
+/// Makes the text of each file, in their order, and puts the file into the folder, before the next
+/// is made.
 fn put_each<S: Shelf, D: Folder>(
     alloc: Global,
     office: &mut Office<S>,
@@ -61,8 +63,8 @@ fn put_each<S: Shelf, D: Folder>(
     Ok(())
 }
 
-/// A row that was a record when all texts were made, and is none now, is reported as a fault of the
-/// database.
+/// The outcome of putting files once all texts were made: a row that was a record then, and is none
+/// now, is reported as Store.
 fn late_outcome(outcome: Result<(), Fault>) -> Result<(), Fault>
     ensures value { result ≡ late_outcome outcome }
     ensures undamaged { result ≢ Err Fault.Damaged }
@@ -73,19 +75,21 @@ fn late_outcome(outcome: Result<(), Fault>) -> Result<(), Fault>
     }
 }
 
-/// Fills a folder with the files of an office of a kind. None is put where a row that one of them
-/// shows is no record; where one is not put, those before it are. The office is as it was.
+/// Fills a folder of a kind with the files of an office, which stays as it is. Where a text is not
+/// made, no file is put: the fault is Damaged for a row that is no record, Memory or Store where
+/// memory or the database refused. Where a file is later not put, those before it are: the fault is
+/// Write, Memory or Store.
 pub fn fill<S: Shelf, D: Folder>(
     alloc: Global,
     office: &mut Office<S>,
     kind: &FolderKind,
     folder: &mut D,
 ) -> Result<(), Fault>
-    // It changes nothing. The files that were put are those of the office, each with what it shows;
-    // or the first of them, and this is why not all.
+    // The call changes nothing in the office. The files that were put are those of the office, each
+    // with what it shows; or the first of them, and the fault tells why not all.
     ensures fills { OnlyLooks S.Shelf office.old office.new (λ tables. FillsWith kind.now tables
         (D.files folder.old) (D.files folder.new) result) }
-    // Where a row is no record, nothing was put.
+    // Where Damaged is the fault, nothing was put.
     ensures whole { result ≡ Err Fault.Damaged → D.files folder.new ≡ D.files folder.old }
 {
     let files = files_of_all(alloc, office, kind)?;

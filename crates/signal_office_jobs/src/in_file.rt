@@ -14,7 +14,8 @@ use signal_office_in_file::{Ended, OfficeInFile, OfficeTask};
 use signal_office_line::OfficeFile;
 use std::alloc::Global;
 
-/// What came of work over a file that was closed after it, or why it was not.
+/// What came of work over a file that was closed after it; else the fault with which the file was
+/// not opened, refused or not closed.
 pub(crate) fn outcome_over<T: Drop, L: Drop>(ended: Ended<Result<T, Fault>, L>) -> Result<T, Fault>
     ensures { result ≡ outcome_over ended }
 {
@@ -24,8 +25,9 @@ pub(crate) fn outcome_over<T: Drop, L: Drop>(ended: Ended<Result<T, Fault>, L>) 
     }
 }
 
-/// Does a task over the office of a file, and prints what it gives. A file that is not there, or is
-/// empty with no log beside it, is made only where that is asked.
+/// Does a task over the office of a file, and prints what it gives once the file is closed. A file
+/// that is not there, or is empty with no log beside it, is made only if `makes` says so; else the
+/// fault is File.
 pub(crate) fn in_file<F: OfficeInFile, T: OfficeTask<Done>, W: Sink>(
     files: &mut F,
     rt: &HostRuntime,
@@ -48,7 +50,8 @@ pub(crate) fn in_file<F: OfficeInFile, T: OfficeTask<Done>, W: Sink>(
     print_done(outcome_over(ended), out)
 }
 
-/// Tells how many rows a migration wrote anew, without memory, or its fault.
+/// The line that tells how many rows a migration wrote anew, made without memory; or the fault of
+/// the migration.
 fn migration_line(outcome: Result<u128, Fault>) -> Result<Done, Fault>
     ensures { came_to result ≡ migration_as outcome }
 {
@@ -62,7 +65,7 @@ fn migration_line(outcome: Result<u128, Fault>) -> Result<Done, Fault>
 }
 
 /// Brings the tables of a file to today's version, and prints how many rows were written anew. A
-/// file that is not there, or is empty with no log beside it, has no version and is not made.
+/// file that is not there, or is empty with no log beside it, is not made; the fault is Version.
 pub(crate) fn migrate<F: OfficeInFile, W: Sink>(
     files: &mut F,
     rt: &HostRuntime,

@@ -7,10 +7,11 @@ use office_http_framing::ends::Source;
 use signal_office_faults::Fault;
 use std::alloc::Global;
 
-/// How many bytes are read at a time.
+/// How many bytes are read at a time, at most.
 const PIECE_LEN: usize = 4096;
 
-/// All the bytes that the input gives, up to its end.
+/// All the bytes that the input gives, up to its end. The fault is Read where the input failed, and
+/// Memory where a growth was refused; some bytes may be taken by then.
 pub(crate) fn read_input<R: Source>(alloc: Global, source: &mut R) -> Result<Vec<u8>, Fault>
     ensures bytes { IfOk result (λ bytes.
         GivesAll bytes.items (R.told source.old) (R.told source.new)) }

@@ -21,8 +21,9 @@ pub fn open_in_memory(alloc: Global) -> Office<MapShelf>
     Office::new(shelf)
 }
 
-/// Serves the requests that the reader gives by a new office over tables in memory. The headline
-/// holds of it with no premise on the tables or a disk.
+/// Serves at most `max_requests` requests of the reader by a new office over tables in memory, with
+/// no premise on these or on a disk. The fault is Read where the reader failed, Write where the
+/// writer failed or took no byte, and NoMemory where the buffer was refused.
 pub fn serve_new_office<R: Source, W: Sink>(
     alloc: Global,
     reader: &mut R,
@@ -36,14 +37,14 @@ pub fn serve_new_office<R: Source, W: Sink>(
         × Did office_protocol (ServesInMemory after) max_requests
         (ends_of (R.told reader.old) (W.told writer.old))
         (ends_of (R.told reader.new) (W.told writer.new)) result }
-    // Read and Write are answered only where that end told a fault.
+    // Read and Write are told only where a call of that end failed, or the writer took no byte.
     ensures fault { TellsFault (ends_of (R.told reader.old) (W.told writer.old))
         (ends_of (R.told reader.new) (W.told writer.new)) result }
     // Where the buffer was refused nothing was read or written.
     ensures untouched { IfErr result (λ why. why ≡ ServeFault.NoMemory →
         ends_of (R.told reader.new) (W.told writer.new)
         ≡ ends_of (R.told reader.old) (W.told writer.old)) }
-    // The reader is called only while a request is awaited, and so often at most.
+    // The reader is called only while a request is awaited, and at most as often as `reads` says.
     ensures asks { OnlyAsks R.told max_requests reader.old reader.new }
     ensures reads { (R.told reader.new).counts.calls
         ≤ (R.told reader.old).counts.calls + longest_request * (max_requests + 1) + 1 }

@@ -18,8 +18,8 @@ use signal_office_line::{Folder as FolderKind, Path, Request};
 use signal_office_reports::report;
 use std::alloc::Global;
 
-/// Whether a request makes the file where there is none. What only asks, changes a plan that has to
-/// be there, or takes records of cabinets that have to be, does not: a mistyped name is no office.
+/// Whether a request makes the file of an office where there is none. Only adding an intersection
+/// does: a mistyped name is no office.
 pub(crate) fn makes_file(request: &Request<'_>) -> bool
     ensures { result ≡ makes_file request.now }
 {
@@ -37,7 +37,7 @@ fn kind_of(request: &Request<'_>) -> Kind
     }
 }
 
-/// The line of work that was done, or its fault.
+/// What is printed of work: this line, with status 0, if it was done; else its fault.
 pub(crate) fn line_of(outcome: Result<(), Fault>, line: &'static str) -> Result<Done, Fault>
     ensures { came_to result ≡ outcome_as line.now outcome }
 {
@@ -47,7 +47,7 @@ pub(crate) fn line_of(outcome: Result<(), Fault>, line: &'static str) -> Result<
     }
 }
 
-/// Fills a folder of the system with what the office shows, and tells nothing.
+/// Fills a folder of the system with what the office shows, and has nothing to print.
 fn fill_folder<S: Shelf>(
     rt: &HostRuntime,
     alloc: Global,
@@ -91,7 +91,7 @@ fn answer<S: Shelf>(
 }
 
 /// A request, with the text of the CSV file that was read for it, and the lines of that file on
-/// which the records begin.
+/// which the records begin, counted from 1; both are empty where none was read.
 #[derive(Clone, Copy)]
 pub(crate) struct Asked<'a> {
     pub(crate) request: &'a Request<'a>,

@@ -24,10 +24,10 @@ use std::alloc::Global;
 /// The most requests of one run of `batch`.
 const BATCH_LIMIT: u32 = 1_000_000;
 
-/// The status where the words are refused.
+/// The status where the words of the command line are refused.
 const WORDS_REFUSED: u8 = 2;
 
-/// The status of a stream that was served, or why it was not served to its end.
+/// The status of a stream that was served to its end, 0, or the fault that tells why it was not.
 fn stream_status(outcome: Result<Served, ServeFault>) -> Result<u8, Fault>
     ensures { result ≡ stream_status outcome }
 {
@@ -37,7 +37,8 @@ fn stream_status(outcome: Result<Served, ServeFault>) -> Result<u8, Fault>
     }
 }
 
-/// The status of a stream that was served over a file, whose fault comes first.
+/// The status of a stream that was served over a file; a fault of the file comes before one of the
+/// stream.
 fn status_over(outcome: Result<Result<Served, ServeFault>, Fault>) -> Result<u8, Fault>
     ensures { result ≡ status_over outcome }
 {
@@ -47,7 +48,8 @@ fn status_over(outcome: Result<Result<Served, ServeFault>, Fault>) -> Result<u8,
     }
 }
 
-/// Answers the requests of the source over tables in memory, or in a file where one is given.
+/// Answers the requests of the source, at most `BATCH_LIMIT`, by an office over tables in memory,
+/// or in a file where one is given.
 fn batch<F: OfficeInFile, R: Source, W: Sink>(
     files: &mut F,
     rt: &HostRuntime,
@@ -105,7 +107,9 @@ fn serve<F: OfficeInFile, W: Sink>(
     }
 }
 
-/// Does a job with what was read for it, and gives the status.
+/// Does a job, and gives the status. `text` is that of the first CSV file that was read for it,
+/// `lines` are those on which its records begin, counted from 1, and `other` is the text of the
+/// second.
 fn do_job<F: OfficeInFile, R: Source, W: Sink>(
     files: &mut F,
     rt: &HostRuntime,
@@ -120,7 +124,7 @@ fn do_job<F: OfficeInFile, R: Source, W: Sink>(
     ensures does { JobDoes F.known job.now text.now lines.now other.now
         (ends_of (R.told source.old) (W.told out.old))
         (ends_of (R.told source.new) (W.told out.new)) result }
-    // The opener was called as the job has it, once; or not at all.
+    // The opener of files was called once, as the job has it; or not at all.
     ensures calls { AreCalled (F.calls files.old) (F.calls files.new) (calls_of job.now) result }
 {
     match job {
@@ -171,7 +175,8 @@ fn run_job<F: OfficeInFile, R: Source, W: Sink, E: Sink>(
     do_job::<F, R, W>(files, rt, alloc, job, text, lines, other, source, out)
 }
 
-/// Prints help on standard output, and why words are refused on standard error.
+/// Prints help or the version on standard output, with status 0, and why words are refused on
+/// standard error, with status 2.
 fn show<W: Sink, E: Sink>(
     alloc: Global,
     error: &clap::Error,
@@ -226,7 +231,8 @@ fn do_found<F: OfficeInFile, R: Source, W: Sink, E: Sink>(
     }
 }
 
-/// Gives the status, or says a fault and gives that of it.
+/// The status of the run: the one given, or that of the fault, whose line is said on standard
+/// error.
 fn end_with<E: Sink>(done: Result<u8, Fault>, err: &mut E) -> u8
     ensures { EndsWith done (E.told err.old) (E.told err.new) result }
 {
@@ -248,10 +254,10 @@ pub fn run_words<F: OfficeInFile, R: Source, W: Sink, E: Sink>(
     out: &mut W,
     err: &mut E,
 ) -> u8
-    // What the words ask for is done, over the office of the file that it names, which is opened
-    // once, for that alone: what is printed is the text of that, with its status, or a part of it
-    // where the output failed; a fault is said by its line, with status 1. Words that are refused,
-    // or ask for help, do nothing else.
+    // What the words ask for is done, over the office of the file that they name, which is opened
+    // at most once, for that alone: what is printed is the text of that, with its status, or a part
+    // of it where the output failed; a fault is said by its line, with status 1. Words that are
+    // refused, or ask for help, do nothing else.
     ensures { RunsWords F.known (map (λ word. word.now) words.now)
         (F.calls files.old) (F.calls files.new)
         (ends_of (R.told source.old) (W.told out.old))

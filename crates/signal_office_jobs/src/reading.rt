@@ -19,13 +19,13 @@ const INPUT: &str = "-";
 /// What a CSV file is read as.
 #[derive(Clone, Copy)]
 enum Role {
-    /// A plan, which may be the other one of two. The notes on it are said on standard error.
+    /// A plan, which may be the second of two. The notes on it are said on standard error.
     Plan { other: bool },
     /// Records, none of which may be of a later day than one that is given.
     Records { until: Option<Day> },
 }
 
-/// A CSV file that a job reads, if it reads one, and what as.
+/// The CSV file that a job reads, if any, and what it is read as.
 #[derive(Clone, Copy)]
 struct Wanted<'a> {
     file: Option<&'a CsvFile<'a>>,
@@ -39,7 +39,7 @@ pub(crate) struct CsvText {
     pub(crate) lines: Vec<usize>,
 }
 
-/// A plan whose file may be left out, or the other one of two.
+/// The file of a plan, if one is given; `other` says that the plan is the second of two.
 fn plan_in<'a>(file: Option<&'a CsvFile<'a>>, other: bool) -> Wanted<'a>
     ensures { wanted_value result ≡ (option_map (λ it. it.now) file.entry, role.Plan other) }
 {
@@ -49,7 +49,7 @@ fn plan_in<'a>(file: Option<&'a CsvFile<'a>>, other: bool) -> Wanted<'a>
     }
 }
 
-/// The CSV file that is read for a request.
+/// The CSV file that is read for a request, if any, and what it is read as.
 fn file_for<'a>(request: &'a Request<'a>) -> Wanted<'a>
     ensures { wanted_value result ≡ file_for request.entry.now }
 {
@@ -64,7 +64,7 @@ fn file_for<'a>(request: &'a Request<'a>) -> Wanted<'a>
     }
 }
 
-/// The CSV files that a job reads, at most two.
+/// The CSV files that a job reads, at most two, and what each is read as.
 fn files_of<'a>(job: &'a Job<'a>) -> (Wanted<'a>, Wanted<'a>)
     ensures { (wanted_value result.0, wanted_value result.1) ≡ files_of job.entry.now }
 {
@@ -85,7 +85,8 @@ fn is_input(file: &CsvFile<'_>) -> bool
     file.path.as_str() == INPUT
 }
 
-/// The bytes of a file, or of the input.
+/// The bytes of a file, or of the input of the run where the path is `-`. The fault is Read where
+/// the input failed, File where the system did not give them, or Memory.
 fn read_bytes<R: Source>(
     rt: &HostRuntime,
     alloc: Global,
@@ -104,7 +105,8 @@ fn read_bytes<R: Source>(
     }
 }
 
-/// The text of a CSV file: its bytes, or those of one whose records are padded, without that.
+/// The text of a CSV file: its bytes; where its records are padded, a byte order mark and the
+/// records without the padding.
 fn text_of(alloc: Global, bytes: Vec<u8>, padded: bool) -> Result<Vec<u8>, Fault>
     ensures text { IfOk result (λ text. text.items ≡ file_text padded bytes.items) }
     ensures fault { IfErr result (λ why. why ≡ fault.Memory) }
@@ -116,7 +118,8 @@ fn text_of(alloc: Global, bytes: Vec<u8>, padded: bool) -> Result<Vec<u8>, Fault
     }
 }
 
-/// The text of a CSV file, which is the input of the run where its path is `-`.
+/// The text of a CSV file, and the lines on which its records begin, counted from 1. The file is
+/// the input of the run where its path is `-`.
 #[tactic(auto, using(crate::proofs::InputLemmas::refused_after))]
 fn read_csv<R: Source>(
     rt: &HostRuntime,
@@ -135,7 +138,8 @@ fn read_csv<R: Source>(
     Ok(CsvText { text, lines })
 }
 
-/// Says notes on standard error, as far as that takes them; where there are none it is left.
+/// Says notes on standard error, as far as that takes them; where there are none, nothing is
+/// written.
 fn say_notes<E: Sink>(notes: &[u8], err: &mut E)
     ensures { SaysNotes notes.now (E.told err.old) (E.told err.new) }
 {
@@ -144,8 +148,8 @@ fn say_notes<E: Sink>(notes: &[u8], err: &mut E)
     }
 }
 
-/// Says the notes on a plan, a line for each record that puts or removes a key again; or looks at
-/// the days of records.
+/// Says the notes on a plan, a line for each record that puts or removes a key again; or refuses
+/// records of a later day than one that is given.
 fn take_text<E: Sink>(alloc: Global, role: Role, text: &[u8], err: &mut E) -> Result<(), Fault>
     ensures { IsTextTaken role text.now result (E.told err.old) (E.told err.new) }
 {
@@ -159,8 +163,8 @@ fn take_text<E: Sink>(alloc: Global, role: Role, text: &[u8], err: &mut E) -> Re
     }
 }
 
-/// Reads a CSV file, and takes its text as what it is wanted; or gives no text, where there is no
-/// file.
+/// Reads the CSV file that is wanted, and takes its text for its role; where none is wanted, the
+/// text and the lines are empty.
 fn read_wanted<R: Source, E: Sink>(
     rt: &HostRuntime,
     alloc: Global,
@@ -182,7 +186,8 @@ fn read_wanted<R: Source, E: Sink>(
     Ok(csv)
 }
 
-/// Reads the CSV files of a job, one after the other.
+/// Reads the CSV files of a job, one after the other. The fault is that of the first that was not
+/// read, or not taken for its role; none is read after it.
 pub(crate) fn read_files<R: Source, E: Sink>(
     rt: &HostRuntime,
     alloc: Global,

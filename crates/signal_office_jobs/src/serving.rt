@@ -17,7 +17,8 @@ use signal_office_in_file::{Kind, OfficeTask};
 use std::alloc::Global;
 use std::net::{Ipv4Addr, SocketAddr, TcpListener};
 
-/// Says that a port of 127.0.0.1 is listened on.
+/// Says that a port of 127.0.0.1 is listened on. The fault is Memory where the line was not made,
+/// and Write where the output failed or took no byte.
 fn say<W: Sink>(alloc: Global, port: u16, out: &mut W) -> Result<(), Fault>
     ensures { SaysListening port (W.told out.old) (W.told out.new) result }
 {
@@ -38,9 +39,10 @@ fn fault_of(stop: ServeStop) -> Fault
     }
 }
 
-/// Listens on a port of 127.0.0.1, says so, and serves so many connections, one after the other,
-/// each at most 10,000 requests. The listener, which is given back, counted its calls; there is
-/// none where the port was not to be had.
+/// Listens on a port of 127.0.0.1, says so, and serves `count` connections, one after the other,
+/// each at most 10,000 requests. The listener, which is given back, counted its calls; without one
+/// the port was not to be had. The fault is Bind for the port or a connection that was not
+/// accepted, Write where the line was not written, or Memory.
 pub fn serve_port<S: Shelf, W: Sink>(
     rt: &HostRuntime,
     alloc: Global,
@@ -75,7 +77,7 @@ pub fn serve_port<S: Shelf, W: Sink>(
     (Some(listener), served.map_err(fault_of))
 }
 
-/// So many connections on a port, served by the office of a file.
+/// The task of serving `count` connections on a port of 127.0.0.1 by an office.
 #[derive(Clone, Copy)]
 pub(crate) struct Serving {
     pub(crate) port: u16,

@@ -22,26 +22,27 @@ use Rattle.signal_office_queries.specs.declared.seen.Seen.{Seen}
 use Rattle.signal_office_queries.specs.declared.seen.Seen.TheVariants as seen
 use Rattle.signal_plans.specs.Warnings.{warnings_of}
 
--- all intersections of the office, one for each row of the table whatever that holds besides
+-- what a look at the list may see of tables: all intersections of the office, one for each row of the intersection table even where the tables stand for no
+-- office; or why none is seen
 abbrev pub SeesList : Content → Result (List ListedIntersection) Fault → Type 0
 SeesList tables =
     SeesAs intersections_of (λ found. (¬ HasAnyDamagedIntersection tables) × ListsEachIntersection tables found) (HasAnyDamagedIntersection tables) tables
 
--- the open orders of each
+-- a map has the open orders on each intersection of the office, and no row of the order table is damaged
 abbrev pub SeesMap : {A : Type 0} → Content → List (ℕ × Vec Order A) → Type 0
 SeesMap tables orders = OfOffice tables (λ office. AreOpenOf office orders) × ¬ HasAnyDamagedOrder tables
 
--- what the register holds of one that is listed, which is known
+-- what the register holds of an intersection, from the reply to the query Cabinet; the fault Store for anything else, which a listed intersection never shows
 abbrev pub filed_in : Seen → Result CabinetShown Fault
 filed_in (seen.Reply (reply.Cabinet cabinet)) = Ok cabinet
 filed_in other = Err told.Store
 
--- what a look at one cabinet may see of tables
+-- what a look at one cabinet may see of tables: all that the register holds of an intersection, or why nothing is seen
 abbrev pub SeesCabinet : Content → ℕ → Result CabinetShown Fault → Type 0
 SeesCabinet tables id =
     SeesAs (λ office. cabinet_shown office.register id) (λ _. ¬ MeetsDamage tables (command.Cabinet id)) (MeetsDamage tables (command.Cabinet id)) tables
 
--- how many warnings a committed plan has that was seen, which is known
+-- the number of warnings of a committed plan that was seen, or the fault Memory; the fault Store for anything else, which a listed intersection never shows
 abbrev pub IsCountOf : Seen → Result ℕ Fault → Type 0
 IsCountOf (seen.Reply (reply.Timing timing)) result = MatchResult result (λ count. count ≡ length (warnings_of timing.rows)) (λ why. why ≡ told.Memory)
 IsCountOf other result = result ≡ Err told.Store
@@ -51,16 +52,18 @@ abbrev pub SeesCount : (counted : Bool) → Content → ℕ → Result (Option �
 SeesCount counted tables id =
     SeesAs (λ office. warning_count counted office id) (λ _. ¬ MeetsCounted counted tables id) (MeetsCounted counted tables id) tables
 
--- what a look at the cabinet of one that is listed may see of tables
+-- what a look at a listed intersection may see of tables: its cabinet, and how many warnings its committed plan has where they are counted; or why nothing is
+-- seen
 abbrev pub SeesListed : (counted : Bool) → Content → ListedIntersection → Result ListedCabinet Fault → Type 0
 SeesListed counted tables listed =
     SeesAs (λ office. cabinet_listed counted office listed) (λ _. ¬ MeetsListed counted tables listed.id) (MeetsListed counted tables listed.id) tables
 
--- none of a list meets a damaged row
+-- no row that is read for an intersection in the list is damaged: its own, those of its cabinet, and where warnings are counted, those of its committed plan
 abbrev pub AreWhole : (counted : Bool) → Content → List ListedIntersection → Type 0
 AreWhole counted tables = AllByRecursion (λ (listed : ListedIntersection). ¬ MeetsListed counted tables listed.id)
 
--- what a look at the cabinets of a list may see of tables
+-- what a look at the intersections of a list may see of tables: their cabinets in the order of the list, with warnings where they are counted; or why nothing
+-- is seen
 abbrev pub SeesCabinets : (counted : Bool) → Content → List ListedIntersection → Result (List ListedCabinet) Fault → Type 0
 SeesCabinets counted tables list =
     SeesAs (λ office. map (cabinet_listed counted office) list) (λ _. AreWhole counted tables list) ((id : ℕ) × MeetsListed counted tables id) tables

@@ -25,64 +25,64 @@ abbrev pub part_lent : {A : Type 0} → Result (Bor A) Fault → Result A Fault
 part_lent (Ok part) = Ok part.now
 part_lent (Err why) = Err why
 
--- the part that is lent where there is one, or the fault
+-- the part that is lent of what was seen, or None where there is none, or the fault
 abbrev pub part_lent_if : {A : Type 0} → Result (Option (Bor A)) Fault → Result (Option A) Fault
 part_lent_if (Ok part) = Ok (option_copied part)
 part_lent_if (Err why) = Err why
 
--- the state of an intersection that was seen, or the fault
+-- the state of an intersection that was seen; else the fault of the refusal that was seen, or Store for anything else
 abbrev pub state_in : Option Seen → Result IntersectionState Fault
 state_in (Some (seen.Reply (reply.State state))) = Ok state
 state_in (Some (seen.Reply (reply.Refused why))) = Err (fault_of why)
 state_in other = Err told.Store
 
--- the committed plan that was seen, with its name and revision, or the fault
+-- the committed plan that was seen, with its name and revision; else the fault of the refusal that was seen, or Store for anything else
 abbrev pub timing_in : Option Seen → Result RunningTiming Fault
 timing_in (Some (seen.Reply (reply.Timing timing))) = Ok timing
 timing_in (Some (seen.Reply (reply.Refused why))) = Err (fault_of why)
 timing_in other = Err told.Store
 
--- the draft that was seen, or the fault
+-- the rows of the draft that was seen; else the fault of the refusal that was seen, or Store for anything else
 abbrev pub draft_in : Option Seen → Result Rows Fault
 draft_in (Some (seen.Reply (reply.Draft draft))) = Ok draft.rows
 draft_in (Some (seen.Reply (reply.Refused why))) = Err (fault_of why)
 draft_in other = Err told.Store
 
--- where nobody holds a draft, there is none to show
+-- the rows of the draft that was seen, or None where nobody holds one; else the fault of the refusal that was seen, or Store for anything else
 abbrev pub open_draft_in : Option Seen → Result (Option Rows) Fault
 open_draft_in (Some (seen.Reply (reply.Draft draft))) = Ok (Some draft.rows)
 open_draft_in (Some (seen.Reply (reply.Refused (refusal.Draft draft.NotTransaction)))) = Ok None
 open_draft_in (Some (seen.Reply (reply.Refused why))) = Err (fault_of why)
 open_draft_in other = Err told.Store
 
--- the register of a cabinet that was seen, or the fault
+-- all that the register holds of an intersection, as it was seen; else the fault of the refusal that was seen, or Store for anything else
 abbrev pub cabinet_in : Option Seen → Result CabinetShown Fault
 cabinet_in (Some (seen.Reply (reply.Cabinet cabinet))) = Ok cabinet
 cabinet_in (Some (seen.Reply (reply.Refused why))) = Err (fault_of why)
 cabinet_in other = Err told.Store
 
--- the stock that was seen, or the fault
+-- the stock that was seen: parts by their codes, each with how many are on hand; else the fault of the refusal that was seen, or Store for anything else
 abbrev pub stock_in : Option Seen → Result (List (List ℕ × ℕ)) Fault
 stock_in (Some (seen.Reply (reply.Stock parts))) = Ok parts
 stock_in (Some (seen.Reply (reply.Refused why))) = Err (fault_of why)
 stock_in other = Err told.Store
 
--- the list of the overdue that was seen, or the fault
+-- the list of overdue intersections that was seen, or the fault Store for anything else
 abbrev pub overdue_in : Option Seen → Result (List Listed) Fault
 overdue_in (Some (seen.Reply (reply.Overdue listed))) = Ok listed
 overdue_in other = Err told.Store
 
--- the list of intersections that was seen, or the fault
+-- the list of intersections that was seen, or the fault Store for anything else
 abbrev pub intersections_in : Option Seen → Result (List ListedIntersection) Fault
 intersections_in (Some (seen.Intersections list)) = Ok list
 intersections_in other = Err told.Store
 
--- the open orders that were seen, or the fault
+-- the list of open orders that was seen, or the fault Store for anything else
 abbrev pub orders_seen : Option Seen → Result (List NamedOrder) Fault
 orders_seen (Some (seen.Orders orders)) = Ok orders
 orders_seen other = Err told.Store
 
--- the cabinets that were seen, or the fault
+-- the list of cabinets that was seen, or the fault Store for anything else
 abbrev pub cabinets_in : Option Seen → Result (List ListedCabinet) Fault
 cabinets_in (Some (seen.Cabinets cabinets)) = Ok cabinets
 cabinets_in other = Err told.Store
@@ -96,7 +96,7 @@ abbrev pub ◌>>=◌ : {A B : Type 0} → Result A Fault → (A → Result B Fau
 (Ok x) >>= f = f x
 (Err e) >>= f = Err e
 
--- what is known of an intersection, with the register of its cabinet, among what was seen
+-- the state of an intersection and what the register holds of it, which were seen in this order; or the fault of the first that was not
 abbrev pub register_in : List Seen → Result (IntersectionState × CabinetShown) Fault
 register_in found = do
   known ← state_in (slice_get found 0)
@@ -105,7 +105,7 @@ register_in found = do
 
 -- ---- what is made of it
 
--- the text says this of what is shown; or nothing is, or memory was refused, and this is why
+-- `text` holds of what is shown and of what was made of it; or nothing was made, and the fault is Memory or the one for which nothing is shown
 abbrev pub IsTextOf : {A B : Type 0} → (text : A → B → Type 0) → Result A Fault → Result B Fault → Type 0
 IsTextOf text (Ok it) (Ok bytes) = text it bytes
 IsTextOf text (Err cause) (Ok bytes) = ⊥

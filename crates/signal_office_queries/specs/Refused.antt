@@ -7,7 +7,7 @@ use Rattle.office_machine.specs.declared.refusal.Refusal.TheVariants as refusal
 use Rattle.signal_office_faults.specs.declared.fault.Fault.{Fault}
 use Rattle.signal_office_faults.specs.declared.fault.Fault.TheVariants as told
 
--- what a record of the register may be refused for
+-- the refusals that a record of the register may get, beside Unavailable and Damaged
 abbrev pub of_records : List Refusal
 of_records =
     refusal.UnknownIntersection ∷ map (λ why. refusal.Cabinet why) (
@@ -15,20 +15,21 @@ of_records =
     ∷ cabinet.OrderClosed ∷ cabinet.DayBeforeOpening ∷ cabinet.NoStock ∷ cabinet.StockFull
     ∷ cabinet.DeliveryDiffers ∷ cabinet.LineDiffers ∷ cabinet.CloseDiffers ∷ [])
 
--- the first with a number
+-- the first of some refusals that has this number, if any has it
 abbrev pub with_number : ℕ → List Refusal → Option Refusal
 with_number number = find (λ r. (line_of r).number == number)
 
--- the refusal of records by its number
+-- the refusal with this number, if it is one that a record of the register may get
 abbrev pub record_refusal : ℕ → Option Refusal
 record_refusal number = with_number number of_records
 
--- a refused import tells its first refused record
+-- the fault of an import that was refused for its record `at`, counted from 1: that record and its refusal; or the refused import as it is, where no refusal of
+-- a record has the number `cause`
 abbrev pub fault_of_record : ℕ → ℕ → Option Refusal → Fault
 fault_of_record at cause None = told.Refused (refusal.ImportRow at cause)
 fault_of_record at cause (Some why) = told.Record at why
 
--- the fault that is reported
+-- the fault that reports a refusal of the office
 abbrev pub fault_of : Refusal → Fault
 fault_of refusal.UnknownIntersection = told.UnknownIntersection
 fault_of refusal.Damaged = told.Damaged

@@ -28,12 +28,12 @@ use Rattle.signal_office_queries.specs.declared.seen.Query.TheVariants as query
 use Rattle.signal_office_queries.specs.declared.seen.Seen.{Seen}
 use Rattle.signal_office_queries.specs.declared.seen.Seen.TheVariants as seen
 
--- how many warnings the committed plan of an intersection has, where they are counted
+-- how many warnings the committed plan of an intersection has, or None where they are not counted
 abbrev pub warning_count : (counted : Bool) → Office → ℕ → Option ℕ
 warning_count true office id = Some (length (warnings_of (side_at office id).committed))
 warning_count false office id = None
 
--- an intersection that is listed, with all that the register of an office holds of it
+-- a listed intersection, with all that the register of an office holds of it, and with how many warnings its committed plan has where they are counted
 abbrev pub cabinet_listed : (counted : Bool) → Office → ListedIntersection → ListedCabinet
 cabinet_listed counted office listed = record {
   listed = listed;
@@ -41,7 +41,7 @@ cabinet_listed counted office listed = record {
   warnings = warning_count counted office listed.id;
 }
 
--- what an office shows where it is asked: its answer, a refusal too
+-- what an office shows for a query: its answer, which may be a refusal; of the overdue intersections only the first `most`
 abbrev pub query_answer : Office → Query → Seen
 query_answer office (query.State id) = seen.Reply (answered office (command.State id)).0
 query_answer office (query.Timing id) = seen.Reply (answered office (command.Timing id)).0
@@ -54,16 +54,16 @@ query_answer office query.Intersections = seen.Intersections (intersections_of o
 query_answer office query.OpenOrders = seen.Orders (named_in office)
 query_answer office (query.Cabinets counted) = seen.Cabinets (map (cabinet_listed counted office) (intersections_of office))
 
--- where its warnings are counted, a row of the committed plan of an intersection is no record
+-- warnings are counted, and a row of the intersection or of its committed plan is no record
 abbrev pub MeetsCounted : (counted : Bool) → Content → ℕ → Type 0
 MeetsCounted true tables id = MeetsDamage tables (command.Timing id)
 MeetsCounted false tables id = ⊥
 
--- a row of the cabinet of an intersection, or of its committed plan where that is read, is no record
+-- a row of the intersection or of its cabinet is no record, or, where warnings are counted, a row of its committed plan
 abbrev pub MeetsListed : (counted : Bool) → Content → ℕ → Type 0
 MeetsListed counted tables id = MeetsDamage tables (command.Cabinet id) ⊎ MeetsCounted counted tables id
 
--- a row that the query reads is no record
+-- a row that the query reads, or may read, is no record
 abbrev pub Meets : Content → Query → Type 0
 Meets tables (query.State id) = MeetsDamage tables (command.State id)
 Meets tables (query.Timing id) = MeetsDamage tables (command.Timing id)
@@ -83,25 +83,26 @@ MeetsAny tables (q ∷ qs) = Meets tables q ⊎ MeetsAny tables qs
 
 -- ---- what passes over no row that is no record
 
--- what the office answers a command: where it refuses, it is for one of the numbers of the command, whatever the tables hold
+-- what is seen is a reply, and where it refuses, the number of the refusal is one that is named for the command, whatever the tables hold
 abbrev pub IsNamedRefusal : Command → Seen → Type 0
 IsNamedRefusal asked (seen.Reply reply) = RefusesBy (numbers_of asked) reply
 IsNamedRefusal asked other = ⊥
 
--- an answer that tables may give to a command that was asked
+-- no row that the command reads is damaged, and what is seen is a reply to the command, which refuses only with a number that is named for it
 abbrev pub IsAnswer : Content → Command → Seen → Type 0
 IsAnswer tables asked it = (¬ MeetsDamage tables asked) × IsNamedRefusal asked it
 
--- nobody holds a draft
+-- what is seen where nobody holds a draft: the refusal NotTransaction
 abbrev pub no_draft : Seen
 no_draft = seen.Reply (reply.Refused (refusal.Draft draft.NotTransaction))
 
--- fewer rows than may be reported
+-- a list of overdue intersections has fewer rows than were asked for at most; of anything else nothing is said
 abbrev pub IsShort : Seen → (most : ℕ) → Type 0
 IsShort (seen.Reply (reply.Overdue rows)) most = length rows < most
 IsShort other most = Unit {0}
 
--- of the overdue, one that sees as many as it may tell stops there
+-- No damaged row that the query reads was passed over, and a reply, other than the list of the overdue, refuses only with a number that is named for its
+-- command. OpenDraft need not read the draft where nobody holds one, and Overdue no row past the most that were asked for.
 abbrev pub Passes : Content → Query → Seen → Type 0
 Passes tables (query.State id) it = IsAnswer tables (command.State id) it
 Passes tables (query.Timing id) it = IsAnswer tables (command.Timing id) it
@@ -115,7 +116,7 @@ Passes tables query.Intersections it = ¬ Meets tables query.Intersections
 Passes tables query.OpenOrders it = ¬ Meets tables query.OpenOrders
 Passes tables (query.Cabinets counted) it = ¬ Meets tables (query.Cabinets counted)
 
--- each query passes with its answer
+-- there is one answer for each query, in their order, and each passed over no damaged row
 abbrev pub PassEach : Content → List Query → List Seen → Type 0
 PassEach tables [] [] = Unit {0}
 PassEach tables [] (it ∷ found) = ⊥
@@ -128,7 +129,8 @@ PassEach tables (q ∷ qs) (it ∷ found) = Passes tables q it × PassEach table
 abbrev pub OfOffice : Content → (Office → Type 0) → Type 0
 OfOffice tables says = (office : Office) → StandForSound tables office → says office
 
--- memory or the database refused, or a row that is read is no record
+-- the fault tells why nothing is seen: Memory or Store where memory or the database refused, Damaged where a row that is read is no record, and only where
+-- `damaged` holds
 abbrev pub IsUnseen : (damaged : Type 0) → Fault → Type 0
 IsUnseen damaged why = ((why ≡ told.Memory) ⊎ ((why ≡ told.Store) ⊎ (why ≡ told.Damaged))) × (why ≡ told.Damaged → damaged)
 
@@ -137,18 +139,18 @@ abbrev pub Looks : Content → List Query → Result (List Seen) Fault → Type 
 Looks tables queries (Ok found) = OfOffice tables (λ office. found ≡ map (query_answer office) queries) × PassEach tables queries found
 Looks tables queries (Err why) = IsUnseen (MeetsAny tables queries) why
 
--- this is said of the items of a list that is made, or of why none is
+-- `says` holds of the items of the list that was made, or of the fault for which none was made
 abbrev pub Gives : {T A : Type 0} → (Result (List T) Fault → Type 0) → Result (Vec T A) Fault → Type 0
 Gives says result = MatchResult result (λ list. says (Ok list.items)) (λ why. says (Err why))
 
--- what is made of what some queries see, or why nothing is seen
+-- what is made of what some queries see, or the fault for which nothing is seen
 abbrev pub IsMadeOfAnswers : {A : Type 0} → List Query → (List Seen → Result A Fault → Type 0) → Content → Result A Fault → Type 0
 IsMadeOfAnswers queries makes tables result =
     (found : Result (List Seen) Fault) × Looks tables queries found × MatchResult found (λ all. makes all result) (λ why. result ≡ Err why)
 
 -- ---- one query
 
--- what is seen is this, and no such row was passed over; or why nothing is
+-- what is seen is what each sound office that the tables stand for shows, and `passes` holds of it: no damaged row was passed over; or why nothing is seen
 abbrev pub SeesAs : {A : Type 0} → (shown : Office → A) → (passes : A → Type 0) → (damaged : Type 0) → Content → Result A Fault → Type 0
 SeesAs shown passes damaged tables (Ok it) = OfOffice tables (λ office. it ≡ shown office) × passes it
 SeesAs shown passes damaged tables (Err why) = IsUnseen damaged why
@@ -162,12 +164,13 @@ abbrev pub is_state_normal : DbState → Bool
 is_state_normal Normal = true
 is_state_normal other = false
 
--- an intersection of which nobody holds a draft
+-- what is seen is the state of an intersection of which nobody holds a draft
 abbrev pub is_normal : Seen → Bool
 is_normal (seen.Reply (reply.State state)) = is_state_normal state.state
 is_normal other = false
 
--- a reply that was not refused for a row, memory or the database
+-- what a reply shows: the reply, even one that refuses; only the refusals Damaged (a row is no record) and Unavailable (memory or the database refused) give a
+-- fault
 abbrev pub seen_in : Reply → Result Seen Fault
 seen_in (reply.Refused refusal.Damaged) = Err told.Damaged
 seen_in (reply.Refused refusal.Unavailable) = Err told.Store

@@ -11,12 +11,13 @@ use office_machine::reply::Reply;
 use office_tables_shelf::shelf::Shelf;
 use std::alloc::Global;
 
-/// What the office answers, which stays as it is. It takes the query, so that those who ask have
-/// none to drop.
+/// What the office answers to a query; the office stays as it is. Where memory or the shelf
+/// refuses, the reply is Unavailable; where a stored row that is read is no record, Damaged. The
+/// query is taken, so that a caller has none to drop.
 pub fn ask<S: Shelf>(alloc: Global, office: &mut Office<S>, query: Command) -> Reply
     requires { IsQueryCommand query }
     ensures kept { KeepsShelf S.Shelf office.old office.new }
-    // It was run as each command is, and is a step that leaves the tables.
+    // The query was run as each command is, and its step leaves the tables.
     ensures ran { IsRun S.Shelf query result office.old office.new }
     ensures step { TellsTables S.Shelf office.old office.new
         (λ tables. AnswersAny tables query result tables) }

@@ -8,11 +8,12 @@ use signal_office_faults::{Done, Fault};
 use signal_plans::{Difference, changes, comparison_text};
 use std::alloc::Global;
 
-/// The status where plans differ.
+/// The status with which the program ends where plans differ.
 const DIFFERS: u8 = 4;
 
 /// What is printed of what two plans differ in: a text, or as CSV the changes that make the second
-/// of the first. The status is 4 where they differ.
+/// of the first. The status is 4 where they differ, else 0. The fault is Memory where a growth was
+/// refused.
 pub fn comparison(alloc: Global, differences: &[Difference], csv: bool) -> Result<Done, Fault>
     ensures { TellsComparison csv differences.now (came_to result) }
 {

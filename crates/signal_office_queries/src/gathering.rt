@@ -24,7 +24,7 @@ use signal_records::{InterId, Listing, NoMemory};
 use std::alloc::Global;
 use std::collections::BTreeMap;
 
-/// All intersections, by their numbers.
+/// All intersections, in ascending order of their numbers.
 fn list_intersections<S: Shelf>(
     alloc: Global,
     office: &mut Office<S>,
@@ -38,7 +38,7 @@ fn list_intersections<S: Shelf>(
     }
 }
 
-/// All intersections, as they are seen.
+/// The list of all intersections, as it is seen.
 pub(crate) fn see_intersections<S: Shelf>(
     alloc: Global,
     office: &mut Office<S>,
@@ -50,7 +50,7 @@ pub(crate) fn see_intersections<S: Shelf>(
     Ok(Seen::Intersections(Listing::new(found)))
 }
 
-/// The open orders on each intersection that has any.
+/// The open orders on each intersection that has any, under its number.
 fn read_open_orders<S: Shelf>(
     alloc: Global,
     office: &mut Office<S>,
@@ -74,8 +74,8 @@ fn orders_on(orders: &BTreeMap<InterId, Vec<Order>>, id: InterId) -> &[Order]
     }
 }
 
-/// The open ones of the orders that a map has for these intersections, in their order, with their
-/// names.
+/// The open ones of the orders that a map has for the intersections of a list, in its order, each
+/// with the number and the name of its intersection.
 fn named_among(
     alloc: Global,
     list: &[ListedIntersection],
@@ -106,7 +106,8 @@ pub(crate) fn see_open_orders<S: Shelf>(
     Ok(Seen::Orders(Listing::new(found)))
 }
 
-/// What was seen of a cabinet that is known.
+/// What the register holds of an intersection, from the reply to the query Cabinet. The fault is
+/// Store for anything else, which a listed intersection never shows.
 fn filed_in(seen: Seen) -> Result<CabinetShown, Fault>
     ensures { result ≡ filed_in seen }
 {
@@ -127,7 +128,8 @@ fn read_cabinet<S: Shelf>(
     filed_in(see_reply(alloc, office, Command::Cabinet { id })?)
 }
 
-/// How many warnings a committed plan has that was seen.
+/// How many warnings the committed plan that was seen has. The fault is Memory where a growth was
+/// refused, and Store where no plan was seen, which a listed intersection always shows.
 fn warnings_in(alloc: Global, timing: &Seen) -> Result<usize, Fault>
     ensures { IsCountOf timing.now result }
 {
@@ -140,7 +142,8 @@ fn warnings_in(alloc: Global, timing: &Seen) -> Result<usize, Fault>
     }
 }
 
-/// How many warnings the committed plan of an intersection has, where they are to be counted.
+/// How many warnings the committed plan of an intersection has; `None`, and no plan read, where
+/// they are not to be counted.
 fn count_warnings<S: Shelf>(
     alloc: Global,
     office: &mut Office<S>,
@@ -157,7 +160,8 @@ fn count_warnings<S: Shelf>(
     Ok(Some(warnings_in(alloc, &timing)?))
 }
 
-/// What is gathered of an intersection that is listed.
+/// What the register holds of a listed intersection, with how many warnings its committed plan has
+/// where they are to be counted.
 fn read_listed<S: Shelf>(
     alloc: Global,
     office: &mut Office<S>,
@@ -176,7 +180,8 @@ fn read_listed<S: Shelf>(
     })
 }
 
-/// What is gathered of these intersections.
+/// What the register holds of each intersection of a list, in its order, with how many warnings its
+/// committed plan has where they are to be counted.
 fn read_cabinets<S: Shelf>(
     alloc: Global,
     office: &mut Office<S>,
@@ -194,8 +199,8 @@ fn read_cabinets<S: Shelf>(
     Ok(found)
 }
 
-/// What the register holds of each intersection, with its warnings where they are to be counted, as
-/// it is seen.
+/// What the register holds of each intersection, with how many warnings its committed plan has
+/// where they are to be counted, as it is seen.
 pub(crate) fn see_cabinets<S: Shelf>(
     alloc: Global,
     office: &mut Office<S>,

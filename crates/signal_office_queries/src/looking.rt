@@ -23,7 +23,8 @@ use signal_office_faults::Fault;
 use signal_records::InterId;
 use std::alloc::Global;
 
-/// What a reply shows.
+/// What a reply shows: the reply, even one that refuses. Only the refusals Damaged and Unavailable
+/// give a fault: Damaged and Store.
 fn seen_in(reply: Reply) -> Result<Seen, Fault>
     ensures { result ≡ seen_in reply }
 {
@@ -48,7 +49,7 @@ pub(crate) fn see_reply<S: Shelf>(
     seen_in(ask(alloc, office, query))
 }
 
-/// Whether it is the state of an intersection of which nobody holds a draft.
+/// Whether what was seen is the state of an intersection of which nobody holds a draft.
 fn is_normal(state: &Seen) -> bool
     ensures { result ≡ is_normal state.now }
 {
@@ -58,7 +59,8 @@ fn is_normal(state: &Seen) -> bool
     }
 }
 
-/// The draft of an intersection, which is read only where the state says that there is one.
+/// The draft of an intersection. It is not read where the state says that nobody holds one; the
+/// refusal NotTransaction is seen then.
 fn see_open_draft<S: Shelf>(
     alloc: Global,
     office: &mut Office<S>,
@@ -75,7 +77,8 @@ fn see_open_draft<S: Shelf>(
     see_reply(alloc, office, Command::Draft { id })
 }
 
-/// The first so many intersections that are overdue on a day.
+/// The first `most` of the intersections that are overdue for an inspection on a day, by their
+/// numbers.
 fn see_overdue<S: Shelf>(
     alloc: Global,
     office: &mut Office<S>,
@@ -109,14 +112,15 @@ fn look_at<S: Shelf>(alloc: Global, office: &mut Office<S>, query: Query) -> Res
     }
 }
 
-/// What the queries see of an office, which stays as it is: all of the same office.
+/// What each query sees of an office, in their order: all see the same office, which stays as it
+/// is. The fault is Memory or Store where memory or the database refused, and Damaged where a row
+/// that is read is no record.
 pub fn look<S: Shelf>(
     alloc: Global,
     office: &mut Office<S>,
     queries: &[Query],
 ) -> Result<Vec<Seen>, Fault>
-    // Each is what the office shows where it is asked, and no damaged row was passed over. Where
-    // it fails, memory or the database refused, or a row that is read is no record.
+    // Each is what the office shows where it is asked, and no damaged row was passed over.
     ensures { OnlyLooks S.Shelf office.old office.new
         (λ tables. Gives (Looks tables queries.now) result) }
 {

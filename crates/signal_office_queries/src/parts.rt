@@ -15,14 +15,15 @@ use office_machine::reply::{
 use signal_office_faults::Fault;
 use signal_records::{Listing, TimingSet};
 
-/// What was seen at a place, if there is one.
+/// What was seen at a place, counted from 0, if there is one.
 fn seen_at(seen: &[Seen], place: usize) -> Option<&Seen>
     ensures { option_copied result ≡ slice_get seen.now place }
 {
     seen.get(place)
 }
 
-/// What is known of an intersection.
+/// The state of an intersection, seen at a place, counted from 0. The fault is that of a refusal
+/// seen there, and Store where anything else or nothing was.
 pub fn state_in(seen: &[Seen], place: usize) -> Result<&IntersectionState, Fault>
     ensures { part_lent result ≡ state_in (slice_get seen.now place) }
 {
@@ -33,7 +34,8 @@ pub fn state_in(seen: &[Seen], place: usize) -> Result<&IntersectionState, Fault
     }
 }
 
-/// A committed timing set, with its name.
+/// A committed timing set, with its name and revision, seen at a place, counted from 0. The fault
+/// is that of a refusal seen there, and Store where anything else or nothing was.
 pub fn timing_in(seen: &[Seen], place: usize) -> Result<&RunningTiming, Fault>
     ensures { part_lent result ≡ timing_in (slice_get seen.now place) }
 {
@@ -44,7 +46,8 @@ pub fn timing_in(seen: &[Seen], place: usize) -> Result<&RunningTiming, Fault>
     }
 }
 
-/// The rows of a draft.
+/// The rows of a draft, seen at a place, counted from 0. The fault is that of a refusal seen there,
+/// and Store where anything else or nothing was.
 pub fn draft_in(seen: &[Seen], place: usize) -> Result<&TimingSet, Fault>
     ensures { part_lent result ≡ draft_in (slice_get seen.now place) }
 {
@@ -55,7 +58,8 @@ pub fn draft_in(seen: &[Seen], place: usize) -> Result<&TimingSet, Fault>
     }
 }
 
-/// The rows of a draft, where somebody holds one.
+/// The rows of a draft, seen at a place, counted from 0; `None` where nobody holds one. The fault
+/// is that of another refusal seen there, and Store where anything else or nothing was.
 pub fn open_draft_in(seen: &[Seen], place: usize) -> Result<Option<&TimingSet>, Fault>
     ensures { part_lent_if result ≡ open_draft_in (slice_get seen.now place) }
 {
@@ -67,7 +71,8 @@ pub fn open_draft_in(seen: &[Seen], place: usize) -> Result<Option<&TimingSet>, 
     }
 }
 
-/// What the register holds of an intersection.
+/// All that the register holds of an intersection, seen at a place, counted from 0. The fault is
+/// that of a refusal seen there, and Store where anything else or nothing was.
 pub fn cabinet_in(seen: &[Seen], place: usize) -> Result<&CabinetShown, Fault>
     ensures { part_lent result ≡ cabinet_in (slice_get seen.now place) }
 {
@@ -78,7 +83,8 @@ pub fn cabinet_in(seen: &[Seen], place: usize) -> Result<&CabinetShown, Fault>
     }
 }
 
-/// How many of each part are on hand.
+/// How many of each part are on hand, seen at a place, counted from 0. The fault is that of a
+/// refusal seen there, and Store where anything else or nothing was.
 pub fn stock_in(seen: &[Seen], place: usize) -> Result<&Stock, Fault>
     ensures { part_lent result ≡ stock_in (slice_get seen.now place) }
 {
@@ -89,7 +95,8 @@ pub fn stock_in(seen: &[Seen], place: usize) -> Result<&Stock, Fault>
     }
 }
 
-/// The intersections that are overdue.
+/// The intersections that are overdue, seen at a place, counted from 0. The fault is Store where
+/// anything else or nothing was seen there.
 pub fn overdue_in(seen: &[Seen], place: usize) -> Result<&OverdueList, Fault>
     ensures { part_lent result ≡ overdue_in (slice_get seen.now place) }
 {
@@ -99,7 +106,8 @@ pub fn overdue_in(seen: &[Seen], place: usize) -> Result<&OverdueList, Fault>
     }
 }
 
-/// All intersections.
+/// All intersections, seen at a place, counted from 0. The fault is Store where anything else or
+/// nothing was seen there.
 pub fn intersections_in(seen: &[Seen], place: usize) -> Result<&Listing<ListedIntersection>, Fault>
     ensures { part_lent result ≡ intersections_in (slice_get seen.now place) }
 {
@@ -109,7 +117,8 @@ pub fn intersections_in(seen: &[Seen], place: usize) -> Result<&Listing<ListedIn
     }
 }
 
-/// The open orders of all intersections.
+/// The open orders of all intersections, seen at a place, counted from 0. The fault is Store where
+/// anything else or nothing was seen there.
 pub fn orders_seen(seen: &[Seen], place: usize) -> Result<&Listing<NamedOrder>, Fault>
     ensures { part_lent result ≡ orders_seen (slice_get seen.now place) }
 {
@@ -119,7 +128,8 @@ pub fn orders_seen(seen: &[Seen], place: usize) -> Result<&Listing<NamedOrder>, 
     }
 }
 
-/// What the register holds of each intersection.
+/// What the register holds of each intersection, and its warnings where they were counted, seen at
+/// a place, counted from 0. The fault is Store where anything else or nothing was seen there.
 pub fn cabinets_in(seen: &[Seen], place: usize) -> Result<&Listing<ListedCabinet>, Fault>
     ensures { part_lent result ≡ cabinets_in (slice_get seen.now place) }
 {

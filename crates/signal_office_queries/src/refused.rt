@@ -7,7 +7,7 @@ use cabinet_core::CabinetRefusal;
 use office_machine::refusal::Refusal;
 use signal_office_faults::Fault;
 
-/// The refusals that a record of the register may get.
+/// The refusals that a record of the register may get, beside Unavailable and Damaged.
 const OF_RECORDS: [Refusal; 11] = [
     Refusal::UnknownIntersection,
     Refusal::Cabinet(CabinetRefusal::InspectionDiffers),
@@ -22,7 +22,7 @@ const OF_RECORDS: [Refusal; 11] = [
     Refusal::Cabinet(CabinetRefusal::CloseDiffers),
 ];
 
-/// The first of some refusals that has a number.
+/// The first of some refusals that has this number, if any has it.
 fn with_number(refusals: &[Refusal], number: u32) -> Option<Refusal>
     ensures { result ≡ with_number number refusals.now }
 {
@@ -38,14 +38,15 @@ fn with_number(refusals: &[Refusal], number: u32) -> Option<Refusal>
     }
 }
 
-/// The refusal of a record that has a number.
+/// The refusal with this number, if it is one that a record of the register may get.
 fn record_refusal(number: u32) -> Option<Refusal>
     ensures { result ≡ record_refusal number }
 {
     with_number(&OF_RECORDS, number)
 }
 
-/// The fault that is reported of a refusal. A refused import tells its first refused record.
+/// The fault that reports a refusal of the office: `Store` for Unavailable, where memory or the
+/// database refused. The fault of a refused import tells its first refused record.
 pub fn fault_of(refusal: Refusal) -> Fault
     ensures { result ≡ fault_of refusal }
 {

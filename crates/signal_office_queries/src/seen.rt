@@ -1,4 +1,4 @@
-//! What a report asks of an office, and what it sees.
+//! What a report or a command asks of an office, and what it sees.
 
 ghost use Rattle.std.specs.Prelude.{◌≡◌, ◌∷◌, ◌++◌, [], OnOk};
 
@@ -8,29 +8,32 @@ use office_machine::orders::NamedOrder;
 use office_machine::reply::{CabinetShown, Reply};
 use signal_records::{InterId, Listing, NoMemory};
 
-/// What a report asks of an office, which stays as it is.
+/// What a report or a command asks of an office, which stays as it is.
 #[derive(Clone, Copy)]
 pub enum Query {
-    /// What is known of an intersection.
+    /// The state of an intersection: its name, interval and revision, and who holds a draft of its
+    /// timing, in which state.
     State { id: InterId },
-    /// Its committed timing set.
+    /// The committed timing set of an intersection, with its name and revision.
     Timing { id: InterId },
-    /// The draft of that.
+    /// The draft of an intersection.
     Draft { id: InterId },
-    /// The draft, which is read only where the state says that there is one.
+    /// The draft of an intersection; none is read where the state says that nobody holds one.
     OpenDraft { id: InterId },
-    /// All that the register holds of it.
+    /// All that the register holds of an intersection.
     Cabinet { id: InterId },
-    /// How many of each part are on hand.
+    /// How many of each part are on hand, by their codes.
     Stock,
-    /// The first so many intersections that are overdue on a day.
+    /// The first `most` of the intersections that are overdue for an inspection on a day, in
+    /// ascending order of their numbers.
     Overdue { day: Day, most: usize },
-    /// All intersections.
+    /// All intersections, in ascending order of their numbers.
     Intersections,
-    /// The open orders of all intersections.
+    /// The open orders of all intersections, in ascending order of the intersections' numbers, then
+    /// of their own.
     OpenOrders,
-    /// What the register holds of each intersection; and how many warnings its committed plan has,
-    /// where that is asked too. No plan is read else.
+    /// What the register holds of each intersection, in ascending order of their numbers; and how
+    /// many warnings its committed plan has, where that is asked too. No plan is read else.
     Cabinets { with_warnings: bool },
 }
 
@@ -43,7 +46,8 @@ pub struct ListedCabinet {
     pub warnings: Option<usize>,
 }
 
-/// What a query sees. That an intersection is unknown, or has no draft, is what is seen of it.
+/// What a query sees. That an intersection is unknown, or has no draft, is seen as a reply that
+/// refuses.
 #[derive(Drop)]
 pub enum Seen {
     Reply(Reply),
@@ -52,7 +56,7 @@ pub enum Seen {
     Cabinets(Listing<ListedCabinet>),
 }
 
-/// Adds one to a list.
+/// Adds an item at the end of a list. `NoMemory` means that the growth was refused.
 pub(crate) fn add_to<T: Drop>(list: &mut Vec<T>, it: T) -> Result<(), NoMemory>
     ensures { OnOk result (list.new.items ≡ list.old.items ++ it ∷ []) }
 {

@@ -15,12 +15,13 @@ use Rattle.signal_page.specs.declared.index_shown.IndexShown.{IndexShown}
 abbrev pub index_from : Office → IndexShown
 index_from office = index_shown (map (cabinet_listed true office) (intersections_of office))
 
--- the numbers of the intersections that are overdue on the day, if one is given
+-- the numbers of the intersections that are overdue on the day, if one is given; else none
 abbrev pub late_in : Office → Option ℕ → List ℕ
 late_in office None = []
 late_in office (Some day) = map (λ (listed : Listed). listed.id) (overdue_on office day)
 
--- The text is the index of the office. Those that it marks, and shows first, are those that the query Overdue lists.
+-- The text is the index page of the office on a day, or without one. The intersections that it marks as overdue, and shows first, are those that the query
+-- Overdue lists.
 pub record IsIndexOf (office : Office) (day : Option ℕ) (text : List ℕ) : Type 0 where
   pub index : IsIndex day (index_from office) (stock_of office.register) text
   pub late : map number_of_entry (overdue_among day (index_from office).entries) ≡ late_in office day

@@ -45,19 +45,19 @@ use Rattle.signal_rules.specs.Lookup.{pattern_at}
 
 -- ---- what is asked for it
 
--- the open orders of all, or those of an intersection; as CSV they have its name
+-- the queries for the open orders of all intersections, or of one; as CSV these stand with the name of the intersection, for which its state is asked
 abbrev pub orders_queries : Option ℕ → (csv : Bool) → List Query
 orders_queries None csv = query.OpenOrders ∷ []
 orders_queries (Some id) true = query.State id ∷ query.Cabinet id ∷ []
 orders_queries (Some id) false = query.Cabinet id ∷ []
 
--- the queries of an export
+-- the query for what is exported of an intersection: its committed timing set, its draft or its cabinet
 abbrev pub export_queries : ℕ → View → List Query
 export_queries id view.Timing = query.Timing id ∷ []
 export_queries id view.Draft = query.Draft id ∷ []
 export_queries id view.Cabinet = query.Cabinet id ∷ []
 
--- the queries of a report
+-- the queries for what is to be shown, in the order in which they are asked
 abbrev pub queries_of : Shown → List Query
 queries_of (shown.Sheet id) = query.Timing id ∷ []
 queries_of (shown.Overdue day most csv) = query.Overdue day most ∷ []
@@ -75,17 +75,17 @@ queries_of (shown.Index day) = query.Cabinets true ∷ query.Stock ∷ []
 
 -- ---- what is shown
 
--- a committed timing set that has a pattern
+-- a plan that has the pattern with this number, or the fault UnknownPattern
 abbrev pub if_with : ℕ → Rows → Result Rows Fault
 if_with pattern plan = if is_some (pattern_at plan pattern) then Ok plan else Err told.UnknownPattern
 
--- the plan that was seen, if it has the pattern
+-- the committed plan that was seen, if it has the pattern; else the fault UnknownPattern, or the one for which no plan is shown
 abbrev pub pattern_in : ℕ → Option Seen → Result Rows Fault
 pattern_in pattern it = do
   timing ← timing_in it
   if_with pattern timing.rows
 
--- what the page of an intersection shows, among what was seen
+-- what the page of an intersection shows: its state, its committed plan, its draft and its cabinet, which were seen in this order; or the first fault
 abbrev pub page_in : List Seen → Result PageShown Fault
 page_in found = do
   known ← state_in (slice_get found 0)
@@ -94,34 +94,35 @@ page_in found = do
   holds ← cabinet_in (slice_get found 3)
   Ok (record { state = known; committed = runs.rows; draft = drafted; cabinet = holds })
 
--- what the index shows of an intersection: how many warnings its committed plan has, too
+-- what the index shows of a listed intersection by its cabinet, with how many warnings its committed plan has, 0 where they were not counted
 abbrev pub index_entry_of : ListedCabinet → IndexEntry
 index_entry_of it = index_entry it.listed it.cabinet (unwrap_or it.warnings 0)
 
--- the open orders of a listed cabinet with its name
+-- the open orders of a listed cabinet, each with the number and the name of its intersection
 abbrev pub named_of : ListedCabinet → List NamedOrder
 named_of it = named_orders it.listed.name it.cabinet
 
--- what the index shows of cabinets
+-- what the index shows of cabinets, in their order: an entry for each, and their open orders
 abbrev pub index_shown : List ListedCabinet → IndexShown
 index_shown cabinets = record { entries = map index_entry_of cabinets; orders = flat_map named_of cabinets }
 
--- the cabinets with the warnings of their plans, and the stock, among what was seen
+-- the cabinets with the warnings of their plans, and the stock, which were seen in this order; or the first fault
 abbrev pub index_in : List Seen → Result (List ListedCabinet × List (List ℕ × ℕ)) Fault
 index_in found = do
   all ← cabinets_in (slice_get found 0)
   parts ← stock_in (slice_get found 1)
   Ok (all, parts)
 
--- what was used of all parts, or of one, at all intersections: each line of each order once, by the numbers of these, of their orders, and of the lines
+-- what was used of all parts, or of one, for the orders of one cabinet, open or closed: each line of each order once, in the order of the orders and of their
+-- lines
 abbrev pub parts_used_in : Option (List ℕ) → ListedCabinet → List UsedPart
 parts_used_in part it = used_on part it.cabinet
 
--- what was used in cabinets: all, or of a part
+-- what was used of all parts, or of one, for the orders of cabinets, in the order of the cabinets
 abbrev pub used_among : Option (List ℕ) → List ListedCabinet → List UsedPart
 used_among part cabinets = flat_map (parts_used_in part) cabinets
 
--- a committed timing set and its draft, among what was seen
+-- the committed timing set of an intersection and the rows of its draft, which were seen in this order; or the first fault
 abbrev pub plans_in : List Seen → Result (Rows × Rows) Fault
 plans_in found = do
   runs ← timing_in (slice_get found 0)
@@ -130,11 +131,11 @@ plans_in found = do
 
 -- ---- what is printed
 
--- the text of the overdue on a day, as CSV or as a report
+-- the text of the intersections that are overdue on a day, as CSV or as a report
 abbrev pub overdue_written : Bool → ℕ → List OverdueRow → List ℕ
 overdue_written csv day rows = if csv then overdue_csv_text rows else overdue_report day rows
 
--- a text of which this is said is printed, with status 0
+-- a text of which `says` holds is printed, with status 0
 abbrev pub IsTextShown : (List ℕ → Type 0) → Printed → Type 0
 IsTextShown says it = says it.text × (it.status ≡ 0)
 
@@ -144,20 +145,21 @@ IsOrdersMade None csv found = IsTextOf (λ orders it. it ≡ shows (table_text c
 IsOrdersMade (Some id) true found = IsTextOf (λ register it. it ≡ shows (table_text true (orders_table (named_orders register.0.name register.1)))) (register_in found)
 IsOrdersMade (Some id) false found = IsTextOf (λ cabinet it. it ≡ shows (orders_listing (open_orders cabinet))) (cabinet_in (slice_get found 0))
 
--- the text of an export is made of what was seen
+-- the CSV text of an export is made of what was seen
 abbrev pub IsExportMade : View → List Seen → Result Printed Fault → Type 0
 IsExportMade view.Timing found = IsTextOf (λ t it. it ≡ shows (timing_csv_text t.rows)) (timing_in (slice_get found 0))
 IsExportMade view.Draft found = IsTextOf (λ rows it. it ≡ shows (timing_csv_text rows)) (draft_in (slice_get found 0))
 IsExportMade view.Cabinet found = IsTextOf (λ cabinet it. it ≡ shows (records_csv_text cabinet.id cabinet.view)) (cabinet_in (slice_get found 0))
 
--- What a timing set and the plan of a file differ in is printed. Where no timing set is shown, that is reported; else the file was not read, or memory was refused.
+-- What a committed timing set and the plan in a CSV file differ in is printed. Or the fault is Memory, or tells why no timing set is shown, or, where one is,
+-- why the file was not read.
 abbrev pub IsRunningCompared : (csv : Bool) → (plan : List ℕ) → Result RunningTiming Fault → Result Printed Fault → Type 0
 IsRunningCompared csv plan (Ok timing) (Ok it) = (after : Rows) × IsPlan plan after × Compares csv timing.rows after it
 IsRunningCompared csv plan (Ok timing) (Err why) = (why ≡ told.Memory) ⊎ IsUnread (changes_of plan) why
 IsRunningCompared csv plan (Err cause) (Ok it) = ⊥
 IsRunningCompared csv plan (Err cause) (Err why) = (why ≡ told.Memory) ⊎ (why ≡ cause)
 
--- what is made of what was seen, and for `CompareRunning` of the text of its CSV file
+-- what is printed is made of what the queries saw, and for `CompareRunning` of the text of its CSV file, `plan`; or the fault tells why nothing is made
 abbrev pub IsMade : Shown → (plan : List ℕ) → List Seen → Result Printed Fault → Type 0
 IsMade (shown.Sheet id) plan found = IsTextOf (λ t it. it ≡ shows (sheet_text id t.name t.revision (values t.rows))) (timing_in (slice_get found 0))
 IsMade (shown.Overdue day most csv) plan found =
@@ -175,6 +177,6 @@ IsMade (shown.CompareRunning id file csv) plan found = IsRunningCompared csv pla
 IsMade (shown.Page id linked) plan found = IsTextOf (λ page it. IsTextShown (IsPage linked page) it) (page_in found)
 IsMade (shown.Index day) plan found = IsTextOf (λ index it. IsTextShown (IsIndex day (index_shown index.0) index.1) it) (index_in found)
 
--- WHAT IS SHOWN of the tables as what was asked for, or why nothing is: what is made of the answers to its queries
+-- WHAT IS SHOWN of the tables where this is asked for, or why nothing is: what is made of the answers to its queries
 abbrev pub IsShown : Shown → (plan : List ℕ) → Content → Result Printed Fault → Type 0
 IsShown it plan tables result = IsMadeOfAnswers (queries_of it) (IsMade it plan) tables result

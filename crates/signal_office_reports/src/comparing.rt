@@ -12,7 +12,8 @@ use signal_office_queries::{Seen, comparison, draft_in, timing_in};
 use signal_plans::compare;
 use std::alloc::Global;
 
-/// What a draft changes of the committed timing set, in the order of their keys.
+/// What a draft changes of the committed timing set, in the order of the keys, as a text or as CSV.
+/// The status is 4 where they differ, else 0.
 pub(crate) fn compare_draft(alloc: Global, csv: bool, seen: &[Seen]) -> Result<Done, Fault>
     ensures { IsTextOf (λ plans it. Compares csv plans.0 plans.1 it) (plans_in seen.now)
         (came_to result) }
@@ -23,8 +24,9 @@ pub(crate) fn compare_draft(alloc: Global, csv: bool, seen: &[Seen]) -> Result<D
     comparison(alloc, &differences, csv)
 }
 
-/// What the plan in a CSV file differs in from the committed timing set, in the order of the keys.
-/// The first bad record is told only where a timing set was seen.
+/// What the plan in a CSV file differs in from the committed timing set, in the order of the keys,
+/// as a text or as CSV. The status is 4 where they differ, else 0. The first bad record of the file
+/// is told only where a timing set was seen.
 pub(crate) fn compare_running(
     alloc: Global,
     plan: &[u8],

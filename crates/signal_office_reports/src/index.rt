@@ -46,7 +46,8 @@ fn index_shown(alloc: Global, cabinets: &[ListedCabinet]) -> Result<IndexShown, 
     })
 }
 
-/// The index page, with those that are overdue on a day, if one is given.
+/// The index page of all intersections; if a day is given, those that are overdue for an inspection
+/// on it stand first and are marked.
 pub(crate) fn index(alloc: Global, day: Option<Day>, seen: &[Seen]) -> Result<Done, Fault>
     ensures { IsMade (Shown.Index day) [] seen.now (came_to result) }
 {

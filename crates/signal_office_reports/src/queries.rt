@@ -28,7 +28,8 @@ fn export_queries(alloc: Global, id: InterId, view: View) -> Result<Vec<Query>, 
     }
 }
 
-/// What is asked for it.
+/// The queries for what is to be shown, in the order in which they are asked. `NoMemory` means that
+/// a growth was refused.
 pub(crate) fn queries_of(alloc: Global, shown: &Shown<'_>) -> Result<Vec<Query>, NoMemory>
     ensures { IfOk result (λ queries. queries.items ≡ queries_of shown.now) }
 {

@@ -13,8 +13,10 @@ use signal_office_line::Shown;
 use signal_office_queries::look;
 use std::alloc::Global;
 
-/// What is printed of an office, which stays as it is. `plan` is the text of the CSV file that
-/// `CompareRunning` names.
+/// What is printed of an office, which stays as it is; `plan` is the text of the CSV file that
+/// `CompareRunning` names. The fault is UnknownIntersection, UnknownPattern, Refused where nobody
+/// holds a draft, Csv where `plan` is not read, Memory or Store where memory or the database
+/// refused, and Damaged where a row that is read is no record.
 pub fn report<S: Shelf>(
     alloc: Global,
     office: &mut Office<S>,

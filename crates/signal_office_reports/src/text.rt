@@ -152,7 +152,8 @@ fn page(alloc: Global, id: InterId, linked: bool, seen: &[Seen]) -> Result<Done,
     Ok(Done::with(intersection_page(alloc, linked, &shown)?))
 }
 
-/// What is made of what was seen, and for `CompareRunning` of the text of its CSV file.
+/// What is printed, made of what the queries saw, in their order, and for `CompareRunning` of the
+/// text of its CSV file, `plan`.
 pub(crate) fn text_by(
     alloc: Global,
     shown: &Shown<'_>,
