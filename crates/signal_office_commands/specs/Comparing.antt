@@ -24,8 +24,7 @@ IsFirstBad first second why =
     IsUnread (changes_of first) why
     ⊎ ((before : Rows) × IsPlan first before × IsOtherUnread (changes_of second) why)
 
--- what the plans of two files differ in is told; or the first bad record, or that memory was
--- refused
+-- what the plans of two files differ in is told; or the first bad record, or want of memory
 abbrev pub ComparesFiles : (csv : Bool) → (first second : List ℕ) → Result Printed Fault → Type 0
 ComparesFiles csv first second (Ok it) =
     (before : Rows) × (after : Rows) × IsPlan first before × IsPlan second after × Compares csv before after it

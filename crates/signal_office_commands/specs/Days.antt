@@ -25,8 +25,7 @@ is_late until c = option_map_or (nat_lt until) (record_day c) false
 abbrev pub first_late : (until : ℕ) → List RecordCommand → Option ℕ
 first_late until records = option_map (λ index. index + 1) (position (is_late until) records)
 
--- Where a day is given, no record of the file is of a later one; or the first that is, is reported by its number; or why the file is not read. Without a day nothing is
--- read.
+-- Where a day is given, no record of the file is of a later one; or the first that is, is reported by its number; or why the file is not read. Else nothing is read.
 abbrev pub AreInTime : (until : Option ℕ) → (csv : List ℕ) → Result ⊤ Fault → Type 0
 AreInTime None csv result = result ≡ Ok tt
 AreInTime (Some until) csv (Ok tt) = (records : List RecordCommand) × (commands_of csv ≡ Ok records) × (first_late until records ≡ None)

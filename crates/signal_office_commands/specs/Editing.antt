@@ -22,8 +22,7 @@ abbrev pub open_line : (commit : Bool) → (clerk : List ℕ) → List ℕ
 open_line true clerk = codes "not committed: the draft stays open; go on with edit, or drop it with abandon\n"
 open_line false clerk = codes "the draft of " ++ (clerk ++ codes " stays open; commit it with edit --commit, or drop it with abandon\n")
 
--- what is told of a draft that stays open: its remarks, then that it was not committed or whose it is; and the
--- status
+-- what is told of a draft that stays open: its remarks, then the line that it stays open; and the status
 abbrev pub open_told : Edit → OpenDraft → Printed
 open_told edit draft =
     shows_with (remarks_text edit.explain edit.advise draft.rows draft.violations ++ open_line edit.commit edit.clerk) (open_status edit.commit draft.violations)
@@ -32,8 +31,7 @@ open_told edit draft =
 abbrev pub committed_text : Rows → List ℕ
 committed_text set = (codes "no violations\n" ++ advice_lines set) ++ codes "committed\n"
 
--- It is told that a draft was committed, with its warnings where those are asked for, or that these could not
--- be read.
+-- It is told that a draft was committed, with its warnings if asked for, or that these could not be read.
 abbrev pub TellsCommitted : (advise : Bool) → Rows → Printed → Type 0
 TellsCommitted false set it = it ≡ shows (codes "no violations\ncommitted\n")
 TellsCommitted true set it =

@@ -56,8 +56,7 @@ IsOwnerTold tables id told =
 
 -- ---- an edit that is refused
 
--- the fault of an edit is explained: another owner by name, a bad record with its line and what is wrong there; each other fault stays; or memory
--- for that is refused
+-- the fault of an edit is explained: another owner by name, a bad record with its line and what is wrong; each other stays; or memory is refused
 abbrev pub IsEditExplained : (csv lines : List ℕ) → (id : ℕ) → Content → (why told : Fault) → Type 0
 IsEditExplained csv lines id tables (fault.Refused (refusal.Draft draft.NotOwner)) told = IsOwnerTold tables id told
 IsEditExplained csv lines id tables why told = IsFileExplained csv lines why told

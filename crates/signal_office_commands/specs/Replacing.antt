@@ -21,8 +21,7 @@ draft_set side = option_map (λ (d : Draft). d.set) side.draft
 abbrev pub base_at : TimingSide → Rows
 base_at side = base_from side.committed (draft_set side)
 
--- the plan that a file asks for by its changes: what they make of no rows, where the file is the whole plan; else what they make of the rows that
--- stood
+-- the plan that a file asks for by its changes: what they make of no rows, where the file is the whole plan; else of the rows that stood
 abbrev pub plan_wanted : (replace : Bool) → Rows → List Change → Rows
 plan_wanted true base asked = after_changes empty asked
 plan_wanted false base asked = after_changes base asked

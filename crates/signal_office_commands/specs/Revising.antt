@@ -63,8 +63,7 @@ revised_by false wrote [] draft = Ok (Open draft)
 revised_by false true (asked ∷ more) draft = Ok (Committed draft)
 revised_by false false (asked ∷ more) draft = Err told.Store
 
--- a draft was changed and shown, or else the fault is told and no more is run; more commands are run where it breaks no rule, and what became of it is told, or their
--- fault
+-- a draft was shown, and more commands are run where it breaks no rule: what became of it is told, or their fault; or it was not shown, and the fault why is told
 abbrev pub CommitsDraft : (same wrote : Bool) → (more : List Command) → Result OpenDraft Fault → Content → Content → Result Revised Fault → Type 0
 CommitsDraft same wrote more (Err why) middle new result = (new ≡ middle) × (result ≡ Err why)
 CommitsDraft same wrote more (Ok draft) middle new result =

@@ -5,8 +5,7 @@ use Rattle.office_http_framing.specs.Ends.{AppendsPart, FailsOrGivesNone, Told}
 use Rattle.signal_office_faults.specs.Lines.{line_text}
 use Rattle.signal_office_faults.specs.declared.fault.Fault.{Fault}
 
--- the output took the whole line; or a call of it failed or took no byte, and it took the line up to
--- some place
+-- the output took the whole line; or the line up to some place, and a call failed or took no byte
 abbrev pub SaysLine : List ℕ → Told → Told → Type 0
 SaysLine line old new =
     Appends old.bytes new.bytes line

@@ -30,8 +30,7 @@ fn push_number<N: Integer>(line: &mut ArrayString<LINE_ROOM>, number: N)
     line.push_str(digits.format(number));
 }
 
-/// The line that tells how many records of an import were new, and how many were there: `added 5,
-/// same 2`.
+/// The line that tells how many records of an import were new, and were there: `added 5, same 2`.
 fn imported_line(added: usize, same: usize) -> ArrayString<LINE_ROOM>
     ensures { result.bytes ≡ imported_line added same }
 {

@@ -141,8 +141,7 @@ fn drafted(reply: Reply) -> Result<OpenDraft, Fault>
     }
 }
 
-/// The commands that are run after a draft was shown with these violations: none if it breaks a
-/// rule.
+/// The commands that are run after a draft was shown with these violations: none if there is one.
 fn commands_due<'a>(violations: &[Violation], more: &'a [Command]) -> &'a [Command]
     ensures { result.now ≡ commands_due violations.now more.now }
 {
@@ -152,9 +151,9 @@ fn commands_due<'a>(violations: &[Violation], more: &'a [Command]) -> &'a [Comma
     }
 }
 
-/// What became of a draft, by the commands that were run to commit it, and whether rows of the
-/// timing set were written. If such commands were run and no row was written, the fault is `Store`,
-/// whatever the replies said.
+/// What became of a draft: by whether it would be the committed set; else by the commands that were
+/// run to commit it, and whether rows of the timing set were written. If such commands were run and
+/// no row was written, the fault is `Store`, whatever the replies said.
 fn revised_by(
     same: bool,
     wrote: bool,
@@ -208,7 +207,7 @@ fn has_risen(before: u64, after: u64) -> bool
 }
 
 /// Runs the commands that change a draft and show it, and gives the draft that was shown; or the
-/// fault of the first command that was refused.
+/// fault of the first command that was refused, or `Store` if none was shown.
 fn show_draft<S: Shelf>(
     alloc: Global,
     office: &mut Office<S>,

@@ -36,8 +36,7 @@ fn draw(alloc: Global, plan: &TimingSet, pattern: PatternNo) -> Result<Done, Fau
     }
 }
 
-/// What is shown of a plan: what breaks rules or is warned of, the picture of a pattern, or its
-/// page.
+/// What is shown of a plan: the rules that it breaks, the picture of a pattern, or its page.
 fn show(alloc: Global, plan: &TimingSet, shown: PlanShown) -> Result<Done, Fault>
     ensures { ShowsOf shown plan.now (came_to result) }
 {

@@ -4,8 +4,8 @@ use crate::words::{Part, Path};
 use cabinet_core::Day;
 use signal_values::{InterId, PatternNo};
 
-/// A CSV file, or `-` for standard input, and whether its records may be padded with empty fields,
-/// which are then dropped.
+/// A CSV file, or `-` for standard input, and whether its records may be padded with empty fields
+/// at their end, which are then dropped.
 #[derive(Drop)]
 pub struct CsvFile<'a> {
     pub path: Path<'a>,
@@ -31,7 +31,7 @@ pub enum Shown<'a> {
         id: InterId,
     },
     /// The intersections that are overdue for inspection on a day, at most `most` of them, 1 to
-    /// 9999, as a text or as CSV.
+    /// 9999, those with the lowest numbers, as a text or as CSV.
     Overdue {
         day: Day,
         most: usize,
