@@ -10,8 +10,9 @@ use std::env;
 use std::io::ErrorKind;
 use std::process::ExitCode;
 
-/// Hands the words, the input and both outputs over. Words that are not UTF-8 are refused; where
-/// memory for them is refused, that is a fault.
+/// Does what the words of the command line ask for, with the standard input and both outputs, and
+/// gives the status. The fault is Words where the words are not UTF-8, or cannot be had, and Memory
+/// where memory for them was refused.
 fn run(rt: &HostRuntime) -> Result<u8, Fault> {
     let alloc = rt.alloc();
     let words = match env::args(rt) {

@@ -21,7 +21,7 @@ pub record StandsInMemory (shelf : ShelfView) (office : Office) : Type 0 where
   pub stand : StandForSound shelf.tables office
   pub unwritten : shelf.counts ≡ no_writes
 
--- how the office is stored in memory, which is always honest
+-- how the office is stored in memory: no failure shuts its tables, so it is always honest
 abbrev pub memory_storage : Storage ShelfView Office Content
 memory_storage = office_storage (λ _. Unit {0}) (λ shelf. shelf.tables) (λ shelf. shelf.counts)
     (λ shelf tables. tables ≡ shelf.tables)

@@ -81,7 +81,7 @@ pub record ServesAs (port count : ℕ) (old : Content) (result : Result Done Fau
   pub served : (before : Office) → StandForSound old before → (connections : List Connected) × ServesPort port count start end counts connections outcome
       × (after : Office) × InTurn before connections after × StandForSound new after
 
--- a connection was served from the office, of whose requests and answers this holds too
+-- a connection was served from the office, by its laws, and `Holds` is true of its requests and answers
 abbrev pub ServedFrom : Office → Connected → Office → (List PlainRequest → List (List ℕ) → Type 0) → Type 0
 ServedFrom before connection after Holds =
     (outcome : Result Served ServeFault)

@@ -36,7 +36,7 @@ state_in (Some (seen.Reply (reply.State state))) = Ok state
 state_in (Some (seen.Reply (reply.Refused why))) = Err (fault_of why)
 state_in other = Err told.Store
 
--- the committed plan that was seen, with its name and revision; else the fault of the refusal that was seen, or Store for anything else
+-- the committed plan that was seen, with the name of its intersection and its revision; else the fault of the refusal that was seen, or Store for anything else
 abbrev pub timing_in : Option Seen → Result RunningTiming Fault
 timing_in (Some (seen.Reply (reply.Timing timing))) = Ok timing
 timing_in (Some (seen.Reply (reply.Refused why))) = Err (fault_of why)

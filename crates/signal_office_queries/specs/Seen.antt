@@ -96,7 +96,7 @@ IsAnswer tables asked it = (¬ MeetsDamage tables asked) × IsNamedRefusal asked
 abbrev pub no_draft : Seen
 no_draft = seen.Reply (reply.Refused (refusal.Draft draft.NotTransaction))
 
--- a list of overdue intersections has fewer rows than were asked for at most; of anything else nothing is said
+-- where a list of overdue intersections is seen, it has fewer rows than were asked for at most; of anything else nothing is said
 abbrev pub IsShort : Seen → (most : ℕ) → Type 0
 IsShort (seen.Reply (reply.Overdue rows)) most = length rows < most
 IsShort other most = Unit {0}

@@ -129,7 +129,7 @@ fn read_cabinet<S: Shelf>(
 }
 
 /// How many warnings the committed plan that was seen has. The fault is Memory where a growth was
-/// refused, and Store where no plan was seen, which a listed intersection always shows.
+/// refused, and Store for anything else than a plan, which a listed intersection never shows.
 fn warnings_in(alloc: Global, timing: &Seen) -> Result<usize, Fault>
     ensures { IsCountOf timing.now result }
 {

@@ -34,8 +34,9 @@ pub fn state_in(seen: &[Seen], place: usize) -> Result<&IntersectionState, Fault
     }
 }
 
-/// A committed timing set, with its name and revision, seen at a place, counted from 0. The fault
-/// is that of a refusal seen there, and Store where anything else or nothing was.
+/// A committed timing set, with the name of its intersection and its revision, seen at a place,
+/// counted from 0. The fault is that of a refusal seen there, and Store where anything else or
+/// nothing was.
 pub fn timing_in(seen: &[Seen], place: usize) -> Result<&RunningTiming, Fault>
     ensures { part_lent result ≡ timing_in (slice_get seen.now place) }
 {

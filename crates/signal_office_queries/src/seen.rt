@@ -14,7 +14,7 @@ pub enum Query {
     /// The state of an intersection: its name, interval and revision, and who holds a draft of its
     /// timing, in which state.
     State { id: InterId },
-    /// The committed timing set of an intersection, with its name and revision.
+    /// The committed timing set of an intersection, with the intersection's name and the revision.
     Timing { id: InterId },
     /// The draft of an intersection.
     Draft { id: InterId },

@@ -45,7 +45,7 @@ use Rattle.signal_rules.specs.Lookup.{pattern_at}
 
 -- ---- what is asked for it
 
--- the queries for the open orders of all intersections, or of one; as CSV these stand with the name of the intersection, for which its state is asked
+-- the queries for the open orders of all intersections, or of one, whose state is asked too, for its name, where they are shown as CSV
 abbrev pub orders_queries : Option ℕ → (csv : Bool) → List Query
 orders_queries None csv = query.OpenOrders ∷ []
 orders_queries (Some id) true = query.State id ∷ query.Cabinet id ∷ []
