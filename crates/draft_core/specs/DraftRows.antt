@@ -56,8 +56,8 @@ RowStands committed said (Some draft) key = get draft.set key ≡ overlaid_row c
 abbrev pub RowsByKey : Type 0
 RowsByKey = Key → Said
 
--- what a step read, beside revision and holder, is right as far as the step reaches: the draft rows that were
--- read say of each key what these rows say, and the committed set is that of the timing side
+-- what was read of a timing side for a step of its transaction is right. Of a step with reach `Row` no rows were read;
+-- with `Drafts` the draft rows, which say of each key what these rows say; with `Plan` the committed set too
 abbrev pub IsRead : Reach → Timing → RowsByKey → TimingSide → Type 0
 IsRead reach.Row timing rows side = Unit {0}
 IsRead reach.Drafts timing rows side = (key : Key) → row_at timing.delta key ≡ rows key

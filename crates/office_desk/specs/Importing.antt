@@ -39,12 +39,12 @@ goes_on at Added added same = added
 goes_on at Same added same = same
 goes_on at (Refused why) added same = Err (ImportRow at (line_of why).number)
 
--- the record is taken, or its refusal's number is one that is named for a command with this record
+-- the record is taken, or the number of its refusal is one that the machine may give to a command with this record
 abbrev pub IsNamedTaken : RecordCommand → Taken → Type 0
 IsNamedTaken c (Refused why) = IsOneOf (numbers_of (command.Record c)) (number_of why)
 IsNamedTaken c _ = Unit {0}
 
--- what comes of a record, by whether its intersection is there (or it is of none) and by its line of the register's table: without the intersection it is refused
+-- what comes of a record, by whether its intersection is there (or it is of none) and by what the register decides of it: without the intersection it is refused
 abbrev pub taken_by : (is_there : Bool) → Line → Taken
 taken_by false line = Refused UnknownIntersection
 taken_by true added_line = Added
@@ -74,7 +74,7 @@ pub record TakesWhole (stored : Content) (before : List RowChange) (c : RecordCo
   pub whole : TellsAbout stored (cabinet_of c) false ⊎ (¬ MeetsRecordDamage (changed_by stored before) c)
   pub spares : KeepsDamage (changed_by stored before) (changed_by stored after)
 
--- a record is taken by its line of the register's table, on the rows that stand under its keys, whatever else is stored; only a new one adds rows behind the
+-- a record is taken as the register decides of it by the rows that are stored under its keys, whatever else is stored; only a new one adds rows behind the
 -- pending ones (of a refused one this says nothing of rows)
 abbrev pub TakesLine : (stored : Content) (before : List RowChange) → RecordCommand → Taken → (after : List RowChange) → Type 0
 TakesLine stored before c Added after = (rows : List RowChange) × FollowsRegisterLine stored before c added_line rows × (after ≡ before ++ rows)
@@ -88,7 +88,7 @@ pub record TakesInTurn (stored : Content) (before : List RowChange) (c : RecordC
   pub whole : TakesWhole stored before c after
   pub line : TakesLine stored before c taken after
 
--- whatever is stored: a refusal is one that is named for the record; where the rows pending before it are of the register alone, so are those after it; and
+-- whatever is stored: a refusal is one that the machine may give to a command with this record; where the rows pending before it are of the register alone, so are those after it; and
 -- the record adds to each table at most as many rows as it may write
 pub record TakesWithin (before : List RowChange) (c : RecordCommand) (taken : Taken) (after : List RowChange) : Type 0 where
   pub named : IsNamedTaken c taken
@@ -97,8 +97,8 @@ pub record TakesWithin (before : List RowChange) (c : RecordCommand) (taken : Ta
 
 -- ---- a record that was decided
 
--- a record was decided after the pending rows: none, where it is of an intersection that is not there; else the intersection is there, or it is of none, and
--- the register decided this
+-- what was decided of a record after the pending rows: nothing, where it is of an intersection that is not there; else the intersection is there, or the record
+-- is of none, and the register decided this
 abbrev pub DecidesAfter : (is_honest : Type 0) (stored : Content) (before : List RowChange) → RecordCommand → Option Registered → Type 0
 DecidesAfter is_honest stored before c None = IsSome (cabinet_of c) × (is_honest → TellsIntersection stored (cabinet_of c) false)
 DecidesAfter is_honest stored before c (Some told) = (is_honest → TellsIntersection stored (cabinet_of c) true) × DecidesRecord is_honest stored before c (Ok told)

@@ -7,7 +7,7 @@ use Rattle.office_http_framing.specs.declared.ends.Counts.{Counts}
 use Rattle.office_http_framing.specs.Front.{PlainRequest}
 use Rattle.office_http_framing.specs.Stream.{unfinished, AreRequests, BeginsWith}
 
--- a request is awaited after these bytes: they hold fewer requests than the limit, none of these is the last, and they end in no fault
+-- a request is awaited after these bytes: they hold fewer requests than the limit, none of which ends the stream, and no fault
 abbrev pub IsAwaited : ℕ → List ℕ → Type 0
 IsAwaited limit given = (requests : List PlainRequest) × AreRequests limit given requests unfinished
 
@@ -29,7 +29,7 @@ pub record OneRead {Source : Type 0} (told : Source → Told) (old new : Source)
   pub reads : Consumes (told old).bytes (told new).bytes piece
   pub calls : (told new).counts.calls ≡ raised_count (told old).counts.calls
 
--- these bytes are whole requests, one after another, and no byte more
+-- the bytes that were given are whole requests, one after another, and no byte more
 abbrev pub IsBetween : ℕ → List ℕ → Type 0
 IsBetween limit given = (requests : List PlainRequest) × (left : ℕ) × BeginsWith limit given requests [] left
 

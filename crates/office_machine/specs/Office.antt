@@ -30,8 +30,9 @@ side_of (Some i) = i.timing
 abbrev pub side_at : Office → ℕ → TimingSide
 side_at office id = side_of (get office.intersections id)
 
--- an intersection is sound in a version: its name has at most 120 bytes, its interval is 1 to 3650 days, its revision is at
--- most 999,999, its committed set has only records and breaks no rule, and its draft is sound
+-- An intersection is sound by the limits and rules of a version of the tables: its name has at most 120 bytes, its interval
+-- is 1 to 3650 days, its revision is at most 999,999, each row of its committed set is a record within the limits, the set
+-- breaks no rule, and its draft, if there is one, is sound.
 pub record IsSoundIntersectionIn (v : Version) (i : Intersection) : Type 0 where
   pub name : AreWords 120 i.name
   pub interval_low : 1 ≤ i.interval

@@ -76,7 +76,7 @@ Drafts wrote it old new result =
     (middle : Content) × (shown : Result OpenDraft Fault) × Makes drafted it.first.items old middle shown
     × CommitsDraft it.same wrote it.more.items shown middle new result
 
--- tables after the own step of one of the commands that change a draft; or, where these were run and showed it, of one of those that commit it, where they are due
+-- tables as one of the commands that change a draft makes them; or, where these were run and showed the draft, as one of those that commit it makes them, where they are due
 abbrev pub AfterRevision : Revision → Content → Content → Type 0
 AfterRevision it old found =
     AfterOneOf it.first.items old found
@@ -85,7 +85,7 @@ AfterRevision it old found =
 
 -- ---- what an edit comes to
 
--- the answer says whether these changes make the draft the committed set, where a commit is asked for; else it is no
+-- `same` says whether these changes make the draft the committed set, where a commit is asked for; else it is false
 abbrev pub WouldBe : (commit : Bool) → StandingRows → List Change → (same : Bool) → Type 0
 WouldBe false standing changes same = same ≡ false
 WouldBe true standing changes same = TellsSame standing.committed (after_changes (base_of standing) changes) same
@@ -101,7 +101,7 @@ Revises idle same edit changes (Some it) =
     (idle ≡ false) × (it.first.items ≡ drafting edit.id edit.clerk changes)
     × (it.more.items ≡ committing edit.commit same edit.id edit.clerk) × (it.same ≡ same)
 
--- what an edit comes to over what stands: changes, which are those of the file, or those that make its whole plan; whether they make the committed set; and the commands
+-- what an edit comes to over the committed set and the draft that stand: changes, which are those of the file, or those that make its whole plan; whether they make the committed set; and the commands
 pub record IsRevision (edit : Edit) (standing : StandingRows) (asked : List Change) (it : Option Revision) : Type 0 where
   pub changes : List Change
   pub wanted : AreWanted edit.replace (base_of standing) asked changes
@@ -115,7 +115,7 @@ ComesTo bytes edit tables (Ok it) =
     (asked : List Change) × (changes_of bytes ≡ Ok asked) × (standing : StandingRows) × ShowsStanding tables edit.id standing × IsRevision edit standing asked it
 ComesTo bytes edit tables (Err why) = IsUnread (changes_of bytes) why ⊎ (IsNotStanding tables edit.id why ⊎ (why ≡ told.Memory))
 
--- what an edit came to is done: its commands are run; without commands the plan is told to be the committed set, and a fault is told, and nothing was changed
+-- What an edit came to is done: its commands are run. Without commands nothing is changed, and it is told that the plan is the committed set. A fault is told, and nothing is changed.
 abbrev pub EndsAs : (wrote : Bool) → Result (Option Revision) Fault → Content → Content → Result Revised Fault → Type 0
 EndsAs wrote (Ok (Some it)) old new result = Drafts wrote it old new result
 EndsAs wrote (Ok None) old new result = (result ≡ Ok Same) × (new ≡ old)
@@ -129,6 +129,6 @@ RevisesSo wrote bytes edit old new result = (found : Result (Option Revision) Fa
 abbrev pub RevisesAs : (bytes : List ℕ) → Edit → Content → Content → Result Revised Fault → Type 0
 RevisesAs bytes edit old new result = (wrote : Bool) × RevisesSo wrote bytes edit old new result
 
--- tables after the own step of one of the commands of an edit by a file, those of its commit among them
+-- tables as one of the commands of an edit by a file makes them, those of its commit among them
 abbrev pub AfterRevising : (bytes : List ℕ) → Edit → Content → Content → Type 0
 AfterRevising bytes edit old found = (it : Revision) × ComesTo bytes edit old (Ok (Some it)) × AfterRevision it old found

@@ -80,7 +80,7 @@ pub fn violations(alloc: Global, set: &TimingSet) -> Result<Vec<Violation>, NoMe
 }
 
 /// Adds the rules that the subject breaks: none where the set does not have the subject. Each
-/// second that is compared is a tick.
+/// second of the cycle at which V13 compares the phases of two rings is counted as a tick.
 pub(crate) fn judge<F: Finding>(
     alloc: Global,
     set: &TimingSet,
@@ -193,8 +193,8 @@ fn judge_sequence<F: Finding>(
     Ok(())
 }
 
-/// Adds the rules of a pattern that it breaks, of V9 to V13 in order. Each second that is compared
-/// is a tick.
+/// Adds the rules of a pattern that it breaks, of V9 to V13 in order. Each second of the cycle at
+/// which V13 compares the phases of two rings is counted as a tick.
 fn judge_pattern<F: Finding>(
     alloc: Global,
     set: &TimingSet,
@@ -248,7 +248,8 @@ fn judge_lanes<F: Finding>(
     Ok(())
 }
 
-/// Adds V13, if slots that fill the cycle conflict. Each second that is compared is a tick.
+/// Adds V13, if slots that fill the cycle conflict. Each second at which the phases of two rings
+/// are compared is counted as a tick.
 fn judge_slots<F: Finding>(
     slots: &[Slot<'_>],
     cycle: Cycle,

@@ -1,6 +1,8 @@
-//! The lanes of a pattern, which V12 and V13 are about. No lane is built second by second: its
-//! length is a sum of splits, and the rings are compared only at the seconds at which one of them
-//! starts a phase. What this needs of the set is looked up once for each phase of a ring's row.
+//! The lanes of a pattern. The lane of a ring is the phases of its row, each for as many seconds of
+//! the cycle as its split. V12 asks that each lane fills the cycle, V13 that phases of two rings
+//! which time together list each other. No lane is built second by second: its length is a sum of
+//! splits, and the rings are compared only at the seconds at which one of them starts a phase. What
+//! this needs of the set is looked up once for each phase of a ring's row.
 
 ghost use Rattle.std.specs.Prelude.{◌≡◌, ◌<◌, ◌≤◌, ◌+◌, ◌*◌, ◌^◌, ◌++◌, ◌==◌, true, IfOk, OnOk, length};
 ghost use Rattle.signal_rules.specs.Cases.{first_true};
@@ -18,8 +20,8 @@ use signal_records::{NoMemory, Pattern, PhaseNo, RingNo, Split, TimingSet};
 use std::alloc::Global;
 use std::marker::Model;
 
-/// A phase with the phases that it lists. It has its ring's lane from second `from` of the cycle
-/// until `until`, which is the first second after it.
+/// A phase with the phases that it lists as those that may time beside it (phaseConcurrency). It
+/// has its ring's lane from second `from` of the cycle until `until`, the first second after it.
 #[derive(Drop)]
 pub(crate) struct Slot<'s> {
     pub(crate) from: u32,
@@ -114,8 +116,8 @@ fn push_slot<'s>(
     Ok(())
 }
 
-/// The reason that breaks V13 at a second, if any: the first two slots, in their order, that have
-/// the second and whose phases do not list each other.
+/// Why V13 is broken at a second, if it is: by the first two slots, in their order, that have the
+/// second and whose phases do not list each other.
 pub(crate) fn pair_reason(slots: &[Slot<'_>], second: u32) -> Option<Reason>
     ensures { result ≡ first_true (pair_cases second (spans_in second slots.now)) }
 {
@@ -128,8 +130,8 @@ pub(crate) fn pair_reason(slots: &[Slot<'_>], second: u32) -> Option<Reason>
     }
 }
 
-/// The reason that breaks V13 at a second, if a slot and a later one both have the second and
-/// their phases do not list each other; of the first such later one.
+/// Why V13 is broken at a second by a slot, if it is: the slot has the second, and so has a later
+/// one, the first of those with which it does not list each other.
 fn slot_reason(slot: &Slot<'_>, later: &[Slot<'_>], second: u32) -> Option<Reason>
     ensures { result ≡ first_true (slot_cases second slot.now later.now) }
 {
@@ -140,8 +142,9 @@ fn slot_reason(slot: &Slot<'_>, later: &[Slot<'_>], second: u32) -> Option<Reaso
     }
 }
 
-/// The reason that breaks V13 from a second of this slot on, until one of the two phases is over:
-/// of the first later slot that has the second and does not list this one, or is not listed by it.
+/// Why V13 is broken by a slot from one of its seconds on, if it is: by the first later slot that
+/// has the second and does not list this one, or is not listed by it, until the first of the two
+/// phases is over.
 fn later_reason(slot: &Slot<'_>, later: &[Slot<'_>], second: u32) -> Option<Reason>
     ensures { result ≡ first_true (later_cases second slot.now (spans_in second later.now)) }
 {
