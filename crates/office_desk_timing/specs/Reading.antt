@@ -1,4 +1,4 @@
--- What is read of an intersection and its timing side, and how that stands for the office.
+-- What is read of an intersection and its timing side (its committed timing and its draft), and how that stands for the office.
 use Rattle.std.specs.Prelude.{◌≡◌, ℕ, List, Option, Some, None}
 use Rattle.std.specs.FinMap.{get}
 use Rattle.std.specs.List.{AllByRecursion}
@@ -31,7 +31,8 @@ pub record IsMadeOf (row : IntersectionRow) (rows : List Row) (changes : List Ch
   pub same_delta : found.timing.delta ≡ changes
   pub changes_within : AreChangesWithin changes
 
--- the tables hold these committed rows and draft rows of an intersection, as far as they are read: only the draft rows by Drafts, none by Row
+-- the tables hold these committed rows and draft rows of an intersection, as far as a step with this
+-- reach reads them: both by Plan, only the draft rows by Drafts, none by Row
 abbrev pub ListsPlan : Reach → Content → ℕ → List Row → List Change → Type 0
 ListsPlan reach.Row tables id rows changes = Unit {0}
 ListsPlan reach.Drafts tables id rows changes = ListsDraft tables id changes

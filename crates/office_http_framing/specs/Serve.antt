@@ -1,4 +1,5 @@
--- What one call of `serve` did to the machine, the source and the sink.
+-- What one call of `serve` did to the machine, which answers requests, to the source of the
+-- requests and to the sink of the answers.
 use Rattle.std.specs.Prelude.{◌≡◌, ℕ, ◌⊎◌, List, [], ◌∷◌, ◌++◌, length, Option, Result, Ok, Err, ⊤}
 use Rattle.std.specs.List.{concat}
 use Rattle.std.specs.Io.KnownBytes.{Appends, Consumes}
@@ -53,7 +54,7 @@ told_requests (Err (stop.Write requests)) = requests
 told_requests (Err stop.NoMemory) = 0
 
 -- How the stream ended: all was answered; or the source failed; or the sink failed at the answer to
--- the last request, or at that to a fault; or nothing was begun.
+-- the last request, or at that to a fault; or nothing was begun, as memory was refused.
 abbrev pub EndsBy : {State : Type 0} →
     Protocol State → Result Served ServeFault → Tail → Ends → Ends → Type 0
 EndsBy protocol (Ok served) tail start end =
@@ -81,8 +82,9 @@ SinkTook (Err (stop.Write n)) old new texts = BreaksOff old new texts
 SinkTook (Err stop.NoMemory) old new texts = Appends old new (concat texts)
 
 -- THE SERVING. The source gave bytes, which begin with the requests; the machine ran over these;
--- and the sink took the answers to them, in order, and then what follows, as the outcome tells. At
--- each call of the source the sink had taken whole the answers to all requests given until then.
+-- and the sink took the answers to them, in order, and then that to a fault, if one follows them:
+-- all or a part, as the outcome tells. At each call of the source the sink had taken whole the
+-- answers to all requests given until then.
 pub record Did
     {State : Type 0} (protocol : Protocol State) (runs : Runs) (limit : ℕ) (start end : Ends)
     (result : Result Served ServeFault) : Type 0 where
@@ -107,7 +109,7 @@ pub record Untouched {Machine : Type 0} (start end : Ends) (old new : Machine) :
   pub machine_is : new ≡ old
 
 -- How the calls of the two ends went, by their own counts: none failed or moved no byte, but one at
--- most, which the outcome tells. Nothing is said where the buffer was refused.
+-- most, which the outcome tells. Nothing is said where memory was refused before the first call.
 abbrev pub TellsFault : Ends → Ends → Result Served ServeFault → Type 0
 TellsFault start end (Ok served) =
     (NoneStops start.source.counts end.source.counts

@@ -101,8 +101,8 @@ pub record HasDamagedFormer (trees : Trees) : Type 0 where
 abbrev pub IsChangedToday : State → List RowChange → Trees → Type 0
 IsChangedToday old changes trees = Completes (changed_by (content_now old) changes) trees
 
--- a step of a ready transaction that succeeds on a clean disk leaves the changed tables with
--- today's version
+-- a step inside a transaction over the office's tables that succeeds on a clean disk leaves the
+-- changed tables with today's version
 abbrev pub WritesToday : {A E : Type 0} → Result A E → List RowChange → State → State → Type 0
 WritesToday result changes old new =
     HasCleanDisk new → OnOk result (IsReady old → IsChangedToday old changes new.now.trees)

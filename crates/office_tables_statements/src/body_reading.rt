@@ -15,7 +15,7 @@ use std::alloc::Global;
 /// A version of the tables, which says how rows are spelled.
 #[derive(Clone, Copy)]
 pub enum Version {
-    /// Version 1, whose grammar has no lead.
+    /// Version 1, whose rows have no lead: no seconds by which a walk begins before the green.
     First,
     /// Today's version, which is 2.
     Current,

@@ -19,7 +19,7 @@ use Rattle.signal_rules.specs.Lookup.{pattern_at}
 use Rattle.signal_rules.specs.Violations.{reasons_of, violations_of}
 use Rattle.signal_rules.specs.declared.violation.Violation.{Violation}
 
--- this is what is printed, with its status; or memory for it was refused
+-- a command gave this text to print, with this status; or memory for it was refused
 abbrev pub TellsAs : Printed → Result Printed Fault → Type 0
 TellsAs it (Ok done) = done ≡ it
 TellsAs it (Err why) = why ≡ told.Memory

@@ -26,8 +26,8 @@ abbrev pub outcome_as : (line : List ℕ) → Result ⊤ Fault → Result Printe
 outcome_as line (Ok done) = Ok (shows line)
 outcome_as line (Err why) = Err why
 
--- What may be told of tables that are looked at, or of tables before a change and after it; and what a stop may leave of a change. Each by the text of the CSV
--- file that was read for it, and the lines on which its records begin.
+-- What may be told of tables that are looked at, or of tables before a change and after it, by the text of the CSV file that was read for it and the lines on
+-- which its records begin; and what a stop may leave of a change, by that text.
 pub data Asking : Type 1 where
   looks : ((text lines : List ℕ) → Content → Result Printed Fault → Type 0) → Asking
   changes : (makes : (text lines : List ℕ) → Content → Content → Result Printed Fault → Type 0) → (after : (text : List ℕ) → Content → Content → Type 0) → Asking

@@ -124,7 +124,8 @@ fn do_job<F: OfficeInFile, R: Source, W: Sink>(
     ensures does { JobDoes F.known job.now text.now lines.now other.now
         (ends_of (R.told source.old) (W.told out.old))
         (ends_of (R.told source.new) (W.told out.new)) result }
-    // The opener of files was called once, as the job has it; or not at all.
+    // The opener of files was called once, for the office file that the job names, with its wait,
+    // to do what the job does; or not at all: then the job names none, or a fault is the result.
     ensures calls { AreCalled (F.calls files.old) (F.calls files.new) (calls_of job.now) result }
 {
     match job {

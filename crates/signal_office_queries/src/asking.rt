@@ -17,7 +17,8 @@ use std::alloc::Global;
 pub fn ask<S: Shelf>(alloc: Global, office: &mut Office<S>, query: Command) -> Reply
     requires { IsQueryCommand query }
     ensures kept { KeepsShelf S.Shelf office.old office.new }
-    // The query was run as each command is, and its step leaves the tables.
+    // The query was run as each command is. Its reply is one step of each sound office that the
+    // tables stand for, and the same tables stand for the office after that step.
     ensures ran { IsRun S.Shelf query result office.old office.new }
     ensures step { TellsTables S.Shelf office.old office.new
         (λ tables. AnswersAny tables query result tables) }

@@ -55,7 +55,8 @@ warnings_at set (subject.Seq n) = []
 warnings_at set (subject.Split n p) = row_warnings set n p (split_at set n p)
 warnings_at set (subject.Pattern n) = pattern_warnings set n (pattern_at set n)
 
--- the warnings of a set: those of its subjects, in the order of the rules, and then those of the plan as a whole
+-- the warnings of a set: those of its phases, then of its split rows and of its patterns, each ascending, and then those of the
+-- plan as a whole
 unfoldable pub warnings_of : Rows → List Warning
 warnings_of set = flat_map (warnings_at set) (subjects set) ++ told_cases scope.Plan (plan_cases set)
 

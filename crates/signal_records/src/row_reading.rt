@@ -1,4 +1,4 @@
-//! Reads rows from their fields.
+//! The rows of a timing set, read from their fields.
 
 ghost use Rattle.std.specs.Prelude.{◌≡◌, ◌≤◌, ◌+◌, length};
 ghost use Rattle.signal_values.specs.declared.number.TheConstants.{PHASES, RINGS};

@@ -1,4 +1,5 @@
--- Counts of a judge, and how far they rise.
+-- How far counts rise, none of which passes `u64::MAX`; and at how many seconds of a cycle phases are compared at most
+-- where the rules are judged.
 use Rattle.std.specs.Prelude.{◌≡◌, ℕ, ◌+◌, ◌-◌, ◌^◌, ◌<◌, ◌≤◌, List, [], ◌∷◌, length, Option, Some, None}
 use Rattle.signal_records.specs.declared.record.Pattern.{Pattern}
 use Rattle.signal_records.specs.TimingSet.{Rows}
@@ -28,18 +29,19 @@ entries_of set seq (ring ∷ rings) = length (ring_row set seq ring) + entries_o
 abbrev pub sequence_entries : Rows → ℕ → ℕ
 sequence_entries set seq = entries_of set seq ring_numbers
 
--- the seconds that are compared at most for a pattern, if there is one: the lengths of its sequence's rows, together
+-- at how many seconds phases are compared at most for a pattern, if there is one: the lengths of its sequence's rows,
+-- together
 abbrev pattern_seconds : Rows → Option Pattern → ℕ
 pattern_seconds set None = 0
 pattern_seconds set (Some pattern) = sequence_entries set pattern.seq
 
--- the seconds that are compared at most for a subject: for a pattern the lengths of its sequence's rows, together, and
--- for any other subject none
+-- at how many seconds phases are compared at most for a subject: for a pattern the lengths of its sequence's rows,
+-- together, and for any other subject none
 abbrev pub most_seconds : Rows → Subject → ℕ
 most_seconds set (subject.Pattern n) = pattern_seconds set (pattern_at set n)
 most_seconds set _ = 0
 
--- the seconds that are compared at most for some subjects, together
+-- at how many seconds phases are compared at most for some subjects, together
 abbrev pub most_seconds_of : Rows → List Subject → ℕ
 most_seconds_of set [] = 0
 most_seconds_of set (s ∷ ss) = most_seconds set s + most_seconds_of set ss
