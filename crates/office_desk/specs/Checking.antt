@@ -81,7 +81,7 @@ TellsThere stored pending c why it = (r : Register) → RegisterStandsSound (cha
 
 -- ---- records in turn
 
--- what would come of a record on this register, as it is told: a refusal comes with what the register holds there
+-- what would come of a record on this register, as it is told: a refusal comes with what the register holds at the place that it is about, if it is about one
 abbrev pub checked_by : Register → RecordCommand → Taken → Checked
 checked_by r c taken.Added = checked.Added
 checked_by r c taken.Same = checked.Same

@@ -1,4 +1,5 @@
--- Laws of the definitions: how far they fix what stands at the front, and the list of requests.
+-- How far the definitions of requests and faults fix what stands at the front of a stream's bytes,
+-- and the list of its requests.
 use Rattle.std.specs.Prelude.{◌≡◌, ℕ, ◌⊎◌, List}
 use Rattle.office_http_framing.specs.declared.front.Fault.{Fault}
 use Rattle.office_http_framing.specs.Front.{PlainRequest, window, BeginsWithRequest, IsIncomplete, IsFaulty, IsHopeless, IsUnfinished}

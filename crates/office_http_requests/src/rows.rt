@@ -108,7 +108,7 @@ fn has_rows(body: &Value) -> bool
 
 /// The changes that the rows under the key `rows` spell, or the fault: of that field, where they
 /// are no array of arrays of texts, which is judged before memory is taken; or of the first bad
-/// row.
+/// row; or `NoMemory`, which means that a growth was refused.
 #[tactic(auto, unfolding(crate::specs::Rows::changes_in))]
 pub(crate) fn of_body(alloc: Global, body: &Value) -> Result<Changes, AskFault>
     ensures gives { Gives result (changes_in (view body.now)) }

@@ -70,8 +70,8 @@ module _ {S : Type 0} (g : Ghosts S) where
     pub crash : IsHonest (state g shelf.conn) → (trees : Trees) → (state g shelf.conn).may_leave trees → content_of trees ≡ content_now (state g shelf.conn)
     pub unwritten : shelf.counts ≡ no_writes
 
-  -- the store in what a refusal gives back: in a connection, or alone where its database was not
-  -- checked again
+  -- the store in what a refusal gives back: in a connection, or alone where its connection was given
+  -- up and no new one could be opened over it
   abbrev pub store_left : Result (Held S) S → S
   store_left (Ok c) = c.store
   store_left (Err s) = s
@@ -111,6 +111,7 @@ module _ {S : Type 0} (g : Ghosts S) where
     pub left : IsLeft conn (TakesOver (state g conn).committed.trees) (store_left back)
     pub idle : IsIdleOrSame conn back
 
-  -- each store that is left as it was found has returned what was written: this holds over memory
+  -- the disk under each store that is left as it was found has returned what was written, as memory
+  -- always does
   abbrev pub StaysClean : Held S → Type 0
   StaysClean conn = (left : S) → IsAsFound conn left → IsCleanStore left

@@ -150,10 +150,10 @@ fn have_no_row(eight: &[Moved]) -> bool
     first.rows.is_empty() && have_no_row(eight)
 }
 
-/// Why tables are not made anew, by the rows of `office_version` and those of the eight: `Damaged`
-/// where the eight have a row and there is no version, `Version` where another one is stored,
-/// `Store` where `office_version` has other columns or stores no number, or the tables are not the
-/// office's. None where they may be made.
+/// Why tables are not made anew, by the rows of `office_version` and those of the office's eight
+/// other tables: `Damaged` where the eight have a row and there is no version, `Version` where
+/// another version than today's is stored, `Store` where `office_version` has other columns or
+/// stores no number, or the tables are not the office's. None where they may be made.
 fn refusal(tables: &[Table], version: &[Row], eight: &[Moved]) -> Option<OpenFault>
     ensures made { result ≡ None →
         MayBeMade tables.now version.now (map part_moved eight.now) }
@@ -184,8 +184,8 @@ fn refusal(tables: &[Table], version: &[Row], eight: &[Moved]) -> Option<OpenFau
 /// The rows of tables that may be made anew, or why they are not.
 pub(crate) type Looked = Result<Vec<Moved>, OpenFault>;
 
-/// Reads the rows of `office_version` and of the eight tables: those of the eight, if they may be
-/// made anew, or why not. The error is the store's, or want of memory.
+/// Reads the rows of `office_version` and of the office's eight other tables: gives those of the
+/// eight, if they may be made anew, or why not. The error is the store's, or want of memory.
 fn look<S: Store>(alloc: Global, store: &mut S, tables: &[Table]) -> Result<Looked, StoreError>
     ensures made { IsClean (S.Store.view store.new) → IfOk result (λ looked. IfOk looked (λ eight.
         (map part_moved eight.items ≡ eight_rows tables.now (S.Store.view store.old).trees)
@@ -222,8 +222,9 @@ fn store_of<S: Alter + Drop>(conn: Connection<S>) -> Result<S, S>
 }
 
 /// Opens the store of a connection once more, which reads and checks the whole database, so that
-/// each tree is known to hold what the list of objects says. What was not committed is gone. Where
-/// this is refused, the fault comes with the store.
+/// each tree is known to hold what the database's own list of tables and indexes says. What was not
+/// committed is gone. Where this is refused, the fault comes with the store: `NoMemory` where a
+/// growth was refused, else `Store`.
 pub fn check_again<S: Alter + Drop>(
     alloc: Global,
     conn: Connection<S>,
@@ -249,8 +250,9 @@ fn fault_of(error: StoreError) -> SqlFault {
 }
 
 /// Reads the rows of a connection's tables, and opens its store once more, which checks the whole
-/// database: the rows of the eight, if these may be made anew, or why not, with the new connection.
-/// Where the database is refused, the fault comes with the store.
+/// database: the rows of the office's eight tables beside `office_version`, if these may be made
+/// anew, or why not, with the new connection. Where the database is refused, the fault comes with
+/// the store: `NoMemory` where a growth was refused, else `Store`.
 pub(crate) fn read_again<S: Alter + Drop>(
     alloc: Global,
     conn: Connection<S>,

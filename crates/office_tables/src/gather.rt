@@ -1,4 +1,5 @@
-//! The rows of a database's tables, which are found by their names, whatever their numbers.
+//! The rows of a database's tables, which are found by their names, whatever the numbers of their
+//! trees.
 
 ghost use Rattle.std.specs.Prelude.{◌≡◌, ◌++◌, map, IfOk, OnOk};
 ghost use Rattle.sqlite_trees.specs.View.{IsClean, IsQuiet};
@@ -17,14 +18,15 @@ use sqlite_trees::store::Store;
 use sqlite_value::row::Row;
 use std::alloc::Global;
 
-/// One of the eight tables, and its rows as they are stored, each with its rowid first.
+/// One of the office's tables, but for `office_version`, and its rows as they are stored, each with
+/// its rowid first.
 #[derive(Drop)]
 pub struct Moved {
     pub table: Table,
     pub rows: Vec<Row>,
 }
 
-/// The eight tables, those first that refer to others.
+/// The office's eight tables beside `office_version`, those first that refer to others.
 pub const CHILDREN_FIRST: [Table; 8] = [
     Table::UsedPart,
     Table::Delivery,
@@ -101,8 +103,8 @@ fn gather<S: Store>(
     gather(alloc, store, tables, homes, moved)
 }
 
-/// The rows of the eight tables, those first that refer to others; a table that is missing has
-/// none. The error is the store's, or want of memory.
+/// The rows of the office's eight tables beside `office_version`, those first that refer to others;
+/// a table that is missing has none. The error is the store's, or want of memory.
 pub(crate) fn gather_eight<S: Store>(
     alloc: Global,
     store: &mut S,

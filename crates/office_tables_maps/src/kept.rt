@@ -31,7 +31,7 @@ pub(crate) trait Kept: Clone + Drop {
     /// Where a record is kept.
     type Place: TreePlace;
 
-    /// The place of a record that is kept of this.
+    /// The place of a record, by what it is kept of.
     ghost place: { Self.Of → Self → Self.Place };
     /// The cells of a record's row beside its key.
     ghost columns: { Self → List Cell };

@@ -8,7 +8,7 @@ use Rattle.cabinet_core.specs.declared.record.Order.{Order}
 use Rattle.office_tables_shelf.specs.CabinetReads.{ListsOrders}
 use Rattle.office_tables_shelf.specs.Content.{Content}
 
--- the orders of an entry, none where there is none
+-- the orders of a list that was looked up; none where no list was found
 abbrev pub orders_kept : {A : Type 0} → Option (Vec Order A) → List Order
 orders_kept None = []
 orders_kept (Some found) = found.items

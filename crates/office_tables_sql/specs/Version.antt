@@ -22,7 +22,8 @@ version_in trees = version_of (trees layout.office_version.tree)
 abbrev pub version_cells : ℕ → List Cell
 version_cells version = number (pos version) ∷ []
 
--- the cells of version 2, which is today's, and whose rows are those of today's grammar
+-- the cells of version 2, which is today's: in its rows of timings and drafts, the pedestrian part of
+-- a phase has a lead
 abbrev pub current_version : List Cell
 current_version = number (pos 2) ∷ []
 
@@ -31,11 +32,12 @@ pub record AreToday (trees : Trees) : Type 0 where
   pub sound : IsDatabase (record { schema = office_schema; trees = trees })
   pub stored : version_in trees ≡ Some current_version
 
--- the cells of version 1, whose rows are those of the grammar without a lead
+-- the cells of version 1: in its rows of timings and drafts, the pedestrian part of a phase has no
+-- lead
 abbrev pub first_version : List Cell
 first_version = number (pos 1) ∷ []
 
--- the row shows one number, and another one than this version
+-- the row shows one number, which is another than this version
 pub record TellsOther (row : Row) (version : ℕ) : Type 0 where
   pub told : ℤ
   pub is : cells row ≡ number told ∷ []

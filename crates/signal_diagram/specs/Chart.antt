@@ -107,7 +107,8 @@ abbrev pub phase_at_second : List Bar → ℕ → Option ℕ
 phase_at_second bars second = option_map (λ bar. bar.phase) (find (covers second) bars)
 
 -- The phases that have time, in the order of the sequence, stand one after the other from second 0
--- on, each for the seconds of its split; so each second has the phase that rule V13 compares there.
+-- on, each for the seconds of its split; so each second has the phase that rule V13 compares there
+-- with those of the other rings.
 pub record IsLane (set : Rows) (pattern : Pattern) (shown : RingLane) : Type 0 where
   pub order : map (λ bar. bar.phase) shown.bars
       ≡ filter (λ p. nat_lt 0 (times set pattern.split p)) (ring_row set pattern.seq shown.ring)

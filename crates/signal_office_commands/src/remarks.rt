@@ -48,7 +48,7 @@ pub(crate) fn advice_text(alloc: Global, plan: &TimingSet) -> Result<Vec<u8>, No
 }
 
 /// The text of the rules that a plan breaks, with their reasons where those are asked for, and
-/// behind it a line for each warning where those are.
+/// behind it a line for each warning, where warnings are asked for.
 pub(crate) fn remarks_text(
     alloc: Global,
     plan: &TimingSet,

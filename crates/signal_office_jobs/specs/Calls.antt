@@ -1,4 +1,4 @@
--- Which calls a job makes of the opener of files.
+-- Which calls a job makes to have a file of an office opened.
 use Rattle.std.specs.Prelude.{List, [], ◌∷◌, Option, Some, None, Result, Ok, Err}
 use Rattle.signal_office_in_file.specs.Calls.{FileCall, called}
 use Rattle.signal_office_in_file.specs.declared.Kind.{Kind}
@@ -23,7 +23,7 @@ calls_of (job.Migrate db) = calls_over kind.Migration (Some db)
 calls_of (job.Backup db to force) = calls_over kind.Copy (Some db)
 calls_of _ = []
 
--- the calls for what was found in the words: those of the job, or none where no job was found
+-- the calls for what a command line says: those of its job, or none where it says no job
 abbrev pub calls_found : Result Job JobFault → List FileCall
 calls_found (Ok job) = calls_of job
 calls_found (Err why) = []

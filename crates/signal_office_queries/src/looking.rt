@@ -35,7 +35,9 @@ fn seen_in(reply: Reply) -> Result<Seen, Fault>
     }
 }
 
-/// What a query of the machine sees.
+/// What a query sees that is one command of the office: its reply, even one that refuses. The fault
+/// is Store where memory or the database refused, and Damaged where a row that is read is no
+/// record.
 pub(crate) fn see_reply<S: Shelf>(
     alloc: Global,
     office: &mut Office<S>,

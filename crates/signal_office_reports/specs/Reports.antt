@@ -43,7 +43,7 @@ use Rattle.signal_page.specs.Page.{IsPage, PageShown}
 use Rattle.signal_records.specs.TimingSet.{Rows}
 use Rattle.signal_rules.specs.Lookup.{pattern_at}
 
--- ---- what is asked for it
+-- ---- the queries
 
 -- the queries for the open orders of all intersections, or of one, whose state is asked too, for its name, where they are shown as CSV
 abbrev pub orders_queries : Option ℕ → (csv : Bool) → List Query

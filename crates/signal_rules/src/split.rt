@@ -10,8 +10,8 @@ use crate::need::split_need;
 use crate::reason::{Reason, SplitReason};
 use signal_records::{PhaseNo, Split, SplitMode, TimingSet};
 
-/// V8, of the row of a phase: its phase is in the set, an omitted phase has no time and is not
-/// coordinated, and any other has the time that it needs.
+/// The reason that breaks V8, if any: the phase of a split row is not in the set, or is omitted and
+/// has time or is coordinated, or is not omitted and has no time, or less than it needs.
 pub(crate) fn split_reason(set: &TimingSet, p: PhaseNo, split: Split) -> Option<Reason>
     ensures { result ≡ first_true (split_cases p (phase_at set.now p) split) }
 {

@@ -154,7 +154,7 @@ impl fmt::Display for NeedPart {
     }
 }
 
-/// Writes the time and what it does not fit, as `5 s, and omitted`, or the phase that is missing.
+/// Writes what does not fit, as `5 s, and omitted`, or the phase that is missing.
 impl fmt::Display for SplitReason {
     ghost use Rattle.std.specs.Prelude.{Some};
     ghost use Rattle.signal_rules.specs.Texts.{split_text};
