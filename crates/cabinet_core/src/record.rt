@@ -73,11 +73,12 @@ pub struct Delivery {
 /// What the register holds of an intersection.
 #[derive(Drop)]
 pub struct CabinetView {
-    /// In the order of their numbers.
+    /// The inspections, in the order of their numbers.
     pub inspections: Ordered<Inspection>,
-    /// In the order of their numbers.
+    /// The orders, in the order of their numbers.
     pub orders: Ordered<Order>,
-    /// In the order of their orders' numbers, and those of an order in the order of their lines.
+    /// The used parts, in the order of their orders' numbers, and those of an order in the order of
+    /// their lines.
     pub lines: Ordered<UsedLine>,
 }
 

@@ -1,4 +1,4 @@
--- That a row which a step of the transaction adds is new.
+-- A row that a step of the transaction adds is new.
 use Rattle.std.specs.Prelude.{◌≡◌, List, [], ◌∷◌, map, Option, None}
 use Rattle.std.specs.FinMap.{get}
 use Rattle.std.specs.List.{AllByRecursion}
@@ -22,8 +22,8 @@ use Rattle.draft_core.specs.Moves.{committed_by, said_after}
 abbrev pub AreInOrder : List Change → Type 0
 AreInOrder changes = IsStrictlySortedBy key_cmp (map changed_key changes)
 
--- Where the change adds a row under the key, none stands there: neither a committed row nor a draft row, which
--- are given.
+-- Where the change adds a committed row under the key, no committed row (`committed`) stands there; where it adds a
+-- draft row, the draft rows say nothing of the key (`said`).
 abbrev pub IsNewAt : TimingChange → Key → Option Row → Said → Type 0
 IsNewAt (CommittedNew row) key committed said = key ≡ key_of row → committed ≡ None
 IsNewAt (Committed change) key committed said = Unit {0}
@@ -53,8 +53,9 @@ AddsNone (Drafted change) = Unit {0}
 AddsNone (DraftGone gone) = Unit {0}
 AddsNone DraftDropped = Unit {0}
 
--- ROWS THAT ARE ADDED ARE NEW. A step that reads the plan adds a row only where none stands under
--- its key, if it read the draft rows in the order of their keys. Any other step adds none.
+-- ROWS THAT ARE ADDED ARE NEW. A step that reads the plan adds a committed row only where no committed
+-- row stands under its key, and a draft row only where no draft row does, if it read the draft rows in
+-- the order of their keys. Any other step adds none.
 abbrev pub AddsOnlyNew : Reach → Timing → List TimingChange → Type 0
 AddsOnlyNew reach.Row timing changes = AllByRecursion AddsNone changes
 AddsOnlyNew reach.Drafts timing changes = AllByRecursion AddsNone changes

@@ -15,7 +15,7 @@ use Rattle.office_machine.specs.declared.reply.Reply.{Reply}
 use Rattle.office_machine.specs.declared.reply.Reply.TheVariants.{Moved, Refused}
 use Rattle.office_machine.specs.Step.{refusal_of_draft}
 
--- a change of an intersection's timing side, as a change of a row of the tables
+-- a change of the committed rows or of the draft of an intersection's timing, as a change of the rows of the tables
 abbrev pub row_change_of : ℕ → TimingChange → RowChange
 row_change_of id (CommittedNew row) = AddTiming id row
 row_change_of id (Committed (Put row)) = PutTiming id row
@@ -25,7 +25,7 @@ row_change_of id (Drafted change) = PutDraft id change
 row_change_of id (DraftGone key) = RemoveDraft id key
 row_change_of id DraftDropped = DropDraft id
 
--- changes of an intersection's timing side as changes of rows, in their order
+-- changes of the committed rows or of the draft of an intersection's timing, as changes of rows, in their order
 abbrev pub row_changes_of : ℕ → List TimingChange → List RowChange
 row_changes_of id = map (row_change_of id)
 

@@ -89,8 +89,8 @@ impl Buffer {
     }
 
     /// Makes one read of the source, adds its bytes after those that are buffered, and says how
-    /// many came: 0 at the end, or where the source gives way. An error is the source's, and adds
-    /// none.
+    /// many came: 0 at the end of the stream, or where the source gives way to another client. An
+    /// error is the source's, and adds none.
     pub(crate) fn fill<R: Source>(&mut self, source: &mut R) -> io::Result<usize>
         requires { length self.old < BUFFER_LEN }
         ensures bytes { MatchResult result

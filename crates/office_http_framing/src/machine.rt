@@ -1,5 +1,5 @@
-//! What answers the requests of a stream: the engine knows no more of it than the trait `Machine`
-//! says.
+//! What answers the requests of a stream: the code that reads requests and writes answers knows no
+//! more of it than the trait `Machine` says.
 
 ghost use Rattle.std.specs.Prelude.{◌≡◌, IfOk};
 
@@ -72,8 +72,9 @@ pub trait Machine<Tools> {
         ensures clean { is_clean self.new → is_clean self.old }
         ensures honest { storage.is_honest self.new → storage.is_honest self.old }
         // Whichever state is kept: the answer is its step, what is kept then stands for the state
-        // after it, with no writes but what the step may, and a crash leaves that alone once it has
-        // changed. Refused, what is kept and the count of writes stay.
+        // after it, with no writes but those that the step may make, and a crash leaves that alone
+        // once it has changed. Where the result is `Unavailable`, what is kept and the count
+        // of writes stay.
         ensures deals { is_clean self.new →
             (before : State) (held : Stored) → KeepsState storage self.old held before →
             DealsBy protocol storage self.old self.new

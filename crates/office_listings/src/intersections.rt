@@ -11,7 +11,8 @@ use signal_records::NoMemory;
 use signal_records::state::Holder;
 use std::alloc::Global;
 
-/// The clerk who holds the draft; nothing where nobody does, since a clerk may be called by a dash.
+/// The clerk who holds the draft, or an empty word where nobody does: a line shows this as `-`, and
+/// a record of CSV as nothing, since a clerk may be called `-`.
 fn owner_word(holder: &Option<Holder>) -> &str
     ensures { result.now ≡ owner_word holder.now }
 {

@@ -62,8 +62,8 @@ module _ {D : Type 0} (g : Disk D) where
   Life old (run ∷ runs) last = (next : Content) × Made run old next × Life next runs last
 
 module _ {D : Type 0} {g : Disk D} where
-  -- If a failed closing left the store alone, its tables are numbered in its schema: tree t is the object with the rowid t + 1 there. An opening
-  -- needs that; the tables of a connection always are.
+  -- If a failed closing left a store without a connection, the store's tables are numbered in its schema: tree t is the object with the rowid t + 1
+  -- there. An opening needs that; the tables of a connection are always numbered so.
   abbrev pub IsNumbered : FileLeft D g → Type 0
   IsNumbered (left.Database (Err store)) = IsTrue (view store).is_numbered
   IsNumbered _ = Unit {0}

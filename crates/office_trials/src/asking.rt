@@ -21,14 +21,15 @@ pub(crate) fn copy(rt: &Bench<impl Abort>, bytes: &[u8]) -> Vec<u8> {
     Vec::from_slice(rt.1, bytes).expect(rt, "memory")
 }
 
-/// What came is what must come.
+/// Fails the test where what came is not what was wanted.
 pub(crate) fn same(rt: &Bench<impl Abort>, what: &str, wanted: &[u8], came: &[u8]) {
     let wants = String::from_utf8_lossy(rt.1, wanted).expect(rt, "memory");
     let seen = String::from_utf8_lossy(rt.1, came).expect(rt, "memory");
     assert!(rt; wanted == came, "{what}: wanted {wants}, came {seen}");
 }
 
-/// The bytes of messages: lines between such words, each with its content behind a bar.
+/// The bytes of messages, each given by its first line and, behind a bar, its content. The words
+/// `before` and `behind` go around that line.
 fn bytes_of_messages(rt: &Bench<impl Abort>, lines: &[&str], before: &str, behind: &str) -> String {
     let mut bytes = String::new(rt.1);
     for message in lines {
@@ -81,10 +82,11 @@ pub(crate) fn state_of<S: Shelf>(rt: &Bench<impl Abort>, office: &mut Office<S>)
     answers_to(rt, office, &QUERIES)
 }
 
-/// Requests between semicolons, each content behind a bar. Intersection 12 is added and shown, and
-/// a plan of eleven rows committed; a draft is abandoned, records are imported and come again after
-/// a closing, the stock is filled, and one record of each other kind is taken. Four changed rows
-/// are committed; at last a row is removed, put back as it is committed, twice, and removed.
+/// Requests, parted by semicolons, the content of each behind a bar. Intersection 12 is added and
+/// shown, and a plan of eleven rows committed; a draft is abandoned, records are imported and come
+/// again after a closing, the stock is filled, and one record of each other kind is taken. Four
+/// changed rows are committed; at last a row is removed, put back as it is committed, twice, and
+/// removed.
 fn requests_text() -> &'static str {
     "POST /intersections|{\"id\":12,\"interval\":365,\"name\":\"Main St\"};GET /intersections/12;\
     POST /intersections/12/begin|{\"clerk\":\"Ana\"};\
@@ -134,7 +136,7 @@ pub(crate) struct Script {
     pub(crate) states: Vec<Vec<u8>>,
 }
 
-/// The first requests, so many.
+/// The first `count` requests of `requests_text`.
 pub(crate) fn requests(rt: &Bench<impl Abort>, count: usize) -> Vec<&'static str> {
     let mut requests = Vec::new(rt.1);
     for request in requests_text().split(';').take(count) {
@@ -143,7 +145,8 @@ pub(crate) fn requests(rt: &Bench<impl Abort>, count: usize) -> Vec<&'static str
     requests
 }
 
-/// The first requests, so many, with what an office over maps answers and shows.
+/// The first `count` requests of `requests_text`, with what an office over maps answers to them and
+/// shows.
 pub(crate) fn script_of(rt: &Bench<impl Abort>, count: usize) -> Script {
     let requests = requests(rt, count);
     let mut office = in_maps(rt);
@@ -161,11 +164,13 @@ pub(crate) fn script_of(rt: &Bench<impl Abort>, count: usize) -> Script {
     }
 }
 
-/// The answer to what could not be done.
+/// The answer that stands in place of one for which memory or the store was refused.
 const UNAVAILABLE: &[u8] = b"HTTP/1.1 503 Service Unavailable\r\nContent-Type: application/json\r\n\
     Content-Length: 35\r\n\r\n{\"error\":\"Unavailable\",\"number\":90}";
 
-/// Makes the requests of a script from one on, and tells which first is answered as unavailable.
+/// Makes the requests of a script from number `from` on, and gives the number of the first that is
+/// answered as unavailable, or how many requests there are if none is. The test fails where another
+/// answer is not that of the script.
 pub(crate) fn play<S: Shelf>(
     rt: &Bench<impl Abort>,
     office: &mut Office<S>,

@@ -16,7 +16,7 @@ pub record StandingRows : Type 0 where
   pub committed : Rows
   pub draft : Option Rows
 
--- the rows of a standing plan, which lends its sets
+-- the rows of the committed set to which a standing plan refers, and of its draft if it has one
 abbrev pub standing_rows : StandingPlan → StandingRows
 standing_rows standing = record { committed = standing.committed.now; draft = option_copied standing.draft }
 
@@ -25,8 +25,8 @@ abbrev pub rows_in : Result StandingPlan Fault → Result StandingRows Fault
 rows_in (Ok standing) = Ok (standing_rows standing)
 rows_in (Err why) = Err why
 
--- what stands of a plan, by what a look at its committed set and then at its draft saw, or the fault of a refused
--- one; where nobody holds a draft, there is none
+-- what stands of a plan, by what a look at its committed set and then at its draft saw, or the fault of a look that
+-- was refused; where nobody holds a draft, no draft stands
 abbrev pub standing_seen : List Seen → Result StandingRows Fault
 standing_seen found = do
   runs ← timing_in (slice_get found 0)
@@ -54,8 +54,8 @@ base_from committed (Some draft) = draft
 abbrev pub base_of : StandingRows → Rows
 base_of standing = base_from standing.committed standing.draft
 
--- the changes that an edit makes of the rows that a transaction goes on with: those of a file; or, where the file is
--- the whole plan, such as make its plan
+-- `wanted` are the changes that an edit makes of `base`, the rows that a transaction goes on with: those that a file
+-- asks; or, where the file is the whole plan (`replace`), such as make of `base` the plan of the file
 abbrev pub AreWanted : (replace : Bool) → (base : Rows) → (asked wanted : List Change) → Type 0
 AreWanted false base asked wanted = wanted ≡ asked
 AreWanted true base asked wanted = after_changes base wanted ≡ after_changes empty asked

@@ -43,11 +43,11 @@ PutsFiles tables files old new result =
 abbrev pub MakesTexts : Content → List FileOf → Result ⊤ Fault → Type 0
 MakesTexts tables files = PutsFiles tables files None None
 
--- THE FILES of an office: those over all its intersections
+-- THE FILES that a folder of this kind has of an office: those that are of no single intersection, and those of each of its intersections
 abbrev pub AreFilesOfAll : Folder → Content → List FileOf → Type 0
 AreFilesOfAll folder tables files = (listed : List ListedIntersection) × ListsOffice tables (Ok listed) × (files ≡ files_in folder listed)
 
--- the files over all intersections; or these are not listed, or memory was refused
+-- the files that a folder of this kind has of an office; or the fault tells why the intersections are not listed, or that memory was refused
 abbrev pub FindsFiles : Folder → Content → Result (List FileOf) Fault → Type 0
 FindsFiles folder tables (Ok files) = AreFilesOfAll folder tables files
 FindsFiles folder tables (Err why) = ListsOffice tables (Err why) ⊎ (why ≡ fault.Memory)

@@ -106,8 +106,8 @@ fn view_of(draft: bool, cabinet: bool) -> Option<View>
     }
 }
 
-/// `export --db FILE [--draft | --cabinet] ID`, or `export --db FILE --all DIR`; the argument `ID`
-/// has DIR.
+/// `export --db FILE [--draft | --cabinet] ID`, or `export --db FILE --all DIR`, whose DIR is found
+/// as the argument `ID`.
 #[tactic(auto, unfolding(crate::specs::Job::export_at))]
 fn export<'a>(matches: &ArgMatches<'a>) -> Result<Request<'a>, NoJob>
     ensures { result ≡ export_at (rows_of (found_of matches.now)) }
@@ -223,8 +223,8 @@ fn request_at<'a>(command: &str, matches: &ArgMatches<'a>) -> Result<Request<'a>
     Ok(Request::Show(shown))
 }
 
-/// The job to do a request in the office of the file of `--db`; or what the file, or else the
-/// request, lacks.
+/// The job to do a request in the office of the file of `--db`; or why no file is stated, or else
+/// no request.
 fn office<'a>(matches: &ArgMatches<'a>, asked: Result<Request<'a>, NoJob>) -> Result<Job<'a>, NoJob>
     ensures { result ≡ office_of asked.entry (rows_of (found_of matches.now)) }
 {
@@ -247,7 +247,8 @@ fn serve<'a>(matches: &ArgMatches<'a>) -> Result<Job<'a>, NoJob>
     Ok(Job::Serve { port, count, db })
 }
 
-/// `compare [--csv] [--padded] PLAN OTHER`, or `compare --db FILE [--csv] [--padded] ID [OTHER]`.
+/// `compare [--csv] [--padded] PLAN OTHER`, or `compare --db FILE [--csv] [--padded] ID [OTHER]`,
+/// whose ID is found as the argument `PLAN`.
 #[tactic(auto, unfolding(crate::specs::Job::compare_at))]
 fn compare<'a>(matches: &ArgMatches<'a>) -> Result<Job<'a>, NoJob>
     ensures { result ≡ compare_at (rows_of (found_of matches.now)) }
@@ -279,8 +280,8 @@ fn compare<'a>(matches: &ArgMatches<'a>) -> Result<Job<'a>, NoJob>
     }
 }
 
-/// `diagram --db FILE ID PATTERN`, or `diagram --file CSV [--padded] PATTERN`, where the argument
-/// `ID` has PATTERN.
+/// `diagram --db FILE ID PATTERN`, or `diagram --file CSV [--padded] PATTERN`, whose PATTERN is
+/// found as the argument `ID`.
 #[tactic(auto, unfolding(crate::specs::Job::diagram_at))]
 fn diagram<'a>(matches: &ArgMatches<'a>) -> Result<Job<'a>, NoJob>
     ensures { result ≡ diagram_at (rows_of (found_of matches.now)) }

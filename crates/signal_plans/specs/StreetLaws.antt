@@ -99,8 +99,8 @@ BarriersAreCrossedTogether set pattern p phase =
     → p ≢ q → ¬ AreConcurrent set p q → InItsCycle pattern (TimesIn set pattern ring q) second
     → (next : ℕ) × InItsCycle pattern (StartsIn set pattern ring next) (1 + second)
 
--- where splitMode is one of some, a walk lies with its clearance within the phase's own time, and its
--- lead with the minimum green after it
+-- where splitMode is one of these modes, a walk lies with its clearance within the phase's own time,
+-- and so does its lead with the minimum green after it
 abbrev pub WalkLiesWithin : (SplitMode → Type 0) → Rows → Pattern → ℕ → Phase → Ped → Type 0
 WalkLiesWithin IsOfModes set pattern p phase ped =
     (split : Split) (begin second : ℕ)
@@ -118,9 +118,9 @@ pub record HasTheStreet (set : Rows) (pattern : Pattern) (p second : ℕ) : Type
 abbrev pub LiesIn : ℕ → ℕ → Type 0
 LiesIn moment second = (10 * second ≤ moment) × (moment < 10 * second + 10)
 
--- Where splitMode is one of some: while somebody crosses who left the curb within the walk, the phase
--- of the crossing has the street. A width of 0 was not measured, and nobody crosses it: nothing is
--- said.
+-- Where splitMode is one of these modes: while somebody crosses who left the curb within the walk, the
+-- phase of the crossing has the street. A width of 0 was not measured, and nobody crosses it: nothing
+-- is said.
 abbrev pub WalkersHaveTheStreet : (SplitMode → Type 0) → Rows → Pattern → ℕ → Phase → Ped → Type 0
 WalkersHaveTheStreet IsOfModes set pattern p phase ped =
     (split : Split) (begin left now second : ℕ)
@@ -150,7 +150,7 @@ pub record KeepsApart (set : Rows) (pattern : Pattern) : Type 0 where
   pub cleared : OfEachPhase set (ConflictsAreCleared set pattern)
   pub barriers : OfEachPhase set (BarriersAreCrossedTogether set pattern)
 
--- where splitMode is one of some, walks have their time, and walkers the street
+-- where splitMode is one of these modes, walks have their time, and walkers the street
 pub record HasTimeForWalks (IsOfModes : SplitMode → Type 0) (set : Rows) (pattern : Pattern) : Type 0 where
   pub within : OfEachPhase set (λ p phase. IfSome phase.ped (WalkLiesWithin IsOfModes set pattern p phase))
   pub walkers : OfEachPhase set (λ p phase. IfSome phase.ped (WalkersHaveTheStreet IsOfModes set pattern p phase))

@@ -60,14 +60,14 @@ violation_text v = subject_text v.subject ++ codes " " ++ rule_text v.rule
 abbrev pub tenths_text : ℕ → List ℕ
 tenths_text n = decimal (n / 10) ++ (codes "." ++ decimal (n % 10))
 
--- why a phase breaks V1 or V2
+-- why a phase breaks V1, the rule on its yellow, or V2, the rule on its red
 abbrev pub interval_text : IntervalReason → List ℕ
 interval_text (interval.Yellow tenths) =
     codes "yellow is " ++ (tenths_text tenths ++ codes " s, not 3.0 to 6.0 s")
 interval_text (interval.Red tenths) =
     codes "red is " ++ (tenths_text tenths ++ codes " s, more than 6.0 s")
 
--- why a crossing breaks V3, V4, V5 or V14
+-- why the crossing of a phase breaks V3 (its walk), V4 or V5 (the time to cross) or V14 (its lead)
 abbrev pub crossing_text : CrossingReason → List ℕ
 crossing_text (crossing.ShortWalk seconds least) =
     codes "walk is " ++ (decimal seconds ++ (codes " s, less than " ++ (decimal least ++ codes " s")))
@@ -80,14 +80,15 @@ crossing_text (crossing.ShortLead lead) =
 crossing_text (crossing.LongLead lead walk) =
     codes "lead is " ++ (decimal lead ++ (codes " s, longer than the walk of " ++ (decimal walk ++ codes " s")))
 
--- why a mate breaks V6
+-- why a mate of a phase, one that the phase lists, breaks V6: it must be in the set and in
+-- another ring, and list the phase
 abbrev pub mate_text : MateReason → List ℕ
 mate_text (mate.NotInPlan m) = codes "mate " ++ (decimal m ++ codes " is not in the plan")
 mate_text (mate.SameRing m ring) =
     codes "mate " ++ (decimal m ++ (codes " is in ring " ++ (decimal ring ++ codes " too")))
 mate_text (mate.NotListed m) = codes "mate " ++ (decimal m ++ codes " does not list it")
 
--- why a sequence breaks V7
+-- why a sequence breaks V7: each phase must stand in it once, in the row of its ring
 abbrev pub sequence_text : SequenceReason → List ℕ
 sequence_text (sequence.NotInPlan p) = decimal p ++ codes " is not in the plan"
 sequence_text (sequence.OtherRing p ring own) =
@@ -101,7 +102,8 @@ abbrev pub part_text : NeedPart → List ℕ
 part_text need_part.Green = codes "green"
 part_text need_part.Walk = codes "walk"
 
--- why a split row breaks V8
+-- why a split row breaks V8: its phase must be in the set, and have time exactly where it is not
+-- omitted, at least the time that it needs; a coordinated one must not be omitted
 abbrev pub split_text : SplitReason → List ℕ
 split_text (split.NotInPlan p) = codes "phase " ++ (decimal p ++ codes " is not in the plan")
 split_text split.NoTime = codes "0 s, and not omitted"
@@ -111,7 +113,8 @@ split_text (split.Short time need) =
     decimal time ++ (codes " s, and the need is " ++ (tenths_text need.tenths ++ (codes " s: " ++ (part_text need.governs ++ codes " governs"))))
 split_text split.CoordinatedOmitted = codes "coordinated, and omitted"
 
--- why a pattern breaks V9 to V13
+-- why a pattern breaks V9 (the rows of its sequence and splits), V10 (its offset), V11 (its
+-- coordinated phases), V12 (the sum of its splits) or V13 (phases that time together)
 abbrev pub pattern_text : PatternReason → List ℕ
 pattern_text (pattern.NoSequence seq) = codes "sequence " ++ (decimal seq ++ codes " has no row")
 pattern_text (pattern.NoSplit n p) =
