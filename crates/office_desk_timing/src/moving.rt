@@ -13,7 +13,8 @@ use office_tables_shelf::shelf::ShelfFault;
 use signal_records::{Change, InterId, NoMemory, Words};
 use std::alloc::Global;
 
-/// A change of an intersection's timing side, as a change of a row of the tables.
+/// A change of the committed rows or of the draft of an intersection's timing, as a change of rows
+/// of the tables.
 fn row_change(id: InterId, change: TimingChange) -> RowChange
     ensures { result ≡ row_change_of id change }
 {
