@@ -28,8 +28,7 @@ pub(crate) fn same(rt: &Bench<impl Abort>, what: &str, wanted: &[u8], came: &[u8
     assert!(rt; wanted == came, "{what}: wanted {wants}, came {seen}");
 }
 
-/// The bytes of messages, each given by its first line and, behind a bar, its content. The words
-/// `before` and `behind` go around that line.
+/// The bytes of messages, each a first line between `before` and `behind`, a bar, and its content.
 fn bytes_of_messages(rt: &Bench<impl Abort>, lines: &[&str], before: &str, behind: &str) -> String {
     let mut bytes = String::new(rt.1);
     for message in lines {
@@ -82,11 +81,10 @@ pub(crate) fn state_of<S: Shelf>(rt: &Bench<impl Abort>, office: &mut Office<S>)
     answers_to(rt, office, &QUERIES)
 }
 
-/// Requests, parted by semicolons, the content of each behind a bar. Intersection 12 is added and
-/// shown, and a plan of eleven rows committed; a draft is abandoned, records are imported and come
-/// again after a closing, the stock is filled, and one record of each other kind is taken. Four
-/// changed rows are committed; at last a row is removed, put back as it is committed, twice, and
-/// removed.
+/// Requests between semicolons, each content behind a bar. Intersection 12 is added and shown, and
+/// a plan of eleven rows committed; a draft is abandoned, records are imported and come again after
+/// a closing, the stock is filled, and one record of each other kind is taken. Four changed rows
+/// are committed; at last a row is removed, put back as it is committed, twice, and removed.
 fn requests_text() -> &'static str {
     "POST /intersections|{\"id\":12,\"interval\":365,\"name\":\"Main St\"};GET /intersections/12;\
     POST /intersections/12/begin|{\"clerk\":\"Ana\"};\
@@ -145,8 +143,7 @@ pub(crate) fn requests(rt: &Bench<impl Abort>, count: usize) -> Vec<&'static str
     requests
 }
 
-/// The first `count` requests of `requests_text`, with what an office over maps answers to them and
-/// shows.
+/// The first `count` requests of `requests_text`, with the answers of an office over maps.
 pub(crate) fn script_of(rt: &Bench<impl Abort>, count: usize) -> Script {
     let requests = requests(rt, count);
     let mut office = in_maps(rt);
@@ -169,8 +166,7 @@ const UNAVAILABLE: &[u8] = b"HTTP/1.1 503 Service Unavailable\r\nContent-Type: a
     Content-Length: 35\r\n\r\n{\"error\":\"Unavailable\",\"number\":90}";
 
 /// Makes the requests of a script from number `from` on, and gives the number of the first that is
-/// answered as unavailable, or how many requests there are if none is. The test fails where another
-/// answer is not that of the script.
+/// answered as unavailable, or of all. The test fails where another answer is not the script's.
 pub(crate) fn play<S: Shelf>(
     rt: &Bench<impl Abort>,
     office: &mut Office<S>,
