@@ -35,11 +35,20 @@ def processes_below(root):
     return found
 
 
+def threads_of(process):
+    """The stat files of a process's threads, none if it is gone."""
+    folder = pathlib.Path("/proc", str(process), "task")
+    try:
+        return [folder / thread / "stat" for thread in os.listdir(folder)]
+    except OSError:
+        return []
+
+
 def threads_below(root):
     """Each thread of these processes: whether it wants to run, and the ticks that it took."""
     found = {}
     for process in processes_below(root):
-        for path in pathlib.Path("/proc", str(process), "task").glob("*/stat"):
+        for path in threads_of(process):
             if fields := fields_of(path):
                 found[int(path.parent.name)] = fields[0] == "R", int(fields[11]) + int(fields[12])
     return found
