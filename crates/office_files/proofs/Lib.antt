@@ -13,4 +13,3 @@ pub mod RecordLaws
 pub mod Utf8Lemmas
 pub mod SpelledTexts
 pub mod ChangeTexts
-pub mod NextLemmas

@@ -1,9 +1,7 @@
--- What is wrong with a CSV file, and how it is written.
-use Rattle.std.specs.Prelude.{◌≢◌, ℕ, List, [], ◌++◌, codes, Option, Some, None, Result, Ok, Err}
-use Rattle.std.specs.Fmt.{decimal}
+-- What is wrong with a CSV file.
+use Rattle.std.specs.Prelude.{◌≢◌, ℕ, Result, Ok, Err}
 use Rattle.signal_records.specs.declared.fault.RowFault.{RowFault}
 use Rattle.signal_records.specs.declared.fault.RowFault.TheVariants as row
-use Rattle.signal_records.specs.RowFault.{fault_name, fault_field}
 use Rattle.office_files.specs.declared.fault.BadRow.{BadRow}
 use Rattle.office_files.specs.declared.fault.CsvFault.{CsvFault}
 use Rattle.office_files.specs.declared.fault.CsvFault.TheVariants as file
@@ -26,19 +24,3 @@ told_at at (Err fault) = Err (fault_at at fault)
 abbrev pub NamesFault : CsvFault → Type 0
 NamesFault (file.Row bad) = bad.fault ≢ row.NoMemory
 NamesFault file.NoMemory = Unit
-
--- how the field of a fault, counted from 1, is written: ` 3` for field 3, nothing for none
-abbrev pub field_text : Option ℕ → List ℕ
-field_text None = []
-field_text (Some field) = codes " " ++ decimal field
-
--- how a bad record is written: `record 4: Count`, `record 4: Number 3`
-abbrev pub bad_row_text : BadRow → List ℕ
-bad_row_text bad =
-    codes "record " ++ decimal bad.at ++ codes ": " ++ fault_name bad.fault
-    ++ field_text (fault_field bad.fault)
-
--- how a fault of a file is written: its bad record, or `memory`
-abbrev pub fault_text : CsvFault → List ℕ
-fault_text (file.Row bad) = bad_row_text bad
-fault_text file.NoMemory = codes "memory"

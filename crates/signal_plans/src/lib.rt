@@ -12,7 +12,6 @@ mod advising;
 mod comparing;
 mod comparison;
 mod difference;
-mod fields;
 mod pattern;
 mod phase;
 mod plan;

@@ -1,8 +1,5 @@
 //! How warnings are written.
 
-ghost use Rattle.std.specs.Prelude.{◌≡◌, IfOk};
-ghost use Rattle.signal_plans.specs.Texts.{governing_text, warnings_text_of};
-
 use crate::warning::{Advice, Scope, Warning};
 use signal_records::NoMemory;
 use signal_rules::{NeedPart, SplitNeed, Tenths};
@@ -12,24 +9,17 @@ use std::fmt::Write;
 
 /// Writes the subject's kind and numbers, as `split 1 8`, or `plan`.
 impl fmt::Display for Scope {
-    ghost use Rattle.std.specs.Prelude.{Some};
-    ghost use Rattle.signal_plans.specs.Texts.{scope_text};
-
-    ghost output = { λ scope. Some (scope_text scope) };
-
     fn fmt<W: fmt::Write>(&self, f: &mut fmt::Formatter<W>) -> fmt::Result {
         match self {
             Scope::Subject(subject) => write!(f, "{subject}"),
-            Scope::Plan => write!(f, "plan"),
+            Scope::Plan => f.write_str("plan"),
         }
     }
 }
 
 /// The words for the part of a phase that decides how long its split is to be, as `walk and
 /// clearance`.
-fn governing_words(part: NeedPart) -> &'static str
-    ensures { result.now ≡ governing_text part }
-{
+fn governing_words(part: NeedPart) -> &'static str {
     match part {
         NeedPart::Green => "lead and minimum green",
         NeedPart::Walk => "walk and clearance",
@@ -38,64 +28,49 @@ fn governing_words(part: NeedPart) -> &'static str
 
 /// Writes what an engineer is warned of, with its numbers, as `the minimum green is 0 s`.
 impl fmt::Display for Advice {
-    ghost use Rattle.std.specs.Prelude.{Some};
-    ghost use Rattle.signal_plans.specs.Texts.{advice_text};
-
-    ghost output = { λ advice. Some (advice_text advice) };
-
     fn fmt<W: fmt::Write>(&self, f: &mut fmt::Formatter<W>) -> fmt::Result {
         match self {
             Advice::MaximumBelowMinimum { maximum, minimum } => write!(
                 f,
                 "the maximum green is {maximum} s, less than the minimum green of {minimum} s"
             ),
-            Advice::NoMinimumGreen => write!(f, "the minimum green is 0 s"),
+            Advice::NoMinimumGreen => f.write_str("the minimum green is 0 s"),
             Advice::NoConcurrentPhase { rings } => {
                 write!(
                     f,
                     "no phase may time with it, and the plan has {rings} rings"
                 )
             }
-            Advice::NeverServed => write!(f, "no pattern serves it"),
+            Advice::NeverServed => f.write_str("no pattern serves it"),
             Advice::NoClearance { width } => {
-                let feet = Tenths(*width);
-                write!(f, "the crossing of {feet} ft has a clearance of 0 s")
-            }
-            Advice::NotMeasured => write!(f, "the width of the crossing is 0 ft, not measured"),
-            Advice::WalkIfCalled { time, need } => {
-                let SplitNeed { tenths, governs } = *need;
-                let time = u32::from(*time);
-                let short = Tenths(tenths.saturating_sub(10 * time));
-                let tenths = Tenths(tenths);
-                let governing = governing_words(governs);
                 write!(
                     f,
-                    "if a button calls the walk, {tenths} s are needed, the split has {time} s: \
-                     {governing} are {short} s too long"
+                    "the crossing of {} ft has a clearance of 0 s",
+                    Tenths(*width)
                 )
             }
+            Advice::NotMeasured => {
+                f.write_str("the width of the crossing is 0 ft, not measured")
+            }
+            Advice::WalkIfCalled { time, need } => write_walk_if_called(f, *time, *need),
             Advice::RecallWithoutWalk => {
-                write!(f, "the mode calls the walk of a phase that has no crossing")
+                f.write_str("the mode calls the walk of a phase that has no crossing")
             }
-            Advice::NoGreen { time, besides } => {
-                let besides = Tenths(*besides);
-                write!(
-                    f,
-                    "coordinated without a second of green: the split has {time} s, and lead, \
-                     yellow and red are {besides} s"
-                )
-            }
+            Advice::NoGreen { time, besides } => write!(
+                f,
+                "coordinated without a second of green: the split has {time} s, and lead, \
+                 yellow and red are {} s",
+                Tenths(*besides)
+            ),
             Advice::AllCoordinated { phases } => {
                 write!(f, "each of the {phases} phases is coordinated")
             }
-            Advice::CoordinatedApart { phase, other } => {
-                let phase = phase.get();
-                let other = other.get();
-                write!(
-                    f,
-                    "phases {phase} and {other} are coordinated and do not time together"
-                )
-            }
+            Advice::CoordinatedApart { phase, other } => write!(
+                f,
+                "phases {} and {} are coordinated and do not time together",
+                phase.get(),
+                other.get()
+            ),
             Advice::NoPattern { phases } => write!(f, "{phases} phases, and no pattern"),
             Advice::NoConflict { rings } => write!(
                 f,
@@ -106,27 +81,34 @@ impl fmt::Display for Advice {
     }
 }
 
+/// Writes that a split of so many seconds is too short if a button calls the walk.
+fn write_walk_if_called<W: fmt::Write>(
+    f: &mut fmt::Formatter<W>,
+    time: u8,
+    need: SplitNeed,
+) -> fmt::Result {
+    let SplitNeed { tenths, governs } = need;
+    write!(
+        f,
+        "if a button calls the walk, {} s are needed, the split has {time} s: {} are {} s too long",
+        Tenths(tenths),
+        governing_words(governs),
+        Tenths(tenths.saturating_sub(10 * u32::from(time)))
+    )
+}
+
 /// Writes the subject and the advice, as `phase 2: the minimum green is 0 s`.
 impl fmt::Display for Warning {
-    ghost use Rattle.std.specs.Prelude.{Some};
-    ghost use Rattle.signal_plans.specs.Texts.{warning_text};
-
-    ghost output = { λ warning. Some (warning_text warning) };
-
     fn fmt<W: fmt::Write>(&self, f: &mut fmt::Formatter<W>) -> fmt::Result {
-        let subject = self.subject;
-        let advice = self.advice;
-        write!(f, "{subject}: {advice}")
+        write!(f, "{}: {}", self.subject, self.advice)
     }
 }
 
 /// A line for each warning, as `warning: phase 2: the minimum green is 0 s`, and nothing where
 /// there is none. Each line ends in a line feed.
 ///
-/// `NoMemory` means that a growth was really refused.
-pub fn warnings_text(alloc: Global, found: &[Warning]) -> Result<Vec<u8>, NoMemory>
-    ensures { IfOk result (λ text. text.items ≡ warnings_text_of found.now) }
-{
+/// `NoMemory` means that a growth was refused.
+pub fn warnings_text(alloc: Global, found: &[Warning]) -> Result<Vec<u8>, NoMemory> {
     let mut text = String::new(alloc);
     for warning in found {
         writeln!(text, "warning: {warning}")?;

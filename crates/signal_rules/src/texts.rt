@@ -12,25 +12,13 @@ use std::fmt;
 pub struct Tenths(pub u32);
 
 impl fmt::Display for Tenths {
-    ghost use Rattle.std.specs.Prelude.{Some};
-    ghost use Rattle.signal_rules.specs.Texts.{tenths_text};
-
-    ghost output = { λ tenths. Some (tenths_text tenths.0) };
-
     fn fmt<W: fmt::Write>(&self, f: &mut fmt::Formatter<W>) -> fmt::Result {
-        let whole = self.0 / 10;
-        let tenth = self.0 % 10;
-        write!(f, "{whole}.{tenth}")
+        write!(f, "{}.{}", self.0 / 10, self.0 % 10)
     }
 }
 
 /// Writes the interval and its limit, as `yellow is 2.9 s, not 3.0 to 6.0 s`.
 impl fmt::Display for IntervalReason {
-    ghost use Rattle.std.specs.Prelude.{Some};
-    ghost use Rattle.signal_rules.specs.Texts.{interval_text};
-
-    ghost output = { λ reason. Some (interval_text reason) };
-
     fn fmt<W: fmt::Write>(&self, f: &mut fmt::Formatter<W>) -> fmt::Result {
         match self {
             IntervalReason::Yellow { tenths } => {
@@ -47,11 +35,6 @@ impl fmt::Display for IntervalReason {
 
 /// Writes what is too short or too long, as `walk is 6 s, less than 7 s`.
 impl fmt::Display for CrossingReason {
-    ghost use Rattle.std.specs.Prelude.{Some};
-    ghost use Rattle.signal_rules.specs.Texts.{crossing_text};
-
-    ghost output = { λ reason. Some (crossing_text reason) };
-
     fn fmt<W: fmt::Write>(&self, f: &mut fmt::Formatter<W>) -> fmt::Result {
         match self {
             CrossingReason::ShortWalk { seconds, least } => {
@@ -61,29 +44,24 @@ impl fmt::Display for CrossingReason {
                 width,
                 takes,
                 there,
-            } => {
-                let feet = Tenths(*width);
-                let takes = Tenths(*takes);
-                let there = Tenths(*there);
-                write!(
-                    f,
-                    "{feet} ft at 3.5 ft/s take {takes} s; clearance, yellow and red are {there} s"
-                )
-            }
+            } => write!(
+                f,
+                "{} ft at 3.5 ft/s take {} s; clearance, yellow and red are {} s",
+                Tenths(*width),
+                Tenths(*takes),
+                Tenths(*there)
+            ),
             CrossingReason::SlowSetback {
                 length,
                 takes,
                 there,
-            } => {
-                let feet = Tenths(*length);
-                let takes = Tenths(*takes);
-                let there = Tenths(*there);
-                write!(
-                    f,
-                    "{feet} ft at 3 ft/s take {takes} s; \
-                     walk, clearance, yellow and red are {there} s"
-                )
-            }
+            } => write!(
+                f,
+                "{} ft at 3 ft/s take {} s; walk, clearance, yellow and red are {} s",
+                Tenths(*length),
+                Tenths(*takes),
+                Tenths(*there)
+            ),
             CrossingReason::ShortLead { lead } => write!(f, "lead is {lead} s, less than 3 s"),
             CrossingReason::LongLead { lead, walk } => {
                 write!(f, "lead is {lead} s, longer than the walk of {walk} s")
@@ -94,11 +72,6 @@ impl fmt::Display for CrossingReason {
 
 /// Writes the mate and why it is none, as `mate 9 is not in the plan`.
 impl fmt::Display for MateReason {
-    ghost use Rattle.std.specs.Prelude.{Some};
-    ghost use Rattle.signal_rules.specs.Texts.{mate_text};
-
-    ghost output = { λ reason. Some (mate_text reason) };
-
     fn fmt<W: fmt::Write>(&self, f: &mut fmt::Formatter<W>) -> fmt::Result {
         match self {
             MateReason::NotInPlan { mate } => write!(f, "mate {} is not in the plan", mate.get()),
@@ -112,27 +85,18 @@ impl fmt::Display for MateReason {
 
 /// Writes the phase and what is wrong with its place, as `phase 8 is missing in ring 2`.
 impl fmt::Display for SequenceReason {
-    ghost use Rattle.std.specs.Prelude.{Some};
-    ghost use Rattle.signal_rules.specs.Texts.{sequence_text};
-
-    ghost output = { λ reason. Some (sequence_text reason) };
-
     fn fmt<W: fmt::Write>(&self, f: &mut fmt::Formatter<W>) -> fmt::Result {
         match self {
             SequenceReason::NotInPlan { phase } => write!(f, "{} is not in the plan", phase.get()),
-            SequenceReason::OtherRing { phase, ring, own } => {
-                let phase = phase.get();
-                let ring = ring.get();
-                let own = own.get();
-                write!(
-                    f,
-                    "phase {phase} stands in ring {ring}, and is of ring {own}"
-                )
-            }
+            SequenceReason::OtherRing { phase, ring, own } => write!(
+                f,
+                "phase {} stands in ring {}, and is of ring {}",
+                phase.get(),
+                ring.get(),
+                own.get()
+            ),
             SequenceReason::Missing { phase, ring } => {
-                let phase = phase.get();
-                let ring = ring.get();
-                write!(f, "phase {phase} is missing in ring {ring}")
+                write!(f, "phase {} is missing in ring {}", phase.get(), ring.get())
             }
             SequenceReason::Repeated { phase } => write!(f, "phase {} stands twice", phase.get()),
         }
@@ -141,102 +105,84 @@ impl fmt::Display for SequenceReason {
 
 /// Writes `green` or `walk`.
 impl fmt::Display for NeedPart {
-    ghost use Rattle.std.specs.Prelude.{Some};
-    ghost use Rattle.signal_rules.specs.Texts.{part_text};
-
-    ghost output = { λ part. Some (part_text part) };
-
     fn fmt<W: fmt::Write>(&self, f: &mut fmt::Formatter<W>) -> fmt::Result {
-        match self {
-            NeedPart::Green => write!(f, "green"),
-            NeedPart::Walk => write!(f, "walk"),
-        }
+        f.write_str(match self {
+            NeedPart::Green => "green",
+            NeedPart::Walk => "walk",
+        })
     }
 }
 
 /// Writes what does not fit, as `5 s, and omitted`, or the phase that is missing.
 impl fmt::Display for SplitReason {
-    ghost use Rattle.std.specs.Prelude.{Some};
-    ghost use Rattle.signal_rules.specs.Texts.{split_text};
-
-    ghost output = { λ reason. Some (split_text reason) };
-
     fn fmt<W: fmt::Write>(&self, f: &mut fmt::Formatter<W>) -> fmt::Result {
         match self {
             SplitReason::NotInPlan { phase } => {
                 write!(f, "phase {} is not in the plan", phase.get())
             }
-            SplitReason::NoTime => write!(f, "0 s, and not omitted"),
-            SplitReason::TimeOmitted { time, coord } => {
-                if *coord {
-                    write!(f, "{time} s and coordinated, and omitted")
-                } else {
-                    write!(f, "{time} s, and omitted")
-                }
+            SplitReason::NoTime => f.write_str("0 s, and not omitted"),
+            SplitReason::TimeOmitted { time, coord: true } => {
+                write!(f, "{time} s and coordinated, and omitted")
             }
-            SplitReason::Short { time, need } => {
-                let tenths = Tenths(need.tenths);
-                let governs = need.governs;
-                write!(f, "{time} s, and the need is {tenths} s: {governs} governs")
-            }
-            SplitReason::CoordinatedOmitted => write!(f, "coordinated, and omitted"),
+            SplitReason::TimeOmitted { time, coord: false } => write!(f, "{time} s, and omitted"),
+            SplitReason::Short { time, need } => write!(
+                f,
+                "{time} s, and the need is {} s: {} governs",
+                Tenths(need.tenths),
+                need.governs
+            ),
+            SplitReason::CoordinatedOmitted => f.write_str("coordinated, and omitted"),
         }
     }
 }
 
 /// Writes what the pattern lacks, or which of its times do not fit, as `offset 60 s, cycle 60 s`.
 impl fmt::Display for PatternReason {
-    ghost use Rattle.std.specs.Prelude.{Some};
-    ghost use Rattle.signal_rules.specs.Texts.{pattern_text};
-
-    ghost output = { λ reason. Some (pattern_text reason) };
-
     fn fmt<W: fmt::Write>(&self, f: &mut fmt::Formatter<W>) -> fmt::Result {
         match self {
             PatternReason::NoSequence { seq } => write!(f, "sequence {} has no row", seq.get()),
             PatternReason::NoSplit { split, phase } => {
-                let split = split.get();
-                let phase = phase.get();
-                write!(f, "split {split} has no row for phase {phase}")
+                write!(
+                    f,
+                    "split {} has no row for phase {}",
+                    split.get(),
+                    phase.get()
+                )
             }
             PatternReason::LateOffset { offset, cycle } => {
-                let cycle = cycle.get();
-                write!(f, "offset {offset} s, cycle {cycle} s")
+                write!(f, "offset {offset} s, cycle {} s", cycle.get())
             }
             PatternReason::NoneCoordinated { split } => {
-                let split = split.get();
-                write!(f, "split {split} has no coordinated phase of the plan")
+                write!(
+                    f,
+                    "split {} has no coordinated phase of the plan",
+                    split.get()
+                )
             }
-            PatternReason::OtherSum { ring, sum, cycle } => {
-                let ring = ring.get();
-                let cycle = cycle.get();
-                write!(f, "ring {ring} adds up to {sum} s, the cycle is {cycle} s")
-            }
+            PatternReason::OtherSum { ring, sum, cycle } => write!(
+                f,
+                "ring {} adds up to {sum} s, the cycle is {} s",
+                ring.get(),
+                cycle.get()
+            ),
             PatternReason::Conflict {
                 from,
                 until,
                 phase,
                 other,
-            } => {
-                let phase = phase.get();
-                let other = other.get();
-                write!(
-                    f,
-                    "from second {from} to {until} phases {phase} and {other} time together \
-                     and do not list each other"
-                )
-            }
+            } => write!(
+                f,
+                "from second {from} to {until} phases {} and {} time together \
+                 and do not list each other",
+                phase.get(),
+                other.get()
+            ),
         }
     }
 }
 
 /// Writes the reason without its violation, as `offset 60 s, cycle 60 s`.
 impl fmt::Display for Reason {
-    ghost use Rattle.std.specs.Prelude.{Some};
-    ghost use Rattle.signal_rules.specs.Texts.{reason_text};
-
-    ghost output = { λ reason. Some (reason_text reason) };
-
     fn fmt<W: fmt::Write>(&self, f: &mut fmt::Formatter<W>) -> fmt::Result {
         match self {
             Reason::Interval(reason) => write!(f, "{reason}"),
@@ -251,14 +197,7 @@ impl fmt::Display for Reason {
 
 /// Writes the violation and its reason, as `pattern 1 V10: offset 60 s, cycle 60 s`.
 impl fmt::Display for Explained {
-    ghost use Rattle.std.specs.Prelude.{Some};
-    ghost use Rattle.signal_rules.specs.Texts.{explained_text};
-
-    ghost output = { λ explained. Some (explained_text explained) };
-
     fn fmt<W: fmt::Write>(&self, f: &mut fmt::Formatter<W>) -> fmt::Result {
-        let violation = self.violation;
-        let reason = self.reason;
-        write!(f, "{violation}: {reason}")
+        write!(f, "{}: {}", self.violation, self.reason)
     }
 }
