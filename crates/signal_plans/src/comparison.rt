@@ -5,16 +5,16 @@ use signal_records::{Key, NoMemory, Row, write_row};
 use std::alloc::{AllocError, Global};
 use std::fmt::Write;
 
-/// The names of the fields of a row under a key, in their order. The kind is the first.
-fn field_names(key: Key) -> &'static [&'static str] {
-    match key {
-        Key::Phase(_) => &[
+/// The names of the fields of a row, in their order. The kind is the first.
+fn field_names(row: &Row) -> &'static [&'static str] {
+    match row {
+        Row::Phase(_, _) => &[
             "kind", "phase", "ring", "minGreen", "passage", "max1", "yellow", "red", "mates",
             "walk", "clear", "width", "setback", "short", "lead",
         ],
-        Key::Seq(_, _) => &["kind", "sequence", "ring", "phases"],
-        Key::Split(_, _) => &["kind", "split", "phase", "time", "mode", "coord"],
-        Key::Pattern(_) => &["kind", "pattern", "cycle", "offset", "split", "sequence"],
+        Row::Seq(_, _, _) => &["kind", "sequence", "ring", "phases"],
+        Row::Split(_, _, _) => &["kind", "split", "phase", "time", "mode", "coord"],
+        Row::Pattern(_, _) => &["kind", "pattern", "cycle", "offset", "split", "sequence"],
     }
 }
 
@@ -42,6 +42,25 @@ fn push_row(alloc: Global, text: &mut String, sign: &str, row: &Row) -> Result<(
     write!(text, "{sign} {fields}")
 }
 
+/// Appends the fields of two rows that differ, as `: minGreen 8 > 10`, with commas between.
+fn push_changed_fields(
+    text: &mut String,
+    names: &[&str],
+    before: &[String],
+    after: &[String],
+) -> Result<(), AllocError> {
+    let mut separator = ": ";
+    for (place, name) in names.iter().enumerate() {
+        let old = field_or_dash(before, place);
+        let new = field_or_dash(after, place);
+        if old != new {
+            write!(text, "{separator}{name} {old} > {new}")?;
+            separator = ", ";
+        }
+    }
+    Ok(())
+}
+
 /// Appends the key of two rows and the fields that differ, as `~ phase,2: minGreen 8 > 10`.
 fn push_changed(
     alloc: Global,
@@ -49,21 +68,11 @@ fn push_changed(
     before: &Row,
     after: &Row,
 ) -> Result<(), NoMemory> {
-    let key = after.key();
-    let before = write_row(alloc, before)?;
-    let after = write_row(alloc, after)?;
+    let old = write_row(alloc, before)?;
+    let new = write_row(alloc, after)?;
     text.push_str("~ ")?;
-    push_key(text, key)?;
-    let mut separator = ": ";
-    for (place, name) in field_names(key).iter().enumerate() {
-        let old = field_or_dash(before.as_slice(), place);
-        let new = field_or_dash(after.as_slice(), place);
-        if old != new {
-            write!(text, "{separator}{name} {old} > {new}")?;
-            separator = ", ";
-        }
-    }
-    Ok(())
+    push_key(text, after.key())?;
+    push_changed_fields(text, field_names(after), old.as_slice(), new.as_slice())
 }
 
 /// A line for each difference, or the one line `no differences`. Each line ends in a line feed. A

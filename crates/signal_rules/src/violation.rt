@@ -6,11 +6,11 @@ ghost use Rattle.signal_rules.specs.Texts.{number_of};
 use signal_records::{PatternNo, PhaseNo, SeqNo, SplitNo};
 use std::fmt;
 
-/// The rules, in their order.
+/// The rules, by their numbers.
 #[derive(Clone, Copy, PartialEq, Eq)]
 pub enum Rule {
     /// The yellow change interval of a phase is 3 to 6 seconds.
-    V1,
+    V1 = 1,
     /// The red clearance interval of a phase is at most 6 seconds.
     V2,
     /// The walk interval of a phase is at least 7 seconds, or 4 where a short one is allowed.
@@ -65,22 +65,7 @@ impl Rule {
     pub fn number(self) -> u32
         ensures { result ≡ number_of self }
     {
-        match self {
-            Rule::V1 => 1,
-            Rule::V2 => 2,
-            Rule::V3 => 3,
-            Rule::V4 => 4,
-            Rule::V5 => 5,
-            Rule::V6 => 6,
-            Rule::V7 => 7,
-            Rule::V8 => 8,
-            Rule::V9 => 9,
-            Rule::V10 => 10,
-            Rule::V11 => 11,
-            Rule::V12 => 12,
-            Rule::V13 => 13,
-            Rule::V14 => 14,
-        }
+        self as u32
     }
 }
 
