@@ -7,7 +7,7 @@ use signal_records::{Change, NoMemory, Row};
 use std::alloc::Global;
 
 /// What two timing sets have under a key at which they differ.
-#[derive(Drop, PartialEq, Eq)]
+#[derive(Drop)]
 pub enum Difference {
     /// The row of the second set, where the first has none.
     Added(Row),

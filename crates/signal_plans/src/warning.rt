@@ -13,7 +13,7 @@ pub enum Scope {
 }
 
 /// What a warning says, with its numbers. Times are in seconds where no other unit is named.
-#[derive(Clone, Copy, PartialEq, Eq)]
+#[derive(Clone, Copy)]
 pub enum Advice {
     /// Of a phase: its maximum green is below its minimum green.
     MaximumBelowMinimum { maximum: u8, minimum: u8 },
@@ -47,7 +47,7 @@ pub enum Advice {
 }
 
 /// What an engineer is warned of, with what the warning is about.
-#[derive(Clone, Copy, PartialEq, Eq)]
+#[derive(Clone, Copy)]
 pub struct Warning {
     pub subject: Scope,
     pub advice: Advice,

@@ -7,7 +7,7 @@ ghost use Rattle.signal_rules.specs.SplitRule.{governing_part, split_need, need_
 use signal_records::{Ped, Phase, SplitMode, need};
 
 /// The part of a phase that decides how long it must be: the longer one of two that begin together.
-#[derive(Clone, Copy, PartialEq, Eq)]
+#[derive(Clone, Copy)]
 pub enum NeedPart {
     /// Lead and minimum green, one after the other.
     Green,
@@ -16,7 +16,7 @@ pub enum NeedPart {
 }
 
 /// What a phase needs of its split.
-#[derive(Clone, Copy, PartialEq, Eq)]
+#[derive(Clone, Copy)]
 pub struct SplitNeed {
     /// The part that governs, with yellow and red, in tenths of a second.
     pub tenths: u32,
