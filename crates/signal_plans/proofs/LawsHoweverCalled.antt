@@ -1,5 +1,5 @@
 -- A timing set without violations and without warnings keeps the laws however its walks are called.
-use Rattle.std.proofs.Common.{◌≡◌, ℕ, ◌+◌, ◌*◌, ◌<◌, ◌≤◌, Bool, true, false, not, ◌&&◌, eqb, ltb, [], Option, Some, None, IfSome, is_some, refl, sym, ap, subst, ◌∙◌, arith}
+use Rattle.std.proofs.Common.{◌≡◌, ℕ, ◌+◌, ◌*◌, ◌<◌, ◌≤◌, true, false, not, ◌&&◌, eqb, ltb, [], Option, Some, None, is_some, refl, sym, ap, subst, ◌∙◌, arith}
 use Rattle.std.proofs.lemmas.Bool.{ltb-false}
 use Rattle.std.proofs.lemmas.Bool.Decides.{nat_tests}
 use Rattle.signal_records.specs.declared.record.Pattern.{Pattern}
@@ -10,13 +10,12 @@ use Rattle.signal_records.specs.declared.record.SplitMode.{SplitMode}
 use Rattle.signal_records.specs.declared.record.SplitMode.TheVariants.{NoRecall, MinimumVehicleRecall, MaximumVehicleRecall, PedestrianRecall, MaximumVehicleAndPedestrianRecall, PhaseOmitted}
 use Rattle.signal_records.specs.Need.{lead_time, need_of}
 use Rattle.signal_records.specs.TimingSet.{Rows}
-use Rattle.signal_rules.specs.Lookup.{phase_at, split_at}
 use Rattle.signal_rules.specs.SplitRule.{is_omitted}
 use Rattle.signal_rules.specs.declared.violation.Subject.TheVariants as subject
 use Rattle.signal_rules.specs.Violations.{violations_of}
 use Rattle.signal_plans.specs.Timing.{HasPhase, HasPattern}
 use Rattle.signal_plans.specs.Intervals.{HasRoom, FitsSplit}
-use Rattle.signal_plans.specs.StreetLaws.{WalkLiesWithin, WalkersHaveTheStreet, HasTimeForWalks}
+use Rattle.signal_plans.specs.StreetLaws.{WalkLiesWithin, WalkersHaveTheStreet}
 use Rattle.signal_plans.specs.HoweverCalled.{ServesPhase, CrossingHasRoom, HasGreen, CoordinatedHasGreen, LawsHoweverCalled}
 use Rattle.signal_plans.proofs.Clean.{IsClean, is_clean}
 use Rattle.signal_plans.proofs.Laws.{where_some}

@@ -3,7 +3,7 @@ use Rattle.std.proofs.Common.{◌≡◌, ◌≢◌, ◌↔◌, ℕ, ◌+◌, ◌
 use Rattle.std.proofs.lemmas.Bool.{false≢true, eq-eqb, eqb-true, leb-true, ltb-false}
 use Rattle.signal_records.specs.{declared.record.Ped.Ped, declared.record.Phase.Phase, declared.record.Split.Split, declared.record.SplitMode.SplitMode, declared.record.SplitMode.TheVariants.PhaseOmitted, declared.record.SplitMode.TheVariants.PedestrianRecall, Need.called}
 use Rattle.signal_records.specs.Need.{lead_time, walk_time, need_of}
-use Rattle.signal_rules.specs.Cases.{Cases, holds}
+use Rattle.signal_rules.specs.Cases.{holds}
 use Rattle.signal_rules.specs.PhaseRules.{clearance, clears_crossing, crossing_cases, clears_setback, setback_cases, of_ped}
 use Rattle.signal_rules.specs.SplitRule.{is_omitted, split_cases}
 use Rattle.signal_rules.proofs.Cases.{test_holds}

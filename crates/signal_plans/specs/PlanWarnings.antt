@@ -1,5 +1,5 @@
 -- What an engineer is warned of in a plan as a whole, each as a case with whether it is so.
-use Rattle.std.specs.Prelude.{◌==◌, ℕ, nat_lt, Bool, false, not, ◌&&◌, ◌||◌, List, [], ◌∷◌, length, Option, Some, None}
+use Rattle.std.specs.Prelude.{◌==◌, ℕ, nat_lt, Bool, false, not, ◌&&◌, ◌||◌, List, [], ◌∷◌, length, Option, Some}
 use Rattle.std.specs.List.{list_all}
 use Rattle.signal_records.specs.declared.record.Phase.{Phase}
 use Rattle.signal_records.specs.TimingSet.{Rows}

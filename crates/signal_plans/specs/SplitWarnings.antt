@@ -1,10 +1,10 @@
 -- What an engineer is warned of in a split row, by the objects of NTCIP 1202 v03, each as a case with whether it is so.
-use Rattle.std.specs.Prelude.{◌==◌, ◌+◌, ◌*◌, ℕ, nat_lt, Bool, true, false, not, ◌&&◌, [], ◌∷◌, Option, Some, None, is_some, is_none}
+use Rattle.std.specs.Prelude.{◌+◌, ◌*◌, ℕ, nat_lt, Bool, true, false, not, ◌&&◌, [], ◌∷◌, Option, Some, None, is_some, is_none}
 use Rattle.signal_records.specs.declared.record.Phase.{Phase}
 use Rattle.signal_records.specs.declared.record.Split.{Split}
 use Rattle.signal_records.specs.declared.record.SplitMode.{SplitMode}
 use Rattle.signal_records.specs.declared.record.SplitMode.TheVariants.{PedestrianRecall, MaximumVehicleAndPedestrianRecall}
-use Rattle.signal_records.specs.Need.{called, lead_time, need_of}
+use Rattle.signal_records.specs.Need.{called, lead_time}
 use Rattle.signal_rules.specs.Cases.{Cases}
 use Rattle.signal_rules.specs.SplitRule.{is_omitted, need_if_called}
 use Rattle.signal_plans.specs.declared.warning.Advice.{Advice}

@@ -1,4 +1,4 @@
-use Rattle.std.proofs.Common.{◌≡◌, sym, ◌∙◌, eqb-true}
+use Rattle.std.proofs.Common.{sym, ◌∙◌, eqb-true}
 use Rattle.signal_plans.proofs.Laws.{street_laws}
 use Rattle.signal_plans.proofs.Members.{no_items}
 use Rattle.signal_plans.proofs.street.is_fit_for_the_street.Goals as goal
