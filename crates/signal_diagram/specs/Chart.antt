@@ -1,6 +1,6 @@
 -- The chart of a pattern, which a reader takes from its picture: which phase each ring has from
 -- which second of the cycle to which, and where all rings change phase.
-use Rattle.std.specs.Prelude.{◌≡◌, ℕ, zero, suc, ◌+◌, ◌==◌, ◌&&◌, ◌||◌, not, max, if◌then◌else◌, nat_lt, nat_le, ⊤, Bool, List, [], ◌∷◌, ◌++◌, All, map, filter, find, length, Option, option_map, slice_get}
+use Rattle.std.specs.Prelude.{◌≡◌, ℕ, ◌+◌, ◌==◌, ◌&&◌, ◌||◌, not, max, if◌then◌else◌, nat_lt, nat_le, ⊤, Bool, List, [], ◌∷◌, All, map, filter, find, length, Option, option_map, slice_get}
 use Rattle.std.specs.List.{list_any, list_all}
 use Rattle.signal_records.specs.declared.record.Pattern.{Pattern}
 use Rattle.signal_records.specs.TimingSet.{Rows}
