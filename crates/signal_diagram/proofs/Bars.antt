@@ -6,7 +6,7 @@ use Rattle.std.specs.Prelude.{All, cond, option_map, replicate, slice_get, ◌&&
 use Rattle.signal_rules.specs.CutPoints.{row_seconds}
 use Rattle.signal_rules.proofs.CutPoints.{length-row_seconds}
 use Rattle.signal_diagram.specs.declared.chart.Bar.{Bar}
-use Rattle.signal_diagram.specs.Chart.{timed, bars_from, Follow, end_of, phase_at_second}
+use Rattle.signal_diagram.specs.Chart.{with_time, bars_from, Follow, end_of, phase_at_second}
 
 -- they are those phases
 pub order : (time : ℕ → ℕ) (row : List ℕ) (from : ℕ)
@@ -39,11 +39,11 @@ ends time (p ∷ ps) from =
 
 -- those that have no time have no seconds
 pub same_seconds : (time : ℕ → ℕ) (row : List ℕ)
-    → row_seconds time (timed time row) ≡ row_seconds time row
+    → row_seconds time (with_time time row) ≡ row_seconds time row
 same_seconds time [] = refl
 same_seconds time (p ∷ ps) = step (time p) refl (same_seconds time ps) where
-  step : (n : ℕ) → time p ≡ n → row_seconds time (timed time ps) ≡ row_seconds time ps
-      → row_seconds time (cond (ltb 0 n) (p ∷ timed time ps) (timed time ps))
+  step : (n : ℕ) → time p ≡ n → row_seconds time (with_time time ps) ≡ row_seconds time ps
+      → row_seconds time (cond (ltb 0 n) (p ∷ with_time time ps) (with_time time ps))
       ≡ replicate n p ++ row_seconds time ps
   step zero e h = h
   step (suc n) e h =
@@ -91,9 +91,9 @@ at_second time (p ∷ ps) from t =
           ∙ (rw same at h) ∙ sym (cond-false (ltb t (time p)) _ _ e)
 
 pub seconds : (time : ℕ → ℕ) (row : List ℕ) (t : ℕ)
-    → phase_at_second (bars_from time 0 (timed time row)) t ≡ slice_get (row_seconds time row) t
+    → phase_at_second (bars_from time 0 (with_time time row)) t ≡ slice_get (row_seconds time row) t
 seconds time row t =
     let same : t ≡ 0 + t = omega arith in
-    ap (phase_at_second (bars_from time 0 (timed time row))) same
-    ∙ at_second time (timed time row) 0 t
+    ap (phase_at_second (bars_from time 0 (with_time time row))) same
+    ∙ at_second time (with_time time row) 0 t
     ∙ ap (λ (xs : List ℕ). slice_get xs t) (same_seconds time row)

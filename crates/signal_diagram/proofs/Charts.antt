@@ -6,7 +6,7 @@ use Rattle.signal_records.specs.{declared.record.Pattern.Pattern, TimingSet.Rows
 use Rattle.signal_rules.specs.{Lookup.pattern_at, SequenceRule.ring_row, PatternRules.used_rings, PatternRules.lanes_fill_cycle, CutPoints.row_seconds, Starts.times, Starts.rings_fill}
 use Rattle.signal_rules.proofs.Starts.{fill_by_rings}
 use Rattle.signal_diagram.specs.declared.{chart.Bar.Bar, picture.Sizing.Sizing, picture.Picture.Picture}
-use Rattle.signal_diagram.specs.{Lane.RingLane, Chart.timed, Chart.bars_from, Chart.lane_of, Chart.lanes_of, Chart.end_of, Chart.lanes_end, Chart.IsLane, Chart.IsChart, Shapes.shapes_of, Picture.told_below, Picture.DrawsChart}
+use Rattle.signal_diagram.specs.{Lane.RingLane, Chart.with_time, Chart.bars_from, Chart.lane_of, Chart.lanes_of, Chart.end_of, Chart.lanes_end, Chart.IsLane, Chart.IsChart, Shapes.shapes_of, Picture.told_below, Picture.DrawsChart}
 use Rattle.signal_diagram.proofs.Bars.{order, follow, lasts, ends, same_seconds, seconds}
 
 is_lane : (set : Rows) (pattern : Pattern) (ring : ℕ)
@@ -15,9 +15,9 @@ is_lane set pattern ring =
     let time : ℕ → ℕ = times set pattern.split in
     let row : List ℕ = ring_row set pattern.seq ring in
     record {
-      order = order time (timed time row) 0;
-      follow = follow time (timed time row) 0;
-      lasts = lasts time (timed time row) 0;
+      order = order time (with_time time row) 0;
+      follow = follow time (with_time time row) 0;
+      lasts = lasts time (with_time time row) 0;
       seconds = seconds time row;
     }
 
@@ -32,9 +32,9 @@ end_together : (set : Rows) (pattern : Pattern) (rings : List ℕ)
 end_together set pattern rings =
     let time : ℕ → ℕ = times set pattern.split in
     let row : ℕ → List ℕ = ring_row set pattern.seq in
-    let bars : ℕ → List Bar = λ ring. bars_from time 0 (timed time (row ring)) in
+    let bars : ℕ → List Bar = λ ring. bars_from time 0 (with_time time (row ring)) in
     let whole : (ring : ℕ) → length (row_seconds time (row ring)) ≡ end_of 0 (bars ring) =
-    λ ring. omega (arith, ends time (timed time (row ring)) 0, ap length (same_seconds time (row ring))) in
+    λ ring. omega (arith, ends time (with_time time (row ring)) 0, ap length (same_seconds time (row ring))) in
     let each : list_all (λ ring. eqb (length (row_seconds time (row ring))) pattern.cycle) rings
     ≡ list_all (λ ring. eqb (end_of 0 (bars ring)) pattern.cycle) rings =
     λ i. list_all (λ ring. eqb (whole ring i) pattern.cycle) rings in

@@ -15,8 +15,8 @@ use Rattle.signal_diagram.specs.Lane.{RingLane}
 -- ---- the lanes
 
 -- the phases that have time
-abbrev pub timed : (ℕ → ℕ) → List ℕ → List ℕ
-timed time row = filter (λ p. nat_lt 0 (time p)) row
+abbrev pub with_time : (ℕ → ℕ) → List ℕ → List ℕ
+with_time time row = filter (λ p. nat_lt 0 (time p)) row
 
 -- some phases, the first from a second on, each from where the one before ends
 abbrev pub bars_from : (ℕ → ℕ) → ℕ → List ℕ → List Bar
@@ -29,7 +29,7 @@ bars_from time from (p ∷ ps) =
 abbrev pub lane_of : Rows → Pattern → ℕ → RingLane
 lane_of set pattern ring =
     let time = times set pattern.split in
-    record { ring = ring; bars = bars_from time 0 (timed time (ring_row set pattern.seq ring)) }
+    record { ring = ring; bars = bars_from time 0 (with_time time (ring_row set pattern.seq ring)) }
 
 -- the lanes of the rings that have a phase, in the order of their numbers
 abbrev pub lanes_of : Rows → Pattern → List RingLane
@@ -113,7 +113,7 @@ phase_at_second bars second = option_map (λ bar. bar.phase) (find (covers secon
 -- with those of the other rings.
 pub record IsLane (set : Rows) (pattern : Pattern) (shown : RingLane) : Type 0 where
   pub order : map (λ bar. bar.phase) shown.bars
-      ≡ timed (times set pattern.split) (ring_row set pattern.seq shown.ring)
+      ≡ with_time (times set pattern.split) (ring_row set pattern.seq shown.ring)
   pub follow : Follow 0 shown.bars
   pub lasts : All (λ bar. bar.to ≡ bar.from + times set pattern.split bar.phase) shown.bars
   pub seconds : (second : ℕ) → phase_at_second shown.bars second

@@ -3,7 +3,7 @@
 ghost use Rattle.std.specs.Prelude.{◌≡◌, ◌≤◌, IfOk, length, map};
 ghost use Rattle.signal_rules.specs.SequenceRule.{ring_row};
 ghost use Rattle.signal_rules.specs.Starts.{times};
-ghost use Rattle.signal_diagram.specs.Chart.{bars_from, timed, end_of, lane_of, longest};
+ghost use Rattle.signal_diagram.specs.Chart.{bars_from, with_time, end_of, lane_of, longest};
 
 use signal_records::{NoMemory, Pattern, PhaseNo, RingNo, TimingSet};
 use signal_rules::{ring_row, split_at, time_of};
@@ -44,7 +44,7 @@ fn bars_of(
 ) -> Result<Vec<Bar>, NoMemory>
     ensures { let time = times set.now pattern.now.split in
         IfOk result (λ bars. bars.items
-        ≡ bars_from time 0 (timed time (ring_row set.now pattern.now.seq ring))) }
+        ≡ bars_from time 0 (with_time time (ring_row set.now pattern.now.seq ring))) }
 {
     let mut bars = Vec::new(alloc);
     let mut from: u16 = 0;

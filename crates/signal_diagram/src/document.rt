@@ -56,7 +56,7 @@ fn draw_picture(svg: &mut Markup, sizing: Sizing, picture: &Picture) -> fmt::Res
 }
 
 /// A picture as SVG.
-fn drawn(alloc: Global, sizing: Sizing, picture: &Picture) -> Result<Markup, NoMemory> {
+fn svg_of(alloc: Global, sizing: Sizing, picture: &Picture) -> Result<Markup, NoMemory> {
     let mut svg = Markup::new(alloc);
     match draw_picture(&mut svg, sizing, picture) {
         Ok(()) => Ok(svg),
@@ -75,7 +75,7 @@ pub fn diagram(
     ensures { IfOk result (λ shown. IsSome shown ↔ IsSome (pattern_at set.now number)) }
 {
     match picture_of(alloc, Sizing::Sheet, set, number)? {
-        Some(picture) => Ok(Some(drawn(alloc, Sizing::Sheet, &picture)?.into_bytes())),
+        Some(picture) => Ok(Some(svg_of(alloc, Sizing::Sheet, &picture)?.into_bytes())),
         None => Ok(None),
     }
 }
@@ -87,7 +87,7 @@ pub fn figure(alloc: Global, set: &TimingSet, number: PatternNo) -> Result<Optio
     ensures { IfOk result (λ shown. IsSome shown ↔ IsSome (pattern_at set.now number)) }
 {
     match picture_of(alloc, Sizing::Figure, set, number)? {
-        Some(picture) => Ok(Some(drawn(alloc, Sizing::Figure, &picture)?)),
+        Some(picture) => Ok(Some(svg_of(alloc, Sizing::Figure, &picture)?)),
         None => Ok(None),
     }
 }
