@@ -5,9 +5,9 @@ use Rattle.std.specs.List.{list_all}
 use Rattle.signal_records.specs.{declared.record.Pattern.Pattern, TimingSet.Rows}
 use Rattle.signal_rules.specs.{Lookup.pattern_at, SequenceRule.ring_row, PatternRules.used_rings, PatternRules.lanes_fill_cycle, CutPoints.row_seconds, Starts.times, Starts.rings_fill}
 use Rattle.signal_rules.proofs.Starts.{fill_by_rings}
-use Rattle.signal_diagram.specs.declared.document.Sizing.{Sizing}
-use Rattle.signal_diagram.specs.{Lane.RingLane, Chart.bars_from, Chart.lane_of, Chart.lanes_of, Chart.end_of, Chart.lanes_end, Chart.IsLane, Chart.IsChart, Diagram.picture_of, Diagram.DrawsChart}
-use Rattle.signal_diagram.proofs.Bars.{order, follow, lasts, ends, seconds}
+use Rattle.signal_diagram.specs.declared.{chart.Bar.Bar, picture.Sizing.Sizing, picture.Picture.Picture}
+use Rattle.signal_diagram.specs.{Lane.RingLane, Chart.with_time, Chart.bars_from, Chart.lane_of, Chart.lanes_of, Chart.end_of, Chart.lanes_end, Chart.IsLane, Chart.IsChart, Shapes.shapes_of, Picture.told_below, Picture.DrawsChart}
+use Rattle.signal_diagram.proofs.Bars.{order, follow, lasts, ends, same_seconds, seconds}
 
 is_lane : (set : Rows) (pattern : Pattern) (ring : ℕ)
     → IsLane set pattern (lane_of set pattern ring)
@@ -15,9 +15,9 @@ is_lane set pattern ring =
     let time : ℕ → ℕ = times set pattern.split in
     let row : List ℕ = ring_row set pattern.seq ring in
     record {
-      order = order time row 0;
-      follow = follow time row 0;
-      lasts = lasts time row 0;
+      order = order time (with_time time row) 0;
+      follow = follow time (with_time time row) 0;
+      lasts = lasts time (with_time time row) 0;
       seconds = seconds time row;
     }
 
@@ -32,10 +32,11 @@ end_together : (set : Rows) (pattern : Pattern) (rings : List ℕ)
 end_together set pattern rings =
     let time : ℕ → ℕ = times set pattern.split in
     let row : ℕ → List ℕ = ring_row set pattern.seq in
-    let whole : (ring : ℕ) → length (row_seconds time (row ring)) ≡ end_of 0 (bars_from time 0 (row ring)) =
-    λ ring. omega (arith, ends time (row ring) 0) in
+    let bars : ℕ → List Bar = λ ring. bars_from time 0 (with_time time (row ring)) in
+    let whole : (ring : ℕ) → length (row_seconds time (row ring)) ≡ end_of 0 (bars ring) =
+    λ ring. omega (arith, ends time (with_time time (row ring)) 0, ap length (same_seconds time (row ring))) in
     let each : list_all (λ ring. eqb (length (row_seconds time (row ring))) pattern.cycle) rings
-    ≡ list_all (λ ring. eqb (end_of 0 (bars_from time 0 (row ring))) pattern.cycle) rings =
+    ≡ list_all (λ ring. eqb (end_of 0 (bars ring)) pattern.cycle) rings =
     λ i. list_all (λ ring. eqb (whole ring i) pattern.cycle) rings in
     each ∙ sym (list_all-map _ (lane_of set pattern) rings)
 
@@ -54,15 +55,16 @@ is_chart set pattern = record {
   together = fill_by_lanes set pattern;
 }
 
--- the text of a pattern's picture draws its chart
-pub draws : (sizing : Sizing) (set : Rows) (n : ℕ) (pattern : Pattern) (text : List ℕ)
+-- a picture of these shapes draws the chart
+pub draws : (sizing : Sizing) (set : Rows) (n : ℕ) (pattern : Pattern) (shown : Picture)
     → pattern_at set n ≡ Some pattern
-    → text ≡ picture_of sizing set n (pattern_at set n)
-    → DrawsChart sizing set n text
-draws sizing set n pattern text found same = record {
+    → shown.shapes.items ≡ shapes_of set pattern (lanes_of set pattern)
+    → shown.warnings.items ≡ told_below sizing set n → DrawsChart sizing set n shown
+draws sizing set n pattern shown found shapes warnings = record {
   pattern = pattern;
   found = found;
   lanes = lanes_of set pattern;
   is_chart = is_chart set pattern;
-  drawn = same ∙ ap (picture_of sizing set n) found;
+  shapes = shapes;
+  warnings = warnings;
 }

@@ -1,6 +1,6 @@
 -- The chart of a pattern, which a reader takes from its picture: which phase each ring has from
 -- which second of the cycle to which, and where all rings change phase.
-use Rattle.std.specs.Prelude.{◌≡◌, ℕ, zero, suc, ◌+◌, ◌==◌, ◌&&◌, ◌||◌, not, max, if◌then◌else◌, nat_lt, nat_le, ⊤, Bool, List, [], ◌∷◌, ◌++◌, All, map, filter, find, length, Option, option_map, slice_get}
+use Rattle.std.specs.Prelude.{◌≡◌, ℕ, ◌+◌, ◌==◌, ◌&&◌, ◌||◌, not, max, if◌then◌else◌, nat_lt, nat_le, ⊤, Bool, List, [], ◌∷◌, All, map, filter, find, length, Option, option_map, slice_get}
 use Rattle.std.specs.List.{list_any, list_all}
 use Rattle.signal_records.specs.declared.record.Pattern.{Pattern}
 use Rattle.signal_records.specs.TimingSet.{Rows}
@@ -14,20 +14,22 @@ use Rattle.signal_diagram.specs.Lane.{RingLane}
 
 -- ---- the lanes
 
--- the bar of a phase that lasts so many seconds from a second on; none where it has no time
-abbrev pub bar_of : ℕ → ℕ → ℕ → List Bar
-bar_of zero from p = []
-bar_of (suc time) from p = record { phase = p; from = from; to = from + suc time } ∷ []
+-- the phases that have time
+abbrev pub with_time : (ℕ → ℕ) → List ℕ → List ℕ
+with_time time row = filter (λ p. nat_lt 0 (time p)) row
 
--- the phases of a row, the first from a second on, each from where the one before ends
+-- some phases, the first from a second on, each from where the one before ends
 abbrev pub bars_from : (ℕ → ℕ) → ℕ → List ℕ → List Bar
 bars_from time from [] = []
-bars_from time from (p ∷ ps) = bar_of (time p) from p ++ bars_from time (from + time p) ps
+bars_from time from (p ∷ ps) =
+    record { phase = p; from = from; to = from + time p } ∷ bars_from time (from + time p) ps
 
--- the lane of a ring: its row of the pattern's sequence, with the times of the pattern's splits
+-- the lane of a ring: the phases of its row of the pattern's sequence that have time by the
+-- pattern's splits
 abbrev pub lane_of : Rows → Pattern → ℕ → RingLane
 lane_of set pattern ring =
-    record { ring = ring; bars = bars_from (times set pattern.split) 0 (ring_row set pattern.seq ring) }
+    let time = times set pattern.split in
+    record { ring = ring; bars = bars_from time 0 (with_time time (ring_row set pattern.seq ring)) }
 
 -- the lanes of the rings that have a phase, in the order of their numbers
 abbrev pub lanes_of : Rows → Pattern → List RingLane
@@ -75,7 +77,7 @@ behind cycle second = if second == cycle then 0 else second
 
 -- a phase may time together with none of a lane that begins at a second
 abbrev pub conflicts_with_lane : Rows → ℕ → ℕ → RingLane → Bool
-conflicts_with_lane set begins p shown = list_all (λ bar. not (bar.from == begins && list_each_other set p bar.phase)) shown.bars
+conflicts_with_lane set begins p shown = list_all (λ bar. not (bar.from == begins) || not (list_each_other set p bar.phase)) shown.bars
 
 -- a phase may time together with no phase of these lanes that begins at a second
 abbrev pub conflicts_with_all : Rows → ℕ → ℕ → List RingLane → Bool
@@ -111,7 +113,7 @@ phase_at_second bars second = option_map (λ bar. bar.phase) (find (covers secon
 -- with those of the other rings.
 pub record IsLane (set : Rows) (pattern : Pattern) (shown : RingLane) : Type 0 where
   pub order : map (λ bar. bar.phase) shown.bars
-      ≡ filter (λ p. nat_lt 0 (times set pattern.split p)) (ring_row set pattern.seq shown.ring)
+      ≡ with_time (times set pattern.split) (ring_row set pattern.seq shown.ring)
   pub follow : Follow 0 shown.bars
   pub lasts : All (λ bar. bar.to ≡ bar.from + times set pattern.split bar.phase) shown.bars
   pub seconds : (second : ℕ) → phase_at_second shown.bars second

@@ -57,12 +57,6 @@ abbrev pub interval : ℕ → Band → Bool → ℕ → ℕ → List Shape
 interval lane band comes from to =
     if nat_lt from to then shape.Interval lane band comes from to ∷ [] else []
 
--- the yellow of a phase, and its red, which lasts to the end of the phase
-abbrev pub yellow_and_red : ℕ → Bar → Phase → List Shape
-yellow_and_red lane bar phase =
-    interval lane Yellow true (yellow_from bar phase) (tenth_before bar phase.red)
-    ++ interval lane Red true (tenth_before bar phase.red) (10 * bar.to)
-
 -- the mark of a walk whose clearance is not over at a limit; none where it is
 abbrev pub cut : ℕ → Bar → ℕ → Ped → List Shape
 cut lane bar limit ped =
@@ -78,14 +72,17 @@ walk_intervals lane comes bar limit (Some ped) =
     ++ interval lane Clearance comes (tenth_after bar limit ped.walk) (tenth_after bar limit (ped.walk + ped.clear))
     ++ cut lane bar limit ped
 
--- the intervals of a phase: its green, lead, walk and clearance, none past its yellow, then yellow
--- and red; a phase that is not in the set has none
+-- the intervals of a phase: its green, lead, walk and clearance, none past its yellow, then yellow,
+-- and red, which lasts to its end; a phase that is not in the set has none
 abbrev pub intervals : ℕ → Bool → Bar → Option Phase → List Shape
 intervals lane comes bar None = []
 intervals lane comes bar (Some phase) =
     let limit = yellow_from bar phase in
+    let red_from = tenth_before bar phase.red in
     interval lane Green true (green_from bar limit comes phase.ped) limit
-    ++ walk_intervals lane comes bar limit phase.ped ++ yellow_and_red lane bar phase
+    ++ walk_intervals lane comes bar limit phase.ped
+    ++ interval lane Yellow true limit red_from
+    ++ interval lane Red true red_from (10 * bar.to)
 
 -- the intervals, the edge and the words of a phase, as its split row has it
 abbrev pub phase_shapes : Rows → Pattern → ℕ → Bar → List Shape

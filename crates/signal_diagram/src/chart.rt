@@ -3,7 +3,7 @@
 ghost use Rattle.std.specs.Prelude.{◌≡◌, ◌≤◌, IfOk, length, map};
 ghost use Rattle.signal_rules.specs.SequenceRule.{ring_row};
 ghost use Rattle.signal_rules.specs.Starts.{times};
-ghost use Rattle.signal_diagram.specs.Chart.{bars_from, end_of, lane_of, longest};
+ghost use Rattle.signal_diagram.specs.Chart.{bars_from, with_time, end_of, lane_of, longest};
 
 use signal_records::{NoMemory, Pattern, PhaseNo, RingNo, TimingSet};
 use signal_rules::{ring_row, split_at, time_of};
@@ -42,8 +42,9 @@ fn bars_of(
     pattern: &Pattern,
     ring: RingNo,
 ) -> Result<Vec<Bar>, NoMemory>
-    ensures { IfOk result (λ bars. bars.items ≡
-        bars_from (times set.now pattern.now.split) 0 (ring_row set.now pattern.now.seq ring)) }
+    ensures { let time = times set.now pattern.now.split in
+        IfOk result (λ bars. bars.items
+        ≡ bars_from time 0 (with_time time (ring_row set.now pattern.now.seq ring))) }
 {
     let mut bars = Vec::new(alloc);
     let mut from: u16 = 0;
@@ -61,21 +62,8 @@ fn bars_of(
     Ok(bars)
 }
 
-/// The lane of a ring: the phases of its row in the pattern's sequence, each as long as the
-/// pattern's split.
-fn lane_of(
-    alloc: Global,
-    set: &TimingSet,
-    pattern: &Pattern,
-    ring: RingNo,
-) -> Result<Lane, NoMemory>
-    ensures { IfOk result (λ lane. lane ≡ lane_of set.now pattern.now ring) }
-{
-    let bars = bars_of(alloc, set, pattern, ring)?;
-    Ok(Lane { ring, bars })
-}
-
-/// The lanes of these rings, in their order.
+/// The lanes of these rings, in their order: the phases of each ring's row in the pattern's
+/// sequence, each as long as the pattern's split.
 pub(crate) fn lanes_of(
     alloc: Global,
     set: &TimingSet,
@@ -86,7 +74,8 @@ pub(crate) fn lanes_of(
 {
     let mut lanes = Vec::new(alloc);
     for ring in rings {
-        lanes.push(lane_of(alloc, set, pattern, *ring)?)?;
+        let bars = bars_of(alloc, set, pattern, *ring)?;
+        lanes.push(Lane { ring: *ring, bars })?;
     }
     Ok(lanes)
 }

@@ -1,20 +1,21 @@
-//! The diagram of a pattern: its rings and barriers as a picture, an SVG text.
+//! The picture of a pattern: its rings and barriers, and below them its warnings.
 //!
 //! What engineers call a ring-and-barrier or phase diagram: a lane for each ring that is used, with
 //! its phases in the order of the sequence, each as long as its split. `chart` says which phase
-//! each ring has from which second to which, `phases` and `shapes` what is drawn of it, in tenths
-//! of a second, and `svg` where each shape stands: a unit of the picture is a tenth of a second, so
-//! that all its coordinates are whole numbers. `head` has the words above the lanes, and `foot` the
-//! warnings below them.
+//! each ring has from which second to which, `phases` and `lines` which shapes are drawn of it, in
+//! tenths of a second, and `picture` has them as a value, of which the contracts speak. `document`,
+//! `words` and `svg` draw that value, and see nothing else of a plan.
 #![tactic(auto)]
 
 mod chart;
 mod document;
-mod foot;
-mod head;
 mod lines;
 mod phases;
+mod picture;
 mod shapes;
 mod svg;
+mod words;
 
 pub use document::{diagram, figure};
+pub use picture::{Picture, Sizing, picture_of};
+pub use shapes::{Band, Shape};

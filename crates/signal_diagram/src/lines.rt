@@ -1,6 +1,6 @@
 //! The lines over the lanes of a picture, and the scale below them.
 
-ghost use Rattle.std.specs.Prelude.{◌≡◌, ◌==◌, ◌++◌, ◌≤◌, ◌&&◌, OnOk, length};
+ghost use Rattle.std.specs.Prelude.{◌≡◌, ◌==◌, ◌++◌, ◌≤◌, OnOk, length};
 ghost use Rattle.std.specs.List.{list_any, list_all};
 ghost use Rattle.signal_rules.specs.Lanes.{list_each_other};
 ghost use Rattle.signal_diagram.specs.Chart.{changes, all_change, has_line, behind, conflicts_with_lane, conflicts_with_all, lane_conflicts, is_barrier};
@@ -67,18 +67,11 @@ fn list_each_other(set: &TimingSet, p: PhaseNo, q: PhaseNo) -> bool
     lists(set, p, q) && lists(set, q, p)
 }
 
-/// Whether a phase begins at a second and may time together with another one.
-fn meets(set: &TimingSet, begins: u32, p: PhaseNo, bar: &Bar) -> bool
-    ensures { result ≡ (bar.now.from == begins && list_each_other set.now p bar.now.phase) }
-{
-    u32::from(bar.from) == begins && list_each_other(set, p, bar.phase)
-}
-
 /// Whether a phase may time together with none of a lane that begins at a second.
 fn conflicts_with_lane(set: &TimingSet, begins: u32, p: PhaseNo, lane: &Lane) -> bool
     ensures { result ≡ conflicts_with_lane set.now begins p lane.now }
 {
-    lane.bars.iter().all(|bar| !meets(set, begins, p, bar))
+    lane.bars.iter().all(|bar| u32::from(bar.from) != begins || !list_each_other(set, p, bar.phase))
 }
 
 /// Whether a phase may time together with no phase of these lanes that begins at a second.

@@ -2,7 +2,7 @@
 
 ghost use Rattle.std.specs.Prelude.{◌≡◌, ◌++◌, ◌≤◌, OnOk, length};
 ghost use Rattle.std.specs.Option.{option_copied};
-ghost use Rattle.signal_diagram.specs.Shapes.{calls_walk, tenth_after, tenth_before, yellow_from, green_from, interval, yellow_and_red, cut, walk_intervals, intervals, phase_shapes, lane_shapes, lanes_shapes};
+ghost use Rattle.signal_diagram.specs.Shapes.{calls_walk, tenth_after, tenth_before, yellow_from, green_from, interval, cut, walk_intervals, intervals, phase_shapes, lane_shapes, lanes_shapes};
 
 use crate::chart::{Bar, Lane};
 use crate::shapes::{Band, Shape};
@@ -15,12 +15,12 @@ use std::alloc::AllocError;
 fn calls_walk(split: Option<Split>) -> bool
     ensures { result ≡ calls_walk split }
 {
-    let Some(split) = split else {
-        return false;
-    };
-    match split.mode {
-        SplitMode::PedestrianRecall | SplitMode::MaximumVehicleAndPedestrianRecall => true,
-        _ => false,
+    match split {
+        Some(split) => matches!(
+            split.mode,
+            SplitMode::PedestrianRecall | SplitMode::MaximumVehicleAndPedestrianRecall
+        ),
+        None => false,
     }
 }
 
@@ -77,30 +77,6 @@ fn add_interval(
         shapes.push(Shape::Interval(lane, band, comes, from, to))?;
     }
     Ok(())
-}
-
-/// Adds the yellow and the red of a phase, which are its last tenths.
-fn add_yellow_and_red(
-    shapes: &mut Vec<Shape>,
-    lane: u32,
-    bar: &Bar,
-    phase: &Phase,
-) -> Result<(), AllocError>
-    ensures { OnOk result (shapes.new.items
-        ≡ shapes.old.items ++ yellow_and_red lane bar.now phase.now) }
-{
-    let to = bar.to;
-    let red_from = tenth_before(bar, u16::from(phase.red));
-    let end = 10 * u32::from(to);
-    add_interval(
-        shapes,
-        lane,
-        Band::Yellow,
-        true,
-        yellow_from(bar, phase),
-        red_from,
-    )?;
-    add_interval(shapes, lane, Band::Red, true, red_from, end)
 }
 
 /// Adds the mark of a walk whose clearance is not over at a limit; none where it is.
@@ -163,11 +139,14 @@ fn add_intervals(
     let Some(phase) = phase else {
         return Ok(());
     };
+    let to = bar.to;
     let limit = yellow_from(bar, phase);
     let begin = green_from(bar, limit, comes, phase.ped);
+    let red_from = tenth_before(bar, u16::from(phase.red));
     add_interval(shapes, lane, Band::Green, true, begin, limit)?;
     add_walking(shapes, lane, comes, bar, limit, phase.ped)?;
-    add_yellow_and_red(shapes, lane, bar, phase)
+    add_interval(shapes, lane, Band::Yellow, true, limit, red_from)?;
+    add_interval(shapes, lane, Band::Red, true, red_from, 10 * u32::from(to))
 }
 
 /// Adds the intervals, the edge and the words of a phase, as its split row has it.
@@ -187,8 +166,8 @@ fn add_phase(
     let begin = 10 * u32::from(from);
     let end = 10 * u32::from(to);
     add_intervals(shapes, lane, calls_walk(split), bar, phase_at(set, phase))?;
-    shapes.push(Shape::Edge(lane, begin, end, coordinated))?;
     let seconds = to.saturating_sub(from);
+    shapes.push(Shape::Edge(lane, begin, end, coordinated))?;
     shapes.push(Shape::Label(lane, begin, phase, seconds, coordinated))?;
     Ok(())
 }

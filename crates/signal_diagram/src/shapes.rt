@@ -5,7 +5,7 @@ use signal_records::{PhaseNo, RingNo};
 
 /// An interval of a phase, drawn in a colour of its own.
 #[derive(Clone, Copy)]
-pub(crate) enum Band {
+pub enum Band {
     Green,
     Lead,
     Yellow,
@@ -16,7 +16,7 @@ pub(crate) enum Band {
 
 /// One thing that is drawn. A lane is given by its number; a tenth is one of a second.
 #[derive(Clone, Copy)]
-pub(crate) enum Shape {
+pub enum Shape {
     /// A lane, with the name of its ring.
     Ring(u32, RingNo),
     /// In a lane, an interval from a tenth to another. Of one that only a button may call (false)
