@@ -52,23 +52,24 @@ pub(crate) fn record_of(alloc: Global, cells: &[Cell<'_>]) -> Result<ByteRecord,
     Ok(row)
 }
 
-fn push_spaces(text: &mut Vec<u8>, count: usize) -> Result<(), AllocError> {
-    for _ in 0..count {
+fn push_spaces(text: &mut Vec<u8>, width: usize, field: &[u8]) -> Result<(), AllocError> {
+    for _ in field.len()..width {
         text.push(b' ')?;
     }
     Ok(())
 }
 
+/// Appends a field, and spaces up to so many bytes.
 fn push_left(text: &mut Vec<u8>, width: usize, field: &[u8]) -> Result<(), AllocError> {
     text.extend_from_slice(field)?;
-    push_spaces(text, width.saturating_sub(field.len()))
+    push_spaces(text, width, field)
 }
 
 fn push_field(text: &mut Vec<u8>, column: Column, record: &ByteRecord) -> Result<(), AllocError> {
     match column {
         Column::Right(place, width) => {
             let field = record.get(place).unwrap_or(&[]);
-            push_spaces(text, width.saturating_sub(field.len()))?;
+            push_spaces(text, width, field)?;
             text.extend_from_slice(field)
         }
         Column::First(place, width) => push_left(text, width, record.get(place).unwrap_or(&[])),

@@ -5,14 +5,27 @@ use office_machine::orders::{NamedOrder, OpenOrder};
 use signal_records::NoMemory;
 use std::alloc::Global;
 
+/// The cells of an order on an intersection of this name.
+fn order_cells<'a>(open: &'a OpenOrder, name: &'a str) -> [Cell<'a>; 6] {
+    let order = &open.order;
+    [
+        Cell::Number(u64::from(open.id.get())),
+        Cell::Word(name),
+        Cell::Number(u64::from(order.number.get())),
+        Cell::Day(order.opened.date()),
+        Cell::Word(order.clerk.as_str()),
+        Cell::Word(order.text.as_str()),
+    ]
+}
+
 const HEADING: &str = "    No   Order  Opened      Clerk         Text\n";
 
 const COLUMNS: [Column; 5] = [
     Column::Right(0, 6),
-    Column::Right(1, 8),
-    Column::Left(2, 0),
-    Column::Left(3, 12),
-    Column::Left(4, 0),
+    Column::Right(2, 8),
+    Column::Left(3, 0),
+    Column::Left(4, 12),
+    Column::Left(5, 0),
 ];
 
 /// The list of open orders, as lines of UTF-8: the number of each one's intersection, its own
@@ -20,15 +33,8 @@ const COLUMNS: [Column; 5] = [
 /// be done; then their count. `NoMemory` means that a growth was refused.
 pub fn orders_text(alloc: Global, orders: &[OpenOrder]) -> Result<Vec<u8>, NoMemory> {
     let mut records = Vec::new(alloc);
-    for OpenOrder { id, order } in orders {
-        let cells = [
-            Cell::Number(u64::from(id.get())),
-            Cell::Number(u64::from(order.number.get())),
-            Cell::Day(order.opened.date()),
-            Cell::Word(order.clerk.as_str()),
-            Cell::Word(order.text.as_str()),
-        ];
-        records.push(record_of(alloc, &cells)?)?;
+    for open in orders {
+        records.push(record_of(alloc, &order_cells(open, ""))?)?;
     }
     print_lines(alloc, HEADING, &COLUMNS, &records)
 }
@@ -52,16 +58,8 @@ const NAMED_COLUMNS: [Column; 6] = [
 /// was refused.
 pub fn orders_list(alloc: Global, csv: bool, orders: &[NamedOrder]) -> Result<Vec<u8>, NoMemory> {
     let mut records = Vec::new(alloc);
-    for NamedOrder { listed, name } in orders {
-        let order = &listed.order;
-        let cells = [
-            Cell::Number(u64::from(listed.id.get())),
-            Cell::Word(name.as_str()),
-            Cell::Number(u64::from(order.number.get())),
-            Cell::Day(order.opened.date()),
-            Cell::Word(order.clerk.as_str()),
-            Cell::Word(order.text.as_str()),
-        ];
+    for order in orders {
+        let cells = order_cells(&order.listed, order.name.as_str());
         records.push(record_of(alloc, &cells)?)?;
     }
     print_list(alloc, csv, NAMED_HEADING, &NAMED_COLUMNS, &records)

@@ -40,24 +40,25 @@ const COLUMNS: [Column; 4] = [
     Column::Left(3, 0),
 ];
 
-fn push_inspection(alloc: Global, text: &mut Vec<u8>, done: &Inspection) -> Result<(), NoMemory> {
-    let cells = [
-        Cell::Number(u64::from(done.number.get())),
-        Cell::Day(done.day.date()),
-        Cell::Word(done.clerk.as_str()),
-        Cell::Word(done.text.as_str()),
-    ];
-    push_line(alloc, text, &COLUMNS, &cells)
-}
-
-fn push_opening(alloc: Global, text: &mut Vec<u8>, order: &Order) -> Result<(), NoMemory> {
-    let cells = [
-        Cell::Number(u64::from(order.number.get())),
-        Cell::Day(order.opened.date()),
-        Cell::Word(order.clerk.as_str()),
-        Cell::Word(order.text.as_str()),
-    ];
-    push_line(alloc, text, &COLUMNS, &cells)
+fn push_inspections(
+    alloc: Global,
+    text: &mut Vec<u8>,
+    inspections: &[Inspection],
+) -> Result<(), NoMemory> {
+    push_words(
+        text,
+        "\nInspections\n    No  Day         Clerk         Text\n",
+    )?;
+    for inspection in inspections {
+        let cells = [
+            Cell::Number(u64::from(inspection.number.get())),
+            Cell::Day(inspection.day.date()),
+            Cell::Word(inspection.clerk.as_str()),
+            Cell::Word(inspection.text.as_str()),
+        ];
+        push_line(alloc, text, &COLUMNS, &cells)?;
+    }
+    Ok(())
 }
 
 const USED_COLUMNS: [Column; 3] = [
@@ -95,7 +96,13 @@ fn push_order(
     lines: &[UsedLine],
     order: &Order,
 ) -> Result<(), NoMemory> {
-    push_opening(alloc, text, order)?;
+    let cells = [
+        Cell::Number(u64::from(order.number.get())),
+        Cell::Day(order.opened.date()),
+        Cell::Word(order.clerk.as_str()),
+        Cell::Word(order.text.as_str()),
+    ];
+    push_line(alloc, text, &COLUMNS, &cells)?;
     for line in lines {
         if line.order == order.number {
             push_used(alloc, text, line)?;
@@ -105,21 +112,6 @@ fn push_order(
         None => Ok(()),
         Some(closing) => push_closing(alloc, text, closing),
     }
-}
-
-fn push_inspections(
-    alloc: Global,
-    text: &mut Vec<u8>,
-    inspections: &[Inspection],
-) -> Result<(), NoMemory> {
-    push_words(
-        text,
-        "\nInspections\n    No  Day         Clerk         Text\n",
-    )?;
-    for inspection in inspections {
-        push_inspection(alloc, text, inspection)?;
-    }
-    Ok(())
 }
 
 fn push_orders(alloc: Global, text: &mut Vec<u8>, view: &CabinetView) -> Result<(), NoMemory> {

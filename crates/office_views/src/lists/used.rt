@@ -19,26 +19,16 @@ pub struct UsedPart {
     pub used: UsedLine,
 }
 
-/// Whether the part of a line was asked for: each is, where none is named.
-fn is_asked_part(part: &Option<PartCode>, used: &UsedLine) -> bool {
-    match part {
-        Some(part) => used.part == *part,
-        None => true,
-    }
-}
-
 fn used_for(id: InterId, order: &Order, used: &UsedLine) -> Result<UsedPart, NoMemory> {
-    let clerk = order.clerk.clone()?;
-    let used = used.clone()?;
     Ok(UsedPart {
         id,
         opened: order.opened,
-        clerk,
-        used,
+        clerk: order.clerk.clone()?,
+        used: used.clone()?,
     })
 }
 
-/// Appends those of a cabinet's lines that are of this order and whose part was asked for.
+/// Appends those of a cabinet's lines that are of this order and, where a part is named, of it.
 fn add_used_in(
     found: &mut Vec<UsedPart>,
     part: &Option<PartCode>,
@@ -47,7 +37,11 @@ fn add_used_in(
     order: &Order,
 ) -> Result<(), NoMemory> {
     for used in lines {
-        if used.order == order.number && is_asked_part(part, used) {
+        let is_asked = match part {
+            Some(part) => used.part == *part,
+            None => true,
+        };
+        if used.order == order.number && is_asked {
             found.push(used_for(id, order, used)?)?;
         }
     }

@@ -2,11 +2,12 @@
 //! inspections, each table with the greatest numbers first.
 
 use super::cell::{Cell, push_date};
-use super::table::{Column, Table, close_table, open_table, push_none, push_row};
+use super::table::{Column, close_table, open_table, push_none, push_row};
 use cabinet_core::{CabinetView, Day, Inspection, Order, UsedLine, due, latest};
 use office_files::push_next_numbers;
 use safe_markup::Markup;
 use signal_records::Interval;
+use std::alloc::{AllocError, Global};
 use std::fmt;
 
 const OPEN_COLUMNS: [Column; 5] = [
@@ -34,50 +35,44 @@ const INSPECTION_COLUMNS: [Column; 4] = [
     Column::Words("Findings"),
 ];
 
-fn push_open_orders<'a>(
-    page: &mut Markup,
+/// The cells of an order, with those of its closing, if it is closed.
+fn order_cells<'a>(
+    alloc: Global,
     lines: &'a [UsedLine],
-    orders: &'a [Order],
-) -> fmt::Result {
-    open_table(page, &Table::new("Open orders", &OPEN_COLUMNS))?;
-    if orders.iter().all(|order| order.closing.is_some()) {
-        push_none(page, OPEN_COLUMNS.len())?;
+    order: &'a Order,
+) -> Result<Vec<Cell<'a>>, AllocError> {
+    let mut cells = Vec::new(alloc);
+    cells.extend_from_slice(&[
+        Cell::Head(order.number.get()),
+        Cell::Day(order.opened.date()),
+        Cell::Name(order.clerk.as_str()),
+        Cell::Name(order.text.as_str()),
+        Cell::Parts(lines, order.number),
+    ])?;
+    if let Some(closing) = &order.closing {
+        let day = Cell::Day(closing.day.date());
+        cells.extend_from_slice(&[day, Cell::Name(closing.closer.as_str())])?;
     }
-    for order in orders.iter().rev() {
-        if order.closing.is_none() {
-            let cells = [
-                Cell::Head(order.number.get()),
-                Cell::Day(order.opened.date()),
-                Cell::Name(order.clerk.as_str()),
-                Cell::Name(order.text.as_str()),
-                Cell::Parts(lines, order.number),
-            ];
-            push_row(page, "<tr>", &cells, &[])?;
-        }
-    }
-    close_table(page)
+    Ok(cells)
 }
 
-fn push_closed_orders<'a>(
+/// Writes the table of the closed orders of a cabinet, or of the open ones.
+fn push_orders(
     page: &mut Markup,
-    lines: &'a [UsedLine],
-    orders: &'a [Order],
+    name: &'static str,
+    columns: &[Column],
+    view: &CabinetView,
+    closed: bool,
 ) -> fmt::Result {
-    open_table(page, &Table::new("Closed orders", &CLOSED_COLUMNS))?;
-    if orders.iter().all(|order| order.closing.is_none()) {
-        push_none(page, CLOSED_COLUMNS.len())?;
+    let lines = view.lines.as_slice();
+    let orders = view.orders.as_slice();
+    open_table(page, name, "", &[], columns)?;
+    if !orders.iter().any(|order| order.closing.is_some() == closed) {
+        push_none(page, columns.len())?;
     }
     for order in orders.iter().rev() {
-        if let Some(closing) = &order.closing {
-            let cells = [
-                Cell::Head(order.number.get()),
-                Cell::Day(order.opened.date()),
-                Cell::Name(order.clerk.as_str()),
-                Cell::Name(order.text.as_str()),
-                Cell::Parts(lines, order.number),
-                Cell::Day(closing.day.date()),
-                Cell::Name(closing.closer.as_str()),
-            ];
+        if order.closing.is_some() == closed {
+            let cells = order_cells(page.alloc(), lines, order)?;
             push_row(page, "<tr>", &cells, &[])?;
         }
     }
@@ -85,7 +80,7 @@ fn push_closed_orders<'a>(
 }
 
 fn push_inspections(page: &mut Markup, inspections: &[Inspection]) -> fmt::Result {
-    open_table(page, &Table::new("Inspections", &INSPECTION_COLUMNS))?;
+    open_table(page, "Inspections", "", &[], &INSPECTION_COLUMNS)?;
     if inspections.is_empty() {
         push_none(page, INSPECTION_COLUMNS.len())?;
     }
@@ -130,16 +125,14 @@ pub(crate) fn push_cabinet(
     view: &CabinetView,
 ) -> fmt::Result {
     let inspections = view.inspections.as_slice();
-    let lines = view.lines.as_slice();
-    let orders = view.orders.as_slice();
     page.own(
         "<section id='cabinet' aria-labelledby='cabinet-title'>\n\
          <h2 id='cabinet-title'>The cabinet</h2>\n",
     )?;
     push_due_note(page, interval, latest(inspections))?;
     push_next_note(page, view)?;
-    push_open_orders(page, lines, orders)?;
-    push_closed_orders(page, lines, orders)?;
+    push_orders(page, "Open orders", &OPEN_COLUMNS, view, false)?;
+    push_orders(page, "Closed orders", &CLOSED_COLUMNS, view, true)?;
     push_inspections(page, inspections)?;
     page.own("</section>\n")
 }

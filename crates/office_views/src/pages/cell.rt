@@ -39,14 +39,27 @@ pub(crate) enum Cell<'a> {
     Phases(&'a [PhaseNo]),
     PhaseSet(PhaseSet),
     Day(Date),
-    /// The day of the latest inspection, if there was one.
-    Last(Option<Date>),
-    /// The day on which the next inspection falls due, if there was one before.
-    Due(Option<Date>),
-    /// The same, of an inspection that is overdue.
+    /// A day, or words in its place.
+    DayOr(Option<Date>, &'a str),
+    /// The day on which an inspection fell due that is overdue, if there was one before.
     Overdue(Option<Date>),
     /// Of these lines, those of the order with this number.
     Parts(&'a [UsedLine], RecordNo),
+}
+
+/// A number in tenths.
+pub(crate) fn tenths(n: u32) -> Cell<'static> {
+    Cell::Tenths(Tenths(i64::from(n)))
+}
+
+/// The day of the latest inspection, if there was one.
+pub(crate) fn last_cell(last: Option<Date>) -> Cell<'static> {
+    Cell::DayOr(last, "none")
+}
+
+/// The day on which the next inspection falls due, if there was one before.
+pub(crate) fn due_cell(due: Option<Date>) -> Cell<'static> {
+    Cell::DayOr(due, "never inspected")
 }
 
 /// The tags of a cell: one that heads a row; one of a day; one of words, which stand at the left;
@@ -54,9 +67,7 @@ pub(crate) enum Cell<'a> {
 pub(crate) fn tags_of(cell: &Cell<'_>) -> (&'static str, &'static str) {
     match cell {
         Cell::Head(_) | Cell::Link(_) => ("<th scope='row'>", "</th>"),
-        Cell::Day(_) | Cell::Last(_) | Cell::Due(_) | Cell::Overdue(_) => {
-            ("<td class='d'>", "</td>")
-        }
+        Cell::Day(_) | Cell::DayOr(_, _) | Cell::Overdue(_) => ("<td class='d'>", "</td>"),
         Cell::Number(_) | Cell::Tenths(_) | Cell::Dash | Cell::Empty => ("<td>", "</td>"),
         _ => ("<td class='w'>", "</td>"),
     }
@@ -73,7 +84,7 @@ pub(crate) fn push_date(page: &mut Markup, date: Date) -> fmt::Result {
     write!(page, "{date}")
 }
 
-fn push_date_or(page: &mut Markup, words: &str, date: Option<Date>) -> fmt::Result {
+fn push_date_or(page: &mut Markup, date: Option<Date>, words: &str) -> fmt::Result {
     match date {
         None => write!(page, "{words}"),
         Some(date) => push_date(page, date),
@@ -102,22 +113,19 @@ fn push_phase_set(page: &mut Markup, phases: &PhaseSet) -> fmt::Result {
     Ok(())
 }
 
-/// Writes a line of an order: its number, how many pieces were used, and of which part.
-fn push_part(page: &mut Markup, line: &UsedLine) -> fmt::Result {
-    page.own("<div>")?;
-    write!(page, "{}: {}", line.line.get(), line.count.get())?;
-    page.own(" &times; ")?;
-    push_name(page, line.part.as_str())?;
-    page.own("</div>")
-}
-
+/// Writes those lines that are of an order: the number of each, how many pieces were used, and of
+/// which part.
 fn push_parts(page: &mut Markup, lines: &[UsedLine], order: RecordNo) -> fmt::Result {
     if !lines.iter().any(|line| line.order == order) {
         return write!(page, "none");
     }
     for line in lines {
         if line.order == order {
-            push_part(page, line)?;
+            page.own("<div>")?;
+            write!(page, "{}: {}", line.line.get(), line.count.get())?;
+            page.own(" &times; ")?;
+            push_name(page, line.part.as_str())?;
+            page.own("</div>")?;
         }
     }
     Ok(())
@@ -145,10 +153,9 @@ pub(crate) fn push_content(page: &mut Markup, cell: &Cell<'_>) -> fmt::Result {
         Cell::Phases(phases) => push_phases(page, phases),
         Cell::PhaseSet(phases) => push_phase_set(page, &phases),
         Cell::Day(date) => push_date(page, date),
-        Cell::Last(date) => push_date_or(page, "none", date),
-        Cell::Due(date) => push_date_or(page, "never inspected", date),
+        Cell::DayOr(date, words) => push_date_or(page, date, words),
         Cell::Overdue(date) => {
-            push_date_or(page, "never inspected", date)?;
+            push_date_or(page, date, "never inspected")?;
             page.own(" <strong class='late'>overdue</strong>")
         }
         Cell::Parts(lines, order) => push_parts(page, lines, order),

@@ -1,7 +1,7 @@
 //! The rows in which a draft differs from the committed plan.
 
-use super::plan_rows::{KINDS, Kind, cells_of, columns_of, kind_of, name_of};
-use super::table::{Column, Table, close_table, open_table, push_row};
+use super::plan_rows::{KINDS, Kind, cells_of, kind_of, table_of};
+use super::table::{Column, close_table, open_table, push_row};
 use safe_markup::Markup;
 use signal_plans::Difference;
 use signal_records::TimingSet;
@@ -44,6 +44,9 @@ fn kind_of_change(difference: &Difference) -> Kind {
     }
 }
 
+/// The column before those of a kind.
+const CHANGE_COLUMN: [Column; 1] = [Column::Words("Change")];
+
 /// Writes the table of the changes in rows of a kind.
 fn push_kind(
     page: &mut Markup,
@@ -52,14 +55,8 @@ fn push_kind(
     draft: &TimingSet,
     differences: &[Difference],
 ) -> fmt::Result {
-    open_table(
-        page,
-        &Table {
-            whose: " that change",
-            first: Some(Column::Words("Change")),
-            ..Table::new(name_of(kind), columns_of(kind))
-        },
-    )?;
+    let (name, columns) = table_of(kind);
+    open_table(page, name, " that change", &CHANGE_COLUMN, columns)?;
     for difference in differences {
         if kind_of_change(difference) == kind {
             push_change(page, committed, draft, difference)?;

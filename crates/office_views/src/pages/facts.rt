@@ -1,6 +1,6 @@
 //! The facts of an intersection that stand above its plan.
 
-use super::cell::{Cell, push_content};
+use super::cell::{Cell, due_cell, last_cell, push_content};
 use cabinet_core::{Date, Day, due, latest, open_count};
 use draft_core::state::Verdict;
 use office_machine::reply::{CabinetShown, IntersectionState, state_name};
@@ -47,8 +47,8 @@ pub(crate) fn push_cabinet_facts(
     let inspections = cabinet.view.inspections.as_slice();
     let orders = cabinet.view.orders.as_slice();
     let values = [
-        Cell::Last(date_of(latest(inspections))),
-        Cell::Due(due_date(interval, latest(inspections))),
+        last_cell(date_of(latest(inspections))),
+        due_cell(due_date(interval, latest(inspections))),
         Cell::Number(open_count(orders) as u64),
     ];
     push_facts(page, &CABINET_FACTS, &values)

@@ -1,10 +1,10 @@
 //! The index page of an office: its intersections, the open orders on them, and the stock.
 
-use super::cell::{Cell, push_date};
+use super::cell::{Cell, due_cell, last_cell, push_date};
 use super::document::{end_page, push_head};
 use super::facts::{date_of, due_date};
 use super::shown::{IndexEntry, IndexShown};
-use super::table::{Column, Table, close_table, open_table, push_none, push_row};
+use super::table::{Column, close_table, open_table, push_none, push_row};
 use cabinet_core::{Day, Hand, PartCode, due};
 use office_files::state_word;
 use office_machine::orders::NamedOrder;
@@ -62,11 +62,11 @@ fn push_entry(page: &mut Markup, entry: &IndexEntry, overdue: bool) -> fmt::Resu
         Cell::Number(listed.rows as u64),
         Cell::Number(entry.warnings as u64),
         Cell::Number(entry.open_orders as u64),
-        Cell::Last(date_of(entry.last)),
+        last_cell(date_of(entry.last)),
         if overdue {
             Cell::Overdue(due)
         } else {
-            Cell::Due(due)
+            due_cell(due)
         },
     ];
     push_row(page, "<tr>", &cells, &[])
@@ -74,7 +74,7 @@ fn push_entry(page: &mut Markup, entry: &IndexEntry, overdue: bool) -> fmt::Resu
 
 /// Writes the table of the intersections, those that are overdue on the day first.
 fn push_intersections(page: &mut Markup, entries: &[IndexEntry], day: &Option<Day>) -> fmt::Result {
-    open_table(page, &Table::new("Intersections", &INTERSECTION_COLUMNS))?;
+    open_table(page, "Intersections", "", &[], &INTERSECTION_COLUMNS)?;
     if entries.is_empty() {
         push_none(page, INTERSECTION_COLUMNS.len())?;
     }
@@ -90,7 +90,7 @@ fn push_intersections(page: &mut Markup, entries: &[IndexEntry], day: &Option<Da
 
 /// Writes the table of the open orders on all intersections.
 fn push_orders(page: &mut Markup, orders: &[NamedOrder]) -> fmt::Result {
-    open_table(page, &Table::new("Open orders", &ORDER_COLUMNS))?;
+    open_table(page, "Open orders", "", &[], &ORDER_COLUMNS)?;
     if orders.is_empty() {
         push_none(page, ORDER_COLUMNS.len())?;
     }
@@ -110,7 +110,7 @@ fn push_orders(page: &mut Markup, orders: &[NamedOrder]) -> fmt::Result {
 }
 
 fn push_stock(page: &mut Markup, stock: &[(PartCode, Hand)]) -> fmt::Result {
-    open_table(page, &Table::new("Stock", &STOCK_COLUMNS))?;
+    open_table(page, "Stock", "", &[], &STOCK_COLUMNS)?;
     if stock.is_empty() {
         push_none(page, STOCK_COLUMNS.len())?;
     }

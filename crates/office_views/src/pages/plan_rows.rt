@@ -1,7 +1,7 @@
 //! The rows of a timing set as rows of tables.
 
-use super::cell::{Cell, Tenths};
-use super::splits::{called_cells, coordinated_in, need_cells};
+use super::cell::{Cell, tenths};
+use super::splits::{coordinated_in, need_cells};
 use super::table::Column;
 use signal_records::{
     Pattern, PatternNo, Ped, Phase, PhaseNo, RingNo, Row, SeqNo, SeqRow, Split, SplitMode, SplitNo,
@@ -30,21 +30,13 @@ pub(crate) fn kind_of(row: &Row) -> Kind {
     }
 }
 
-pub(crate) fn name_of(kind: Kind) -> &'static str {
+/// The name and the columns of the table of a kind.
+pub(crate) fn table_of(kind: Kind) -> (&'static str, &'static [Column]) {
     match kind {
-        Kind::Patterns => "Patterns",
-        Kind::Sequences => "Sequences",
-        Kind::Splits => "Splits",
-        Kind::Phases => "Phases",
-    }
-}
-
-pub(crate) fn columns_of(kind: Kind) -> &'static [Column] {
-    match kind {
-        Kind::Patterns => &PATTERN_COLUMNS,
-        Kind::Sequences => &SEQUENCE_COLUMNS,
-        Kind::Splits => &SPLIT_COLUMNS,
-        Kind::Phases => &PHASE_COLUMNS,
+        Kind::Patterns => ("Patterns", &PATTERN_COLUMNS),
+        Kind::Sequences => ("Sequences", &SEQUENCE_COLUMNS),
+        Kind::Splits => ("Splits", &SPLIT_COLUMNS),
+        Kind::Phases => ("Phases", &PHASE_COLUMNS),
     }
 }
 
@@ -109,19 +101,12 @@ fn flag(set: bool) -> Cell<'static> {
     Cell::Words(if set { "yes" } else { "no" })
 }
 
-fn split_cells(set: &TimingSet, n: SplitNo, p: PhaseNo, split: &Split) -> [Cell<'static>; 9] {
-    let (need, spare) = need_cells(set, p, split);
-    let (called, governs) = called_cells(set, p, split);
+/// The first cells of a split; those of its needs follow.
+fn split_cells(n: SplitNo, p: PhaseNo, split: &Split) -> [Cell<'static>; 3] {
     [
         Cell::Head(n.get()),
         Cell::Head(p.get()),
         Cell::Number(u64::from(split.time)),
-        need,
-        spare,
-        called,
-        governs,
-        Cell::Words(mode_words(split.mode)),
-        flag(split.coord),
     ]
 }
 
@@ -142,52 +127,8 @@ const PHASE_COLUMNS: [Column; 14] = [
     Column::Words("Concurrent phases"),
 ];
 
-fn tenths(n: u32) -> Cell<'static> {
-    Cell::Tenths(Tenths(i64::from(n)))
-}
-
-/// The cells of a phase's pedestrian part.
-#[derive(Clone, Copy)]
-struct PedCells {
-    walk: Cell<'static>,
-    clear: Cell<'static>,
-    width: Cell<'static>,
-    setback: Cell<'static>,
-    short: Cell<'static>,
-    lead: Cell<'static>,
-}
-
-/// The cells of a phase's pedestrian part, or a dash in each where there is none.
-fn ped_cells(ped: &Option<Ped>) -> PedCells {
-    match ped {
-        None => PedCells {
-            walk: Cell::Dash,
-            clear: Cell::Dash,
-            width: Cell::Dash,
-            setback: Cell::Dash,
-            short: Cell::Words("-"),
-            lead: Cell::Dash,
-        },
-        Some(ped) => PedCells {
-            walk: Cell::Number(u64::from(ped.walk)),
-            clear: Cell::Number(u64::from(ped.clear)),
-            width: tenths(ped.width.get()),
-            setback: tenths(ped.setback.get()),
-            short: flag(ped.short),
-            lead: Cell::Number(u64::from(ped.lead.get())),
-        },
-    }
-}
-
-fn phase_cells(p: PhaseNo, phase: &Phase) -> [Cell<'_>; 14] {
-    let PedCells {
-        walk,
-        clear,
-        width,
-        setback,
-        short,
-        lead,
-    } = ped_cells(&phase.ped);
+/// The first cells of a phase; those of its pedestrian part follow.
+fn phase_cells(p: PhaseNo, phase: &Phase) -> [Cell<'static>; 7] {
     [
         Cell::Head(p.get()),
         Cell::Number(u64::from(phase.ring.get())),
@@ -196,14 +137,29 @@ fn phase_cells(p: PhaseNo, phase: &Phase) -> [Cell<'_>; 14] {
         Cell::Number(u64::from(phase.max1)),
         tenths(u32::from(phase.yellow)),
         tenths(u32::from(phase.red)),
-        walk,
-        clear,
-        width,
-        setback,
-        short,
-        lead,
-        Cell::Phases(phase.mates.as_slice()),
     ]
+}
+
+/// The cells of a phase's pedestrian part, or a dash in each where there is none.
+fn ped_cells(ped: &Option<Ped>) -> [Cell<'static>; 6] {
+    match ped {
+        None => [
+            Cell::Dash,
+            Cell::Dash,
+            Cell::Dash,
+            Cell::Dash,
+            Cell::Words("-"),
+            Cell::Dash,
+        ],
+        Some(ped) => [
+            Cell::Number(u64::from(ped.walk)),
+            Cell::Number(u64::from(ped.clear)),
+            tenths(ped.width.get()),
+            tenths(ped.setback.get()),
+            flag(ped.short),
+            Cell::Number(u64::from(ped.lead.get())),
+        ],
+    }
 }
 
 /// The cells of a row of the set, in the order of its table's columns.
@@ -214,9 +170,18 @@ pub(crate) fn cells_of<'a>(
 ) -> Result<Vec<Cell<'a>>, AllocError> {
     let mut cells = Vec::new(alloc);
     match row {
-        Row::Phase(p, phase) => cells.extend_from_slice(&phase_cells(*p, phase))?,
+        Row::Phase(p, phase) => {
+            cells.extend_from_slice(&phase_cells(*p, phase))?;
+            cells.extend_from_slice(&ped_cells(&phase.ped))?;
+            cells.extend_from_slice(&[Cell::Phases(phase.mates.as_slice())])?;
+        }
         Row::Seq(n, ring, seq) => cells.extend_from_slice(&sequence_cells(*n, *ring, seq))?,
-        Row::Split(n, p, split) => cells.extend_from_slice(&split_cells(set, *n, *p, split))?,
+        Row::Split(n, p, split) => {
+            cells.extend_from_slice(&split_cells(*n, *p, split))?;
+            cells.extend_from_slice(&need_cells(set, *p, split))?;
+            let mode = Cell::Words(mode_words(split.mode));
+            cells.extend_from_slice(&[mode, flag(split.coord)])?;
+        }
         Row::Pattern(n, pattern) => cells.extend_from_slice(&pattern_cells(set, *n, pattern))?,
     }
     Ok(cells)

@@ -1,7 +1,7 @@
 //! The tables of a plan, each row with the remarks on it below.
 
-use super::plan_rows::{KINDS, Kind, cells_of, columns_of, kind_of, name_of};
-use super::table::{Table, close_table, open_table, push_none, push_row};
+use super::plan_rows::{KINDS, Kind, cells_of, kind_of, table_of};
+use super::table::{close_table, open_table, push_none, push_row};
 use safe_markup::Markup;
 use signal_plans::{Scope, Warning};
 use signal_records::{Row, TimingSet};
@@ -60,15 +60,8 @@ fn push_kind(
     remarks: &Remarks<'_>,
     rows: &[Row],
 ) -> fmt::Result {
-    let name = name_of(kind);
-    let columns = columns_of(kind);
-    open_table(
-        page,
-        &Table {
-            whose,
-            ..Table::new(name, columns)
-        },
-    )?;
+    let (name, columns) = table_of(kind);
+    open_table(page, name, whose, &[], columns)?;
     if !rows.iter().any(|row| kind_of(row) == kind) {
         push_none(page, columns.len())?;
     }

@@ -1,64 +1,48 @@
 //! What a plan says of its splits beyond their rows: needs, and the phases that are coordinated.
 
-use super::cell::{Cell, Tenths};
+use super::cell::{Cell, Tenths, tenths};
 use super::phases::PhaseSet;
 use signal_records::{Phase, PhaseNo, Split, SplitMode, SplitNo, TimingSet, need};
-use signal_rules::{NeedPart, has_phase, is_coordinated, need_if_called, phase_at, split_at};
+use signal_rules::{
+    NeedPart, SplitNeed, has_phase, is_coordinated, need_if_called, phase_at, split_at,
+};
 
-fn tenths(n: u32) -> Cell<'static> {
-    Cell::Tenths(Tenths(i64::from(n)))
-}
-
-/// What phase `p` needs of its split, and what the split has to spare; below zero where the need is
-/// longer. Empty where the mode omits the phase or the plan does not have it.
-pub(crate) fn need_cells(
-    set: &TimingSet,
-    p: PhaseNo,
-    split: &Split,
-) -> (Cell<'static>, Cell<'static>) {
-    let Split { time, mode, .. } = *split;
-    match (mode, phase_at(set, p)) {
-        (SplitMode::PhaseOmitted, _) | (_, None) => (Cell::Empty, Cell::Empty),
-        (_, Some(phase)) => {
-            let need = i64::from(need(phase, mode));
-            let spare = 10 * i64::from(time) - need;
-            (Cell::Tenths(Tenths(need)), Cell::Tenths(Tenths(spare)))
-        }
-    }
-}
-
-fn part_word(part: NeedPart) -> &'static str {
-    match part {
+/// The part that governs a need, and what a split of so many tenths of a second is short of it.
+fn governs_cell(need: SplitNeed, time: u32) -> Cell<'static> {
+    let part = match need.governs {
         NeedPart::Green => "green",
         NeedPart::Walk => "walk",
-    }
-}
-
-/// What a phase with a pedestrian part needs of a split of so many tenths if the walk is called, and
-/// the part that governs that need, with what the split is short of it.
-fn walk_cells(time: u32, phase: &Phase) -> (Cell<'static>, Cell<'static>) {
-    let need = need_if_called(phase);
-    let part = part_word(need.governs);
-    let governs = if time < need.tenths {
+    };
+    if time < need.tenths {
         Cell::Short(part, Tenths(i64::from(need.tenths - time)))
     } else {
         Cell::Words(part)
-    };
-    (tenths(need.tenths), governs)
+    }
 }
 
-/// What phase `p` needs of its split if the walk is called, and what governs that need. Empty where
-/// the mode omits the phase or the plan does not have it.
-pub(crate) fn called_cells(
-    set: &TimingSet,
-    p: PhaseNo,
-    split: &Split,
-) -> (Cell<'static>, Cell<'static>) {
+/// The needs of a phase in a split of so many tenths of a second: what it needs, what the split has
+/// to spare, below zero where the need is longer, what it needs if the walk is called, and the part
+/// that governs that.
+fn cells_of_needs(phase: &Phase, mode: SplitMode, time: u32) -> [Cell<'static>; 4] {
+    let need = need(phase, mode);
+    let spare = Cell::Tenths(Tenths(i64::from(time) - i64::from(need)));
+    if phase.ped.is_none() {
+        return [tenths(need), spare, Cell::Dash, Cell::Words("-")];
+    }
+    let called = need_if_called(phase);
+    let governs = governs_cell(called, time);
+    [tenths(need), spare, tenths(called.tenths), governs]
+}
+
+/// The needs of phase `p` in its split. Empty where the mode omits the phase or the plan does not
+/// have it.
+pub(crate) fn need_cells(set: &TimingSet, p: PhaseNo, split: &Split) -> [Cell<'static>; 4] {
     let Split { time, mode, .. } = *split;
     match (mode, phase_at(set, p)) {
-        (SplitMode::PhaseOmitted, _) | (_, None) => (Cell::Empty, Cell::Empty),
-        (_, Some(phase)) if phase.ped.is_none() => (Cell::Dash, Cell::Words("-")),
-        (_, Some(phase)) => walk_cells(10 * u32::from(time), phase),
+        (SplitMode::PhaseOmitted, _) | (_, None) => {
+            [Cell::Empty, Cell::Empty, Cell::Empty, Cell::Empty]
+        }
+        (_, Some(phase)) => cells_of_needs(phase, mode, 10 * u32::from(time)),
     }
 }
 

@@ -11,52 +11,36 @@ pub(crate) enum Column {
     Words(&'static str),
 }
 
-/// A table up to its rows. `whose` stands behind its name; `first` is a column before the others.
-#[derive(Clone, Copy)]
-pub(crate) struct Table {
-    pub(crate) name: &'static str,
-    pub(crate) whose: &'static str,
-    pub(crate) first: Option<Column>,
-    pub(crate) columns: &'static [Column],
-}
-
-impl Table {
-    pub(crate) fn new(name: &'static str, columns: &'static [Column]) -> Table {
-        Table {
-            name,
-            whose: "",
-            first: None,
-            columns,
+fn push_headings(page: &mut Markup, columns: &[Column]) -> fmt::Result {
+    for column in columns {
+        match *column {
+            Column::Numbers(heading) => page.tagged("<th scope='col'>", &heading, "</th>")?,
+            Column::Words(heading) => {
+                page.tagged("<th scope='col' class='w'>", &heading, "</th>")?;
+            }
         }
     }
+    Ok(())
 }
 
-fn push_heading(page: &mut Markup, column: Column) -> fmt::Result {
-    match column {
-        Column::Numbers(heading) => page.tagged("<th scope='col'>", &heading, "</th>"),
-        Column::Words(heading) => page.tagged("<th scope='col' class='w'>", &heading, "</th>"),
-    }
-}
-
-/// Opens a table up to its rows, in a box that scrolls where the page is narrow.
-pub(crate) fn open_table(page: &mut Markup, table: &Table) -> fmt::Result {
-    let Table {
-        name,
-        whose,
-        first,
-        columns,
-    } = *table;
+/// Opens a table up to its rows, in a box that scrolls where the page is narrow. `whose` stands
+/// behind its name, and the first columns before the others.
+pub(crate) fn open_table(
+    page: &mut Markup,
+    name: &'static str,
+    whose: &'static str,
+    first: &[Column],
+    columns: &[Column],
+) -> fmt::Result {
     page.own("<div class='scroll' role='group' tabindex='0' aria-label='")?;
-    write!(page, "{name}{whose}")?;
+    page.own(name)?;
+    page.own(whose)?;
     page.own("'>\n<table>\n<caption>")?;
-    write!(page, "{name}{whose}")?;
+    page.own(name)?;
+    page.own(whose)?;
     page.own("</caption>\n<thead><tr>")?;
-    if let Some(first) = first {
-        push_heading(page, first)?;
-    }
-    for column in columns {
-        push_heading(page, *column)?;
-    }
+    push_headings(page, first)?;
+    push_headings(page, columns)?;
     page.own("</tr></thead>\n<tbody>")
 }
 
