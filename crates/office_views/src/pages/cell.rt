@@ -48,7 +48,7 @@ pub(crate) enum Cell<'a> {
 }
 
 /// A number in tenths.
-pub(crate) fn tenths(n: u32) -> Cell<'static> {
+pub(crate) fn in_tenths(n: u32) -> Cell<'static> {
     Cell::Tenths(Tenths(i64::from(n)))
 }
 

@@ -1,6 +1,6 @@
 //! The rows of a timing set as rows of tables.
 
-use super::cell::{Cell, tenths};
+use super::cell::{Cell, in_tenths};
 use super::splits::{coordinated_in, need_cells};
 use super::table::Column;
 use signal_records::{
@@ -133,10 +133,10 @@ fn phase_cells(p: PhaseNo, phase: &Phase) -> [Cell<'static>; 7] {
         Cell::Head(p.get()),
         Cell::Number(u64::from(phase.ring.get())),
         Cell::Number(u64::from(phase.min_green)),
-        tenths(u32::from(phase.passage)),
+        in_tenths(u32::from(phase.passage)),
         Cell::Number(u64::from(phase.max1)),
-        tenths(u32::from(phase.yellow)),
-        tenths(u32::from(phase.red)),
+        in_tenths(u32::from(phase.yellow)),
+        in_tenths(u32::from(phase.red)),
     ]
 }
 
@@ -154,8 +154,8 @@ fn ped_cells(ped: &Option<Ped>) -> [Cell<'static>; 6] {
         Some(ped) => [
             Cell::Number(u64::from(ped.walk)),
             Cell::Number(u64::from(ped.clear)),
-            tenths(ped.width.get()),
-            tenths(ped.setback.get()),
+            in_tenths(ped.width.get()),
+            in_tenths(ped.setback.get()),
             flag(ped.short),
             Cell::Number(u64::from(ped.lead.get())),
         ],

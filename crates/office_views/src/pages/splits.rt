@@ -1,6 +1,6 @@
 //! What a plan says of its splits beyond their rows: needs, and the phases that are coordinated.
 
-use super::cell::{Cell, Tenths, tenths};
+use super::cell::{Cell, Tenths, in_tenths};
 use super::phases::PhaseSet;
 use signal_records::{Phase, PhaseNo, Split, SplitMode, SplitNo, TimingSet, need};
 use signal_rules::{
@@ -27,11 +27,11 @@ fn cells_of_needs(phase: &Phase, mode: SplitMode, time: u32) -> [Cell<'static>; 
     let need = need(phase, mode);
     let spare = Cell::Tenths(Tenths(i64::from(time) - i64::from(need)));
     if phase.ped.is_none() {
-        return [tenths(need), spare, Cell::Dash, Cell::Words("-")];
+        return [in_tenths(need), spare, Cell::Dash, Cell::Words("-")];
     }
     let called = need_if_called(phase);
     let governs = governs_cell(called, time);
-    [tenths(need), spare, tenths(called.tenths), governs]
+    [in_tenths(need), spare, in_tenths(called.tenths), governs]
 }
 
 /// The needs of phase `p` in its split. Empty where the mode omits the phase or the plan does not
