@@ -1,5 +1,5 @@
 -- The CSV file of records is read as them.
-use Rattle.std.proofs.Common.{◌≡◌, ℕ, List, map, ap, ◌∙◌, Result, Ok, Err}
+use Rattle.std.proofs.Common.{◌≡◌, ℕ, List, ap, ◌∙◌, Result, Ok, Err}
 use Rattle.std.specs.Prelude.{IfOk}
 use Rattle.csv.specs.Reading.{records as csv_read, default_config}
 use Rattle.office_files.specs.Csv.{csv_text}
