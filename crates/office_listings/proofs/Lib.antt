@@ -1,3 +1,0 @@
-pub mod TableLemmas
-pub mod CsvLemmas
-pub mod ReadBack

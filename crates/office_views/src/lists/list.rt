@@ -1,0 +1,152 @@
+//! Lists: records of cells, printed as CSV or as lines of columns.
+
+ghost use Rattle.std.specs.Prelude.{◌≡◌, true, map, IfOk, string_bytes};
+ghost use Rattle.csv.specs.Records.{fields_of};
+ghost use Rattle.office_views.specs.Lists.{IsReadBack, cell_text};
+
+use cabinet_core::{Date, write_date};
+use csv::ByteRecord;
+use office_files::csv_file;
+use signal_records::NoMemory;
+use std::alloc::{AllocError, Global};
+
+/// What stands in a cell of a list.
+#[derive(Clone, Copy)]
+pub(crate) enum Cell<'a> {
+    Number(u64),
+    Word(&'a str),
+    Day(Date),
+}
+
+/// A column of the lines of a list: the place of its cell in a record, from 0, and the bytes that
+/// it is wide. A longer cell stands whole.
+#[derive(Clone, Copy)]
+pub(crate) enum Column {
+    /// At the right.
+    Right(usize, usize),
+    /// At the left, where a line begins.
+    First(usize, usize),
+    /// At the left after two spaces. A dash stands for an empty cell.
+    Left(usize, usize),
+}
+
+fn text_of(alloc: Global, cell: &Cell<'_>) -> Result<String, NoMemory>
+    ensures { IfOk result (λ text. string_bytes text ≡ cell_text cell.now) }
+{
+    match *cell {
+        Cell::Number(number) => Ok(format!(in alloc; "{number}")?),
+        Cell::Word(word) => Ok(String::from_str(alloc, word)?),
+        Cell::Day(day) => write_date(alloc, day),
+    }
+}
+
+/// The record of these cells.
+pub(crate) fn record_of(alloc: Global, cells: &[Cell<'_>]) -> Result<ByteRecord, NoMemory>
+    ensures { IfOk result (λ row. fields_of row ≡ map cell_text cells.now) }
+{
+    let mut row = ByteRecord::new(alloc);
+    for cell in cells {
+        let text = text_of(alloc, cell)?;
+        row.push_field(text.as_bytes())?;
+    }
+    Ok(row)
+}
+
+fn push_spaces(text: &mut Vec<u8>, width: usize, field: &[u8]) -> Result<(), AllocError> {
+    for _ in field.len()..width {
+        text.push(b' ')?;
+    }
+    Ok(())
+}
+
+/// Appends a field, and spaces up to so many bytes.
+fn push_left(text: &mut Vec<u8>, width: usize, field: &[u8]) -> Result<(), AllocError> {
+    text.extend_from_slice(field)?;
+    push_spaces(text, width, field)
+}
+
+fn push_field(text: &mut Vec<u8>, column: Column, record: &ByteRecord) -> Result<(), AllocError> {
+    match column {
+        Column::Right(place, width) => {
+            let field = record.get(place).unwrap_or(&[]);
+            push_spaces(text, width, field)?;
+            text.extend_from_slice(field)
+        }
+        Column::First(place, width) => push_left(text, width, record.get(place).unwrap_or(&[])),
+        Column::Left(place, width) => {
+            let field = record.get(place).unwrap_or(&[]);
+            text.extend_from_slice(b"  ")?;
+            push_left(text, width, if field.is_empty() { b"-" } else { field })
+        }
+    }
+}
+
+fn push_record(
+    text: &mut Vec<u8>,
+    columns: &[Column],
+    record: &ByteRecord,
+) -> Result<(), AllocError> {
+    for column in columns {
+        push_field(text, *column, record)?;
+    }
+    Ok(text.push(b'\n')?)
+}
+
+/// Appends the line of these cells.
+pub(crate) fn push_line(
+    alloc: Global,
+    text: &mut Vec<u8>,
+    columns: &[Column],
+    cells: &[Cell<'_>],
+) -> Result<(), NoMemory> {
+    let record = record_of(alloc, cells)?;
+    Ok(push_record(text, columns, &record)?)
+}
+
+/// Appends words.
+pub(crate) fn push_words(text: &mut Vec<u8>, words: &str) -> Result<(), AllocError> {
+    text.extend_from_slice(words.as_bytes())
+}
+
+/// A list as lines: its heading, the line of each record, and their count.
+pub(crate) fn print_lines(
+    alloc: Global,
+    heading: &str,
+    columns: &[Column],
+    records: &[ByteRecord],
+) -> Result<Vec<u8>, NoMemory> {
+    let count = records.len();
+    let end = format!(in alloc; "Count {count}\n")?;
+    let mut text = Vec::new(alloc);
+    push_words(&mut text, heading)?;
+    for record in records {
+        push_record(&mut text, columns, record)?;
+    }
+    push_words(&mut text, end.as_str())?;
+    Ok(text)
+}
+
+/// A list as CSV, without a heading. Whatever its words contain, it is read back as its records.
+pub(crate) fn print_csv(alloc: Global, records: &[ByteRecord]) -> Result<Vec<u8>, NoMemory>
+    ensures { IfOk result (λ text. IsReadBack (map fields_of records.now) text.items) }
+{
+    csv_file(alloc, records)
+}
+
+/// A list as CSV without a heading, or as lines of columns below this heading.
+pub(crate) fn print_list(
+    alloc: Global,
+    csv: bool,
+    heading: &str,
+    columns: &[Column],
+    records: &[ByteRecord],
+) -> Result<Vec<u8>, NoMemory>
+    ensures { csv ≡ true →
+        IfOk result (λ text. IsReadBack (map fields_of records.now) text.items) }
+{
+    if csv {
+        print_csv(alloc, records)
+    } else {
+        print_lines(alloc, heading, columns, records)
+    }
+}

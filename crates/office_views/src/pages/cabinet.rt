@@ -1,0 +1,138 @@
+//! The register of a cabinet: the due day, the next free numbers, open orders, closed ones and
+//! inspections, each table with the greatest numbers first.
+
+use super::cell::{Cell, push_date};
+use super::table::{Column, close_table, open_table, push_none, push_row};
+use cabinet_core::{CabinetView, Day, Inspection, Order, UsedLine, due, latest};
+use office_files::push_next_numbers;
+use safe_markup::Markup;
+use signal_records::Interval;
+use std::alloc::{AllocError, Global};
+use std::fmt;
+
+const OPEN_COLUMNS: [Column; 5] = [
+    Column::Numbers("Order"),
+    Column::Words("Opened"),
+    Column::Words("Clerk"),
+    Column::Words("Work"),
+    Column::Words("Lines: parts used (pieces)"),
+];
+
+const CLOSED_COLUMNS: [Column; 7] = [
+    Column::Numbers("Order"),
+    Column::Words("Opened"),
+    Column::Words("Clerk"),
+    Column::Words("Work"),
+    Column::Words("Lines: parts used (pieces)"),
+    Column::Words("Closed"),
+    Column::Words("Closed by"),
+];
+
+const INSPECTION_COLUMNS: [Column; 4] = [
+    Column::Numbers("Inspection"),
+    Column::Words("Day"),
+    Column::Words("Clerk"),
+    Column::Words("Findings"),
+];
+
+/// The cells of an order, with those of its closing, if it is closed.
+fn order_cells<'a>(
+    alloc: Global,
+    lines: &'a [UsedLine],
+    order: &'a Order,
+) -> Result<Vec<Cell<'a>>, AllocError> {
+    let mut cells = Vec::new(alloc);
+    cells.extend_from_slice(&[
+        Cell::Head(order.number.get()),
+        Cell::Day(order.opened.date()),
+        Cell::Name(order.clerk.as_str()),
+        Cell::Name(order.text.as_str()),
+        Cell::Parts(lines, order.number),
+    ])?;
+    if let Some(closing) = &order.closing {
+        let day = Cell::Day(closing.day.date());
+        cells.extend_from_slice(&[day, Cell::Name(closing.closer.as_str())])?;
+    }
+    Ok(cells)
+}
+
+/// Writes the table of the closed orders of a cabinet, or of the open ones.
+fn push_orders(
+    page: &mut Markup,
+    name: &'static str,
+    columns: &[Column],
+    view: &CabinetView,
+    closed: bool,
+) -> fmt::Result {
+    let lines = view.lines.as_slice();
+    let orders = view.orders.as_slice();
+    open_table(page, name, "", &[], columns)?;
+    if !orders.iter().any(|order| order.closing.is_some() == closed) {
+        push_none(page, columns.len())?;
+    }
+    for order in orders.iter().rev() {
+        if order.closing.is_some() == closed {
+            let cells = order_cells(page.alloc(), lines, order)?;
+            push_row(page, "<tr>", &cells, &[])?;
+        }
+    }
+    close_table(page)
+}
+
+fn push_inspections(page: &mut Markup, inspections: &[Inspection]) -> fmt::Result {
+    open_table(page, "Inspections", "", &[], &INSPECTION_COLUMNS)?;
+    if inspections.is_empty() {
+        push_none(page, INSPECTION_COLUMNS.len())?;
+    }
+    for inspection in inspections.iter().rev() {
+        let cells = [
+            Cell::Head(inspection.number.get()),
+            Cell::Day(inspection.day.date()),
+            Cell::Name(inspection.clerk.as_str()),
+            Cell::Name(inspection.text.as_str()),
+        ];
+        push_row(page, "<tr>", &cells, &[])?;
+    }
+    close_table(page)
+}
+
+/// Writes when the next inspection is due, and how many days there are from one inspection to the
+/// next.
+fn push_due_note(page: &mut Markup, interval: Interval, latest: Option<Day>) -> fmt::Result {
+    match latest {
+        None => page.own("<p>It was never inspected.")?,
+        Some(latest) => {
+            page.own("<p>The next inspection is due on <strong>")?;
+            push_date(page, due(latest, interval))?;
+            page.own("</strong>.")?;
+        }
+    }
+    let days = interval.get();
+    page.tagged(" Days from one inspection to the next: ", &days, ".</p>\n")
+}
+
+/// Writes the numbers that the next inspection and the next order may have.
+fn push_next_note(page: &mut Markup, view: &CabinetView) -> fmt::Result {
+    let mut words = String::new(page.alloc());
+    push_next_numbers(&mut words, view)?;
+    page.tagged("<p>", &words, "</p>\n")
+}
+
+/// Writes the section of the cabinet, whose inspections have this interval.
+pub(crate) fn push_cabinet(
+    page: &mut Markup,
+    interval: Interval,
+    view: &CabinetView,
+) -> fmt::Result {
+    let inspections = view.inspections.as_slice();
+    page.own(
+        "<section id='cabinet' aria-labelledby='cabinet-title'>\n\
+         <h2 id='cabinet-title'>The cabinet</h2>\n",
+    )?;
+    push_due_note(page, interval, latest(inspections))?;
+    push_next_note(page, view)?;
+    push_orders(page, "Open orders", &OPEN_COLUMNS, view, false)?;
+    push_orders(page, "Closed orders", &CLOSED_COLUMNS, view, true)?;
+    push_inspections(page, inspections)?;
+    page.own("</section>\n")
+}

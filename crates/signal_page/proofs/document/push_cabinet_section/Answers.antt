@@ -1,9 +1,0 @@
-use Rattle.signal_page.specs.Page.{cabinet_section}
-use Rattle.signal_page.proofs.Chains.{joined}
-use Rattle.signal_page.proofs.document.push_cabinet_section.Goals as goal
-
-pub returns : goal.returns
-unfolding cabinet_section
-returns c =
-    let whole = rw (c.in_ok-push_register.ensures, c.in_ok-push_own.ensures) at c.push_own-2.ensures in
-    simp joined (simp joined at whole)

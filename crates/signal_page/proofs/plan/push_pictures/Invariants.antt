@@ -1,8 +1,0 @@
-use Rattle.std.proofs.Common.{◌≡◌, ◌++◌, string_bytes, take, flat_map}
-use Rattle.signal_page.specs.Nodes.{html}
-use Rattle.signal_page.specs.Plan.{picture_for}
-use Rattle.signal_page.proofs.plan.push_pictures.Given as goal
-
-abbrev pub invariant-loop-row : goal.invariant-loop-row
-invariant-loop-row l =
-    string_bytes l.text ≡ string_bytes l.fn.text ++ html (flat_map (picture_for l.set l.rows) (take l.row-index l.rows))
