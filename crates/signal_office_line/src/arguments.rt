@@ -1,8 +1,8 @@
 //! The arguments that commands take, and how `clap` is told of them.
 
-ghost use Rattle.std.specs.Prelude.{◌≡◌, IfOk, false};
+ghost use Rattle.std.specs.Prelude.{◌≡◌, IfOk, [], false};
 ghost use Rattle.clap.specs.Walk.{rule_of};
-ghost use Rattle.signal_office_line.specs.CommandLine.{ParsesAs, app_for, in_form, in_range, given_as, rule_for};
+ghost use Rattle.signal_office_line.specs.CommandLine.{ParsesAs, app, app_for, in_form, in_range, given_as, rule_for};
 
 use crate::help::{about_of, ending_of, help_of};
 use clap::builder::ValueParser;
@@ -106,6 +106,24 @@ fn arg_of<'a>(
     given_as(in_range(in_form(arg, name, form), range), given)
 }
 
+/// A command without arguments as `clap` takes it, with its help if `helped`; or memory was refused.
+fn bare_command<'a>(
+    alloc: Global,
+    name: &'static str,
+    helped: bool,
+) -> Result<Command<'a>, AllocError>
+    ensures { IfOk result (λ command. ParsesAs command (app (name.now, []))) }
+{
+    let (about, ending) = if helped {
+        (about_of(name), ending_of(name))
+    } else {
+        ("", "")
+    };
+    let shown = format!(in alloc; "signal_office {name}")?;
+    let command = Command::new(alloc, name).about(about).after_help(ending);
+    command.bin_name(shown.as_str())
+}
+
 /// A command with its arguments as `clap` takes it, with its help if `helped`; or memory was
 /// refused.
 pub(crate) fn command_of<'a>(
@@ -116,12 +134,11 @@ pub(crate) fn command_of<'a>(
     ensures { IfOk result (λ command. ParsesAs command (app_for usage.now)) }
 {
     let Usage(name, arguments) = *usage;
-    let (about, ending) = if helped { (about_of(name), ending_of(name)) } else { ("", "") };
-    let shown = format!(in alloc; "signal_office {name}")?;
-    let command = Command::new(alloc, name).about(about).after_help(ending);
-    let mut command = command.bin_name(shown.as_str())?;
+    let bare = bare_command(alloc, name, helped)?;
+    let mut command = bare;
     for argument in arguments {
-        command = command.arg(arg_of(alloc, name, argument, helped)?)?;
+        let arg = arg_of(alloc, name, argument, helped)?;
+        command = command.arg(arg)?;
     }
     Ok(command)
 }

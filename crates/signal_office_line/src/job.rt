@@ -244,6 +244,7 @@ fn help_for<'a>(alloc: Global, words: &'a [&'a str]) -> Result<Error, AllocError
 /// What the words ask for, the first being the program's name: a job; or what a bad word was to be;
 /// or a refusal, or help, of words that state no job; or that memory ran out, the only fault of
 /// words that state one.
+#[tactic(auto, using(crate::proofs::FoundLemmas::none_found))]
 pub fn job_of<'a>(alloc: Global, words: &'a [&'a str]) -> Result<Job<'a>, JobFault>
     ensures { IsFoundInWords (map (λ word. word.now) words.entry.now) result }
 {
