@@ -5,7 +5,7 @@ use Rattle.std.specs.List.{list_all, slice_index_or}
 use Rattle.std.specs.Str.{bytes_eq}
 use Rattle.std.specs.Borrow.{Bor}
 use Rattle.std.proofs.lemmas.Bool.{ne_eqb}
-use Rattle.std.proofs.lemmas.List.{drop_all, drop_more, map_more}
+use Rattle.std.proofs.lemmas.List.{map_more}
 use Rattle.std.proofs.lemmas.Result.{IfOk-weaker}
 use Rattle.clap.proofs.WalkLemmas.{both}
 use Rattle.clap.specs.{declared.builder.command.Command.Command, declared.builder.arg.Arg.Arg, Walk.Rule, Walk.Text, Walk.is_empty, Walk.rule_of, Simple.App, Simple.app_of, Simple.is_simple, Simple.with_rule, Simple.HasMatchesOf, Built.AddsArg, Takes.takes, Values.kind_of}
@@ -13,9 +13,8 @@ use Rattle.clap.specs.{Faults.fault_of, Faults.is_simple_and_free, Kinds.FailsBy
 use Rattle.clap.specs.Adds.{AddsConflicts, AddsRequirements, AddsRequiredUnless}
 use Rattle.clap.specs.declared.builder.arg.ArgPredicate.{ArgPredicate}
 use Rattle.clap.specs.declared.error.kind.ErrorKind.TheVariants as kind
-use Rattle.signal_office_line.specs.CommandLine.{ParsesAs, Words, app, commands, named_in, tied, usage_as}
+use Rattle.signal_office_line.specs.CommandLine.{ParsesAs, Words, app, commands, named_in, tie}
 use Rattle.signal_office_line.specs.Refusals.{IsAnswer}
-use Rattle.signal_office_line.specs.declared.arguments.Usage.{Usage}
 
 neither : (x y z : Bool) → x ≡ (y || z) → y ≡ false → z ≡ false → x ≡ false
 neither x y z e f g = rw (f, g) at e
@@ -53,18 +52,18 @@ and_none false b e = refl
 none_and : (a b : Bool) → a ≡ false → (a && b) ≡ false
 none_and a b e = rw e refl
 
-pub tied_by_conflict : (old new : Arg) (other : Bor Text) → AddsConflicts old new (other ∷ []) → rule_of new ≡ tied (rule_of old)
+pub tied_by_conflict : (old new : Arg) (other : Bor Text) → AddsConflicts old new (other ∷ []) → rule_of new ≡ tie (rule_of old)
 tied_by_conflict old new other adds =
     ap rule_of adds.0
     ∙ ap (λ free. record (rule_of old) { is_free = free }) (and_none _ _ (none_and _ _ (no_more _ _ _ adds.1)))
 
-pub tied_by_need : (old new : Arg) (other : ArgPredicate × Bor Text) → AddsRequirements old new (other ∷ []) → rule_of new ≡ tied (rule_of old)
+pub tied_by_need : (old new : Arg) (other : ArgPredicate × Bor Text) → AddsRequirements old new (other ∷ []) → rule_of new ≡ tie (rule_of old)
 tied_by_need old new other adds =
     ap rule_of adds.0
     ∙ ap (λ free. record (rule_of old) { is_free = free })
     (and_none _ _ (and_none _ _ (none_and _ _ (no_more _ _ _ adds.1))))
 
-pub tied_by_lack : (old new : Arg) (other : Bor Text) → AddsRequiredUnless old new (other ∷ []) → rule_of new ≡ tied (rule_of old)
+pub tied_by_lack : (old new : Arg) (other : Bor Text) → AddsRequiredUnless old new (other ∷ []) → rule_of new ≡ tie (rule_of old)
 tied_by_lack old new other adds =
     ap rule_of adds.0
     ∙ ap (λ free. record (rule_of old) { is_free = free })
@@ -124,24 +123,6 @@ second_named (program ∷ []) name long e = absurd (omega arith)
 second_named (program ∷ own ∷ rest) name long e =
     let same : name ≡ own = e in
     ap (λ (n : Bor Text). named_with (texts (own ∷ rest)) (find (λ (command : Words). bytes_eq command.0 n.now) commands)) (sym same)
-
--- ---- the command of the table that has a name
-
-abbrev found_in : Text → List Usage → Option Words
-found_in name usages = find (λ (command : Words). bytes_eq command.0 name) (map usage_as usages)
-
-pub found_later : (name : Text) (usages : List Usage) (i : ℕ) (none : Usage) → i < length usages → bytes_eq (get_or usages i none).0.now name ≡ false
-    → found_in name (drop i usages) ≡ found_in name (drop (i + 1) usages)
-found_later name usages i none low other =
-    ap (found_in name) (drop_more usages i none low) ∙ rw other refl
-
-pub found_now : (name : Text) (usages : List Usage) (i : ℕ) (none : Usage) → i < length usages → bytes_eq (get_or usages i none).0.now name ≡ true
-    → found_in name (drop i usages) ≡ Some (usage_as (get_or usages i none))
-found_now name usages i none low this =
-    ap (found_in name) (drop_more usages i none low) ∙ rw this refl
-
-pub found_never : (name : Text) (usages : List Usage) (i : ℕ) → length usages ≤ i → found_in name (drop i usages) ≡ None
-found_never name usages i high = ap (found_in name) (drop_all i usages high)
 
 -- ---- what `clap` answers
 

@@ -46,8 +46,8 @@ abbrev pub choice_at : (least most : ℕ) → Text → List Row → Stated (Opti
 choice_at least most id rows = choice_of least most (first_of id rows)
 
 -- the number from least to most that an argument's word spells, which has to be there
-abbrev pub number_at : (least most : ℕ) → Text → List Row → Stated ℕ
-number_at least most id rows = do
+abbrev pub number_in : (least most : ℕ) → Text → List Row → Stated ℕ
+number_in least most id rows = do
   number ← choice_at least most id rows
   needed number
 
@@ -94,10 +94,11 @@ any_db_of (Some path) rows = do
   wait ← choice_at 0 3_600 (codes "wait") rows
   Ok (Some (record { path = path; wait = unwrap_or wait 10 }))
 
+-- the file of an office, if `--db` gives one
 abbrev pub any_db_at : List Row → Stated (Option OfficeFile)
 any_db_at rows = any_db_of (first_of (codes "db") rows) rows
 
--- the same, of a file that has to be given
+-- the file of an office that `--db` gives, which has to be there
 abbrev pub db_at : List Row → Stated OfficeFile
 db_at rows = do
   db ← any_db_at rows

@@ -42,12 +42,7 @@ pub(crate) enum Given {
 /// An argument of a command: its name, how it is written, the range of its number, if it is to be
 /// one, and whether it has to be given.
 #[derive(Clone, Copy)]
-pub(crate) struct Argument(
-    pub &'static str,
-    pub Form,
-    pub Option<Range>,
-    pub Given,
-);
+pub(crate) struct Argument(pub &'static str, pub Form, pub Option<Range>, pub Given);
 
 /// A command: its name, and its arguments in their order.
 #[derive(Clone, Copy)]

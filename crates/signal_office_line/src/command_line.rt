@@ -39,10 +39,19 @@ const DB_OR_FILE: Argument = Argument("db", Form::Choice("FILE"), None, Given::I
 
 const WAIT: Argument = Argument("wait", Form::Choice("SECONDS"), Some(WAITS), Given::Maybe);
 
-const ANY_WAIT: Argument = Argument("wait", Form::Choice("SECONDS"), Some(WAITS), Given::With("db"));
+const ANY_WAIT: Argument = Argument(
+    "wait",
+    Form::Choice("SECONDS"),
+    Some(WAITS),
+    Given::With("db"),
+);
 
-const WAIT_FOR_DB: Argument =
-    Argument("wait", Form::Choice("SECONDS"), Some(WAITS), Given::Without("file"));
+const WAIT_FOR_DB: Argument = Argument(
+    "wait",
+    Form::Choice("SECONDS"),
+    Some(WAITS),
+    Given::Without("file"),
+);
 
 const PORT: Argument = Argument("port", Form::Choice("N"), Some(PORTS), Given::Always);
 
@@ -108,8 +117,12 @@ const PLAN: Argument = Argument("PLAN", Form::Word, None, Given::Always);
 
 const OTHER_OR_DB: Argument = Argument("OTHER", Form::Word, None, Given::Unless("db"));
 
-const PATTERN_OR_FILE: Argument =
-    Argument("PATTERN", Form::Word, Some(PATTERNS), Given::InsteadOf("file"));
+const PATTERN_OR_FILE: Argument = Argument(
+    "PATTERN",
+    Form::Word,
+    Some(PATTERNS),
+    Given::InsteadOf("file"),
+);
 
 /// The commands with their arguments, in the order of the help. What the help says of them stands
 /// in `help.rt`.
@@ -146,8 +159,14 @@ const COMMANDS: &[Usage] = &[
         ],
     ),
     Usage("abandon", &[DB, WAIT, CLERK, ID]),
-    Usage("compare", &[ANY_DB, ANY_WAIT, CSV, PADDED, PLAN, OTHER_OR_DB]),
-    Usage("diagram", &[DB_OR_FILE, WAIT_FOR_DB, FILE, PADDED, ID, PATTERN_OR_FILE]),
+    Usage(
+        "compare",
+        &[ANY_DB, ANY_WAIT, CSV, PADDED, PLAN, OTHER_OR_DB],
+    ),
+    Usage(
+        "diagram",
+        &[DB_OR_FILE, WAIT_FOR_DB, FILE, PADDED, ID, PATTERN_OR_FILE],
+    ),
     Usage("page", &[DB_OR_FILE, WAIT_FOR_DB, FILE, PADDED, ID_OR_FILE]),
 ];
 

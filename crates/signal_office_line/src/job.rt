@@ -7,7 +7,7 @@ ghost use Rattle.clap.specs.Values.{kind_of};
 ghost use Rattle.clap.specs.Walk.{rows_of};
 ghost use Rattle.signal_office_line.specs.CommandLine.{app_for};
 ghost use Rattle.signal_office_line.specs.Job.{job_at};
-ghost use Rattle.signal_office_line.specs.Refusals.{IsAnswer, IsFoundInWords, IsJobFound, IsFaultOf};
+ghost use Rattle.signal_office_line.specs.Refusals.{IsAnswer, IsFaultOf, IsFoundInWords, IsJobFound, IsJudged};
 
 use crate::arguments::{Usage, command_of};
 use crate::command_line::{named_in, program};
@@ -208,7 +208,7 @@ fn refusal_of(alloc: Global, usage: &Usage) -> Result<Error, AllocError>
 }
 
 /// The fault to report where a refusal was asked for.
-fn fault_of(refusal: Result<Error, AllocError>) -> JobFault
+fn fault_for(refusal: Result<Error, AllocError>) -> JobFault
     ensures { IsFaultOf refusal result }
 {
     match refusal {
@@ -218,17 +218,27 @@ fn fault_of(refusal: Result<Error, AllocError>) -> JobFault
 }
 
 /// The job that the values of a command state, or the fault to report of values that state none.
-fn job_in<'a>(
-    alloc: Global,
-    usage: &Usage,
-    matches: &ArgMatches<'a>,
-) -> Result<Job<'a>, JobFault>
+fn job_in<'a>(alloc: Global, usage: &Usage, matches: &ArgMatches<'a>) -> Result<Job<'a>, JobFault>
     ensures { IsJobFound (job_at usage.now.0.now (rows_of (found_of matches.now))) result }
 {
     match job_at(usage.0, matches) {
         Ok(job) => Ok(job),
         Err(NoJob::Bad(bad)) => Err(JobFault::Bad(bad)),
-        Err(NoJob::Unstated) => Err(fault_of(refusal_of(alloc, usage))),
+        Err(NoJob::Unstated) => Err(fault_for(refusal_of(alloc, usage))),
+    }
+}
+
+/// What the words of a command ask for, by what `clap` answered to them.
+fn judged<'a>(
+    alloc: Global,
+    usage: &Usage,
+    answer: Result<ArgMatches<'a>, Error>,
+) -> Result<Job<'a>, JobFault>
+    ensures { IsJudged usage.now.0.now answer.entry result }
+{
+    match answer {
+        Ok(matches) => job_in(alloc, usage, &matches),
+        Err(error) => Err(JobFault::from(error)),
     }
 }
 
@@ -242,17 +252,13 @@ fn help_for<'a>(alloc: Global, words: &'a [&'a str]) -> Result<Error, AllocError
 }
 
 /// What the words ask for, the first being the program's name: a job; or what a bad word was to be;
-/// or a refusal, or help, of words that state no job; or that memory ran out, the only fault of
-/// words that state one.
+/// or the refusal, or the help, of words that state no job; or that memory ran out.
 #[tactic(auto, using(crate::proofs::FoundLemmas::none_found))]
 pub fn job_of<'a>(alloc: Global, words: &'a [&'a str]) -> Result<Job<'a>, JobFault>
     ensures { IsFoundInWords (map (λ word. word.now) words.entry.now) result }
 {
     let Some((usage, words)) = named_in(words) else {
-        return Err(fault_of(help_for(alloc, words)));
+        return Err(fault_for(help_for(alloc, words)));
     };
-    match matches_of(alloc, &usage, words) {
-        Ok(matches) => job_in(alloc, &usage, &matches),
-        Err(error) => Err(JobFault::from(error)),
-    }
+    judged(alloc, &usage, matches_of(alloc, &usage, words))
 }

@@ -5,14 +5,14 @@ ghost use Rattle.std.specs.Prelude.{◌≡◌};
 ghost use Rattle.clap.specs.Matches.{found_of};
 ghost use Rattle.clap.specs.Walk.{rows_of};
 ghost use Rattle.signal_office_line.specs.Job.{add_at, compare_at, diagram_at, edit_at, export_at, import_at, job_at, office_of, overdue_at, page_at, pages_at, request_at, serve_at};
-ghost use Rattle.signal_office_line.specs.Values.{number_at};
+ghost use Rattle.signal_office_line.specs.Values.{number_in};
 
 use crate::command_line::{COUNTS, IDS, INTERVALS, PATTERNS, PORTS};
 use crate::job::{BadWord, Edit, Folder, Job, NoJob, Request};
 use crate::shows::{PlanShown, Shown, View};
 use crate::values::{
-    any_csv, any_day, any_intersection, any_office_file, any_part, any_path, choice, csv_file, day, flag,
-    intersection, name, number, office_file, path,
+    any_csv, any_day, any_intersection, any_office_file, any_part, any_path, choice, csv_file, day,
+    flag, intersection, name, number, office_file, path,
 };
 use clap::ArgMatches;
 use signal_values::{Interval, PatternNo};
@@ -185,7 +185,7 @@ fn compare<'a>(matches: &ArgMatches<'a>) -> Result<Job<'a>, NoJob>
 
 /// The number of a pattern, 1 to 48, in an argument; `Unstated` says that there is none.
 fn pattern(matches: &ArgMatches<'_>, id: &str) -> Result<PatternNo, NoJob>
-    ensures { result ≡ number_at 1 48 id.now (rows_of (found_of matches.now)) }
+    ensures { result ≡ number_in 1 48 id.now (rows_of (found_of matches.now)) }
 {
     PatternNo::new(number(matches, id, PATTERNS)?).ok_or(NoJob::Unstated)
 }

@@ -1,7 +1,7 @@
 use Rattle.std.proofs.Common.{ap, ◌∙◌}
 use Rattle.std.proofs.lemmas.Result.{IfOk-weaker}
 use Rattle.clap.specs.declared.builder.arg.Arg.{Arg}
-use Rattle.signal_office_line.specs.CommandLine.{tied}
+use Rattle.signal_office_line.specs.CommandLine.{tie}
 use Rattle.signal_office_line.proofs.CommandLemmas.{tied_by_conflict, tied_by_lack, tied_by_need}
 use Rattle.signal_office_line.proofs.arguments.given_as.Goals as goal
 
@@ -30,6 +30,6 @@ returns-in_ok-required_unless_present-in-InsteadOf c =
     rw c.in-InsteadOf.is
     (IfOk-weaker c.conflicts_with-in-InsteadOf.result _ _
     (λ r adds. (
-      tied_by_conflict lacking r _ adds ∙ ap tied (tied_by_lack c.args.arg lacking _ lacks),
+      tied_by_conflict lacking r _ adds ∙ ap tie (tied_by_lack c.args.arg lacking _ lacks),
       ap (λ (arg : Arg). arg.global) adds.0 ∙ ap (λ (arg : Arg). arg.global) lacks.0,
     )) c.conflicts_with-in-InsteadOf.ensures)
