@@ -1,5 +1,4 @@
-use Rattle.std.proofs.Common.{◌≤◌, ◌<◌, ◌^◌, sym, arith}
-use Rattle.std.specs.Str.Parse.{digits_value, without_leading_plus}
+use Rattle.std.proofs.Common.{sym, arith}
 use Rattle.signal_office_line.proofs.NumberLemmas.{no_number, the_number}
 use Rattle.signal_office_line.proofs.values.number_of.Goals as goal
 
