@@ -1,12 +1,13 @@
--- Why a command line states no job.
-use Rattle.std.specs.Prelude.{ℕ, ◌≡◌, ◌≢◌, ◌⊎◌, ⊤, true, List, Some, None, Result, Ok, Err, IfOk, IfErr}
+-- What is found in the words of a command line: a job, or why they state none.
+use Rattle.std.specs.Prelude.{◌≡◌, ◌≢◌, ◌⊎◌, ⊤, true, List, Option, Some, None, Result, Ok, Err, IfOk, IfErr}
 use Rattle.std.specs.declared.alloc.AllocError.{AllocError}
-use Rattle.clap.specs.Faults.{fault_of}
-use Rattle.clap.specs.Kinds.{FailsBy, Kinds}
-use Rattle.clap.specs.Simple.{subcommand_of, subcommand_rows_of}
+use Rattle.clap.specs.Faults.{fault_of, is_simple_and_free}
+use Rattle.clap.specs.Kinds.{FailsBy}
+use Rattle.clap.specs.Matches.{found_of}
+use Rattle.clap.specs.Simple.{App, matches_of}
 use Rattle.clap.specs.Takes.{takes}
 use Rattle.clap.specs.Values.{kind_of}
-use Rattle.clap.specs.Walk.{Row, Text, first_of}
+use Rattle.clap.specs.Walk.{Text, rows_of}
 use Rattle.clap.specs.declared.error.Error.{Error}
 use Rattle.clap.specs.declared.error.kind.ErrorKind.TheVariants as kind
 use Rattle.clap.specs.declared.parser.matches.ArgMatches.{ArgMatches}
@@ -14,28 +15,27 @@ use Rattle.signal_office_line.specs.declared.job.Job.{Job}
 use Rattle.signal_office_line.specs.declared.job.JobFault.{JobFault}
 use Rattle.signal_office_line.specs.declared.job.JobFault.TheVariants as fault
 use Rattle.signal_office_line.specs.declared.job.NoJob.TheVariants.{Unstated, Bad}
-use Rattle.signal_office_line.specs.CommandLine.{signal_app}
-use Rattle.signal_office_line.specs.Job.{Stated, job_in, number_from}
+use Rattle.signal_office_line.specs.CommandLine.{Words, app, named_in}
+use Rattle.signal_office_line.specs.Job.{job_at}
+use Rattle.signal_office_line.specs.Values.{Stated}
 
--- the kinds of refusal that `clap` answers to the words, help that they ask for among them, beside out
--- of memory, which may come of any words; words that `clap` takes have none
-unfoldable pub clap_refusals : List Text → Kinds
-clap_refusals words = fault_of signal_app words
+-- what `clap` answers to the words of a command: the values that it finds in them, or an error. Words that it takes fail only for want of
+-- memory; where no argument of the command is tied to another, `fault_of` lists the kinds of refusal, none where it takes the words.
+pub record IsAnswer (app : App) (words : List Text) (answer : Result ArgMatches Error) : Type 0 where
+  pub found : IfOk answer (λ matches. rows_of (found_of matches) ≡ matches_of app words)
+  pub kinds : is_simple_and_free app ≡ true → FailsBy (fault_of app words) answer
+  pub passes : IfErr answer (λ error. takes app words ≡ true → kind_of error ≡ kind.OutOfMemory)
 
--- an error of `clap` is reported as the refusal that it is, but out of memory as NoMemory
+-- an error of `clap` is reported as the refusal, or the help, that it is, but out of memory as NoMemory
 abbrev pub IsToldAs : Error → JobFault → Type 0
 IsToldAs error told =
     ((kind_of error ≡ kind.OutOfMemory) × (told ≡ fault.NoMemory))
     ⊎ ((kind_of error ≢ kind.OutOfMemory) × (told ≡ fault.Refused error))
 
--- this word of an argument is given, and spells no number from least to most
-abbrev pub IsWrongNumber : (id : Text) → (least most : ℕ) → (word : Text) → List Row → Type 0
-IsWrongNumber id least most word rows = (first_of id rows ≡ Some word) × (number_from least most id rows ≡ None)
-
 -- the refusal that `clap` was asked to make is reported, or NoMemory where memory for it was refused
-abbrev pub IsRefusalTold : Result Error AllocError → JobFault → Type 0
-IsRefusalTold (Ok error) told = told ≡ fault.Refused error
-IsRefusalTold (Err no_memory) told = told ≡ fault.NoMemory
+abbrev pub IsFaultOf : Result Error AllocError → JobFault → Type 0
+IsFaultOf (Ok error) told = IsToldAs error told
+IsFaultOf (Err no_memory) told = told ≡ fault.NoMemory
 
 -- the job that a command and its values state is found; one bad word is reported as it is; values that
 -- state nothing are refused as such, or memory for that refusal ran out
@@ -46,18 +46,20 @@ IsJobFound (Err Unstated) (Err (fault.Refused error)) = kind_of error ≡ kind.V
 IsJobFound (Err Unstated) (Err fault.NoMemory) = ⊤
 IsJobFound _ _ = ⊥
 
--- what is reported of the words, by what `clap` answered to them: what the command and values that it
--- found state, or its error
-abbrev pub IsJudged : Result ArgMatches Error → Result Job JobFault → Type 0
-IsJudged (Ok matches) result = IsJobFound (job_in (subcommand_rows_of matches)) result
-IsJudged (Err error) (Err told) = IsToldAs error told
-IsJudged (Err error) (Ok job) = ⊥
+-- what is reported by what `clap` answered to the words of a command: what the values that it found state, or its error
+abbrev pub IsJudged : Text → Result ArgMatches Error → Result Job JobFault → Type 0
+IsJudged name (Ok matches) result = IsJobFound (job_at name (rows_of (found_of matches))) result
+IsJudged name (Err error) (Err told) = IsToldAs error told
+IsJudged name (Err error) (Ok job) = ⊥
 
--- WHAT IS FOUND IN WORDS: if `clap` takes the words, it answers with the command that they name and its values, or that memory ran out; else with one of their refusals, or
--- that memory ran out. Of this answer comes the job that the values state, or why they state none.
-pub record IsFoundInWords (words : List Text) (result : Result Job JobFault) : Type 0 where
-  pub answer : Result ArgMatches Error
-  pub found : IfOk answer (λ matches. subcommand_rows_of matches ≡ subcommand_of signal_app words)
-  pub kinds : FailsBy (clap_refusals words) answer
-  pub passes : IfErr answer (λ error. takes signal_app words ≡ true → kind_of error ≡ kind.OutOfMemory)
-  pub judged : IsJudged answer result
+-- what is found in the words of a command, or in words that name none: these state no job
+abbrev pub IsFound : Option (Words × List Text) → Result Job JobFault → Type 0
+IsFound (Some named) result = (answer : Result ArgMatches Error) × IsAnswer (app named.0) named.1 answer × IsJudged named.0.0 answer result
+IsFound None (Err (fault.Bad bad)) = ⊥
+IsFound None (Err told) = ⊤
+IsFound None (Ok job) = ⊥
+
+-- WHAT IS FOUND IN WORDS: the first behind the program's name is that of a command, and `clap` finds the values of its arguments in the others. The job is the
+-- one that this command and these values state. There is none where `clap` refuses the words, or where they name no command.
+abbrev pub IsFoundInWords : List Text → Result Job JobFault → Type 0
+IsFoundInWords words result = IsFound (named_in words) result

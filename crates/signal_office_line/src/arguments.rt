@@ -1,96 +1,139 @@
 //! The arguments that commands take, and how `clap` is told of them.
 
-ghost use Rattle.std.specs.Prelude.{◌≡◌, IfOk, false, map};
-ghost use Rattle.clap.specs.Simple.{App};
+ghost use Rattle.std.specs.Prelude.{◌≡◌, IfOk, [], false};
 ghost use Rattle.clap.specs.Walk.{rule_of};
-ghost use Rattle.signal_office_line.specs.CommandLine.{ParsesAs, app_for, rule_for, with_command, with_each};
+ghost use Rattle.signal_office_line.specs.CommandLine.{ParsesAs, app, app_for, in_form, in_range, given_as, rule_for};
 
 use crate::help::{about_of, ending_of, help_of};
+use clap::builder::ValueParser;
 use clap::{Arg, ArgAction, Command};
 use std::alloc::{AllocError, Global};
 
-/// How an argument is given.
+/// The least and the most of a number.
+#[derive(Clone, Copy)]
+pub(crate) struct Range(pub u32, pub u32);
+
+/// How an argument is written.
 #[derive(Clone, Copy)]
 pub(crate) enum Form {
-    /// A word that has to be given.
+    /// A word.
     Word,
-    /// A word that may be left out.
-    SecondWord,
     /// `--NAME`, without a value.
     Flag,
-    /// `--NAME VALUE`, which has to be given, with what the help calls its value.
-    Needed(&'static str),
-    /// `--NAME VALUE`, which may be left out, with what the help calls its value.
+    /// `--NAME VALUE`, with what the help calls its value.
     Choice(&'static str),
 }
 
-/// An argument of a command: its name, how it is given, and the least and the most of its number,
-/// if it is to be one.
+/// Whether an argument has to be given.
 #[derive(Clone, Copy)]
-pub(crate) struct Argument(pub &'static str, pub Form, pub Option<(u32, u32)>);
+pub(crate) enum Given {
+    Always,
+    Maybe,
+    /// Only with the argument of this name.
+    With(&'static str),
+    /// Not with the argument of this name.
+    Without(&'static str),
+    /// Always, but where the argument of this name is given it may be left out.
+    Unless(&'static str),
+    /// Either this or the argument of this name, not both.
+    InsteadOf(&'static str),
+}
+
+/// An argument of a command: its name, how it is written, the range of its number, if it is to be
+/// one, and whether it has to be given.
+#[derive(Clone, Copy)]
+pub(crate) struct Argument(pub &'static str, pub Form, pub Option<Range>, pub Given);
 
 /// A command: its name, and its arguments in their order.
 #[derive(Clone, Copy)]
 pub(crate) struct Usage(pub &'static str, pub &'static [Argument]);
 
-/// An argument of a command as `clap` takes it, with its help.
-fn arg_of<'a>(alloc: Global, command: &str, argument: &Argument) -> Arg<'a>
-    ensures rule { rule_of result ≡ rule_for argument.now }
-    ensures local { result.global ≡ false }
+/// The argument, written in a form under its name.
+fn in_form<'a>(arg: Arg<'a>, name: &'a str, form: Form) -> Arg<'a>
+    ensures rule { rule_of result ≡ in_form form name.entry.now (rule_of arg.entry) }
+    ensures local { result.global ≡ arg.entry.global }
 {
-    let Argument(name, form, ..) = *argument;
-    let is_needed = matches!(form, Form::Word | Form::Needed(_));
-    let help = help_of(command, name);
-    let arg = Arg::new(alloc, name).help(help).required(is_needed);
     match form {
-        Form::Word | Form::SecondWord => arg,
+        Form::Word => arg,
         Form::Flag => arg.long(name).action(ArgAction::SetTrue),
-        Form::Needed(value) | Form::Choice(value) => arg.long(name).value_name(value),
+        Form::Choice(value) => arg.long(name).value_name(value),
     }
 }
 
-/// A command with its arguments and help, as `clap` takes it; or memory for it was refused.
-pub(crate) fn command_of<'a>(alloc: Global, usage: &Usage) -> Result<Command<'a>, AllocError>
-    ensures { IfOk result (λ c. ParsesAs c (app_for usage.now)) }
+/// The argument, whose word is a number of a range, if one is given.
+fn in_range<'a>(arg: Arg<'a>, range: Option<Range>) -> Arg<'a>
+    ensures rule { rule_of result ≡ in_range range (rule_of arg.entry) }
+    ensures local { result.global ≡ arg.entry.global }
+{
+    let Some(Range(least, most)) = range else {
+        return arg;
+    };
+    arg.value_parser(ValueParser::unsigned(u64::from(least), u64::from(most)))
+}
+
+/// The argument, as it has to be given; or memory for that was refused.
+fn given_as<'a>(arg: Arg<'a>, given: Given) -> Result<Arg<'a>, AllocError>
+    ensures { IfOk result (λ tied. (rule_of tied ≡ given_as given (rule_of arg.entry))
+        × (tied.global ≡ arg.entry.global)) }
+{
+    match given {
+        Given::Always => Ok(arg.required(true)),
+        Given::Maybe => Ok(arg),
+        Given::With(other) => arg.requires_arg(other),
+        Given::Without(other) => arg.conflicts_with(other),
+        Given::Unless(other) => arg.required_unless_present(other),
+        Given::InsteadOf(other) => arg.required_unless_present(other)?.conflicts_with(other),
+    }
+}
+
+/// An argument of a command as `clap` takes it, with its help if `helped`; or memory was refused.
+fn arg_of<'a>(
+    alloc: Global,
+    command: &str,
+    argument: &Argument,
+    helped: bool,
+) -> Result<Arg<'a>, AllocError>
+    ensures { IfOk result (λ arg. (rule_of arg ≡ rule_for argument.now) × (arg.global ≡ false)) }
+{
+    let Argument(name, form, range, given) = *argument;
+    let help = if helped { help_of(command, name) } else { "" };
+    let arg = Arg::new(alloc, name).help(help);
+    given_as(in_range(in_form(arg, name, form), range), given)
+}
+
+/// A command without arguments as `clap` takes it, with its help if `helped`; or memory was refused.
+fn bare_command<'a>(
+    alloc: Global,
+    name: &'static str,
+    helped: bool,
+) -> Result<Command<'a>, AllocError>
+    ensures { IfOk result (λ command. ParsesAs command (app (name.now, []))) }
+{
+    let (about, ending) = if helped {
+        (about_of(name), ending_of(name))
+    } else {
+        ("", "")
+    };
+    let shown = format!(in alloc; "signal_office {name}")?;
+    let command = Command::new(alloc, name).about(about).after_help(ending);
+    command.bin_name(shown.as_str())
+}
+
+/// A command with its arguments as `clap` takes it, with its help if `helped`; or memory was
+/// refused.
+pub(crate) fn command_of<'a>(
+    alloc: Global,
+    usage: &Usage,
+    helped: bool,
+) -> Result<Command<'a>, AllocError>
+    ensures { IfOk result (λ command. ParsesAs command (app_for usage.now)) }
 {
     let Usage(name, arguments) = *usage;
-    let mut command = Command::new(alloc, name)
-        .about(about_of(name))
-        .after_help(ending_of(name));
+    let bare = bare_command(alloc, name, helped)?;
+    let mut command = bare;
     for argument in arguments {
-        command = command.arg(arg_of(alloc, name, argument))?;
+        let arg = arg_of(alloc, name, argument, helped)?;
+        command = command.arg(arg)?;
     }
     Ok(command)
-}
-
-/// The program with one command more, if there was memory for the command. Only this function drops
-/// commands, where memory ran out.
-fn with_command<'a>(
-    program: Command<'a>,
-    command: Result<Command<'a>, AllocError>,
-) -> Result<Command<'a>, AllocError>
-    ensures { (app inner : App) → ParsesAs program.entry app →
-        IfOk command.entry (λ c. ParsesAs c inner) →
-        IfOk result (λ c. ParsesAs c (with_command app inner)) }
-{
-    match command {
-        Ok(command) => program.subcommand(command),
-        Err(no_memory) => Err(no_memory),
-    }
-}
-
-/// The program with these commands more, in their order; or memory for them was refused.
-pub(crate) fn with_commands<'a>(
-    alloc: Global,
-    program: Command<'a>,
-    commands: &[Usage],
-) -> Result<Command<'a>, AllocError>
-    ensures { (app : App) → ParsesAs program.entry app →
-        IfOk result (λ c. ParsesAs c (with_each with_command app (map app_for commands.now))) }
-{
-    let mut program = program;
-    for usage in commands {
-        program = with_command(program, command_of(alloc, usage))?;
-    }
-    Ok(program)
 }

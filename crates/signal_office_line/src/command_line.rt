@@ -1,9 +1,10 @@
 //! The words that the program takes.
 
-ghost use Rattle.std.specs.Prelude.{◌≡◌, IfOk, map};
-ghost use Rattle.signal_office_line.specs.CommandLine.{ParsesAs, app_for, commands, signal_app};
+ghost use Rattle.std.specs.Prelude.{◌≡◌, find, map, option_map};
+ghost use Rattle.std.specs.Str.{bytes_eq};
+ghost use Rattle.signal_office_line.specs.CommandLine.{commands, named_in, usage_as};
 
-use crate::arguments::{Argument, Form, Usage, command_of, with_commands};
+use crate::arguments::{Argument, Form, Given, Range, Usage, command_of};
 use clap::Command;
 use std::alloc::{AllocError, Global};
 
@@ -11,82 +12,123 @@ use std::alloc::{AllocError, Global};
 /// the tables.
 const VERSION: &str = "2026-11-28, tables of version 2";
 
-// The arguments of the commands: the name of each, how it is given, and the least and the most of
-// its number, if it is one. ANY_DB, ANY_ID and ANY_RECORDS may be left out, where DB, ID and
-// RECORDS have to be given.
-const DB: Argument = Argument("db", Form::Needed("FILE"), None);
+/// The number of an intersection; also how many are listed at most.
+pub(crate) const IDS: Range = Range(1, 9_999);
 
-const ANY_DB: Argument = Argument("db", Form::Choice("FILE"), None);
+/// The number of a pattern.
+pub(crate) const PATTERNS: Range = Range(1, 48);
 
-pub(crate) const WAIT: Argument = Argument("wait", Form::Choice("SECONDS"), Some((0, 3_600)));
+/// The days from one inspection to the next.
+pub(crate) const INTERVALS: Range = Range(1, 3_650);
 
-const PORT: Argument = Argument("port", Form::Needed("N"), Some((1, 65_535)));
+/// The ports of TCP.
+pub(crate) const PORTS: Range = Range(1, 65_535);
 
-const COUNT: Argument = Argument("count", Form::Choice("N"), Some((1, 1_000_000)));
+/// How many connections a server serves.
+pub(crate) const COUNTS: Range = Range(1, 1_000_000);
 
-const FIRST: Argument = Argument("first", Form::Choice("N"), Some((1, 9_999)));
+/// For how many seconds a file is waited for.
+pub(crate) const WAITS: Range = Range(0, 3_600);
 
-const ON_DAY: Argument = Argument("day", Form::Choice("DAY"), None);
+// The arguments of the commands. Those of one name are given differently.
+const DB: Argument = Argument("db", Form::Choice("FILE"), None, Given::Always);
 
-const UNTIL: Argument = Argument("until", Form::Choice("DAY"), None);
+const ANY_DB: Argument = Argument("db", Form::Choice("FILE"), None, Given::Maybe);
 
-const CLERK: Argument = Argument("clerk", Form::Needed("NAME"), None);
+const DB_OR_FILE: Argument = Argument("db", Form::Choice("FILE"), None, Given::InsteadOf("file"));
 
-const FILE: Argument = Argument("file", Form::Choice("FILE"), None);
+const WAIT: Argument = Argument("wait", Form::Choice("SECONDS"), Some(WAITS), Given::Maybe);
 
-const CSV: Argument = Argument("csv", Form::Flag, None);
+const ANY_WAIT: Argument = Argument(
+    "wait",
+    Form::Choice("SECONDS"),
+    Some(WAITS),
+    Given::With("db"),
+);
 
-const EXPLAIN: Argument = Argument("explain", Form::Flag, None);
+const WAIT_FOR_DB: Argument = Argument(
+    "wait",
+    Form::Choice("SECONDS"),
+    Some(WAITS),
+    Given::Without("file"),
+);
 
-const ADVISE: Argument = Argument("advise", Form::Flag, None);
+const PORT: Argument = Argument("port", Form::Choice("N"), Some(PORTS), Given::Always);
 
-const PADDED: Argument = Argument("padded", Form::Flag, None);
+const COUNT: Argument = Argument("count", Form::Choice("N"), Some(COUNTS), Given::Maybe);
 
-const FORCE: Argument = Argument("force", Form::Flag, None);
+const FIRST: Argument = Argument("first", Form::Choice("N"), Some(IDS), Given::Maybe);
 
-const CHECK: Argument = Argument("check", Form::Flag, None);
+const ON_DAY: Argument = Argument("day", Form::Choice("DAY"), None, Given::Maybe);
 
-const DRAFT: Argument = Argument("draft", Form::Flag, None);
+const UNTIL: Argument = Argument("until", Form::Choice("DAY"), None, Given::Maybe);
 
-const CABINET: Argument = Argument("cabinet", Form::Flag, None);
+const CLERK: Argument = Argument("clerk", Form::Choice("NAME"), None, Given::Always);
 
-const ALL: Argument = Argument("all", Form::Flag, None);
+const FILE: Argument = Argument("file", Form::Choice("FILE"), None, Given::Maybe);
 
-const REPLACE: Argument = Argument("replace", Form::Flag, None);
+const CSV: Argument = Argument("csv", Form::Flag, None, Given::Maybe);
 
-const COMMIT: Argument = Argument("commit", Form::Flag, None);
+const EXPLAIN: Argument = Argument("explain", Form::Flag, None, Given::Maybe);
 
-pub(crate) const ID: Argument = Argument("ID", Form::Word, Some((1, 9_999)));
+const ADVISE: Argument = Argument("advise", Form::Flag, None, Given::Maybe);
 
-const ANY_ID: Argument = Argument("ID", Form::SecondWord, Some((1, 9_999)));
+const PADDED: Argument = Argument("padded", Form::Flag, None, Given::Maybe);
 
-const DAY: Argument = Argument("DAY", Form::Word, None);
+const FORCE: Argument = Argument("force", Form::Flag, None, Given::Maybe);
 
-const INTERVAL: Argument = Argument("INTERVAL", Form::Word, Some((1, 3_650)));
+const CHECK: Argument = Argument("check", Form::Flag, None, Given::Maybe);
 
-const NAME: Argument = Argument("NAME", Form::Word, None);
+const DRAFT: Argument = Argument("draft", Form::Flag, None, Given::Without("cabinet"));
 
-const PART: Argument = Argument("PART", Form::SecondWord, None);
+const CABINET: Argument = Argument("cabinet", Form::Flag, None, Given::Without("all"));
 
-pub(crate) const DIR: Argument = Argument("DIR", Form::Word, None);
+const ALL: Argument = Argument("all", Form::Choice("DIR"), None, Given::Without("draft"));
 
-const TO: Argument = Argument("TO", Form::Word, None);
+const REPLACE: Argument = Argument("replace", Form::Flag, None, Given::With("CSV"));
 
-const RECORDS: Argument = Argument("CSV", Form::Word, None);
+const COMMIT: Argument = Argument("commit", Form::Flag, None, Given::Maybe);
 
-const ANY_RECORDS: Argument = Argument("CSV", Form::SecondWord, None);
+const ID: Argument = Argument("ID", Form::Word, Some(IDS), Given::Always);
 
-const PLAN: Argument = Argument("PLAN", Form::Word, None);
+const ANY_ID: Argument = Argument("ID", Form::Word, Some(IDS), Given::Maybe);
 
-const OTHER: Argument = Argument("OTHER", Form::SecondWord, None);
+const ID_OR_ALL: Argument = Argument("ID", Form::Word, Some(IDS), Given::InsteadOf("all"));
 
-pub(crate) const PATTERN: Argument = Argument("PATTERN", Form::SecondWord, Some((1, 48)));
+const ID_OR_FILE: Argument = Argument("ID", Form::Word, Some(IDS), Given::InsteadOf("file"));
+
+const DAY: Argument = Argument("DAY", Form::Word, None, Given::Always);
+
+const INTERVAL: Argument = Argument("INTERVAL", Form::Word, Some(INTERVALS), Given::Always);
+
+const NAME: Argument = Argument("NAME", Form::Word, None, Given::Always);
+
+const PART: Argument = Argument("PART", Form::Word, None, Given::Maybe);
+
+const DIR: Argument = Argument("DIR", Form::Word, None, Given::Always);
+
+const TO: Argument = Argument("TO", Form::Word, None, Given::Always);
+
+const RECORDS: Argument = Argument("CSV", Form::Word, None, Given::Always);
+
+const RECORDS_OR_COMMIT: Argument = Argument("CSV", Form::Word, None, Given::Unless("commit"));
+
+const PLAN: Argument = Argument("PLAN", Form::Word, None, Given::Always);
+
+const OTHER_OR_DB: Argument = Argument("OTHER", Form::Word, None, Given::Unless("db"));
+
+const PATTERN_OR_FILE: Argument = Argument(
+    "PATTERN",
+    Form::Word,
+    Some(PATTERNS),
+    Given::InsteadOf("file"),
+);
 
 /// The commands with their arguments, in the order of the help. What the help says of them stands
 /// in `help.rt`.
 const COMMANDS: &[Usage] = &[
-    Usage("batch", &[ANY_DB, WAIT]),
-    Usage("serve", &[PORT, COUNT, ANY_DB, WAIT]),
+    Usage("batch", &[ANY_DB, ANY_WAIT]),
+    Usage("serve", &[PORT, COUNT, ANY_DB, ANY_WAIT]),
     Usage("sheet", &[DB, WAIT, ID]),
     Usage("overdue", &[DB, WAIT, FIRST, CSV, DAY]),
     Usage("add", &[DB, WAIT, ID, INTERVAL, NAME]),
@@ -100,7 +142,7 @@ const COMMANDS: &[Usage] = &[
     Usage("migrate", &[DB, WAIT]),
     Usage("backup", &[DB, WAIT, FORCE, TO]),
     Usage("import", &[DB, WAIT, CHECK, UNTIL, PADDED, RECORDS]),
-    Usage("export", &[DB, WAIT, DRAFT, CABINET, ALL, ID]),
+    Usage("export", &[DB, WAIT, DRAFT, CABINET, ALL, ID_OR_ALL]),
     Usage(
         "edit",
         &[
@@ -113,37 +155,35 @@ const COMMANDS: &[Usage] = &[
             ADVISE,
             PADDED,
             ID,
-            ANY_RECORDS,
+            RECORDS_OR_COMMIT,
         ],
     ),
     Usage("abandon", &[DB, WAIT, CLERK, ID]),
-    Usage("compare", &[ANY_DB, WAIT, CSV, PADDED, PLAN, OTHER]),
-    Usage("diagram", &[ANY_DB, WAIT, FILE, PADDED, ID, PATTERN]),
-    Usage("page", &[ANY_DB, WAIT, FILE, PADDED, ANY_ID]),
+    Usage(
+        "compare",
+        &[ANY_DB, ANY_WAIT, CSV, PADDED, PLAN, OTHER_OR_DB],
+    ),
+    Usage(
+        "diagram",
+        &[DB_OR_FILE, WAIT_FOR_DB, FILE, PADDED, ID, PATTERN_OR_FILE],
+    ),
+    Usage("page", &[DB_OR_FILE, WAIT_FOR_DB, FILE, PADDED, ID_OR_FILE]),
 ];
 
 /// The commands with their arguments. Only this function names the table, since a proof pays for it
 /// in each function that does.
 fn commands() -> &'static [Usage]
-    ensures { map app_for result.now ≡ commands }
+    ensures { map usage_as result.now ≡ commands }
 {
     COMMANDS
 }
 
-/// The command line of the program, with each of its commands; or memory for it was refused.
-pub(crate) fn command_line<'a>(alloc: Global) -> Result<Command<'a>, AllocError>
-    ensures { IfOk result (λ c. ParsesAs c signal_app) }
-{
-    let program = Command::new(alloc, "signal_office")
-        .about("The office of a city's traffic signals: timing plans, cabinets and stock")
-        .version(VERSION)
-        .subcommand_required(true);
-    with_commands(alloc, program, commands())
-}
-
 /// The command of a name with its arguments, if the program has it.
-pub(crate) fn usage_of(name: &str) -> Option<Usage> {
-    for usage in commands() {
+fn usage_of(name: &str) -> Option<Usage>
+    ensures { option_map usage_as result ≡ find (λ command. bytes_eq command.0 name.now) commands }
+{
+    let usages = commands();
+    for usage in usages {
         let Usage(own, ..) = *usage;
         if *own == *name {
             return Some(*usage);
@@ -152,14 +192,25 @@ pub(crate) fn usage_of(name: &str) -> Option<Usage> {
     None
 }
 
-/// A command of the program by itself, as its usage names it; the program where it has no such
-/// command.
-pub(crate) fn command_named<'a>(alloc: Global, name: &str) -> Result<Command<'a>, AllocError> {
-    match usage_of(name) {
-        Some(usage) => {
-            let shown = format!(in alloc; "signal_office {name}")?;
-            command_of(alloc, &usage)?.bin_name(shown.as_str())
-        }
-        None => command_line(alloc),
+/// The command that the first word behind the program's name names, and the words from that name
+/// on; `None` where there is no such command.
+pub(crate) fn named_in<'a>(words: &'a [&'a str]) -> Option<(Usage, &'a [&'a str])>
+    ensures { option_map (λ found. (usage_as found.0, map (λ word. word.now) found.1.now)) result
+        ≡ named_in (map (λ word. word.now) words.entry.now) }
+{
+    let name = words.get(1)?;
+    let usage = usage_of(name)?;
+    Some((usage, words.split_at(1).1))
+}
+
+/// The program with all its commands and their help, as `clap` takes it; or memory was refused.
+pub(crate) fn program<'a>(alloc: Global) -> Result<Command<'a>, AllocError> {
+    let mut program = Command::new(alloc, "signal_office")
+        .about("The office of a city's traffic signals: timing plans, cabinets and stock")
+        .version(VERSION)
+        .subcommand_required(true);
+    for usage in commands() {
+        program = program.subcommand(command_of(alloc, usage, true)?)?;
     }
+    Ok(program)
 }

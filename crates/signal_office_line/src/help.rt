@@ -106,8 +106,7 @@ PATTERN
 page db: The SQLite file of the tables: shows an intersection, with ID
 any db: The SQLite file of the tables; it must be there
 orders ID: The intersection's number, 1 to 9999; without it all are printed
-export ID: The intersection's number, 1 to 9999; with --all the folder, which is made if there is \
-none
+export ID: The intersection's number, 1 to 9999; not with --all
 diagram ID: The intersection's number, 1 to 9999; with --file the pattern's
 page ID: The intersection's number, 1 to 9999; not with --file
 any ID: The intersection's number, 1 to 9999
@@ -148,7 +147,7 @@ there. Status 1 if there is one
 any draft: Print the draft
 any cabinet: Print the cabinet
 any all: Write intersections.csv, stock.csv and, for each ID, ID-plan.csv and ID-cabinet.csv into \
-a folder
+a folder, which is made if there is none
 any replace: Make the draft exactly the plan of CSV: remove the rows that CSV does not have. \
 Without it they stay
 any commit: Commit the draft if it breaks no rule; ends with status 3 if it breaks one. A plan \

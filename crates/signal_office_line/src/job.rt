@@ -1,17 +1,17 @@
 //! What the words of a command line ask for.
 
-ghost use Rattle.std.specs.Prelude.{◌≡◌, IfOk, IfErr, map, true};
-ghost use Rattle.clap.specs.Kinds.{FailsBy};
-ghost use Rattle.clap.specs.Simple.{subcommand_of, subcommand_rows_of};
-ghost use Rattle.clap.specs.Takes.{takes};
+ghost use Rattle.std.specs.Prelude.{◌≡◌, IfOk, map, true};
+ghost use Rattle.clap.specs.Matches.{found_of};
+ghost use Rattle.clap.specs.Simple.{is_simple};
 ghost use Rattle.clap.specs.Values.{kind_of};
-ghost use Rattle.signal_office_line.specs.CommandLine.{signal_app};
-ghost use Rattle.signal_office_line.specs.Job.{job_in};
-ghost use Rattle.signal_office_line.specs.Refusals.{IsFoundInWords, IsJobFound, IsJudged, IsRefusalTold, clap_refusals};
+ghost use Rattle.clap.specs.Walk.{rows_of};
+ghost use Rattle.signal_office_line.specs.CommandLine.{app_for};
+ghost use Rattle.signal_office_line.specs.Job.{job_at};
+ghost use Rattle.signal_office_line.specs.Refusals.{IsAnswer, IsFaultOf, IsFoundInWords, IsJobFound, IsJudged};
 
-use crate::command_line::command_line;
+use crate::arguments::{Usage, command_of};
+use crate::command_line::{named_in, program};
 use crate::jobs::job_at;
-use crate::refusals::value_refusal;
 use crate::shows::{CsvFile, PlanShown, Shown};
 use crate::words::{Name, Path};
 use cabinet_core::Day;
@@ -174,67 +174,91 @@ impl From<Error> for JobFault {
     }
 }
 
-/// What `clap` answers to the words, the first being the program's name.
-fn matches_of<'a>(alloc: Global, words: &'a [&'a str]) -> Result<ArgMatches<'a>, Error>
-    ensures found { IfOk result (λ matches. subcommand_rows_of matches
-        ≡ subcommand_of signal_app (map (λ word. word.now) words.entry.now)) }
-    ensures kinds { FailsBy (clap_refusals (map (λ word. word.now) words.entry.now)) result }
-    ensures passes { IfErr result (λ error.
-        takes signal_app (map (λ word. word.now) words.entry.now) ≡ true →
-        kind_of error ≡ ErrorKind.OutOfMemory) }
+/// What `clap` answers to the words of a command, the first being its name. Texts of help are made
+/// only where the words ask for help.
+fn matches_of<'a>(
+    alloc: Global,
+    usage: &Usage,
+    words: &'a [&'a str],
+) -> Result<ArgMatches<'a>, Error>
+    ensures { is_simple (app_for usage.now) ≡ true →
+        IsAnswer (app_for usage.now) (map (λ word. word.now) words.entry.now) result }
 {
-    command_line(alloc)?.try_get_matches_from(words)
-}
-
-/// The job that the command that `clap` found and its values state, or why they state none.
-fn stated<'a>(matches: &ArgMatches<'a>) -> Result<Job<'a>, NoJob>
-    ensures { result ≡ job_in (subcommand_rows_of matches.now) }
-{
-    match matches.subcommand() {
-        Some((name, inner)) => job_at(name, inner),
-        None => Err(NoJob::Unstated),
+    match command_of(alloc, usage, false)?.try_get_matches_from(words) {
+        Ok(matches) => Ok(matches),
+        Err(error) => {
+            if matches!(error.kind(), ErrorKind::DisplayHelp) {
+                return command_of(alloc, usage, true)?.try_get_matches_from(words);
+            }
+            Err(error)
+        }
     }
 }
 
-/// The fault of values that state no job: the refusal that was made of them, or that memory for it
-/// was refused.
-fn value_refused(answer: Result<Error, AllocError>) -> JobFault
-    ensures { IsRefusalTold answer result }
+/// The refusal of a command's values that state no job though `clap` takes them.
+fn refusal_of(alloc: Global, usage: &Usage) -> Result<Error, AllocError>
+    ensures { IfOk result (λ error. kind_of error ≡ ErrorKind.ValueValidation) }
 {
-    match answer {
-        Ok(error) => JobFault::Refused(error),
+    let reason = match usage.0 {
+        "compare" => "compare --db FILE takes the number of an intersection, 1 to 9999",
+        "diagram" => "diagram --file FILE takes the number of a pattern, 1 to 48",
+        _ => "these words state nothing to do",
+    };
+    command_of(alloc, usage, false)?.error(ErrorKind::ValueValidation, reason)
+}
+
+/// The fault to report where a refusal was asked for.
+fn fault_for(refusal: Result<Error, AllocError>) -> JobFault
+    ensures { IsFaultOf refusal result }
+{
+    match refusal {
+        Ok(error) => JobFault::from(error),
         Err(_) => JobFault::NoMemory,
     }
 }
 
-/// The job that the command that `clap` found and its values state, or the fault to report of
-/// values that state none.
-fn job_in<'a>(alloc: Global, matches: &ArgMatches<'a>) -> Result<Job<'a>, JobFault>
-    ensures { IsJobFound (job_in (subcommand_rows_of matches.now)) result }
+/// The job that the values of a command state, or the fault to report of values that state none.
+fn job_in<'a>(alloc: Global, usage: &Usage, matches: &ArgMatches<'a>) -> Result<Job<'a>, JobFault>
+    ensures { IsJobFound (job_at usage.now.0.now (rows_of (found_of matches.now))) result }
 {
-    match stated(matches) {
+    match job_at(usage.0, matches) {
         Ok(job) => Ok(job),
         Err(NoJob::Bad(bad)) => Err(JobFault::Bad(bad)),
-        Err(NoJob::Unstated) => Err(value_refused(value_refusal(alloc, matches))),
+        Err(NoJob::Unstated) => Err(fault_for(refusal_of(alloc, usage))),
     }
 }
 
-/// What the words ask for, by what `clap` answered to them: the job that the values it found state,
-/// or the fault of those values; or its error.
-fn judged<'a>(alloc: Global, answer: Result<ArgMatches<'a>, Error>) -> Result<Job<'a>, JobFault>
-    ensures { IsJudged answer.entry result }
+/// What the words of a command ask for, by what `clap` answered to them.
+fn judged<'a>(
+    alloc: Global,
+    usage: &Usage,
+    answer: Result<ArgMatches<'a>, Error>,
+) -> Result<Job<'a>, JobFault>
+    ensures { IsJudged usage.now.0.now answer.entry result }
 {
     match answer {
-        Ok(matches) => job_in(alloc, &matches),
+        Ok(matches) => job_in(alloc, usage, &matches),
         Err(error) => Err(JobFault::from(error)),
     }
 }
 
+/// The help or the version that words ask for which name no command first, or their refusal.
+fn help_for<'a>(alloc: Global, words: &'a [&'a str]) -> Result<Error, AllocError> {
+    let mut program = program(alloc)?;
+    match program.try_get_matches_from_mut(words) {
+        Ok(_) => program.error(ErrorKind::MissingSubcommand, "a command comes first"),
+        Err(error) => Ok(error),
+    }
+}
+
 /// What the words ask for, the first being the program's name: a job; or what a bad word was to be;
-/// or a refusal, or help, of words that state no job; or that memory ran out, the only fault of
-/// words that state one.
+/// or the refusal, or the help, of words that state no job; or that memory ran out.
+#[tactic(auto, using(crate::proofs::FoundLemmas::none_found))]
 pub fn job_of<'a>(alloc: Global, words: &'a [&'a str]) -> Result<Job<'a>, JobFault>
     ensures { IsFoundInWords (map (λ word. word.now) words.entry.now) result }
 {
-    judged(alloc, matches_of(alloc, words))
+    let Some((usage, words)) = named_in(words) else {
+        return Err(fault_for(help_for(alloc, words)));
+    };
+    judged(alloc, &usage, matches_of(alloc, &usage, words))
 }

@@ -12,7 +12,6 @@ mod command_line;
 mod help;
 mod job;
 mod jobs;
-mod refusals;
 mod shows;
 mod values;
 mod words;

@@ -1,11 +1,15 @@
+use Rattle.std.proofs.Common.{List, map}
+use Rattle.std.specs.Borrow.{Bor}
+use Rattle.clap.specs.Walk.{Text}
+use Rattle.signal_office_line.specs.CommandLine.{usage_as}
+use Rattle.signal_office_line.proofs.FoundLemmas.{found_named}
 use Rattle.signal_office_line.proofs.job.job_of.Goals as goal
 
--- what `clap` answered was judged
+-- the texts of words
+abbrev texts : List (Bor Text) → List Text
+texts = map (λ (word : Bor Text). word.now)
+
 pub returns : goal.returns
-returns c = record {
-  answer = c.matches_of.result;
-  found = c.matches_of.ensures.found;
-  kinds = c.matches_of.ensures.kinds;
-  passes = c.matches_of.ensures.passes;
-  judged = c.judged.ensures;
-}
+returns c =
+    found_named (texts c.args.words.now) (usage_as c.in-Some.usage, texts c.in-Some.words.now) c.matches_of.result c.judged.result
+    c.in-Some.ensures c.matches_of.ensures c.judged.ensures

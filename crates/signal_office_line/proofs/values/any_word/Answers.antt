@@ -1,7 +1,7 @@
 use Rattle.clap.specs.Matches.{found_of}
 use Rattle.clap.proofs.WalkLemmas.{first_value-rows}
 use Rattle.std.proofs.Common.{◌∙◌}
-use Rattle.signal_office_line.proofs.values.word.Goals as goal
+use Rattle.signal_office_line.proofs.values.any_word.Goals as goal
 
 pub returns : goal.returns
 returns c = c.get_str.ensures ∙ first_value-rows (found_of c.args.matches.now) c.args.id.now
