@@ -4,8 +4,8 @@ use Rattle.std.proofs.Math.Logic.{∥∥₁_map}
 use Rattle.sqlite.specs.{Held.Held, State.State}
 use Rattle.office_machine.specs.Office.{Office}
 use Rattle.office_tables.specs.{Calls.IsHonest, Content.Content, Stored.content_now}
-use Rattle.signal_office_in_file.specs.Stopping.{IsServedToAStop, MayBeFound}
-use Rattle.signal_office_in_file.proofs.StopLemmas.{tables_left}
+use Rattle.signal_office_file.specs.Stopping.{IsServedToAStop, MayBeFound}
+use Rattle.signal_office_file.proofs.StopLemmas.{tables_left}
 use Rattle.office_tables.specs.SqlShelf.{MayLeave, SqlView}
 use Rattle.office_desk.specs.StandFor.{StandForSound}
 use Rattle.office_http.specs.Protocol.{office_protocol}
