@@ -54,10 +54,10 @@ pub fn served_after_a_command<
         (ends_of (R.told reader.new) (W.told writer.new)) it.outcome
         ∷ []) last × KeepTables D.Disk it.files last) }
 {
-    let Ok(office) = open_file(alloc, files, Options::new(1)) else {
+    let Ok(mut office) = open_file(alloc, files, Options::new(1)) else {
         return None;
     };
-    let (office, done) = task.done_with(rt, alloc, office, out);
+    let done = task.done_with(rt, alloc, &mut office, out);
     let files = stop_office(office);
     let (outcome, files) = served_once(alloc, files, reader, writer)?;
     Some(CutShort {

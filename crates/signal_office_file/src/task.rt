@@ -14,14 +14,14 @@ pub trait OfficeTask<Outcome> {
     // What the task does to the tables of an office, and what a stop may leave of them.
     ghost effect: { Self → Effect Outcome };
 
-    /// Does the task by an office, and gives the office back, with what the task gave or the fault
-    /// that ended it. What the task writes goes to `out`.
+    /// Does the task by an office, and gives what came of it, or the fault that ended it. What the
+    /// task writes goes to `out`.
     fn done_with<S: Shelf, W: Sink>(
         &self,
         rt: &HostRuntime,
         alloc: Global,
-        office: Office<S>,
+        office: &mut Office<S>,
         out: &mut W,
-    ) -> (Office<S>, Result<Outcome, Fault>)
-        ensures { DoesTask S.Shelf office result.0 (effect self.now) result.1 };
+    ) -> Result<Outcome, Fault>
+        ensures { DoesTask S.Shelf office.old office.new (effect self.now) result };
 }

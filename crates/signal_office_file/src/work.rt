@@ -28,11 +28,11 @@ pub fn done_in<D: Disk + Drop, Outcome: Drop, T: OfficeTask<Outcome>, W: Sink>(
     // Where the files were refused, the output took nothing.
     ensures { EndsOver files (task_work (T.effect task.now) (out.new ≡ out.old)) result }
 {
-    let office = match open_file(alloc, files, options) {
+    let mut office = match open_file(alloc, files, options) {
         Ok(office) => office,
         Err((fault, left)) => return Ended::Refused(fault, left),
     };
-    let (office, done) = task.done_with(rt, alloc, office, out);
+    let done = task.done_with(rt, alloc, &mut office, out);
     match close_office(office) {
         Ok(files) => Ended::Closed(done, files),
         Err((fault, left)) => Ended::Unclosed(first_fault(done, fault), left),

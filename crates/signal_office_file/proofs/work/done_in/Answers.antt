@@ -11,8 +11,8 @@ returns-in-Err g c = (refl, c.in-Err.ensures.refused)
 pub returns-in-Ok-close_office : goal.returns-in-Ok-close_office
 returns-in-Ok-close_office g c =
     let closed = c.in-Ok-close_office.ensures in
-    let task = c.done_with-office.ensures in
-    let conn = c.done_with-office.result.0.conn in
+    let task = c.done_with-done.ensures in
+    let conn = c.done_with-done.new.office.conn in
     record {
       begun = tt;
       clean = λ clean.
@@ -28,13 +28,13 @@ returns-in-Ok-close_office g c =
 pub returns-in-Err-close_office : goal.returns-in-Err-close_office
 returns-in-Err-close_office g c =
     let back = c.in-Err-close_office.ensures in
-    let conn = c.done_with-office.result.0.conn in (
-      c.done_with-office.result.1,
+    let conn = c.done_with-done.new.office.conn in (
+      c.done_with-done.result,
       tt,
-      first_told (λ why. why) c.done_with-office.result.1 c.in-Err-close_office.fault c.first_fault.result
+      first_told (λ why. why) c.done_with-done.result c.in-Err-close_office.fault c.first_fault.result
           (closing_told conn c.in-Err-close_office.fault c.in-Err-close_office.left back.0) c.first_fault.ensures,
       λ clean.
-          let task = c.done_with-office.ensures in
+          let task = c.done_with-done.ensures in
           let left = unclosed_leaves conn c.in-Err-close_office.fault c.in-Err-close_office.left back clean in
           let old = content_now (file_state c.in-Ok.office.conn) in
           let opened = c.in-Ok.ensures.opened (task.clean left.1) in
