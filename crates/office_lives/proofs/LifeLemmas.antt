@@ -22,7 +22,7 @@ some_so P Q None so holds = holds
 
 module _ {D : Type 0} (g : Disk D) where
   -- closed files of which the migration was done
-  pub done_migrated : (files : Files D) (count : ℕ) (back : Files D) → IsClosedMigrated {g = g} files (Ok count) back → AreClean g back.log back.db
+  pub done_migrated : (files : Files D) (count : ℕ) (back : Files D) → IsClosedMigrated g files (Ok count) back → AreClean g back.log back.db
       → (old : Content) × (new : Content) × HoldFormerly (image_of g files) old × Made g migrated old new × KeepTables g back new
   done_migrated files count back (Err cause, told, usable, closed) clean = absurd (cc)
   done_migrated files count back (Ok same, told, usable, closed) clean =

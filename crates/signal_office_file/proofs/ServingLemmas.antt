@@ -34,5 +34,5 @@ module _ {S : Type 0} (state_of : Held S → State) (held : Content) (last : Sql
       let ran = did before stands in (
         ran.0,
         Did-weaker office_protocol _ _ limit start end outcome
-            (λ requests answers it. record { laws = it.serves.laws; found_so = ∥∥₁_map may (served_leaves before ran.0 requests answers it found) }) ran.1,
+            (λ requests answers it. (it.serves.laws, ∥∥₁_map may (served_leaves before ran.0 requests answers it found))) ran.1,
       )

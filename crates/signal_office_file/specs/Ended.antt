@@ -43,20 +43,19 @@ abbrev pub TellsUnclosed : {T Cause : Type 0} → (fault_of : Cause → Fault) �
 TellsUnclosed fault_of (Ok done) why = IsStoreOrMemory why
 TellsUnclosed fault_of (Err cause) why = why ≡ fault_of cause
 
-module _ {D : Type 0} {g : Disk D} {T : Type 0} (files : Files D) (work : Work T) where
-  -- The work gave this, and the files were closed. If their disk is clean, which returned what was written, it was clean before, and the work was
-  -- done, once, over the tables that the files held; the tables that it made are kept in the closed files.
-  pub record ClosedOver (done : T) (back : Files D) : Type 0 where
-    pub begun : work.begun done
-    pub clean : AreClean g back.log back.db → AreClean g files.log files.db
-    pub made : AreClean g back.log back.db
-        → (old : Content) × (new : Content) × HoldIn (image_of g files) old × work.does old done new × KeepTables g back new
+-- The work gave this, and the files were closed. If their disk is clean, which returned what was written, it was clean before, and the work was done,
+-- once, over the tables that the files held; the tables that it made are kept in the closed files.
+pub record ClosedOver {D : Type 0} (g : Disk D) {T : Type 0} (files : Files D) (work : Work T) (done : T) (back : Files D) : Type 0 where
+  pub begun : work.begun done
+  pub clean : AreClean g back.log back.db → AreClean g files.log files.db
+  pub made : AreClean g back.log back.db → (old : Content) × (new : Content) × HoldIn (image_of g files) old × work.does old done new × KeepTables g back new
 
+module _ {D : Type 0} {g : Disk D} {T : Type 0} (files : Files D) (work : Work T) where
   -- How the work ended. Where the files were refused, nothing was done. Where they could not be closed, the fault is that of the work or of closing, and on a
   -- clean disk a stop leaves of them what the work lets it.
   abbrev pub EndsOver : Ended T D g → Type 0
   EndsOver (Refused why left) = work.untouched × IsRefusedIn files why left
-  EndsOver (Closed done back) = ClosedOver done back
+  EndsOver (Closed done back) = ClosedOver g files work done back
   EndsOver (Unclosed why left) =
       (done : T) × work.begun done × work.unclosed done why × (IsCleanFile left → (old : Content) × HoldIn (image_of g files) old × work.stops old done (LeavesTables left))
 

@@ -68,6 +68,13 @@ module _ {D : Type 0} (g : Disk D) where
         × HasUnknownVersion over_files conn
     pub damaged : outcome ≡ Err why.Damaged → HasDamagedFormer was
 
+  -- The files are closed, and may be used, after a migration that came to this. On a clean disk they hold
+  -- what became of their tables, or, if it was refused, the tables as they were.
+  abbrev pub IsClosedMigrated : Files D → Result ℕ Fault → Files D → Type 0
+  IsClosedMigrated files told back =
+      (outcome : Result Migrated OpenFault) × (told ≡ told_of_outcome outcome) × AreUsable g back
+      × (AreClean g back.log back.db → ClosedMigrated g files outcome back)
+
 module _ {D : Type 0} {g : Disk D} where
   -- a connection was opened over the files and found its tables there, and a migration with this outcome made
   -- `conn` of it
@@ -89,17 +96,10 @@ module _ {D : Type 0} {g : Disk D} where
     pub unclosed : IsUnclosed conn closing back
     pub told_is : MatchResult (told_of_outcome outcome) (λ _. told ≡ closing) (λ cause. told ≡ cause)
 
-  -- The files are closed, and may be used, after a migration that came to this. On a clean disk they hold
-  -- what became of their tables, or, if it was refused, the tables as they were.
-  abbrev pub IsClosedMigrated : Files D → Result ℕ Fault → Files D → Type 0
-  IsClosedMigrated files told back =
-      (outcome : Result Migrated OpenFault) × (told ≡ told_of_outcome outcome) × AreUsable g back
-      × (AreClean g back.log back.db → ClosedMigrated g files outcome back)
-
   -- how a migration of files ended
   abbrev pub EndsMigration : Files D → Ended (Result ℕ Fault) D g → Type 0
   EndsMigration files (Refused told back) = IsRefusedIn files told back
-  EndsMigration files (Closed told back) = IsClosedMigrated files told back
+  EndsMigration files (Closed told back) = IsClosedMigrated g files told back
   EndsMigration files (Unclosed told back) = FailedToClose files told back
 
   -- A migration that was done, on a clean disk: if the tables in the files stood for an office in version 1,

@@ -55,21 +55,18 @@ pub record MayBeFound (old : Content) (before after : Office) (requests : List P
   pub leaves : Leaves office_protocol table_storage (λ tables. tables ≡ old) (record { state = before; kept = old; written = no_writes }) requests answers
       (λ left. left ≡ found) (record { state = after; kept = kept; written = counts })
 
--- the requests were run from the office `before`, with these answers and by the laws of the office, and a stop after them may leave these tables
-pub record RunsToAStop (old : Content) (before after : Office) (found : Content) (requests : List PlainRequest) (answers : List (List ℕ)) : Type 0 where
-  pub laws : KeepsLaws before requests answers after
-  pub found_so : ∥ MayBeFound old before after requests answers found ∥₁
+-- From whichever sound office the old tables stood for, a stream of at most `limit` requests was served between these moments of its ends, by the laws of
+-- the office and with this outcome, and a stop leaves only tables that may be found after its requests. `leaves Such` says that a stop leaves only tables
+-- that are such.
+abbrev pub ServesToAStop : ℕ → Ends → Ends → Content → Result Served ServeFault → (leaves : (Content → Type 0) → Type 0) → Type 0
+ServesToAStop limit start end old outcome leaves =
+    (before : Office) → StandForSound old before → (after : Office)
+    × Did office_protocol (λ requests answers. KeepsLaws before requests answers after × leaves (MayBeFound old before after requests answers)) limit start end outcome
 
--- from whichever sound office the old tables stood for, a stream of at most `limit` requests was served between these moments of its ends, with this
--- outcome, and a stop after it may leave the tables found
-abbrev pub IsServedToAStop : ℕ → Ends → Ends → Content → Result Served ServeFault → Content → Type 0
-IsServedToAStop limit start end old outcome found =
-    (before : Office) → StandForSound old before → (after : Office) × Did office_protocol (RunsToAStop old before after found) limit start end outcome
-
--- From whichever sound office the old tables stood for, a stream of at most `limit` requests was served with this outcome, and a stop leaves only
--- tables that may be found after its requests. `leaves Such` says that a stop leaves only tables that are such; without a condition it holds even
--- where the old tables stood for no office.
+-- such a stream was served; a stop leaves only tables that are so, even where the old tables stood for no office
 abbrev pub AnswersToAStop : ℕ → Ends → Ends → Content → Result Served ServeFault → (leaves : (Content → Type 0) → Type 0) → Type 0
-AnswersToAStop limit start end old outcome leaves =
-    leaves (λ _. ⊤) × ((before : Office) → StandForSound old before → (after : Office)
-    × Did office_protocol (λ requests answers. KeepsLaws before requests answers after × leaves (MayBeFound old before after requests answers)) limit start end outcome)
+AnswersToAStop limit start end old outcome leaves = leaves (λ _. ⊤) × ServesToAStop limit start end old outcome leaves
+
+-- such a stream was served, and a stop after it may leave the tables found
+abbrev pub IsServedToAStop : ℕ → Ends → Ends → Content → Result Served ServeFault → Content → Type 0
+IsServedToAStop limit start end old outcome found = ServesToAStop limit start end old outcome (λ Such. ∥ Such found ∥₁)

@@ -27,6 +27,6 @@ returns-clause-made g c =
         ended.0,
         λ before stands.
             let ran = it.2.1 before stands in
-            (ran.0, Did-weaker office_protocol _ _ 1000 start end ended.0 (λ requests answers did. record { laws = did.0; found_so = ∥∥₁_map may (λ m. did.1.2 found m) }) ran.1),
+            (ran.0, Did-weaker office_protocol _ _ 1000 start end ended.0 (λ requests answers did. (did.0, ∥∥₁_map may (λ m. did.1.2 found m))) ran.1),
       ) ∣₁,
     )) c.left_after.ensures
