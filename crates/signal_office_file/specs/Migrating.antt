@@ -73,7 +73,7 @@ module _ {D : Type 0} (g : Disk D) where
   abbrev pub IsClosedMigrated : Files D → Result ℕ Fault → Files D → Type 0
   IsClosedMigrated files told back =
       (outcome : Result Migrated OpenFault) × (told ≡ told_of_outcome outcome) × AreUsable g back
-      × (AreClean g back.log back.db → ClosedMigrated g files outcome back)
+      × (AreClean g back.log back.db → ClosedMigrated files outcome back)
 
 module _ {D : Type 0} {g : Disk D} where
   -- a connection was opened over the files and found its tables there, and a migration with this outcome made
