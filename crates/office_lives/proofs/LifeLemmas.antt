@@ -1,5 +1,5 @@
 -- From one run over a file to the next.
-use Rattle.std.proofs.Common.{◌≡◌, ℕ, inl, inr, None, Some, Option, Result, Ok, Err, refl, sym, ap, subst}
+use Rattle.std.proofs.Common.{◌≡◌, ℕ, inl, inr, None, Some, Option, Result, Ok, Err, refl, ap, sym, subst}
 use Rattle.std.specs.Prelude.{IfSome}
 use Rattle.sqlite.specs.{Files.image_of, Held.Held, WalReads.AreClean}
 use Rattle.sqlite.specs.declared.FileStore.{FileStore}
@@ -9,7 +9,7 @@ use Rattle.office_tables.specs.{Content.Content, Stored.content_of}
 use Rattle.office_tables_sql.specs.{Version.AreToday}
 use Rattle.office_tables.proofs.Migration.{stand_anew}
 use Rattle.signal_office_file.specs.Files.{KeepTables}
-use Rattle.signal_office_file.specs.Left.{closed_of, database_of}
+use Rattle.signal_office_file.specs.Left.{database_of}
 use Rattle.signal_office_file.specs.Migrating.{IsClosedMigrated}
 use Rattle.signal_office_file.specs.declared.left.FileLeft.{FileLeft}
 use Rattle.signal_office_file.specs.declared.left.FileLeft.TheVariants as left
@@ -22,10 +22,10 @@ some_so P Q None so holds = holds
 
 module _ {D : Type 0} (g : Disk D) where
   -- closed files of which the migration was done
-  pub done_migrated : (files : Files D) (count : ℕ) (back : FileLeft D g) → IsClosedMigrated files (Ok count) back
-      → IfSome (closed_of back) (λ closed. AreClean g closed.log closed.db → (old : Content) × (new : Content) × HoldFormerly (image_of g files) old × Made g migrated old new × KeepTables g closed new)
-  done_migrated files count (left.Closed back) (Err cause, told, usable, closed) = absurd (cc)
-  done_migrated files count (left.Closed back) (Ok same, told, usable, closed) = λ clean.
+  pub done_migrated : (files : Files D) (count : ℕ) (back : Files D) → IsClosedMigrated g files (Ok count) back → AreClean g back.log back.db
+      → (old : Content) × (new : Content) × HoldFormerly (image_of g files) old × Made g migrated old new × KeepTables g back new
+  done_migrated files count back (Err cause, told, usable, closed) clean = absurd (cc)
+  done_migrated files count back (Ok same, told, usable, closed) clean =
       let it = closed clean in
       let sound : AreToday it.trees = elim it.migrated [ inl today ↦ subst AreToday (sym today.same) today.was | inr anew ↦ anew.stored ] in (
         content_of it.was,
@@ -37,21 +37,10 @@ module _ {D : Type 0} (g : Disk D) where
         ],
         record { trees = it.trees; held = record { alone = it.alone; today = sound }; content = refl },
       )
-  done_migrated files count (left.Unopened back) none = absurd none
-  done_migrated files count (left.Database back) none = absurd none
-
-  -- where the files are closed, that is what is left
-  pub closed_is : (file : FileLeft D g) (back : Files D) → Some back ≡ closed_of file → left.Closed back ≡ file
-  closed_is (left.Closed it) back is =
-      let same : back ≡ it = cc in
-      ap left.Closed same
-  closed_is (left.Unopened it) back is = absurd (cc)
-  closed_is (left.Database it) back is = absurd (cc)
 
   -- where a database is left, that is what is left
   pub database_is : (file : FileLeft D g) (back : Result (Held (FileStore D g)) (FileStore D g)) → Some back ≡ database_of file → left.Database back ≡ file
   database_is (left.Database it) back is =
       let same : back ≡ it = cc in
       ap left.Database same
-  database_is (left.Closed it) back is = absurd (cc)
   database_is (left.Unopened it) back is = absurd (cc)

@@ -14,11 +14,11 @@ use Rattle.office_http_framing.specs.Serve.{Ends}
 use Rattle.office_http_framing.specs.declared.engine.Served.{Served}
 use Rattle.office_http_framing.specs.declared.engine.ServeFault.{ServeFault}
 use Rattle.signal_office_faults.specs.declared.fault.Fault.{Fault}
-use Rattle.signal_office_in_file.specs.Ended.{ServesStoredOffice}
-use Rattle.signal_office_in_file.specs.Stopping.{IsServedToAStop}
-use Rattle.signal_office_in_file.specs.declared.Ended.{Ended}
-use Rattle.signal_office_in_file.specs.declared.Ended.TheVariants.{Closed, Unclosed}
+use Rattle.signal_office_file.specs.Ended.{ServesStoredOffice}
 use Rattle.signal_office_file.specs.Files.{AreThoseOf}
+use Rattle.signal_office_file.specs.Stopping.{IsServedToAStop}
+use Rattle.signal_office_file.specs.declared.ended.Ended.{Ended}
+use Rattle.signal_office_file.specs.declared.ended.Ended.TheVariants.{Closed, Unclosed}
 use Rattle.signal_office_file.specs.declared.left.FileLeft.{FileLeft}
 use Rattle.signal_office_file.specs.declared.left.FileLeft.TheVariants as left
 
@@ -70,9 +70,9 @@ module _ {D : Type 0} {g : Disk D} where
 
 module _ {D : Type 0} {g : Disk D} {T : Type 0} where
   -- the work came to `done`, and these are its files, which were closed after it
-  abbrev pub IsClosedWith : Ended T (FileLeft D g) → T → Files D → Type 0
-  IsClosedWith ended done files = ended ≡ Closed done (left.Closed files)
+  abbrev pub IsClosedWith : Ended T D g → T → Files D → Type 0
+  IsClosedWith ended done files = ended ≡ Closed done files
 
   -- the files could not be closed, and this is left of them
-  abbrev pub IsUnclosedWith : Ended T (FileLeft D g) → FileLeft D g → Type 0
+  abbrev pub IsUnclosedWith : Ended T D g → FileLeft D g → Type 0
   IsUnclosedWith ended back = (why : Fault) × (ended ≡ Unclosed why back)

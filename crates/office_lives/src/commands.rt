@@ -12,8 +12,7 @@ use crate::ending::closed_after;
 use crate::lives::{MOST, Outcome, served_once};
 use office_http::{Sink, Source};
 use signal_office_faults::Fault;
-use signal_office_file::done_in;
-use signal_office_in_file::OfficeTask;
+use signal_office_file::{OfficeTask, done_in};
 use sqlite::Options;
 use sqlite_disk::{Disk, Files};
 use std::alloc::Global;
@@ -21,27 +20,27 @@ use std::alloc::Global;
 /// How two streams ended, what the command between them gave, and the files, closed after all
 /// three.
 #[derive(Drop)]
-pub struct Around<D: Disk, Done> {
+pub struct Around<D: Disk, Given> {
     pub first: Outcome,
-    pub done: Result<Done, Fault>,
+    pub done: Result<Given, Fault>,
     pub second: Outcome,
     pub files: Files<D>,
 }
 
 /// Does a task by the office over the tables in the two files, and closes them. `None` says that
 /// they were refused or could not be closed.
-fn done_once<D: Disk + Drop, Done: Drop, T: OfficeTask<Done>, W: Sink>(
+fn done_once<D: Disk + Drop, Given: Drop, T: OfficeTask<Given>, W: Sink>(
     rt: &HostRuntime,
     alloc: Global,
     files: Files<D>,
     task: &T,
     out: &mut W,
-) -> Option<(Result<Done, Fault>, Files<D>)>
+) -> Option<(Result<Given, Fault>, Files<D>)>
     ensures clean { IfSome result (λ it. AreClean D.Disk it.1.log it.1.db →
         AreClean D.Disk files.log files.db) }
     ensures made { IfSome result (λ it. AreClean D.Disk it.1.log it.1.db →
         (old : Content) × (new : Content) × HoldIn (image_of D.Disk files) old
-        × (T.effect task.now).does old it.0 new (W.told out.old) (W.told out.new)
+        × (T.effect task.now).does old it.0 new
         × KeepTables D.Disk it.1 new) }
 {
     let ended = done_in(rt, alloc, files, Options::new(1), task, out);
@@ -51,7 +50,7 @@ fn done_once<D: Disk + Drop, Done: Drop, T: OfficeTask<Done>, W: Sink>(
 /// Serves a first stream, does a command over the files that came back, and serves a second stream
 /// over those that came back from the command; each stream is of at most `MOST` requests. The files
 /// are closed each time. `None` says that once they were refused or could not be closed.
-pub fn served_around<D: Disk + Drop, Done: Drop, T: OfficeTask<Done>, R: Source, W: Sink>(
+pub fn served_around<D: Disk + Drop, Given: Drop, T: OfficeTask<Given>, R: Source, W: Sink>(
     rt: &HostRuntime,
     alloc: Global,
     files: Files<D>,
@@ -61,14 +60,13 @@ pub fn served_around<D: Disk + Drop, Done: Drop, T: OfficeTask<Done>, R: Source,
     out: &mut W,
     second_reader: &mut R,
     second_writer: &mut W,
-) -> Option<Around<D, Done>>
+) -> Option<Around<D, Given>>
     ensures { IfSome result (λ it. AreClean D.Disk it.files.log it.files.db →
         (old : Content) × (last : Content) × HoldIn (image_of D.Disk files) old
         × Life D.Disk old (in_order MOST
         (ends_of (R.told first_reader.old) (W.told first_writer.old))
         (ends_of (R.told first_reader.new) (W.told first_writer.new)) it.first
-        ∷ command (λ found made. (T.effect task.now).does found it.done made
-        (W.told out.old) (W.told out.new))
+        ∷ command (λ found made. (T.effect task.now).does found it.done made)
         ∷ in_order MOST
         (ends_of (R.told second_reader.old) (W.told second_writer.old))
         (ends_of (R.told second_reader.new) (W.told second_writer.new)) it.second

@@ -15,8 +15,7 @@ use crate::lives::{MOST, Outcome, served_once};
 use crate::stopping::stop_office;
 use office_http::{Sink, Source};
 use signal_office_faults::Fault;
-use signal_office_file::{FileLeft, done_in, open_file};
-use signal_office_in_file::OfficeTask;
+use signal_office_file::{FileLeft, OfficeTask, done_in, open_file};
 use sqlite::Options;
 use sqlite_disk::{Crash, Disk, Files};
 use std::alloc::Global;
@@ -24,8 +23,8 @@ use std::alloc::Global;
 /// What a command gave that was stopped, how the stream after it ended, and the files, closed after
 /// both.
 #[derive(Drop)]
-pub struct CutShort<D: Disk, Done> {
-    pub done: Result<Done, Fault>,
+pub struct CutShort<D: Disk, Given> {
+    pub done: Result<Given, Fault>,
     pub outcome: Outcome,
     pub files: Files<D>,
 }
@@ -33,7 +32,13 @@ pub struct CutShort<D: Disk, Done> {
 /// Does a command, stops, and serves a stream of at most `MOST` requests over what a stop leaves of
 /// the files. This covers a stop at any moment of the command, as a disk that does nothing more
 /// from then on. `None` says that the files were refused, or not closed after the stream.
-pub fn served_after_a_command<D: Crash + Drop, Done: Drop, T: OfficeTask<Done>, R: Source, W: Sink>(
+pub fn served_after_a_command<
+    D: Crash + Drop,
+    Given: Drop,
+    T: OfficeTask<Given>,
+    R: Source,
+    W: Sink,
+>(
     rt: &HostRuntime,
     alloc: Global,
     files: Files<D>,
@@ -41,19 +46,18 @@ pub fn served_after_a_command<D: Crash + Drop, Done: Drop, T: OfficeTask<Done>, 
     out: &mut W,
     reader: &mut R,
     writer: &mut W,
-) -> Option<CutShort<D, Done>>
-    ensures lives { IfSome result (λ it. AreClean D.Disk it.files.log it.files.db →
+) -> Option<CutShort<D, Given>>
+    ensures { IfSome result (λ it. AreClean D.Disk it.files.log it.files.db →
         (old : Content) × (last : Content) × HoldIn (image_of D.Disk files) old
         × Life D.Disk old (command_to_a_stop (T.effect task.now).leaves ∷ in_order MOST
         (ends_of (R.told reader.old) (W.told writer.old))
         (ends_of (R.told reader.new) (W.told writer.new)) it.outcome
         ∷ []) last × KeepTables D.Disk it.files last) }
-    ensures said { IfSome result (λ _. (T.effect task.now).says (W.told out.old) (W.told out.new)) }
 {
-    let Ok(office) = open_file(alloc, files, Options::new(1)) else {
+    let Ok(mut office) = open_file(alloc, files, Options::new(1)) else {
         return None;
     };
-    let (office, done) = task.done_with(rt, alloc, office, out);
+    let done = task.done_with(rt, alloc, &mut office, out);
     let files = stop_office(office);
     let (outcome, files) = served_once(alloc, files, reader, writer)?;
     Some(CutShort {
@@ -65,7 +69,7 @@ pub fn served_after_a_command<D: Crash + Drop, Done: Drop, T: OfficeTask<Done>, 
 
 /// Does a command over files that cannot be closed after it, and gives what is left of them. `None`
 /// says that they were refused, or could be closed.
-pub fn done_unclosed<D: Disk + Drop, Done: Drop, T: OfficeTask<Done>, W: Sink>(
+pub fn done_unclosed<D: Disk + Drop, Given: Drop, T: OfficeTask<Given>, W: Sink>(
     rt: &HostRuntime,
     alloc: Global,
     files: Files<D>,
@@ -77,7 +81,6 @@ pub fn done_unclosed<D: Disk + Drop, Done: Drop, T: OfficeTask<Done>, W: Sink>(
         (old : Content) × HoldIn (image_of D.Disk files) old
         × ((found : Content) → ∥ MayLeaveOf left found ∥₁ →
         Made D.Disk (command_to_a_stop (T.effect task.now).leaves) old found)) }
-    ensures said { IfSome result (λ _. (T.effect task.now).says (W.told out.old) (W.told out.new)) }
 {
     let ended = done_in(rt, alloc, files, Options::new(1), task, out);
     left_after(ended)

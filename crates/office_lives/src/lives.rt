@@ -12,8 +12,7 @@ ghost use Rattle.office_lives.specs.Life.{HoldFormerly, Life, Made, in_order, mi
 use crate::ending::closed_after;
 use crate::stopping::stop_office;
 use office_http::{ServeFault, Served, Sink, Source};
-use signal_office_file::{answered_in, migrate_file, serve_file};
-use signal_office_in_file::Ended;
+use signal_office_file::{Ended, answered_in, migrate_file, serve_file};
 use sqlite::Options;
 use sqlite_disk::{Crash, Disk, Files};
 use std::alloc::Global;
@@ -134,7 +133,7 @@ fn brought_today<D: Disk + Drop>(alloc: Global, files: Files<D>) -> Option<Files
         × Made D.Disk migrated old new × KeepTables D.Disk back new) }
 {
     match migrate_file(alloc, files, Options::new(1)) {
-        Ended::Closed(Ok(_), left) => left.closed(),
+        Ended::Closed(Ok(_), files) => Some(files),
         _ => None,
     }
 }

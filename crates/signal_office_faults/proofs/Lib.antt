@@ -1,6 +1,1 @@
 mod PaddedLemmas
-mod GoodLemmas
-mod HintLemmas
-mod LineLemmas
-mod NoteLemmas
-mod Short

@@ -3,9 +3,30 @@ use Rattle.std.specs.Prelude.{ℕ, Bool, true, false, if◌then◌else◌, List,
 use Rattle.std.specs.List.{list_all}
 use Rattle.std.specs.Str.{bytes_eq}
 use Rattle.office_files.specs.Csv.{csv_records, csv_text}
-use Rattle.signal_office_faults.specs.Hints.{record_kind_of}
+use Rattle.signal_office_faults.specs.declared.kinds.RecordKind.{RecordKind}
 use Rattle.signal_office_faults.specs.declared.kinds.RowKind.{RowKind}
 use Rattle.signal_office_faults.specs.declared.kinds.RowKind.TheVariants as row
+
+-- the kind of a row, by its name
+abbrev pub row_kind : List ℕ → RowKind
+row_kind name =
+    if bytes_eq name (codes "phase") then row.Phase
+    else if bytes_eq name (codes "seq") then row.Seq
+    else if bytes_eq name (codes "split") then row.Split
+    else if bytes_eq name (codes "pattern") then row.Pattern
+    else row.Other
+
+-- the kind of a row or a key, by its fields, of which the first is its name
+abbrev pub kind_of_row : List (List ℕ) → RowKind
+kind_of_row [] = row.Other
+kind_of_row (name ∷ rest) = row_kind name
+
+-- the kind of a record: `remove` stands before the key that it removes
+abbrev pub record_kind_of : List (List ℕ) → RecordKind
+record_kind_of [] = record { kind = row.Other; removes = false }
+record_kind_of (name ∷ rest) =
+    if bytes_eq name (codes "remove") then record { kind = kind_of_row rest; removes = true }
+    else record { kind = row_kind name; removes = false }
 
 -- whether a field is empty
 abbrev pub is_blank : List ℕ → Bool
@@ -59,7 +80,7 @@ abbrev pub kept_by : Option ℕ → List (List ℕ) → List (List ℕ)
 kept_by None fields = fields
 kept_by (Some width) fields = if are_blank (drop width fields) then take width fields else fields
 
--- THE FIELDS OF A PADDED RECORD, without those at its end that its kind does not have, if all of these are empty
+-- the fields of a padded record, without those at its end that its kind does not have, if all of these are empty
 abbrev pub unpadded : List (List ℕ) → List (List ℕ)
 unpadded fields = kept_by (width_of fields) fields
 

@@ -1,8 +1,5 @@
 //! What the program prints, and the status with which it ends.
 
-ghost use Rattle.std.specs.Prelude.{◌≡◌};
-ghost use Rattle.signal_office_faults.specs.Done.{Prints, PrintsWhat, came_to, output_of, shows, shows_with};
-
 use crate::fault::Fault;
 use arrayvec::ArrayString;
 use office_http_framing::ends::{Sink, write_all};
@@ -25,37 +22,27 @@ pub enum Done {
 
 impl Done {
     /// A text, with status 0.
-    pub fn with(text: Vec<u8>) -> Done
-        ensures { output_of result ≡ shows text.items }
-    {
+    pub fn with(text: Vec<u8>) -> Done {
         Done::Text { text, status: 0 }
     }
 
     /// A text, and a status, 0 to 255.
-    pub fn ending(text: Vec<u8>, status: u8) -> Done
-        ensures { output_of result ≡ shows_with text.items status }
-    {
+    pub fn ending(text: Vec<u8>, status: u8) -> Done {
         Done::Text { text, status }
     }
 
     /// A fixed line, with status 0.
-    pub fn telling(line: &'static str) -> Done
-        ensures { output_of result ≡ shows line.now }
-    {
+    pub fn telling(line: &'static str) -> Done {
         Done::Fixed(line)
     }
 
     /// A line with numbers, with status 0.
-    pub fn line(line: ArrayString<LINE_ROOM>) -> Done
-        ensures { output_of result ≡ shows line.bytes }
-    {
+    pub fn line(line: ArrayString<LINE_ROOM>) -> Done {
         Done::Line(line)
     }
 
     /// The bytes that are printed on standard output.
-    pub fn as_bytes(&self) -> &[u8]
-        ensures { result.now ≡ (output_of self.now).text }
-    {
+    pub fn as_bytes(&self) -> &[u8] {
         match self {
             Done::Text { text, .. } => text.as_slice(),
             Done::Fixed(line) => line.as_bytes(),
@@ -64,29 +51,17 @@ impl Done {
     }
 
     /// The status, 0 to 255.
-    pub fn status(&self) -> u8
-        ensures { result ≡ (output_of self.now).status }
-    {
+    pub fn status(&self) -> u8 {
         match self {
             Done::Text { status, .. } => *status,
             _ => 0,
         }
     }
-
-    /// Prints the text as a whole, and gives the status. The fault is `Write` where the output
-    /// failed or took no byte; it may have taken the text up to some place.
-    pub fn print<W: Sink>(&self, out: &mut W) -> Result<u8, Fault>
-        ensures { Prints (output_of self.now) (W.told out.old) (W.told out.new) result }
-    {
-        print_text(self.as_bytes(), self.status(), out)
-    }
 }
 
 /// Prints a text as a whole, and gives the status. The fault is `Write` where the output failed or
 /// took no byte; it may have taken the text up to some place.
-pub fn print_text<W: Sink>(text: &[u8], status: u8, out: &mut W) -> Result<u8, Fault>
-    ensures { Prints (shows_with text.now status) (W.told out.old) (W.told out.new) result }
-{
+pub fn print_text<W: Sink>(text: &[u8], status: u8, out: &mut W) -> Result<u8, Fault> {
     match write_all(out, text) {
         Ok(()) => Ok(status),
         Err(_) => Err(Fault::Write),
@@ -95,11 +70,9 @@ pub fn print_text<W: Sink>(text: &[u8], status: u8, out: &mut W) -> Result<u8, F
 
 /// Prints what a job came to, and gives its status. Of a job that ended with a fault nothing is
 /// printed, and that fault is given; it is `Write` where the output failed or took no byte.
-pub fn print_done<W: Sink>(done: Result<Done, Fault>, out: &mut W) -> Result<u8, Fault>
-    ensures { PrintsWhat (came_to done) (W.told out.old) (W.told out.new) result }
-{
+pub fn print_done<W: Sink>(done: Result<Done, Fault>, out: &mut W) -> Result<u8, Fault> {
     match done {
-        Ok(done) => done.print(out),
+        Ok(done) => print_text(done.as_bytes(), done.status(), out),
         Err(fault) => Err(fault),
     }
 }

@@ -1,15 +1,13 @@
-//! The faults with which the program ends.
-
-ghost use Rattle.std.specs.Prelude.{◌≡◌, ◌≤◌};
-ghost use Rattle.signal_office_faults.specs.Lines.{status_of};
+//! The faults with which the program ends, and how they are told.
 
 use crate::hints::Hint;
 use arrayvec::ArrayString;
 use office_files::{BadRow, CsvFault};
-use office_http_framing::ends::WriteFailed;
+use office_http_framing::ends::{Sink, WriteFailed, write_all};
 use office_http_framing::engine::ServeFault;
 use office_machine::refusal::Refusal;
 use signal_records::NoMemory;
+use std::fmt::{self, Write};
 
 /// Why the program ends with a fault, or refuses the words of its command line.
 #[derive(Clone, Copy)]
@@ -78,13 +76,43 @@ pub enum Fault {
 impl Fault {
     /// The status with which the program ends: 2 where the words of the command line are not UTF-8,
     /// else 1.
-    pub fn status(self) -> u8
-        ensures status { result ≡ status_of self }
-        ensures bad { 1 ≤ result }
-    {
+    pub fn status(self) -> u8 {
         match self {
             Fault::Words => 2,
             _ => 1,
+        }
+    }
+}
+
+/// Writes the line that tells the fault, or its two lines, without the end of the last.
+impl fmt::Display for Fault {
+    fn fmt<W: fmt::Write>(&self, f: &mut fmt::Formatter<W>) -> fmt::Result {
+        match self {
+            Fault::Read => f.write_str("fault: read"),
+            Fault::Write => f.write_str("fault: write"),
+            Fault::Memory => f.write_str("fault: memory"),
+            Fault::Store => f.write_str("fault: store"),
+            Fault::Version => f.write_str("fault: version"),
+            Fault::Damaged => f.write_str("fault: damaged"),
+            Fault::Bind => f.write_str("fault: bind"),
+            Fault::File => f.write_str("fault: file"),
+            Fault::Exists => f.write_str("fault: exists"),
+            Fault::UnknownIntersection => f.write_str("fault: unknown intersection"),
+            Fault::UnknownPattern => f.write_str("fault: unknown pattern"),
+            Fault::Day => f.write_str("fault: day"),
+            Fault::Clerk => f.write_str("fault: clerk"),
+            Fault::Name => f.write_str("fault: name"),
+            Fault::Part => f.write_str("fault: part"),
+            Fault::Refused(refusal) => write!(f, "fault: {}", refusal.name()),
+            Fault::Record { at, refusal } => write!(f, "fault: record {at}: {}", refusal.name()),
+            Fault::Late { at } => write!(f, "fault: record {at}: Late"),
+            Fault::Csv(fault) => write!(f, "fault: {fault}"),
+            Fault::Explained { bad, line, hint } => {
+                write!(f, "fault: {bad}\nline {line}, {hint}")
+            }
+            Fault::HeldBy(clerk) => write!(f, "fault: NotOwner\nheld by {clerk}"),
+            Fault::OtherCsv(bad) => write!(f, "fault: other {bad}"),
+            Fault::Words => f.write_str("the command line is not UTF-8"),
         }
     }
 }
@@ -101,22 +129,12 @@ impl From<NoMemory> for Fault {
 }
 
 impl From<WriteFailed> for Fault {
-    ghost use Rattle.std.specs.Prelude.{◌≡◌};
-    ghost use Rattle.signal_office_faults.specs.declared.fault.Fault.TheVariants as told;
-
-    ghost from_gives = { λ _ fault. fault ≡ told.Write };
-
     fn from(_: WriteFailed) -> Fault {
         Fault::Write
     }
 }
 
 impl From<CsvFault> for Fault {
-    ghost use Rattle.std.specs.Prelude.{◌≡◌};
-    ghost use Rattle.signal_office_faults.specs.declared.fault.Fault.TheVariants as told;
-
-    ghost from_gives = { λ cause fault. fault ≡ told.Csv cause };
-
     fn from(fault: CsvFault) -> Fault {
         Fault::Csv(fault)
     }
@@ -124,7 +142,7 @@ impl From<CsvFault> for Fault {
 
 impl From<ServeFault> for Fault {
     ghost use Rattle.std.specs.Prelude.{◌≡◌};
-    ghost use Rattle.signal_office_faults.specs.Lines.{fault_of_stream};
+    ghost use Rattle.signal_office_faults.specs.Stream.{fault_of_stream};
 
     ghost from_gives = { λ cause fault. fault ≡ fault_of_stream cause };
 
@@ -135,4 +153,16 @@ impl From<ServeFault> for Fault {
             ServeFault::NoMemory => Fault::Memory,
         }
     }
+}
+
+/// The room of the lines that tell a fault, in bytes: more than the longest have.
+const ROOM: usize = 512;
+
+/// Says the line of a fault on standard error, as far as that takes it, and gives the status with
+/// which the program ends, which is not 0. It needs no memory.
+pub fn report<W: Sink>(err: &mut W, fault: Fault) -> u8 {
+    let mut line: ArrayString<ROOM> = ArrayString::new();
+    let _ = writeln!(line, "{fault}");
+    let _ = write_all(err, line.as_str().as_bytes());
+    fault.status()
 }

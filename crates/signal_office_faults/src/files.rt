@@ -1,8 +1,5 @@
 //! Files of the system: a file's bytes, and whether it is there.
 
-ghost use Rattle.std.specs.Prelude.{IfErr};
-ghost use Rattle.signal_office_faults.specs.Lines.{IsUnreadFile};
-
 use crate::fault::Fault;
 use std::alloc::{AllocError, Global};
 use std::fs;
@@ -10,9 +7,7 @@ use std::io::ErrorKind;
 
 /// The bytes of a file. The fault is `Memory` where a growth was refused, and `File` where the
 /// system did not give them for another reason.
-pub fn read_file(rt: &HostRuntime, path: &str) -> Result<Vec<u8>, Fault>
-    ensures { IfErr result IsUnreadFile }
-{
+pub fn read_file(rt: &HostRuntime, path: &str) -> Result<Vec<u8>, Fault> {
     match fs::read(rt, path) {
         Ok(bytes) => Ok(bytes),
         Err(error) if error.kind() == ErrorKind::OutOfMemory => Err(Fault::Memory),

@@ -1,21 +1,79 @@
 //! Folders, into which files are put by their names.
 
 use crate::fault::Fault;
+use std::alloc::Global;
+use std::fs;
 
-/// A folder, seen as the files that were put into it.
+/// A folder, into which files are put.
 pub trait Folder {
-    ghost use Rattle.std.specs.Prelude.{◌≡◌, [], ◌∷◌, IfErr, OnOk};
-    ghost use Rattle.signal_office_faults.specs.Folder.{AddsFiles, IsUnput, KnownFiles};
-
-    // The files that were put, the last one last, where they are known.
-    ghost files: { Self → KnownFiles };
-
     /// Puts a file of this name, with this text. One that has the text stays as it is; any other
     /// is as it was until it has the whole text. The fault is `Write` where the file was not
     /// written, and `Memory` where a growth was refused; the file was not put then.
-    fn put(&mut self, name: &str, text: &[u8]) -> Result<(), Fault>
-        ensures put { OnOk result
-            (AddsFiles (files self.old) (files self.new) ((name.now, text.now) ∷ [])) }
-        ensures unput { IfErr result (λ why. files self.new ≡ files self.old) }
-        ensures fault { IfErr result IsUnput };
+    fn put(&mut self, name: &str, text: &[u8]) -> Result<(), Fault>;
+}
+
+/// A folder of the system, which is made as the first file is put.
+#[derive(Drop)]
+pub struct SystemFolder<'a> {
+    rt: &'a HostRuntime,
+    alloc: Global,
+    path: &'a str,
+    is_there: bool,
+}
+
+/// Whether a path leads to a file with this text and no more; no where the system does not tell.
+fn holds(rt: &HostRuntime, path: &str, text: &[u8]) -> bool {
+    let is_as_long = match fs::metadata(rt, path) {
+        Ok(found) => found.is_file() && found.len() == text.len() as u64,
+        Err(_) => false,
+    };
+    is_as_long && matches!(fs::read(rt, path), Ok(held) if held.as_slice() == text)
+}
+
+/// Makes a folder where there is none. The fault is `Write` where that fails.
+fn make(rt: &HostRuntime, path: &str) -> Result<(), Fault> {
+    match fs::create_dir(rt, path) {
+        Ok(()) => Ok(()),
+        Err(_) if matches!(fs::metadata(rt, path), Ok(found) if found.is_dir()) => Ok(()),
+        Err(_) => Err(Fault::Write),
+    }
+}
+
+/// Writes a file under the name `part`, and then gives it the name `path`. Where that fails, the
+/// fault is `Write`, and the file `part` is removed, if the system lets it.
+fn write_beside(rt: &HostRuntime, part: &str, path: &str, text: &[u8]) -> Result<(), Fault> {
+    let written = fs::write(rt, part, text).is_ok() && fs::rename(rt, part, path).is_ok();
+    if !written {
+        let _ = fs::remove_file(rt, part);
+        return Err(Fault::Write);
+    }
+    Ok(())
+}
+
+impl<'a> SystemFolder<'a> {
+    /// The folder of this path, which need not be there yet.
+    pub fn new(rt: &'a HostRuntime, alloc: Global, path: &'a str) -> SystemFolder<'a> {
+        SystemFolder {
+            rt,
+            alloc,
+            path,
+            is_there: false,
+        }
+    }
+}
+
+impl Folder for SystemFolder<'_> {
+    fn put(&mut self, name: &str, text: &[u8]) -> Result<(), Fault> {
+        let (alloc, folder) = (self.alloc, self.path);
+        if !self.is_there {
+            make(self.rt, folder)?;
+            self.is_there = true;
+        }
+        let path = format!(in alloc; "{folder}/{name}")?;
+        if holds(self.rt, path.as_str(), text) {
+            return Ok(());
+        }
+        let part = format!(in alloc; "{folder}/.{name}.part")?;
+        write_beside(self.rt, part.as_str(), path.as_str(), text)
+    }
 }

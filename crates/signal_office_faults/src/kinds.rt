@@ -2,7 +2,7 @@
 
 ghost use Rattle.std.specs.Prelude.{◌≡◌};
 ghost use Rattle.signal_records.specs.Reading.{texts};
-ghost use Rattle.signal_office_faults.specs.Hints.{kind_of_row, record_kind_of, row_kind};
+ghost use Rattle.signal_office_faults.specs.Padded.{kind_of_row, record_kind_of, row_kind};
 
 /// The kind of a row of a plan.
 #[derive(Clone, Copy)]

@@ -4,7 +4,6 @@ ghost use Rattle.std.specs.Prelude.{◌≡◌, map, IfOk, List, Ok};
 ghost use Rattle.csv.specs.Records.{fields_of};
 ghost use Rattle.cabinet_core.specs.declared.command.RecordCommand.{RecordCommand};
 ghost use Rattle.office_files.specs.Changes.{changes_of};
-ghost use Rattle.office_files.specs.Csv.{csv_records};
 ghost use Rattle.office_files.specs.Records.{commands_of};
 ghost use Rattle.signal_office_faults.specs.Padded.{unpadded, unpadded_text};
 ghost use Rattle.signal_records.specs.declared.record.Change.{Change};
@@ -58,9 +57,6 @@ fn unpadded_file(alloc: Global, bytes: &[u8]) -> Result<Vec<u8>, NoMemory>
 /// number, and a good one stays as it is. The file begins with a byte order mark. `NoMemory` means
 /// that a growth was refused.
 pub fn unpadded_csv(alloc: Global, bytes: &[u8]) -> Result<Vec<u8>, NoMemory>
-    ensures text { IfOk result (λ text. text.items ≡ unpadded_text bytes.now) }
-    ensures records { IfOk result (λ text.
-        csv_records text.items ≡ map unpadded (csv_records bytes.now)) }
     ensures good_plan { IfOk result (λ text. (changes : List Change) →
         changes_of bytes.now ≡ Ok changes → changes_of text.items ≡ Ok changes) }
     ensures good_records { IfOk result (λ text. (commands : List RecordCommand) →

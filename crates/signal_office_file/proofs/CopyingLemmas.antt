@@ -10,7 +10,7 @@ use Rattle.office_http_framing.specs.Ends.{Told}
 use Rattle.office_tables.specs.Content.{Content}
 use Rattle.signal_office_file.specs.Copying.{StaysAsRead, PoursAs}
 use Rattle.signal_office_faults.specs.declared.fault.Fault.{Fault}
-use Rattle.signal_office_in_file.specs.Ended.{IsCopyOf}
+use Rattle.signal_office_file.specs.Ended.{IsCopyOf}
 use Rattle.signal_office_file.specs.Files.{HoldAlone, IsImageOf, KeepTables}
 
 -- the bytes of the database file are the office, with no log
@@ -41,7 +41,7 @@ module _ {D : Type 0} (g : Disk D) (files back : Files D) (start end : Told) whe
         and_from (g.is_clean files.log) (g.is_clean files.db) (subst (λ (d : D). IsTrue (g.is_clean d)) log both.0) (read.clean both.1)
 
   copy_so : (done : Result ⊤ Fault) → PoursAs g files start end done back → IsTrue (g.is_clean back.db)
-      → (tables : Content) → KeepTables g files tables → IsCopyOf HoldAlone start end tables done
+      → (tables : Content) → KeepTables g files tables → IsCopyOf start end tables done
   copy_so (Ok it) poured clean tables kept = (g.seen files.db, poured.copied clean, bytes_alone g files tables kept)
   copy_so (Err why) poured clean tables kept = poured.fault
 
@@ -52,5 +52,5 @@ module _ {D : Type 0} (g : Disk D) (files back : Files D) (start end : Told) whe
     pub poured_kept : (tables : Content) → KeepTables g files tables → KeepTables g back tables
     poured_kept = kept_so poured.log poured.read
 
-    pub poured_copy : AreClean g back.log back.db → (tables : Content) → KeepTables g files tables → IsCopyOf HoldAlone start end tables done
+    pub poured_copy : AreClean g back.log back.db → (tables : Content) → KeepTables g files tables → IsCopyOf start end tables done
     poured_copy clean = copy_so done poured (and_parts (g.is_clean back.log) (g.is_clean back.db) clean).1

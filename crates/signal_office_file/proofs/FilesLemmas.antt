@@ -1,6 +1,7 @@
 -- What files that hold today's tables are found to hold.
 use Rattle.std.proofs.Common.{◌≡◌, inl, inr, IsTrue, Result, Ok, Err, sym, ap, subst, ◌∙◌}
 use Rattle.std.proofs.Math.Logic.{∥∥₁_elim}
+use Rattle.std.specs.Prelude.{MatchResult}
 use Rattle.sqlite.specs.{Closing.HoldsAlone, Closing.IsCopied, Effect.Database, Files.file_state, Held.Held, Recovery.Image, State.HasCleanDisk, State.store_error, Tree.Trees}
 use Rattle.sqlite.specs.declared.FileStore.{FileStore}
 use Rattle.sqlite.specs.declared.error.Error.{Error}
@@ -11,9 +12,9 @@ use Rattle.office_tables.specs.{Content.Content, Stored.content_now, Stored.cont
 use Rattle.office_tables_sql.specs.{Version.AreToday}
 use Rattle.office_tables.proofs.MovedLemmas.{hold_office}
 use Rattle.signal_office_faults.specs.declared.fault.Fault.{Fault}
-use Rattle.signal_office_in_file.specs.Ended.{IsStoreOrMemory}
+use Rattle.signal_office_file.specs.Ended.{TellsUnclosed}
 use Rattle.signal_office_file.specs.Files.{AreThoseOf, HoldIn, IsImageOf, KeepTables}
-use Rattle.signal_office_file.specs.Left.{ClosesFiles, ClosesOffice, IsCleanFile, IsUnclosed, LeavesDatabases, LeavesToday, MayLeaveOf, TellsError}
+use Rattle.signal_office_file.specs.Left.{ClosesFiles, ClosesOffice, IsCleanFile, IsStoreOrMemory, IsUnclosed, LeavesDatabases, LeavesToday, MayLeaveOf, TellsError}
 use Rattle.signal_office_file.specs.declared.left.FileLeft.{FileLeft}
 use Rattle.signal_office_file.specs.declared.left.FileLeft.TheVariants as left
 
@@ -60,7 +61,6 @@ error_told error told (inr store) = inl store.1
 module _ {D : Type 0} {g : Disk D} (conn : Held (FileStore D g)) (told : Fault) where
   pub closing_told : (back : FileLeft D g) → IsUnclosed conn told back → IsStoreOrMemory told
   closing_told (left.Database back) it = error_told (store_error it.cause) told it.told_is
-  closing_told (left.Closed back) none = absurd none
   closing_told (left.Unopened back) none = absurd none
 
   pub unclosed_today : (back : FileLeft D g) → IsCurrent (file_state conn) → IsUnclosed conn told back → LeavesToday back
@@ -75,7 +75,6 @@ module _ {D : Type 0} {g : Disk D} (conn : Held (FileStore D g)) (told : Fault) 
     it.clean clean,
     λ tables may. (it.clean clean, may.0, it.crash may.0 may.1, sym (hold_today may.0 tables (today clean may.0 may.1) may.2)),
   )
-  unclosed_leaves (left.Closed back) none clean = absurd none.0
   unclosed_leaves (left.Unopened back) none clean = absurd none.0
 
 -- an office of today's version is closed as its database is
@@ -84,3 +83,9 @@ pub closes_office : {D : Type 0} {g : Disk D} (conn : Held (FileStore D g)) (r :
 closes_office {g = g} conn (Ok back) current stays it =
     record { usable = it.0; copied = it.1; kept = λ clean. kept_tables g back conn (it.1 clean) current stays }
 closes_office conn (Err e) current stays it = (it, unclosed_today conn e.0 e.1 current it)
+
+-- the first of two faults
+pub first_told : {T Cause : Type 0} (fault_of : Cause → Fault) (done : Result T Cause) (closing told : Fault) → IsStoreOrMemory closing
+    → MatchResult done (λ _. told ≡ closing) (λ cause. told ≡ fault_of cause) → TellsUnclosed fault_of done told
+first_told fault_of (Ok done) closing told is first = subst IsStoreOrMemory (sym first) is
+first_told fault_of (Err cause) closing told is first = first

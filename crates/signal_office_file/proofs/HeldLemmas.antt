@@ -8,7 +8,7 @@ use Rattle.office_http_framing.specs.Ends.{FailsOrGivesNone, Grows, Told}
 use Rattle.office_http_framing.specs.declared.ends.Counts.{Counts}
 use Rattle.sqlite_disk.specs.Disk.{Holds}
 use Rattle.signal_office_faults.specs.declared.fault.Fault.{Fault}
-use Rattle.signal_office_in_file.specs.Ended.{IsUncopied}
+use Rattle.signal_office_file.specs.Ended.{IsUncopied}
 use Rattle.signal_office_file.specs.Copying.{CopyBreaksOff}
 
 part_held : (file bytes : List ℕ) (at : ℕ) → Holds file at bytes → take (length bytes) (drop at file) ≡ bytes

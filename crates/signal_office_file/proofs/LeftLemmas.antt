@@ -14,10 +14,9 @@ use Rattle.office_tables.specs.declared.open.OpenFault.{OpenFault}
 use Rattle.office_tables.specs.declared.open.OpenFault.TheVariants as why
 use Rattle.office_tables.proofs.MovedLemmas.{hold_office, today_rows, today_version}
 use Rattle.signal_office_faults.specs.declared.fault.Fault.{Fault}
-use Rattle.signal_office_in_file.specs.Ended.{IsStoreOrMemory}
 use Rattle.signal_office_file.proofs.FilesLemmas.{error_told}
 use Rattle.signal_office_file.specs.Files.{HoldToday, IsAlike}
-use Rattle.signal_office_file.specs.Left.{IsRefusedIn, KeepsToday, told_of}
+use Rattle.signal_office_file.specs.Left.{IsRefusedIn, IsStoreOrMemory, KeepsToday, told_of}
 use Rattle.signal_office_file.specs.Serving.{RefusedFiles}
 use Rattle.signal_office_file.specs.declared.left.FileLeft.{FileLeft}
 use Rattle.signal_office_file.specs.declared.left.FileLeft.TheVariants as left
@@ -48,7 +47,6 @@ module _ {S : Type 0} (g : Ghosts S) (conn : Held S) (cause : OpenFault) (back :
 
 module _ {D : Type 0} {g : Disk D} (stays : (file : D) → g.may_leave file (g.seen file)) (files : Files D) where
   keeps_today : (trees : Trees) → HoldToday g files trees → (told : Fault) (back : FileLeft D g) → IsRefusedIn files told back → KeepsToday trees told back
-  keeps_today trees held told (left.Closed back) none = absurd none
   keeps_today trees held told (left.Unopened back) (inl spent) = record { told_is = λ clean. inl spent.told_is; recovers = λ clean. tt }
   keeps_today trees held told (left.Unopened back) (inr failed) = record { told_is = λ clean. error_told failed.error told failed.told_is; recovers = λ clean. tt }
   keeps_today trees held told (left.Database back) it =

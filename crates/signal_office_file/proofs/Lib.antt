@@ -2,7 +2,6 @@ mod CopyingLemmas
 pub mod FilesLemmas
 mod LeftLemmas
 mod MigratingLemmas
-mod InFileLemmas
 pub mod ServingLemmas
+pub mod StopLemmas
 mod HeldLemmas
-mod CallsLemmas

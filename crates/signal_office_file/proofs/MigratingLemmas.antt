@@ -11,8 +11,7 @@ use Rattle.office_tables.proofs.Migration.{stand_anew}
 use Rattle.signal_office_file.specs.Left.{IsOpenedIn}
 use Rattle.signal_office_file.specs.Migrating.{AreMigrated, BringsToday, ClosedMigrated, MigratesOnDisk, MigratesIn, told_of_outcome}
 use Rattle.signal_office_file.proofs.FilesLemmas.{copied_alone}
-use Rattle.signal_office_in_file.specs.declared.Ended.TheVariants.{Closed}
-use Rattle.signal_office_file.specs.declared.left.FileLeft.TheVariants as left
+use Rattle.signal_office_file.specs.declared.ended.Ended.TheVariants.{Closed}
 
 -- a crash that leaves the trees as they are leaves the last commit
 is_committed : (r : Result Migrated OpenFault) (new : State) → OnOk r ((trees : Trees) → new.may_leave trees → trees ≡ new.now.trees)
@@ -86,7 +85,7 @@ module _ {D : Type 0} {g : Disk D} (files : Files D) (conn : Held (FileStore D g
 
 -- tables that stood formerly for an office, closed, stand for it today
 pub stands_today : {D : Type 0} {g : Disk D} (files back : Files D) (outcome : Result Migrated OpenFault) → (AreClean g back.log back.db → ClosedMigrated g files outcome back)
-    → BringsToday {g = g} files (Closed (told_of_outcome outcome) (left.Closed back))
+    → BringsToday {g = g} files (Closed (told_of_outcome outcome) back)
 stands_today files back (Err cause) closed = tt
 stands_today files back (Ok count) closed = λ clean before formerly.
     let it = closed clean in

@@ -4,8 +4,8 @@ use Rattle.std.proofs.Math.Logic.{∥∥₁_map}
 use Rattle.sqlite.specs.{Held.Held, State.State}
 use Rattle.office_machine.specs.Office.{Office}
 use Rattle.office_tables.specs.{Calls.IsHonest, Content.Content, Stored.content_now}
-use Rattle.signal_office_in_file.specs.Stopping.{IsServedToAStop, MayBeFound}
-use Rattle.signal_office_in_file.proofs.StopLemmas.{tables_left}
+use Rattle.signal_office_file.specs.Stopping.{IsServedToAStop, MayBeFound}
+use Rattle.signal_office_file.proofs.StopLemmas.{tables_left}
 use Rattle.office_tables.specs.SqlShelf.{MayLeave, SqlView}
 use Rattle.office_desk.specs.StandFor.{StandForSound}
 use Rattle.office_http.specs.Protocol.{office_protocol}
@@ -34,5 +34,5 @@ module _ {S : Type 0} (state_of : Held S → State) (held : Content) (last : Sql
       let ran = did before stands in (
         ran.0,
         Did-weaker office_protocol _ _ limit start end outcome
-            (λ requests answers it. record { laws = it.serves.laws; found_so = ∥∥₁_map may (served_leaves before ran.0 requests answers it found) }) ran.1,
+            (λ requests answers it. (it.serves.laws, ∥∥₁_map may (served_leaves before ran.0 requests answers it found))) ran.1,
       )

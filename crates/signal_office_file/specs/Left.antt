@@ -24,10 +24,13 @@ use Rattle.office_tables.specs.declared.open.OpenFault.{OpenFault}
 use Rattle.office_tables.specs.declared.open.OpenFault.TheVariants as why
 use Rattle.signal_office_faults.specs.declared.fault.Fault.{Fault}
 use Rattle.signal_office_faults.specs.declared.fault.Fault.TheVariants as fault
-use Rattle.signal_office_in_file.specs.Ended.{IsStoreOrMemory}
 use Rattle.signal_office_file.specs.Files.{AreUsable, IsAlike, KeepTables}
 use Rattle.signal_office_file.specs.declared.left.FileLeft.{FileLeft}
 use Rattle.signal_office_file.specs.declared.left.FileLeft.TheVariants as left
+
+-- the fault is Store (the database or the system refused) or Memory (a growth was refused)
+abbrev pub IsStoreOrMemory : Fault → Type 0
+IsStoreOrMemory why = (why ≡ fault.Store) ⊎ (why ≡ fault.Memory)
 
 -- the fault that is reported of an error of the database: Memory if memory was refused, else Store
 abbrev pub TellsError : Error → Fault → Type 0
@@ -75,14 +78,8 @@ module _ {D : Type 0} {g : Disk D} where
 
   -- an opening refused the files with this fault, and left this of them
   abbrev pub IsRefusedIn : Files D → Fault → FileLeft D g → Type 0
-  IsRefusedIn files told (left.Closed back) = ⊥
   IsRefusedIn files told (left.Unopened back) = IsUnopened files told back
   IsRefusedIn files told (left.Database back) = IsTurnedAway files told back
-
-  -- the files, if they are closed
-  abbrev pub closed_of : FileLeft D g → Option (Files D)
-  closed_of (left.Closed back) = Some back
-  closed_of _ = None
 
   -- the database, its connection or its store, if that is left and not closed
   abbrev pub database_of : FileLeft D g → Option (Result (Held (FileStore D g)) (FileStore D g))
@@ -91,7 +88,6 @@ module _ {D : Type 0} {g : Disk D} where
 
   -- the disk has returned what was written to what is left
   abbrev pub IsCleanFile : FileLeft D g → Type 0
-  IsCleanFile (left.Closed back) = AreClean g back.log back.db
   IsCleanFile (left.Unopened back) = IsCleanLeft back
   IsCleanFile (left.Database back) = IsCleanStore over_files (store_left over_files back)
 
@@ -117,7 +113,6 @@ module _ {D : Type 0} {g : Disk D} where
 
   -- what is left is the database, which was not closed, for a cause that the fault tells
   abbrev pub IsUnclosed : Held (FileStore D g) → Fault → FileLeft D g → Type 0
-  IsUnclosed conn told (left.Closed back) = ⊥
   IsUnclosed conn told (left.Unopened back) = ⊥
   IsUnclosed conn told (left.Database back) = StaysOpened conn told back
 
@@ -154,3 +149,7 @@ module _ {D : Type 0} {g : Disk D} where
   abbrev pub MayLeaveOf : FileLeft D g → Content → Type 0
   MayLeaveOf (left.Database back) tables = (trees : Trees) × over_files.recovers (store_left over_files back) trees × Hold trees tables
   MayLeaveOf _ tables = ⊥
+
+  -- Files that are not closed: whatever a stop leaves of them is a database, on a clean disk with today's version, and `Holds` is true of its tables.
+  abbrev pub LeavesTables : FileLeft D g → (Content → Type 0) → Type 0
+  LeavesTables back Holds = LeavesDatabases back × LeavesToday back × ((found : Content) → MayLeaveOf back found → Holds found)

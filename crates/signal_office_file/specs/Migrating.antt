@@ -20,12 +20,11 @@ use Rattle.office_tables_sql.specs.Promises.{KeepsCommitted}
 use Rattle.office_tables.specs.declared.open.OpenFault.{OpenFault}
 use Rattle.office_tables.specs.declared.open.OpenFault.TheVariants as why
 use Rattle.signal_office_faults.specs.declared.fault.Fault.{Fault}
-use Rattle.signal_office_in_file.specs.declared.Ended.{Ended}
-use Rattle.signal_office_in_file.specs.declared.Ended.TheVariants.{Unopened, Refused, Closed, Unclosed}
 use Rattle.signal_office_file.specs.Files.{AreThoseOf, AreUsable, HoldToday, IsImageOf}
 use Rattle.signal_office_file.specs.Left.{IsOpenedIn, IsRefusedIn, IsUnclosed, told_of}
+use Rattle.signal_office_file.specs.declared.ended.Ended.{Ended}
+use Rattle.signal_office_file.specs.declared.ended.Ended.TheVariants.{Refused, Closed, Unclosed}
 use Rattle.signal_office_file.specs.declared.left.FileLeft.{FileLeft}
-use Rattle.signal_office_file.specs.declared.left.FileLeft.TheVariants as left
 
 -- What a migration of a database did, as far as it is known on a clean disk. Done, it brought the committed
 -- tables to today's version; refused, it left them in an open database as they were; Version and Damaged are
@@ -69,6 +68,13 @@ module _ {D : Type 0} (g : Disk D) where
         × HasUnknownVersion over_files conn
     pub damaged : outcome ≡ Err why.Damaged → HasDamagedFormer was
 
+  -- The files are closed, and may be used, after a migration that came to this. On a clean disk they hold
+  -- what became of their tables, or, if it was refused, the tables as they were.
+  abbrev pub IsClosedMigrated : Files D → Result ℕ Fault → Files D → Type 0
+  IsClosedMigrated files told back =
+      (outcome : Result Migrated OpenFault) × (told ≡ told_of_outcome outcome) × AreUsable g back
+      × (AreClean g back.log back.db → ClosedMigrated files outcome back)
+
 module _ {D : Type 0} {g : Disk D} where
   -- a connection was opened over the files and found its tables there, and a migration with this outcome made
   -- `conn` of it
@@ -90,31 +96,22 @@ module _ {D : Type 0} {g : Disk D} where
     pub unclosed : IsUnclosed conn closing back
     pub told_is : MatchResult (told_of_outcome outcome) (λ _. told ≡ closing) (λ cause. told ≡ cause)
 
-  -- The files are closed, and may be used, after a migration that came to this. On a clean disk they hold
-  -- what became of their tables, or, if it was refused, the tables as they were.
-  abbrev pub IsClosedMigrated : Files D → Result ℕ Fault → FileLeft D g → Type 0
-  IsClosedMigrated files told (left.Closed back) =
-      (outcome : Result Migrated OpenFault) × (told ≡ told_of_outcome outcome) × AreUsable g back
-      × (AreClean g back.log back.db → ClosedMigrated g files outcome back)
-  IsClosedMigrated files told _ = ⊥
-
-  -- how a migration ended of files that the system had opened
-  abbrev pub EndsMigration : Files D → Ended (Result ℕ Fault) (FileLeft D g) → Type 0
-  EndsMigration files (Unopened told) = ⊥
+  -- how a migration of files ended
+  abbrev pub EndsMigration : Files D → Ended (Result ℕ Fault) D g → Type 0
   EndsMigration files (Refused told back) = IsRefusedIn files told back
-  EndsMigration files (Closed told back) = IsClosedMigrated files told back
+  EndsMigration files (Closed told back) = IsClosedMigrated g files told back
   EndsMigration files (Unclosed told back) = FailedToClose files told back
 
   -- A migration that was done, on a clean disk: if the tables in the files stood for an office in version 1,
   -- the closed files hold tables that stand for it today.
-  abbrev pub BringsToday : Files D → Ended (Result ℕ Fault) (FileLeft D g) → Type 0
-  BringsToday files (Closed (Ok count) (left.Closed back)) =
+  abbrev pub BringsToday : Files D → Ended (Result ℕ Fault) D g → Type 0
+  BringsToday files (Closed (Ok count) back) =
       AreClean g back.log back.db → (before : Office)
       → ((trees : Trees) → AreThoseOf (image_of g files) trees → StandFormerly trees before)
       → (trees : Trees) × HoldToday g back trees × StandAnew (content_of trees) before
   BringsToday files _ = Unit {0}
 
   -- how a migration of files ended; and if it was done, what it made of an office that their tables stood for
-  pub record MigratesFiles (files : Files D) (ended : Ended (Result ℕ Fault) (FileLeft D g)) : Type 0 where
+  pub record MigratesFiles (files : Files D) (ended : Ended (Result ℕ Fault) D g) : Type 0 where
     pub ends : EndsMigration files ended
     pub today : BringsToday files ended

@@ -5,16 +5,13 @@ ghost use Rattle.std.specs.Prelude.{◌≡◌, ◌<◌, length, IsTrue, IfErr, O
 ghost use Rattle.std.specs.Io.KnownBytes.{Appends};
 ghost use Rattle.office_http_framing.specs.Ends.{Grows};
 ghost use Rattle.sqlite_disk.specs.Disk.{Holds};
-ghost use Rattle.signal_office_in_file.specs.Ended.{EndsOver, IsUncopied, copy_work};
+ghost use Rattle.signal_office_file.specs.Ended.{EndsOver, IsUncopied, copy_work};
 ghost use Rattle.signal_office_file.specs.Copying.{CopyBreaksOff, StaysAsRead};
-ghost use Rattle.signal_office_file.specs.Files.{HoldAlone};
-ghost use Rattle.signal_office_file.specs.InFile.{files_view};
 
-use crate::left::FileLeft;
+use crate::ended::Ended;
 use crate::opening::{close_office, open_file};
 use office_http_framing::ends::{Sink, write_all};
 use signal_office_faults::Fault;
-use signal_office_in_file::Ended;
 use sqlite::Options;
 use sqlite_disk::{Disk, Files};
 use std::alloc::Global;
@@ -28,9 +25,8 @@ pub fn copied_in<D: Disk + Drop, W: Sink>(
     files: Files<D>,
     options: Options,
     out: &mut W,
-) -> Ended<Result<(), Fault>, FileLeft<D>>
-    ensures { EndsOver (files_view D.Disk files)
-        (copy_work HoldAlone (W.told out.old) (W.told out.new)) result }
+) -> Ended<Result<(), Fault>, D>
+    ensures { EndsOver files (copy_work (W.told out.old) (W.told out.new)) result }
 {
     let office = match open_file(alloc, files, options) {
         Ok(office) => office,
@@ -39,7 +35,7 @@ pub fn copied_in<D: Disk + Drop, W: Sink>(
     match close_office(office) {
         Ok(mut files) => {
             let done = copy_all(alloc, &mut files.db, out);
-            Ended::Closed(done, FileLeft::Closed(files))
+            Ended::Closed(done, files)
         }
         Err((fault, left)) => Ended::Unclosed(fault, left),
     }

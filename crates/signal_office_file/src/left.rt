@@ -1,17 +1,15 @@
 //! Why the files of an office were refused or not closed, and what is left of them.
 
 ghost use Rattle.std.specs.Prelude.{◌≡◌};
-ghost use Rattle.signal_office_file.specs.Left.{TellsError, closed_of, database_of, told_of};
+ghost use Rattle.signal_office_file.specs.Left.{TellsError, database_of, told_of};
 
 use office_tables::open::{Left, OpenFault};
 use signal_office_faults::Fault;
 use sqlite::{Alter, Error, ErrorCode, FileStore, Leftover};
-use sqlite_disk::{Disk, Files};
+use sqlite_disk::Disk;
 
-/// What is left of the two files of an office after work, or after they were refused.
+/// What is left of the two files of an office that were refused or could not be closed.
 pub enum FileLeft<D: Disk> {
-    /// The files, closed: the log is copied into the database file.
-    Closed(Files<D>),
     /// What is left of files in which no database was opened.
     Unopened(Leftover<D>),
     /// The database, which is not closed: its connection, or its store.
@@ -19,16 +17,6 @@ pub enum FileLeft<D: Disk> {
 }
 
 impl<D: Disk + Drop> FileLeft<D> {
-    /// The files, if they are closed. Anything else is let go.
-    pub fn closed(self) -> Option<Files<D>>
-        ensures { result ≡ closed_of self }
-    {
-        match self {
-            FileLeft::Closed(files) => Some(files),
-            _ => None,
-        }
-    }
-
     /// The database, if it was not closed: its connection, or its store. Anything else is let go.
     pub fn database(self) -> Option<Left<FileStore<D>>>
         ensures { result ≡ database_of self }
@@ -47,7 +35,6 @@ fn let_go<S: Alter + Drop>(_left: Left<S>) {}
 impl<D: Disk + Drop> Drop for FileLeft<D> {
     fn drop(self) {
         match self {
-            FileLeft::Closed(_files) => {}
             FileLeft::Unopened(_files) => {}
             FileLeft::Database(left) => let_go(left),
         }

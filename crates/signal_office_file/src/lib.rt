@@ -1,22 +1,27 @@
 //! The office over the tables of a file: opened, used for a task or a stream of requests, closed,
 //! copied, and brought from version 1 to today's. A call takes the two files of an office, the log
-//! and the database file, and gives back what is left of them; `TablesInFile` opens those at a
-//! path.
+//! and the database file, and gives back what is left of them; those of `at_path` open the files at
+//! a path, and give what came of the work.
 #![tactic(auto)]
 
+mod at_path;
 mod copying;
-mod in_file;
+mod ended;
 mod left;
 mod migrating;
 mod notes;
 mod opening;
-mod paths;
 mod serving;
+mod task;
+mod waiting;
+mod work;
 
+pub use at_path::{answer_stream, copy_at, do_task, migrate_at};
 pub use copying::copied_in;
-pub use in_file::{TablesInFile, answered_in, done_in};
+pub use ended::Ended;
 pub use left::{FileLeft, Refused};
 pub use migrating::migrate_file;
 pub use opening::{FileOffice, close_office, open_file};
-pub use paths::Begin;
 pub use serving::{ServedOffice, serve_file};
+pub use task::OfficeTask;
+pub use work::{answered_in, done_in};

@@ -3,14 +3,13 @@
 ghost use Rattle.std.specs.Prelude.{◌≡◌};
 ghost use Rattle.signal_office_file.specs.Migrating.{told_of_outcome, MigratesFiles};
 
-use crate::in_file::first_fault;
+use crate::ended::{Ended, first_fault};
 use crate::left::{FileLeft, fault_of_opening};
 use crate::opening::{close_file, database_in};
 use office_tables::Migrated;
 use office_tables::open::OpenFault;
 use office_tables::sql_shelf::SqlShelf;
 use signal_office_faults::Fault;
-use signal_office_in_file::Ended;
 use sqlite::Options;
 use sqlite_disk::{Disk, Files};
 use std::alloc::Global;
@@ -25,7 +24,7 @@ pub fn migrate_file<D: Disk + Drop>(
     alloc: Global,
     files: Files<D>,
     options: Options,
-) -> Ended<Result<u128, Fault>, FileLeft<D>>
+) -> Ended<Result<u128, Fault>, D>
     // On a clean disk, which returned what was written, closed files hold what became of their
     // tables, with the count of the rows that were written anew, or where that was refused, the
     // tables as they were; of files that could not be closed a stop leaves either. Tables that
@@ -40,7 +39,7 @@ pub fn migrate_file<D: Disk + Drop>(
     let outcome = SqlShelf::migrate(alloc, &mut conn);
     let done = rows_written(outcome);
     match close_file(conn) {
-        Ok(files) => Ended::Closed(done, FileLeft::Closed(files)),
+        Ok(files) => Ended::Closed(done, files),
         Err((fault, left)) => Ended::Unclosed(first_fault(done, fault), left),
     }
 }

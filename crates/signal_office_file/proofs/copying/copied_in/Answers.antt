@@ -1,4 +1,4 @@
-use Rattle.std.proofs.Common.{Ok, inl, refl}
+use Rattle.std.proofs.Common.{Ok, refl}
 use Rattle.sqlite.specs.Files.{file_state}
 use Rattle.office_tables.specs.{Stored.content_now}
 use Rattle.signal_office_file.specs.Copying.{PoursAs}
@@ -7,26 +7,28 @@ use Rattle.signal_office_file.proofs.FilesLemmas.{closing_told, unclosed_leaves}
 use Rattle.signal_office_file.proofs.copying.copied_in.Goals as goal
 
 pub returns-in-Err : goal.returns-in-Err
-returns-in-Err g c = (refl, inl c.in-Err.ensures.refused)
+returns-in-Err g c = (refl, c.in-Err.ensures.refused)
 
 -- closed on a clean disk, the files hold what they held, and so do the bytes of the database file
 pub returns-in-Ok-close_office : goal.returns-in-Ok-close_office
-returns-in-Ok-close_office g c = (
-  tt,
-  λ clean.
-      let disk = g.D.Disk in
-      let files = c.in-Ok-close_office.files in
-      let it = c.copy_all-done.ensures in
-      let back = record files { db = c.copy_all-done.new.file } in
-      let poured : PoursAs disk files (g.W.Sink.told c.args.out.now) (g.W.Sink.told c.copy_all-done.new.out) c.copy_all-done.result back =
-      record { log = refl; read = it.read; copied = it.copied; fault = it.fault } in
-      let tables = content_now (file_state c.in-Ok.office.conn) in
-      let before = poured_clean disk files back _ _ _ poured clean in
-      let closed = c.in-Ok-close_office.ensures in
-      let kept = closed.kept before in
-      let opened = c.in-Ok.ensures.opened (closed.copied before).was_clean in
-      (tables, tables, opened.held, (refl, poured_copy disk files back _ _ _ poured clean tables kept), poured_kept disk files back _ _ _ poured tables kept),
-)
+returns-in-Ok-close_office g c =
+    let disk = g.D.Disk in
+    let files = c.in-Ok-close_office.files in
+    let it = c.copy_all-done.ensures in
+    let back = record files { db = c.copy_all-done.new.file } in
+    let poured : PoursAs disk files (g.W.Sink.told c.args.out.now) (g.W.Sink.told c.copy_all-done.new.out) c.copy_all-done.result back =
+    record { log = refl; read = it.read; copied = it.copied; fault = it.fault } in
+    let tables = content_now (file_state c.in-Ok.office.conn) in
+    let closed = c.in-Ok-close_office.ensures in
+    record {
+      begun = tt;
+      clean = λ clean. c.in-Ok.ensures.clean (closed.copied (poured_clean disk files back _ _ _ poured clean)).was_clean;
+      made = λ clean.
+          let before = poured_clean disk files back _ _ _ poured clean in
+          let kept = closed.kept before in
+          let opened = c.in-Ok.ensures.opened (closed.copied before).was_clean in
+          (tables, tables, opened.held, (refl, poured_copy disk files back _ _ _ poured clean tables kept), poured_kept disk files back _ _ _ poured tables kept);
+    }
 
 -- a stop leaves no more of the database than of the connection, which holds what the files held
 pub returns-in-Err-close_office : goal.returns-in-Err-close_office

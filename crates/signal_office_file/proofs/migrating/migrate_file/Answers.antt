@@ -3,8 +3,7 @@ use Rattle.std.specs.Prelude.{MatchResult}
 use Rattle.office_tables.proofs.ArrangedLemmas.{found_arranged}
 use Rattle.signal_office_file.specs.Migrating.{BringsToday}
 use Rattle.signal_office_file.proofs.MigratingLemmas.{closed_migrated, migrates_in, stands_today}
-use Rattle.signal_office_in_file.specs.declared.Ended.TheVariants.{Closed}
-use Rattle.signal_office_file.specs.declared.left.FileLeft.TheVariants as left
+use Rattle.signal_office_file.specs.declared.ended.Ended.TheVariants.{Closed}
 use Rattle.signal_office_file.proofs.migrating.migrate_file.Goals as goal
 
 pub migrate-outcome-requires : goal.migrate-outcome-requires
@@ -23,7 +22,7 @@ returns-in-Ok-close_file g c =
     (migrates_in g.met.D.Disk.seen_may_stay files tried.result c.in-Ok.conn tried.new.conn c.in-Ok.ensures.opened it.open it.brought it.settled it.version it.damaged it.unchanged it.crash) in
     record {
       ends = (tried.result, c.rows_written-done.ensures, c.in-Ok-close_file.ensures.0, closed);
-      today = subst (λ told. BringsToday {g = g.D.Disk} files (Closed told (left.Closed back))) (sym c.rows_written-done.ensures)
+      today = subst (λ told. BringsToday {g = g.D.Disk} files (Closed told back)) (sym c.rows_written-done.ensures)
           (stands_today {g = g.D.Disk} files back tried.result closed);
     }
 

@@ -1,4 +1,0 @@
-pub mod Ended
-pub mod Stopping
-pub mod Doing
-pub mod Calls
