@@ -5,4 +5,3 @@ mod ReplacingLemmas
 mod RevisedLemmas
 mod RevisingLemmas
 mod StandingLemmas
-mod CheckLemmas
