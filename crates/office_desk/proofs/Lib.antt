@@ -16,4 +16,4 @@ pub mod Writes
 pub mod Street
 pub mod Runs
 mod TriedRecords
-pub mod Reading
+pub mod Looks

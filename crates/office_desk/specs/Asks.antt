@@ -38,5 +38,5 @@ pub record IsReply (tables : Content) (query : Command) (reply : Reply) : Type 0
   pub turned_away : MeetsDamage tables query → IsTurnedAway query reply
 
 -- an office was only asked this query, and replied so
-abbrev pub Reads : {S : Type 0} → Ghosts S → (old new : S) → Command → Reply → Type 0
-Reads g old new query reply = OnlyLooks g old new (λ tables. IsReply tables query reply)
+abbrev pub ReadsOffice : {S : Type 0} → Ghosts S → (old new : S) → Command → Reply → Type 0
+ReadsOffice g old new query reply = OnlyLooks g old new (λ tables. IsReply tables query reply)

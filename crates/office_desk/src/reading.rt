@@ -1,6 +1,6 @@
 //! What people read of an office: queries, each answered by a type of its own.
 ghost use Rattle.std.specs.Prelude.{◌≡◌};
-ghost use Rattle.office_desk.specs.Asks.{Reads, reply_to};
+ghost use Rattle.office_desk.specs.Asks.{ReadsOffice, reply_to};
 ghost use Rattle.office_desk.specs.Changes.{IsQueryCommand};
 
 use crate::office::Office;
@@ -20,7 +20,7 @@ impl<S: Shelf> Office<S> {
     /// The reply to a query, which is taken, so that a caller has none to drop.
     fn ask(&mut self, alloc: Global, query: Command) -> Reply
         requires { IsQueryCommand query }
-        ensures { Reads S.Shelf self.old self.new query result }
+        ensures { ReadsOffice S.Shelf self.old self.new query result }
     {
         let decided = self.decide(alloc, &query);
         decided.reply
@@ -29,7 +29,7 @@ impl<S: Shelf> Office<S> {
     /// An intersection: its name, interval and revision, and who holds a draft of its timing, in
     /// which state.
     pub fn state(&mut self, alloc: Global, id: InterId) -> Result<IntersectionState, Refusal>
-        ensures { Reads S.Shelf self.old self.new (Command.State id)
+        ensures { ReadsOffice S.Shelf self.old self.new (Command.State id)
             (reply_to (λ it. Reply.State it) result) }
     {
         match self.ask(alloc, Command::State { id }) {
@@ -41,7 +41,7 @@ impl<S: Shelf> Office<S> {
 
     /// The committed timing set of an intersection, with the intersection's name and the revision.
     pub fn timing(&mut self, alloc: Global, id: InterId) -> Result<RunningTiming, Refusal>
-        ensures { Reads S.Shelf self.old self.new (Command.Timing id)
+        ensures { ReadsOffice S.Shelf self.old self.new (Command.Timing id)
             (reply_to (λ it. Reply.Timing it) result) }
     {
         match self.ask(alloc, Command::Timing { id }) {
@@ -54,7 +54,7 @@ impl<S: Shelf> Office<S> {
     /// The draft of an intersection, with the rules that it breaks. Where nobody holds one, the
     /// error is the transaction's NotTransaction.
     pub fn draft(&mut self, alloc: Global, id: InterId) -> Result<OpenDraft, Refusal>
-        ensures { Reads S.Shelf self.old self.new (Command.Draft id)
+        ensures { ReadsOffice S.Shelf self.old self.new (Command.Draft id)
             (reply_to (λ it. Reply.Draft it) result) }
     {
         match self.ask(alloc, Command::Draft { id }) {
@@ -66,7 +66,7 @@ impl<S: Shelf> Office<S> {
 
     /// All that the register holds of an intersection.
     pub fn cabinet(&mut self, alloc: Global, id: InterId) -> Result<CabinetShown, Refusal>
-        ensures { Reads S.Shelf self.old self.new (Command.Cabinet id)
+        ensures { ReadsOffice S.Shelf self.old self.new (Command.Cabinet id)
             (reply_to (λ it. Reply.Cabinet it) result) }
     {
         match self.ask(alloc, Command::Cabinet { id }) {
@@ -78,7 +78,7 @@ impl<S: Shelf> Office<S> {
 
     /// How many pieces of each part are on hand, by the codes of the parts.
     pub fn stock(&mut self, alloc: Global) -> Result<Stock, Refusal>
-        ensures { Reads S.Shelf self.old self.new Command.Stock
+        ensures { ReadsOffice S.Shelf self.old self.new Command.Stock
             (reply_to (λ it. Reply.Stock it) result) }
     {
         match self.ask(alloc, Command::Stock) {

@@ -1,6 +1,6 @@
 -- Changes of an office, one after another, and beside calls that only ask it.
 use Rattle.std.proofs.Common.{◌≡◌, ◌⊎◌, ◌∙◌, inl, inr, Result, subst}
-use Rattle.office_desk.proofs.Reading.{still_held}
+use Rattle.office_desk.proofs.Looks.{still_held}
 use Rattle.office_desk.specs.Asks.{OnlyLooks}
 use Rattle.office_machine.specs.declared.{command.Command.Command, reply.Reply.Reply}
 use Rattle.office_tables_shelf.specs.{Content.Content, declared.shelf.Shelf.Ghosts}

@@ -1,4 +1,5 @@
 pub mod FaultLemmas
+mod LookLemmas
 pub mod ChangingLemmas
 pub mod InTurnLemmas
 mod ReplacingLemmas

@@ -16,7 +16,7 @@ use Rattle.signal_office_commands.specs.InTurn.{◌>>=◌, RunsInTurn}
 use Rattle.signal_office_commands.specs.Replacing.{LeavesPlan, LeftPlan, HasShownRows, TellsNoChange, base_at, draft_set, is_same, plan_left, plan_wanted}
 use Rattle.signal_office_commands.specs.Revising.{EndsAs, Revises, RevisesSo, WouldBe, commands_due, committing, drafted, is_idle, revised_by}
 use Rattle.signal_office_commands.specs.Refused.{fault_of}
-use Rattle.signal_office_commands.specs.Standing.{AreWanted, Stands, base_from, base_of, committed_rows, draft_rows}
+use Rattle.signal_office_commands.specs.Standing.{AreWanted, StandsAs, base_from, base_of, committed_rows, held_rows}
 use Rattle.signal_office_commands.specs.declared.standing.StandingPlan.{StandingPlan}
 use Rattle.signal_office_commands.specs.declared.revising.{Revised.Revised, Revised.TheVariants.Open, Revised.TheVariants.Same, Revised.TheVariants.Committed, Revision.Revision}
 use Rattle.signal_office_faults.specs.declared.fault.Fault.{Fault}
@@ -54,7 +54,7 @@ committed_read : (read : Result RunningTiming Refusal) → committed_rows read �
 committed_read (Ok timing) = refl
 committed_read (Err why) = refl
 
-draft_read : (read : Result OpenDraft Refusal) → draft_rows read ≡ draft_in (reply_to (λ it. reply.Draft it) read)
+draft_read : (read : Result OpenDraft Refusal) → held_rows read ≡ draft_in (reply_to (λ it. reply.Draft it) read)
 draft_read (Ok draft) = refl
 draft_read (Err (refusal.Draft NotTransaction)) = refl
 draft_read (Err why) = refl
@@ -73,7 +73,7 @@ standing_found None standing committed draft = absurd cc
 standing_found (Some i) standing committed draft = let is = rw (shown_draft i.timing.draft) at draft in (i, refl, record { committed = cc; draft = cc })
 
 -- it is what the office shows
-standing_on : (tables : Content) (office : Office) (id : ℕ) (standing : StandingPlan) → Stands tables id (Ok standing) → StandForSound tables office
+standing_on : (tables : Content) (office : Office) (id : ℕ) (standing : StandingPlan) → StandsAs tables id (Ok standing) → StandForSound tables office
     → (i : Intersection) × (get office.intersections id ≡ Some i) × StandsOf standing i
 standing_on tables office id standing ((timing, first, rows), (draft, second, held)) stands =
     standing_found (get office.intersections id) standing

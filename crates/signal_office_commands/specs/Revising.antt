@@ -12,7 +12,7 @@ use Rattle.office_tables_shelf.specs.declared.counts.WriteCounts.{WriteCounts}
 use Rattle.office_tables_shelf.specs.declared.rows.Table.TheVariants as table
 use Rattle.signal_office_commands.specs.Changing.{AfterOneOf}
 use Rattle.signal_office_commands.specs.InTurn.{◌>>=◌, Makes, RunsInTurn}
-use Rattle.signal_office_commands.specs.Standing.{AreWanted, Stands, TellsSame, base_of}
+use Rattle.signal_office_commands.specs.Standing.{AreWanted, StandsAs, TellsSame, base_of}
 use Rattle.signal_office_commands.specs.Refused.{IsUnread}
 use Rattle.signal_office_commands.specs.declared.revising.Revised.{Revised}
 use Rattle.signal_office_commands.specs.declared.revising.Revised.TheVariants.{Same, Open, Committed}
@@ -112,8 +112,8 @@ pub record IsRevision (edit : Edit) (standing : StandingPlan) (asked : List Chan
 -- WHAT AN EDIT COMES TO, before anything is changed: its commands; or the file was not read, what stands was not shown, or memory was refused
 abbrev pub ComesTo : (bytes : List ℕ) → Edit → Content → Result (Option Revision) Fault → Type 0
 ComesTo bytes edit tables (Ok it) =
-    (asked : List Change) × (changes_of bytes ≡ Ok asked) × (standing : StandingPlan) × Stands tables edit.id (Ok standing) × IsRevision edit standing asked it
-ComesTo bytes edit tables (Err why) = IsUnread (changes_of bytes) why ⊎ (Stands tables edit.id (Err why) ⊎ (why ≡ told.Memory))
+    (asked : List Change) × (changes_of bytes ≡ Ok asked) × (standing : StandingPlan) × StandsAs tables edit.id (Ok standing) × IsRevision edit standing asked it
+ComesTo bytes edit tables (Err why) = IsUnread (changes_of bytes) why ⊎ (StandsAs tables edit.id (Err why) ⊎ (why ≡ told.Memory))
 
 -- What an edit came to is done: its commands are run. Without commands nothing is changed, and it is told that the plan is the committed set. A fault is told, and nothing is changed.
 abbrev pub EndsAs : (wrote : Bool) → Result (Option Revision) Fault → Content → Content → Result Revised Fault → Type 0

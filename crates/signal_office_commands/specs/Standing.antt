@@ -22,10 +22,10 @@ committed_rows (Ok timing) = Ok timing.rows
 committed_rows (Err why) = Err (fault_of why)
 
 -- the rows of a draft that was read, none where nobody holds one, or the fault of a refused read
-abbrev pub draft_rows : Result OpenDraft Refusal → Result (Option Rows) Fault
-draft_rows (Ok draft) = Ok (Some draft.rows)
-draft_rows (Err (refusal.Draft NotTransaction)) = Ok None
-draft_rows (Err why) = Err (fault_of why)
+abbrev pub held_rows : Result OpenDraft Refusal → Result (Option Rows) Fault
+held_rows (Ok draft) = Ok (Some draft.rows)
+held_rows (Err (refusal.Draft NotTransaction)) = Ok None
+held_rows (Err why) = Err (fault_of why)
 
 -- this is what the office replied of the committed set of an intersection
 abbrev pub ShowsCommitted : Content → ℕ → Result Rows Fault → Type 0
@@ -33,14 +33,14 @@ ShowsCommitted tables id rows =
     (read : Result RunningTiming Refusal) × IsReply tables (command.Timing id) (reply_to (λ it. reply.Timing it) read) × (rows ≡ committed_rows read)
 
 -- and this of its draft
-abbrev pub ShowsDraft : Content → ℕ → Result (Option Rows) Fault → Type 0
-ShowsDraft tables id rows =
-    (read : Result OpenDraft Refusal) × IsReply tables (command.Draft id) (reply_to (λ it. reply.Draft it) read) × (rows ≡ draft_rows read)
+abbrev pub ShowsHeld : Content → ℕ → Result (Option Rows) Fault → Type 0
+ShowsHeld tables id rows =
+    (read : Result OpenDraft Refusal) × IsReply tables (command.Draft id) (reply_to (λ it. reply.Draft it) read) × (rows ≡ held_rows read)
 
 -- what stands of an intersection's plan, as an office over these tables replies; or the fault of a read that was refused
-abbrev pub Stands : Content → ℕ → Result StandingPlan Fault → Type 0
-Stands tables id (Ok standing) = ShowsCommitted tables id (Ok standing.committed) × ShowsDraft tables id (Ok standing.draft)
-Stands tables id (Err why) = ShowsCommitted tables id (Err why) ⊎ ShowsDraft tables id (Err why)
+abbrev pub StandsAs : Content → ℕ → Result StandingPlan Fault → Type 0
+StandsAs tables id (Ok standing) = ShowsCommitted tables id (Ok standing.committed) × ShowsHeld tables id (Ok standing.draft)
+StandsAs tables id (Err why) = ShowsCommitted tables id (Err why) ⊎ ShowsHeld tables id (Err why)
 
 -- the rows that a transaction goes on with: a draft, or the committed set where there is none
 abbrev pub base_from : Rows → Option Rows → Rows

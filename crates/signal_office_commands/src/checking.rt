@@ -1,4 +1,5 @@
 //! Records of a CSV file that are tried and not taken.
+#![tactic(auto, using(office_desk::proofs::Looks::keeps_none, crate::proofs::LookLemmas::keeps_shelf))]
 
 ghost use Rattle.office_desk.specs.Asks.{KeepsOffice};
 

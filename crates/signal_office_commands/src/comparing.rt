@@ -1,4 +1,5 @@
 //! What two plans differ in: of two CSV files, of a draft, or of a file and what runs.
+#![tactic(auto, using(office_desk::proofs::Looks::keeps_then))]
 
 ghost use Rattle.office_desk.specs.Asks.{KeepsOffice};
 

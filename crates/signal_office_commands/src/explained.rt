@@ -1,5 +1,6 @@
 //! A fault as `--explain` tells it: of a bad record also its line and what is wrong there, and of a
 //! draft that another clerk owns also that clerk.
+#![tactic(auto, using(office_desk::proofs::Looks::keeps, office_desk::proofs::Looks::keeps_none))]
 
 ghost use Rattle.office_desk.specs.Asks.{KeepsOffice};
 

@@ -3,20 +3,20 @@
 //! All rows are read twice: first only to learn that each is a record, so that nothing is put where
 //! one is not; then, intersection by intersection, for the texts. So memory does not grow with
 //! texts.
+#![tactic(auto, using(office_desk::proofs::Looks::keeps_then, office_desk::proofs::Looks::keeps_none))]
 
 ghost use Rattle.office_desk.specs.Asks.{KeepsOffice};
 
 use crate::index::{Gathered, index_over};
 use crate::page::read_page;
 use crate::reads::{read_cabinet, read_intersections, read_stock, read_timing};
+use crate::reporting::report;
 use cabinet_core::Day;
 use office_desk::office::Office;
-use office_files::{records_csv, timing_csv};
 use office_machine::intersections::ListedIntersection;
 use office_tables_shelf::shelf::Shelf;
-use office_views::{intersections_list, stock_list};
 use signal_office_faults::{Fault, Folder};
-use signal_office_line::Folder as FolderKind;
+use signal_office_line::{Folder as FolderKind, Shown, View};
 use signal_plans::warnings;
 use signal_records::InterId;
 use std::alloc::Global;
@@ -34,12 +34,13 @@ fn read_shown<S: Shelf>(
         FolderKind::Records => {
             read_timing(alloc, office, id)?;
             read_cabinet(alloc, office, id)?;
+            Ok(())
         }
         FolderKind::Pages { .. } => {
             read_page(alloc, office, id)?;
+            Ok(())
         }
     }
-    Ok(())
 }
 
 /// Reads all rows that a folder shows of an office. The fault is `Damaged` where one is no record.
@@ -58,51 +59,47 @@ fn read_all<S: Shelf>(
     Ok(())
 }
 
-/// Puts the list of all intersections and the stock.
-fn put_lists<S: Shelf, D: Folder>(
+/// Puts a file that has what a report prints.
+fn put_report<S: Shelf, D: Folder>(
     alloc: Global,
     office: &mut Office<S>,
-    listed: &[ListedIntersection],
+    shown: &Shown<'_>,
+    name: &str,
     folder: &mut D,
 ) -> Result<(), Fault>
     ensures { KeepsOffice S.Shelf office.old office.new }
 {
-    let stock = read_stock(alloc, office)?;
-    folder.put(
-        "intersections.csv",
-        &intersections_list(alloc, true, listed)?,
+    let done = report(alloc, office, shown, &[])?;
+    folder.put(name, done.as_bytes())
+}
+
+/// Puts the plan and the cabinet of an intersection.
+fn put_exports<S: Shelf, D: Folder>(
+    alloc: Global,
+    office: &mut Office<S>,
+    id: InterId,
+    folder: &mut D,
+) -> Result<(), Fault>
+    ensures { KeepsOffice S.Shelf office.old office.new }
+{
+    let number = id.get();
+    let plan = format!(in alloc; "{number}-plan.csv")?;
+    let cabinet = format!(in alloc; "{number}-cabinet.csv")?;
+    let (timing, records) = (View::Timing, View::Cabinet);
+    put_report(
+        alloc,
+        office,
+        &Shown::Export { id, view: timing },
+        plan.as_str(),
+        folder,
     )?;
-    folder.put("stock.csv", &stock_list(alloc, true, stock.as_slice())?)
-}
-
-/// Puts the committed timing set of an intersection.
-fn put_plan<S: Shelf, D: Folder>(
-    alloc: Global,
-    office: &mut Office<S>,
-    id: InterId,
-    folder: &mut D,
-) -> Result<(), Fault>
-    ensures { KeepsOffice S.Shelf office.old office.new }
-{
-    let timing = read_timing(alloc, office, id)?;
-    let number = id.get();
-    let name = format!(in alloc; "{number}-plan.csv")?;
-    folder.put(name.as_str(), &timing_csv(alloc, &timing.rows)?)
-}
-
-/// Puts the cabinet of an intersection.
-fn put_cabinet<S: Shelf, D: Folder>(
-    alloc: Global,
-    office: &mut Office<S>,
-    id: InterId,
-    folder: &mut D,
-) -> Result<(), Fault>
-    ensures { KeepsOffice S.Shelf office.old office.new }
-{
-    let cabinet = read_cabinet(alloc, office, id)?;
-    let number = id.get();
-    let name = format!(in alloc; "{number}-cabinet.csv")?;
-    folder.put(name.as_str(), &records_csv(alloc, id, &cabinet.view)?)
+    put_report(
+        alloc,
+        office,
+        &Shown::Export { id, view: records },
+        cabinet.as_str(),
+        folder,
+    )
 }
 
 /// Puts CSV files: the lists, then the plan and the cabinet of each intersection.
@@ -114,10 +111,22 @@ fn put_records<S: Shelf, D: Folder>(
 ) -> Result<(), Fault>
     ensures { KeepsOffice S.Shelf office.old office.new }
 {
-    put_lists(alloc, office, listed, folder)?;
+    put_report(
+        alloc,
+        office,
+        &Shown::List { csv: true },
+        "intersections.csv",
+        folder,
+    )?;
+    put_report(
+        alloc,
+        office,
+        &Shown::Stock { csv: true },
+        "stock.csv",
+        folder,
+    )?;
     for one in listed {
-        put_plan(alloc, office, one.id, folder)?;
-        put_cabinet(alloc, office, one.id, folder)?;
+        put_exports(alloc, office, one.id, folder)?;
     }
     Ok(())
 }
@@ -158,6 +167,22 @@ fn put_pages<S: Shelf, D: Folder>(
     folder.put("index.html", &text)
 }
 
+/// Puts the files of a folder of a kind.
+fn put_files<S: Shelf, D: Folder>(
+    alloc: Global,
+    office: &mut Office<S>,
+    kind: &FolderKind,
+    listed: &[ListedIntersection],
+    folder: &mut D,
+) -> Result<(), Fault>
+    ensures { KeepsOffice S.Shelf office.old office.new }
+{
+    match kind {
+        FolderKind::Records => put_records(alloc, office, listed, folder),
+        FolderKind::Pages { day } => put_pages(alloc, office, listed, *day, folder),
+    }
+}
+
 /// A row that was a record as all were read, and is none as its file is made, is a fault of the
 /// database.
 fn late(fault: Fault) -> Fault {
@@ -180,11 +205,7 @@ pub fn fill<S: Shelf, D: Folder>(
 {
     let listed = read_intersections(alloc, office)?;
     read_all(alloc, office, kind, &listed)?;
-    let outcome = match kind {
-        FolderKind::Records => put_records(alloc, office, &listed, folder),
-        FolderKind::Pages { day } => put_pages(alloc, office, &listed, *day, folder),
-    };
-    match outcome {
+    match put_files(alloc, office, kind, &listed, folder) {
         Ok(()) => Ok(()),
         Err(fault) => Err(late(fault)),
     }

@@ -1,4 +1,5 @@
 //! Lists of an office: intersections, stock, orders, used parts, late inspections.
+#![tactic(auto, using(office_desk::proofs::Looks::keeps_then, office_desk::proofs::Looks::keeps_none, crate::proofs::LookLemmas::keeps_shelf))]
 
 ghost use Rattle.office_desk.specs.Asks.{KeepsOffice};
 

@@ -1,4 +1,5 @@
 //! The page of an intersection, and all that is read for it.
+#![tactic(auto, using(office_desk::proofs::Looks::keeps_then))]
 
 ghost use Rattle.office_desk.specs.Asks.{KeepsOffice};
 
@@ -30,12 +31,12 @@ pub(crate) fn read_page<S: Shelf>(
     ensures { KeepsOffice S.Shelf office.old office.new }
 {
     let state = read_state(alloc, office, id)?;
-    let committed = read_timing(alloc, office, id)?.rows;
+    let timing = read_timing(alloc, office, id)?;
     let draft = read_open_draft(alloc, office, &state)?;
     let cabinet = read_cabinet(alloc, office, id)?;
     Ok(PageRead {
         state,
-        committed,
+        committed: timing.rows,
         draft,
         cabinet,
     })

@@ -1,9 +1,10 @@
 //! What the program reads of an office: a refusal is reported as its fault.
+#![tactic(auto, using(office_desk::proofs::Looks::keeps, office_desk::proofs::Looks::keeps_none, crate::proofs::LookLemmas::keeps_shelf))]
 
 ghost use Rattle.office_desk.specs.Asks.{KeepsOffice};
 
 use crate::refused::fault_of;
-use crate::standing::draft_rows;
+use crate::standing::held_rows;
 use draft_core::state::DbState;
 use office_desk::office::Office;
 use office_machine::intersections::ListedIntersection;
@@ -50,10 +51,10 @@ pub(crate) fn read_open_draft<S: Shelf>(
 ) -> Result<Option<TimingSet>, Fault>
     ensures { KeepsOffice S.Shelf office.old office.new }
 {
-    if matches!(state.state, DbState::Normal) {
-        return Ok(None);
+    match state.state {
+        DbState::Normal => Ok(None),
+        _ => held_rows(office.draft(alloc, state.id)),
     }
-    draft_rows(office.draft(alloc, state.id))
 }
 
 /// All that the register holds of an intersection.

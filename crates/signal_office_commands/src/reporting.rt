@@ -1,5 +1,6 @@
 //! Reports of an office: what is read of it, and the text that is made of that. A new report is a
 //! `Shown` with a function of its own.
+#![tactic(auto, using(office_desk::proofs::Looks::keeps))]
 
 ghost use Rattle.office_desk.specs.Asks.{KeepsOffice};
 

@@ -2,7 +2,7 @@
 
 ghost use Rattle.std.specs.Prelude.{◌≡◌, ◌==◌, length};
 ghost use Rattle.office_desk.specs.Asks.{OnlyLooks};
-ghost use Rattle.signal_office_commands.specs.Standing.{Stands, committed_rows, draft_rows};
+ghost use Rattle.signal_office_commands.specs.Standing.{StandsAs, committed_rows, held_rows};
 
 use crate::refused::fault_of;
 use draft_core::changes::Changes;
@@ -35,8 +35,8 @@ fn committed_rows(read: Result<RunningTiming, Refusal>) -> Result<TimingSet, Fau
 
 /// The rows of a draft that was read; `None` where nobody holds one; or the fault of a refused
 /// read.
-pub(crate) fn draft_rows(read: Result<OpenDraft, Refusal>) -> Result<Option<TimingSet>, Fault>
-    ensures { result ≡ draft_rows read }
+pub(crate) fn held_rows(read: Result<OpenDraft, Refusal>) -> Result<Option<TimingSet>, Fault>
+    ensures { result ≡ held_rows read }
 {
     match read {
         Ok(draft) => Ok(Some(draft.rows)),
@@ -51,10 +51,10 @@ pub(crate) fn standing_plan<S: Shelf>(
     office: &mut Office<S>,
     id: InterId,
 ) -> Result<StandingPlan, Fault>
-    ensures { OnlyLooks S.Shelf office.old office.new (λ tables. Stands tables id result) }
+    ensures { OnlyLooks S.Shelf office.old office.new (λ tables. StandsAs tables id result) }
 {
     let committed = committed_rows(office.timing(alloc, id))?;
-    let draft = draft_rows(office.draft(alloc, id))?;
+    let draft = held_rows(office.draft(alloc, id))?;
     Ok(StandingPlan { committed, draft })
 }
 

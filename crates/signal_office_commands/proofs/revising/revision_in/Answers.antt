@@ -1,5 +1,5 @@
 use Rattle.std.proofs.Common.{inl, inr, rules}
-use Rattle.office_desk.proofs.Reading.{looks_none, looks_weaker}
+use Rattle.office_desk.proofs.Looks.{looks_none, looks_weaker}
 use Rattle.office_desk.specs.Asks.{OnlyLooks}
 use Rattle.signal_office_commands.proofs.FaultLemmas.{handed}
 use Rattle.signal_office_commands.proofs.revising.revision_in.Goals as goal
