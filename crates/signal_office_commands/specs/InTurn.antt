@@ -20,8 +20,8 @@ pub record Answered (old : Content) (asked : Command) (given : Reply) (new : Con
   pub damaged : given ≡ reply.Refused refusal.Damaged → MeetsDamage old asked
   pub turned_away : MeetsDamage old asked → IsTurnedAway asked given
 
--- what comes next, where a step gave a value; else its fault
 infixl 10 ◌>>=◌
+-- what comes next, where a step gave a value; else its fault
 abbrev pub ◌>>=◌ : {A B : Type 0} → Result A Fault → (A → Result B Fault) → Result B Fault
 (Ok x) >>= f = f x
 (Err e) >>= f = Err e

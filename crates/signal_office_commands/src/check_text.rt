@@ -104,8 +104,11 @@ pub(crate) fn checks_text(
     all: &[Checked],
     refused: usize,
 ) -> Result<Vec<u8>, NoMemory> {
-    let added = all.iter().filter(|it| matches!(it, Checked::Added)).count();
-    let same = all.iter().filter(|it| matches!(it, Checked::Same)).count();
+    let added = all
+        .iter()
+        .filter(|&it| matches!(it, Checked::Added))
+        .count();
+    let same = all.iter().filter(|&it| matches!(it, Checked::Same)).count();
     let mut text = String::new(alloc);
     push_all(&mut text, lines, all)?;
     writeln!(text, "would add {added}, same {same}, refused {refused}")?;

@@ -20,7 +20,7 @@ const HAS_REFUSED: u8 = 1;
 fn tell_checked(alloc: Global, lines: &[usize], all: &[Checked]) -> Result<Done, Fault> {
     let refused = all
         .iter()
-        .filter(|it| matches!(it, Checked::Refused { .. }))
+        .filter(|&it| matches!(it, Checked::Refused { .. }))
         .count();
     let text = checks_text(alloc, lines, all, refused)?;
     let status = if refused == 0 { 0 } else { HAS_REFUSED };

@@ -36,14 +36,17 @@ pub(crate) fn explained_file(alloc: Global, csv: &[u8], lines: &[usize], why: Fa
     }
 }
 
+/// The name of a clerk, which has at most 40 bytes.
+fn name_of(clerk: &Words<40>) -> ArrayString<40> {
+    let mut name = ArrayString::new();
+    name.push_str(clerk.as_str());
+    name
+}
+
 /// Tells the clerk who owns a draft; without one, that the clerk of the edit does not own it.
 fn held_by(owner: &Option<Words<40>>) -> Fault {
     match owner {
-        Some(owner) => {
-            let mut name = ArrayString::new();
-            name.push_str(owner.as_str());
-            Fault::HeldBy(name)
-        }
+        Some(owner) => Fault::HeldBy(name_of(owner)),
         None => Fault::Refused(Refusal::Draft(DraftRefusal::NotOwner)),
     }
 }
