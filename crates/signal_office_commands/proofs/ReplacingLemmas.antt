@@ -39,12 +39,12 @@ of_answer tables office query it part x unavailable stands replied is = by_step 
   by_step next (inl left) = absurd (apart x told.Store (is ∙ ap part left.0 ∙ unavailable))
   by_step next (inr made) = is ∙ ap (λ (p : Reply × Office). part p.0) (sym made)
 
-committed_in : Reply → Result Rows Fault
+abbrev committed_in : Reply → Result Rows Fault
 committed_in (reply.Timing timing) = Ok timing.rows
 committed_in (reply.Refused why) = Err (fault_of why)
 committed_in other = Err told.Store
 
-draft_in : Reply → Result (Option Rows) Fault
+abbrev draft_in : Reply → Result (Option Rows) Fault
 draft_in (reply.Draft draft) = Ok (Some draft.rows)
 draft_in (reply.Refused (refusal.Draft NotTransaction)) = Ok None
 draft_in (reply.Refused why) = Err (fault_of why)

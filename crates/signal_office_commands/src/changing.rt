@@ -4,8 +4,8 @@
 ghost use Rattle.signal_office_commands.specs.Changing.{AfterImporting, AfterStep, Changes, ChangesShelf, Imports, RunsCommand};
 
 use crate::in_turn::run_in_turn;
+use crate::reading::records_in;
 use office_desk::office::Office;
-use office_files::read_records_csv;
 use office_machine::command::Command;
 use office_machine::records::Records;
 use office_machine::reply::Reply;
@@ -67,6 +67,6 @@ pub fn import<S: Shelf>(alloc: Global, office: &mut Office<S>, csv: &[u8]) -> Re
     ensures { ChangesShelf S.Shelf office.old office.new
         (λ old new. Imports csv.now old new result) (AfterImporting csv.now) }
 {
-    let records = Records::new(read_records_csv(alloc, csv)?);
+    let records = Records::new(records_in(alloc, csv)?);
     change(alloc, office, Command::Import { records })
 }

@@ -4,10 +4,10 @@
 ghost use Rattle.office_desk.specs.Asks.{KeepsOffice};
 
 use crate::check_text::checks_text;
+use crate::reading::records_in;
 use crate::refused::fault_of;
 use office_desk::Checked;
 use office_desk::office::Office;
-use office_files::read_records_csv;
 use office_tables_shelf::shelf::Shelf;
 use signal_office_faults::{Done, Fault};
 use std::alloc::Global;
@@ -39,7 +39,7 @@ pub fn check<S: Shelf>(
 ) -> Result<Done, Fault>
     ensures { KeepsOffice S.Shelf office.old office.new }
 {
-    let records = read_records_csv(alloc, csv)?;
+    let records = records_in(alloc, csv)?;
     match office.check(alloc, &records) {
         Ok(all) => tell_checked(alloc, lines, &all),
         Err(why) => Err(fault_of(why)),

@@ -18,6 +18,7 @@ mod in_turn;
 mod index;
 mod listing;
 mod page;
+mod reading;
 mod reads;
 mod refused;
 mod remarks;

@@ -10,10 +10,10 @@ ghost use Rattle.signal_office_commands.specs.Replacing.{LeavesPlan};
 ghost use Rattle.signal_office_commands.specs.Revising.{AfterRevising, AfterRevision, ComesTo, Drafts, IsRevision, RevisesAs, RevisesSo, WouldBe, commands_due, committing, drafted, drafting, revised_by, wrote_timing};
 
 use crate::in_turn::run_in_turn;
+use crate::reading::changes_in;
 use crate::standing::{StandingPlan, standing_plan};
 use draft_core::changes::Changes;
 use office_desk::office::Office;
-use office_files::read_timing_csv;
 use office_machine::command::Command;
 use office_machine::reply::{OpenDraft, Reply};
 use office_tables_shelf::rows::Table;
@@ -183,7 +183,7 @@ fn revision_in<S: Shelf>(
     ensures { OnlyLooks S.Shelf office.old office.new
         (λ tables. ComesTo bytes.now edit.now tables result) }
 {
-    let asked = read_timing_csv(alloc, bytes)?;
+    let asked = changes_in(alloc, bytes)?;
     let standing = standing_plan(alloc, office, edit.id)?;
     Ok(revision_of(alloc, edit, &standing, asked)?)
 }

@@ -8,14 +8,16 @@ use Rattle.signal_office_commands.specs.Revising.{ComesTo}
 pub returns : goal.returns
 returns g c = looks_weaker c.in_ok-standing.ensures (λ tables stands. (
   c.in_ok-asked.asked.items,
-  c.in_ok-asked.ensures.changes,
+  c.in_ok-asked.ensures.read,
   c.in_ok-standing.standing,
   stands,
   c.in_ok-revision_of.ensures,
 ))
 
 pub returns-in_err-asked : goal.returns-in_err-asked
-returns-in_err-asked g c = looks_none (λ tables. search rules)
+returns-in_err-asked g c =
+    handed c.from_residual.result c.in_err-asked.field-0.0 (λ result. OnlyLooks g.S.Shelf c.args.office.now c.args.office.now (λ tables. ComesTo c.args.bytes.now c.args.edit.now tables result))
+    c.from_residual.ensures.1 (looks_none (λ tables. inl c.in_err-asked.ensures.fault))
 
 pub returns-in_err-standing : goal.returns-in_err-standing
 returns-in_err-standing g c =
