@@ -16,3 +16,4 @@ pub mod Writes
 pub mod Street
 pub mod Runs
 mod TriedRecords
+pub mod Looks

@@ -110,7 +110,7 @@ fault_named command _ reply e = λ why told. inl (refused_as Unavailable why (sy
 named_more : (command : Command) (reply : Reply) → RefusesBy (numbers_of command) reply → IsNamedFor command reply
 named_more command reply named = λ why told. inr (inr (named why told))
 
-unavailable_named : (command : Command) → IsNamedFor command (Refused Unavailable)
+pub unavailable_named : (command : Command) → IsNamedFor command (Refused Unavailable)
 unavailable_named command = λ why told. inl (refused_as Unavailable why told)
 
 pub no_items : (changes : List RowChange) → true ≡ (length changes == 0) → changes ≡ []

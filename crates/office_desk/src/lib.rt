@@ -7,6 +7,7 @@ mod found;
 mod importing;
 pub mod office;
 mod overdue;
+mod reading;
 mod recording;
 mod register_showing;
 mod there;

@@ -1,11 +1,11 @@
 -- Changes of an office, one after another, and beside calls that only ask it.
 use Rattle.std.proofs.Common.{◌≡◌, ◌⊎◌, ◌∙◌, inl, inr, Result, subst}
+use Rattle.office_desk.proofs.Looks.{still_held}
+use Rattle.office_desk.specs.Asks.{OnlyLooks}
+use Rattle.office_machine.specs.declared.{command.Command.Command, reply.Reply.Reply}
 use Rattle.office_tables_shelf.specs.{Content.Content, declared.shelf.Shelf.Ghosts}
-use Rattle.office_machine.specs.declared.command.Command.{Command}
 use Rattle.signal_office_commands.specs.Changing.{AfterStep, Changes, ChangesShelf, RunsCommand}
-use Rattle.signal_office_faults.specs.{Done.Printed, declared.fault.Fault.Fault}
-use Rattle.signal_office_queries.proofs.SeenLemmas.{still_held}
-use Rattle.signal_office_queries.specs.Asks.{OnlyLooks}
+use Rattle.signal_office_faults.specs.declared.fault.Fault.{Fault}
 
 module _ {S : Type 0} {g : Ghosts S} where
   -- nothing was changed
@@ -74,7 +74,7 @@ module _ {S : Type 0} {g : Ghosts S} where
   }
 
   -- a command that was run is a change, of whatever it is seen as
-  pub runs_change : {old new : S} {A : Type 0} {made asked : A} (command : A → Command) (result : Result Printed Fault) → made ≡ asked
+  pub runs_change : {old new : S} {A : Type 0} {made asked : A} (command : A → Command) (result : Result Reply Fault) → made ≡ asked
       → ChangesShelf g old new (λ tables made_of. RunsCommand (command made) tables made_of result) (AfterStep (command made))
       → ChangesShelf g old new (λ tables made_of. Changes (command asked) tables made_of result) (AfterStep (command asked))
   runs_change {old} {new} command result same ran =

@@ -6,9 +6,8 @@ use Rattle.office_machine.specs.declared.reply.Reply.TheVariants as reply
 use Rattle.office_tables_shelf.specs.{Content.Content, declared.shelf.Shelf.Ghosts}
 use Rattle.signal_office_commands.proofs.ChangingLemmas.{changes_none, changes_then, changes_weaker}
 use Rattle.signal_office_commands.specs.Changing.{AfterOneOf, AfterStep, ChangesShelf}
-use Rattle.signal_office_commands.specs.InTurn.{Answered, Makes, RunsInTurn, passed}
+use Rattle.signal_office_commands.specs.InTurn.{◌>>=◌, Answered, Makes, RunsInTurn, passed}
 use Rattle.signal_office_faults.specs.declared.fault.Fault.{Fault}
-use Rattle.signal_office_queries.specs.Parts.{◌>>=◌}
 
 module _ {S : Type 0} {g : Ghosts S} where
   -- no command

@@ -1,47 +1,86 @@
 -- The plan that a revision leaves, from what stood and what was done.
-use Rattle.std.proofs.Common.{◌≡◌, ℕ, Bool, true, false, List, [], ◌∷◌, Option, Some, None, Result, Ok, Err, refl, sym, ap, ap₂, subst, ◌∙◌}
+use Rattle.std.proofs.Common.{◌≡◌, inl, inr, ℕ, Bool, true, false, List, [], ◌∷◌, Option, Some, None, Result, Ok, Err, refl, sym, ap, ap₂, subst, ◌∙◌}
 use Rattle.std.specs.{FinMap.get, Prelude.IfOk, Prelude.option_map}
 use Rattle.draft_core.specs.Transaction.{Draft, TimingSide}
-use Rattle.office_desk.specs.{Running.MakesTables, StandFor.StandForSound}
+use Rattle.draft_core.specs.declared.refusal.DraftRefusal.TheVariants.{NotTransaction}
+use Rattle.office_desk.specs.{Asks.IsReply, Asks.reply_to, Running.MakesTables, StandFor.StandForSound}
 use Rattle.office_files.specs.Changes.{changes_of}
-use Rattle.office_machine.specs.{Office.Office, Office.Intersection, Step.draft_shown, Step.shown, Step.timing_shown, declared.reply.OpenDraft.OpenDraft, declared.reply.Reply.Reply}
+use Rattle.office_machine.specs.{Office.Office, Office.Intersection, Step.Step, Step.answered, Step.draft_shown, Step.shown, Step.timing_shown, declared.command.Command.Command, declared.refusal.Refusal.Refusal, declared.reply.OpenDraft.OpenDraft, declared.reply.Reply.Reply, declared.reply.RunningTiming.RunningTiming}
+use Rattle.office_machine.specs.declared.command.Command.TheVariants as command
+use Rattle.office_machine.specs.declared.refusal.Refusal.TheVariants as refusal
 use Rattle.office_machine.specs.declared.reply.Reply.TheVariants as reply
 use Rattle.office_tables_shelf.specs.{Content.Content, declared.shelf.Shelf.Ghosts}
 use Rattle.signal_office_commands.proofs.RevisingLemmas.{Edits, Stands, drafted_set, held_base, settled_set, stands_by}
 use Rattle.signal_office_commands.specs.Changing.{ChangesShelf}
-use Rattle.signal_office_commands.specs.InTurn.{RunsInTurn}
+use Rattle.signal_office_commands.specs.InTurn.{◌>>=◌, RunsInTurn}
 use Rattle.signal_office_commands.specs.Replacing.{LeavesPlan, LeftPlan, HasShownRows, TellsNoChange, base_at, draft_set, is_same, plan_left, plan_wanted}
 use Rattle.signal_office_commands.specs.Revising.{EndsAs, Revises, RevisesSo, WouldBe, commands_due, committing, drafted, is_idle, revised_by}
-use Rattle.signal_office_commands.specs.Standing.{AreWanted, ShowsStanding, StandingRows, base_from, base_of, standing_seen}
+use Rattle.signal_office_commands.specs.Refused.{fault_of}
+use Rattle.signal_office_commands.specs.Standing.{AreWanted, StandsAs, base_from, base_of, committed_rows, held_rows}
+use Rattle.signal_office_commands.specs.declared.standing.StandingPlan.{StandingPlan}
 use Rattle.signal_office_commands.specs.declared.revising.{Revised.Revised, Revised.TheVariants.Open, Revised.TheVariants.Same, Revised.TheVariants.Committed, Revision.Revision}
 use Rattle.signal_office_faults.specs.declared.fault.Fault.{Fault}
+use Rattle.signal_office_faults.specs.declared.fault.Fault.TheVariants as told
 use Rattle.signal_office_line.specs.declared.job.Edit.{Edit}
-use Rattle.signal_office_queries.specs.Parts.{◌>>=◌, open_draft_in}
-use Rattle.signal_office_queries.specs.declared.seen.Seen.TheVariants as seen
 use Rattle.signal_records.specs.TimingSet.{Rows, after_changes}
 use Rattle.signal_records.specs.declared.record.Change.{Change}
 use Rattle.signal_rules.specs.declared.violation.Violation.{Violation}
 
+apart : {A E : Type 0} (x : A) (e : E) → Ok x ≡ Err e → ⊥
+apart x e same = cc
+
 -- ---- what stands, of the office
 
-shown_draft : (draft : Option Draft) → open_draft_in (Some (seen.Reply (draft_shown draft))) ≡ Ok (option_map (λ (d : Draft). d.set) draft)
+-- a part of a reply that was given is that part of the office's answer
+of_answer : {A : Type 0} (tables : Content) (office : Office) (query : Command) (it : Reply) (part : Reply → Result A Fault) (x : A)
+    → part (reply.Refused refusal.Unavailable) ≡ Err told.Store → StandForSound tables office → IsReply tables query it → Ok x ≡ part it → Ok x ≡ part (answered office query).0
+of_answer tables office query it part x unavailable stands replied is = by_step (replied.step office stands).next (replied.step office stands).step where
+  by_step : (next : Office) → Step office query it next → Ok x ≡ part (answered office query).0
+  by_step next (inl left) = absurd (apart x told.Store (is ∙ ap part left.0 ∙ unavailable))
+  by_step next (inr made) = is ∙ ap (λ (p : Reply × Office). part p.0) (sym made)
+
+abbrev committed_in : Reply → Result Rows Fault
+committed_in (reply.Timing timing) = Ok timing.rows
+committed_in (reply.Refused why) = Err (fault_of why)
+committed_in other = Err told.Store
+
+abbrev draft_in : Reply → Result (Option Rows) Fault
+draft_in (reply.Draft draft) = Ok (Some draft.rows)
+draft_in (reply.Refused (refusal.Draft NotTransaction)) = Ok None
+draft_in (reply.Refused why) = Err (fault_of why)
+draft_in other = Err told.Store
+
+committed_read : (read : Result RunningTiming Refusal) → committed_rows read ≡ committed_in (reply_to (λ it. reply.Timing it) read)
+committed_read (Ok timing) = refl
+committed_read (Err why) = refl
+
+draft_read : (read : Result OpenDraft Refusal) → held_rows read ≡ draft_in (reply_to (λ it. reply.Draft it) read)
+draft_read (Ok draft) = refl
+draft_read (Err (refusal.Draft NotTransaction)) = refl
+draft_read (Err why) = refl
+
+shown_draft : (draft : Option Draft) → draft_in (draft_shown draft) ≡ Ok (option_map (λ (d : Draft). d.set) draft)
 shown_draft None = refl
 shown_draft (Some d) = refl
 
-standing_found : (found : Option Intersection) (standing : StandingRows)
-    → Ok standing ≡ standing_seen (seen.Reply (shown found (λ i. reply.Timing (timing_shown i))) ∷ seen.Reply (shown found (λ i. draft_shown i.timing.draft)) ∷ [])
-    → (i : Intersection) × (found ≡ Some i) × (standing ≡ record { committed = i.timing.committed; draft = draft_set i.timing })
-standing_found None standing e = absurd cc
-standing_found (Some i) standing e = let is = rw (shown_draft i.timing.draft) at e in (i, refl, cc)
+record StandsOf (standing : StandingPlan) (i : Intersection) : Type 0 where
+  committed : standing.committed ≡ i.timing.committed
+  draft : standing.draft ≡ draft_set i.timing
+
+standing_found : (found : Option Intersection) (standing : StandingPlan) → Ok standing.committed ≡ committed_in (shown found (λ i. reply.Timing (timing_shown i)))
+    → Ok standing.draft ≡ draft_in (shown found (λ i. draft_shown i.timing.draft)) → (i : Intersection) × (found ≡ Some i) × StandsOf standing i
+standing_found None standing committed draft = absurd cc
+standing_found (Some i) standing committed draft = let is = rw (shown_draft i.timing.draft) at draft in (i, refl, record { committed = cc; draft = cc })
 
 -- it is what the office shows
-standing_on : (tables : Content) (office : Office) (id : ℕ) (standing : StandingRows) → ShowsStanding tables id standing → StandForSound tables office
-    → (i : Intersection) × (get office.intersections id ≡ Some i) × (standing ≡ record { committed = i.timing.committed; draft = draft_set i.timing })
-standing_on tables office id standing (Ok found, looks, is) stands =
-    standing_found (get office.intersections id) standing (is ∙ ap standing_seen (looks.0 office stands))
-standing_on tables office id standing (Err why, looks, is) stands = absurd cc
+standing_on : (tables : Content) (office : Office) (id : ℕ) (standing : StandingPlan) → StandsAs tables id (Ok standing) → StandForSound tables office
+    → (i : Intersection) × (get office.intersections id ≡ Some i) × StandsOf standing i
+standing_on tables office id standing ((timing, first, rows), (draft, second, held)) stands =
+    standing_found (get office.intersections id) standing
+    (of_answer tables office (command.Timing id) _ committed_in standing.committed refl stands first (rows ∙ committed_read timing))
+    (of_answer tables office (command.Draft id) _ draft_in standing.draft refl stands second (held ∙ draft_read draft))
 
-same_base : (standing : StandingRows) (side : TimingSide) → standing.committed ≡ side.committed → standing.draft ≡ draft_set side → base_of standing ≡ base_at side
+same_base : (standing : StandingPlan) (side : TimingSide) → standing.committed ≡ side.committed → standing.draft ≡ draft_set side → base_of standing ≡ base_at side
 same_base standing side committed draft = ap (λ set. base_from set standing.draft) committed ∙ ap (base_from side.committed) draft
 
 made_plan : (replace : Bool) (base : Rows) (asked wanted : List Change) → AreWanted replace base asked wanted → after_changes base wanted ≡ plan_wanted replace base asked
@@ -51,7 +90,7 @@ made_plan false base asked wanted is = ap (after_changes base) is
 -- ---- what was done
 
 -- where the draft would be the committed set, a commit was asked for; that nothing changes is told then, and then alone
-tells : (commit same : Bool) (standing : StandingRows) (changes : List Change) (committed wanted : Rows)
+tells : (commit same : Bool) (standing : StandingPlan) (changes : List Change) (committed wanted : Rows)
     → standing.committed ≡ committed → after_changes (base_of standing) changes ≡ wanted → WouldBe commit standing changes same → TellsNoChange commit committed wanted same
 tells false same standing changes committed wanted was is would = would
 tells true true standing changes committed wanted was is would = sym was ∙ would ∙ is
@@ -61,14 +100,11 @@ equal_where : (commit : Bool) (committed wanted : Rows) → TellsNoChange commit
 equal_where true committed wanted told = told
 equal_where false committed wanted told = absurd cc
 
-apart : {A E : Type 0} (x : A) (e : E) → Ok x ≡ Err e → ⊥
-apart x e same = cc
-
 bound : {A B : Type 0} (first : Result A Fault) (rest : A → Result B Fault) (y : B) → Ok y ≡ (first >>= rest) → (x : A) × (first ≡ Ok x) × (Ok y ≡ rest x)
 bound (Ok x) rest y e = (x, refl, e)
 bound (Err why) rest y e = cc
 
-module _ (bytes : List ℕ) (edit : Edit) (old new : Content) (asked : List Change) (spelled : changes_of bytes ≡ Ok asked) (standing : StandingRows) (changes : List Change)
+module _ (bytes : List ℕ) (edit : Edit) (old new : Content) (asked : List Change) (spelled : changes_of bytes ≡ Ok asked) (standing : StandingPlan) (changes : List Change)
     (before : Office) (stands : StandForSound old before) (i : Intersection) (there : get before.intersections edit.id ≡ Some i)
     (was : standing.committed ≡ i.timing.committed) (base : base_of standing ≡ base_at i.timing)
     (is : after_changes (base_of standing) changes ≡ plan_wanted edit.replace (base_at i.timing) asked) where
@@ -150,8 +186,8 @@ leaves : (wrote : Bool) (bytes : List ℕ) (edit : Edit) (old new : Content) (do
 leaves wrote bytes edit old new done (Err why, comes, ends) before stands = absurd (apart done why ends.0)
 leaves wrote bytes edit old new done (Ok found, (asked, spelled, standing, shows, it), ends) before stands =
     let on = standing_on old before edit.id standing shows stands in
-    let committed = ap (λ (s : StandingRows). s.committed) on.2 in
-    let base = same_base standing on.0.timing committed (ap (λ (s : StandingRows). s.draft) on.2) in
+    let committed = on.2.committed in
+    let base = same_base standing on.0.timing committed on.2.draft in
     let is = made_plan edit.replace (base_of standing) asked it.changes it.wanted ∙ ap (λ set. plan_wanted edit.replace set asked) base in
     by_ends bytes edit old new asked spelled standing it.changes before stands on.0 on.1 committed base is wrote done found it.same
     (tells edit.commit it.same standing it.changes _ _ committed is it.would_be) it.revises ends

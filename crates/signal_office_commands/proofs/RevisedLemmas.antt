@@ -1,17 +1,16 @@
 -- A revision that was made, and one that was not.
 use Rattle.std.proofs.Common.{◌≡◌, inl, inr, ℕ, Bool, List, Option, Some, Result, Ok, Err, refl, subst, sym}
+use Rattle.office_desk.specs.Asks.{OnlyLooks}
 use Rattle.office_machine.specs.declared.{command.Command.Command, reply.OpenDraft.OpenDraft, reply.Reply.Reply}
 use Rattle.office_machine.specs.declared.reply.Reply.TheVariants as reply
 use Rattle.office_tables_shelf.specs.{Content.Content, declared.shelf.Shelf.Ghosts}
 use Rattle.signal_office_commands.proofs.ChangingLemmas.{asks_before, changes_none, changes_then, changes_weaker}
 use Rattle.signal_office_commands.specs.Changing.{AfterOneOf, ChangesShelf}
-use Rattle.signal_office_commands.specs.InTurn.{Makes, RunsInTurn}
+use Rattle.signal_office_commands.specs.InTurn.{◌>>=◌, Makes, RunsInTurn}
 use Rattle.signal_office_commands.specs.Revising.{AfterRevising, AfterRevision, ComesTo, Drafts, EndsAs, RevisesAs, RevisesSo, commands_due, drafted, revised_by, wrote_timing}
 use Rattle.signal_office_commands.specs.declared.revising.{Revised.Revised, Revision.Revision}
 use Rattle.signal_office_faults.specs.declared.fault.Fault.{Fault}
 use Rattle.signal_office_line.specs.declared.job.Edit.{Edit}
-use Rattle.signal_office_queries.specs.Asks.{OnlyLooks}
-use Rattle.signal_office_queries.specs.Parts.{◌>>=◌}
 
 module _ {S : Type 0} {g : Ghosts S} where
   -- ---- the draft is changed, and committed where that is due

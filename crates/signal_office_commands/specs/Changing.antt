@@ -1,5 +1,5 @@
--- Commands that change an office: what they make of its tables, what is printed of it, and what a stop leaves.
-use Rattle.std.specs.Prelude.{◌≡◌, ◌⊎◌, ℕ, List, [], ◌∷◌, ◌++◌, codes, decimal, Result, Ok, Err}
+-- Commands that change an office: what they make of its tables, and what a stop leaves.
+use Rattle.std.specs.Prelude.{◌≡◌, ◌⊎◌, ℕ, List, [], ◌∷◌, Result, Ok, Err}
 use Rattle.cabinet_core.specs.declared.command.RecordCommand.{RecordCommand}
 use Rattle.office_desk.specs.Answers.{AnswersAny, StandsAfterStep}
 use Rattle.office_desk.specs.Running.{MakesTables, TellsTables}
@@ -10,9 +10,8 @@ use Rattle.office_machine.specs.declared.reply.Reply.{Reply}
 use Rattle.office_machine.specs.declared.reply.Reply.TheVariants as reply
 use Rattle.office_tables_shelf.specs.Content.{Content}
 use Rattle.office_tables_shelf.specs.declared.shelf.Shelf.{Ghosts}
-use Rattle.signal_office_commands.specs.InTurn.{Makes}
-use Rattle.signal_office_queries.specs.Comparison.{IsUnread}
-use Rattle.signal_office_faults.specs.Done.{Printed, shows}
+use Rattle.signal_office_commands.specs.InTurn.{RunsInTurn}
+use Rattle.signal_office_commands.specs.Refused.{IsUnread}
 use Rattle.signal_office_faults.specs.declared.fault.Fault.{Fault}
 use Rattle.signal_office_faults.specs.declared.fault.Fault.TheVariants as told
 
@@ -42,28 +41,16 @@ AfterStep asked old found = StandsAfterStep old asked found
 
 -- ---- one command
 
--- the line that tells how many records of an import were new, and how many were there: `added 5, same 2`
-abbrev pub imported_line : (added same : ℕ) → List ℕ
-imported_line added same = codes "added " ++ decimal added ++ codes ", same " ++ decimal same ++ codes "\n"
-
--- what is printed of the reply to a command that adds, imports or drops; any other reply is the fault Store
-abbrev pub line_of_reply : Reply → Result Printed Fault
-line_of_reply reply.Added = Ok (shows (codes "added\n"))
-line_of_reply reply.Same = Ok (shows (codes "same\n"))
-line_of_reply (reply.Imported added same) = Ok (shows (imported_line added same))
-line_of_reply (reply.Moved revision state verdict) = Ok (shows (codes "abandoned\n"))
-line_of_reply other = Err told.Store
-
--- A command was run, and its reply is told, or the fault for which it was refused.
-abbrev pub RunsCommand : Command → Content → Content → Result Printed Fault → Type 0
-RunsCommand asked old new result = Makes line_of_reply (asked ∷ []) old new result
+-- A command was run, and this is its reply, or the fault for which it was refused.
+abbrev pub RunsCommand : Command → Content → Content → Result Reply Fault → Type 0
+RunsCommand asked old new result = RunsInTurn reply.Same (asked ∷ []) old new result
 
 -- A CHANGE of one command: it was run; or memory was refused before it, and nothing was changed.
-abbrev pub Changes : Command → Content → Content → Result Printed Fault → Type 0
+abbrev pub Changes : Command → Content → Content → Result Reply Fault → Type 0
 Changes asked old new result = RunsCommand asked old new result ⊎ ((result ≡ Err told.Memory) × (new ≡ old))
 
--- The records of a file were read, and the import of all of them was run and told; or why they were not read is told, and nothing was changed.
-abbrev pub Imports : (csv : List ℕ) → Content → Content → Result Printed Fault → Type 0
+-- The records of a file were read, and the import of all of them was run; or why they were not read is told, and nothing was changed.
+abbrev pub Imports : (csv : List ℕ) → Content → Content → Result Reply Fault → Type 0
 Imports csv old new result =
     ((records : List RecordCommand) × (commands_of csv ≡ Ok records) × RunsCommand (command.Import records) old new result)
     ⊎ ((why : Fault) × (result ≡ Err why) × IsUnread (commands_of csv) why × (new ≡ old))

@@ -11,8 +11,7 @@ use Rattle.office_machine.specs.declared.reply.Reply.{Reply}
 use Rattle.office_machine.specs.declared.reply.Reply.TheVariants as reply
 use Rattle.office_tables_shelf.specs.Content.{Content}
 use Rattle.signal_office_faults.specs.declared.fault.Fault.{Fault}
-use Rattle.signal_office_queries.specs.Refused.{fault_of}
-use Rattle.signal_office_queries.specs.Parts.{◌>>=◌}
+use Rattle.signal_office_commands.specs.Refused.{fault_of}
 
 -- The office answered one command, whichever sound office the tables stood for. Damaged is replied only where a row that the command reads is no record, and where one
 -- is, the command is refused.
@@ -20,6 +19,12 @@ pub record Answered (old : Content) (asked : Command) (given : Reply) (new : Con
   pub step : AnswersAny old asked given new
   pub damaged : given ≡ reply.Refused refusal.Damaged → MeetsDamage old asked
   pub turned_away : MeetsDamage old asked → IsTurnedAway asked given
+
+infixl 10 ◌>>=◌
+-- what comes next, where a step gave a value; else its fault
+abbrev pub ◌>>=◌ : {A B : Type 0} → Result A Fault → (A → Result B Fault) → Result B Fault
+(Ok x) >>= f = f x
+(Err e) >>= f = Err e
 
 -- the refusal says that a step of a transaction is not due: to begin one, where one is under way; to check its draft, where that was not handed over; or to open the
 -- draft again, where it was not checked

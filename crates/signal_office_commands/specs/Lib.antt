@@ -1,13 +1,7 @@
+pub mod Refused
 pub mod InTurn
 pub mod Changing
-pub mod Comparing
-pub mod Explained
-pub mod Plans
 pub mod Standing
 pub mod Revising
 pub mod Replacing
-pub mod Editing
-pub mod Telling
 pub mod Days
-pub mod Texts
-pub mod Checks

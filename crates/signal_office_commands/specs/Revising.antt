@@ -11,16 +11,16 @@ use Rattle.office_tables_shelf.specs.Counts.{count_of}
 use Rattle.office_tables_shelf.specs.declared.counts.WriteCounts.{WriteCounts}
 use Rattle.office_tables_shelf.specs.declared.rows.Table.TheVariants as table
 use Rattle.signal_office_commands.specs.Changing.{AfterOneOf}
-use Rattle.signal_office_commands.specs.InTurn.{Makes, RunsInTurn}
-use Rattle.signal_office_commands.specs.Standing.{AreWanted, IsNotStanding, ShowsStanding, StandingRows, TellsSame, base_of}
-use Rattle.signal_office_queries.specs.Comparison.{IsUnread}
+use Rattle.signal_office_commands.specs.InTurn.{◌>>=◌, Makes, RunsInTurn}
+use Rattle.signal_office_commands.specs.Standing.{AreWanted, StandsAs, TellsSame, base_of}
+use Rattle.signal_office_commands.specs.Refused.{IsUnread}
 use Rattle.signal_office_commands.specs.declared.revising.Revised.{Revised}
 use Rattle.signal_office_commands.specs.declared.revising.Revised.TheVariants.{Same, Open, Committed}
 use Rattle.signal_office_commands.specs.declared.revising.Revision.{Revision}
+use Rattle.signal_office_commands.specs.declared.standing.StandingPlan.{StandingPlan}
 use Rattle.signal_office_faults.specs.declared.fault.Fault.{Fault}
 use Rattle.signal_office_faults.specs.declared.fault.Fault.TheVariants as told
 use Rattle.signal_office_line.specs.declared.job.Edit.{Edit}
-use Rattle.signal_office_queries.specs.Parts.{◌>>=◌}
 use Rattle.signal_records.specs.TimingSet.{after_changes}
 use Rattle.signal_records.specs.declared.record.Change.{Change}
 use Rattle.signal_rules.specs.declared.violation.Violation.{Violation}
@@ -86,12 +86,12 @@ AfterRevision it old found =
 -- ---- what an edit comes to
 
 -- `same` says whether these changes make the draft the committed set, where a commit is asked for; else it is false
-abbrev pub WouldBe : (commit : Bool) → StandingRows → List Change → (same : Bool) → Type 0
+abbrev pub WouldBe : (commit : Bool) → StandingPlan → List Change → (same : Bool) → Type 0
 WouldBe false standing changes same = same ≡ false
 WouldBe true standing changes same = TellsSame standing.committed (after_changes (base_of standing) changes) same
 
 -- where the draft would be the committed set, and nobody holds one, nothing is to be done
-abbrev pub is_idle : (same : Bool) → StandingRows → Bool
+abbrev pub is_idle : (same : Bool) → StandingPlan → Bool
 is_idle same standing = same && is_none standing.draft
 
 -- the commands are those of the edit by these changes; or there are none, exactly where nothing is to be done
@@ -102,7 +102,7 @@ Revises idle same edit changes (Some it) =
     × (it.more.items ≡ committing edit.commit same edit.id edit.clerk) × (it.same ≡ same)
 
 -- what an edit comes to over the committed set and the draft that stand: changes, which are those of the file, or those that make its whole plan; whether they make the committed set; and the commands
-pub record IsRevision (edit : Edit) (standing : StandingRows) (asked : List Change) (it : Option Revision) : Type 0 where
+pub record IsRevision (edit : Edit) (standing : StandingPlan) (asked : List Change) (it : Option Revision) : Type 0 where
   pub changes : List Change
   pub wanted : AreWanted edit.replace (base_of standing) asked changes
   pub same : Bool
@@ -112,8 +112,8 @@ pub record IsRevision (edit : Edit) (standing : StandingRows) (asked : List Chan
 -- WHAT AN EDIT COMES TO, before anything is changed: its commands; or the file was not read, what stands was not shown, or memory was refused
 abbrev pub ComesTo : (bytes : List ℕ) → Edit → Content → Result (Option Revision) Fault → Type 0
 ComesTo bytes edit tables (Ok it) =
-    (asked : List Change) × (changes_of bytes ≡ Ok asked) × (standing : StandingRows) × ShowsStanding tables edit.id standing × IsRevision edit standing asked it
-ComesTo bytes edit tables (Err why) = IsUnread (changes_of bytes) why ⊎ (IsNotStanding tables edit.id why ⊎ (why ≡ told.Memory))
+    (asked : List Change) × (changes_of bytes ≡ Ok asked) × (standing : StandingPlan) × StandsAs tables edit.id (Ok standing) × IsRevision edit standing asked it
+ComesTo bytes edit tables (Err why) = IsUnread (changes_of bytes) why ⊎ (StandsAs tables edit.id (Err why) ⊎ (why ≡ told.Memory))
 
 -- What an edit came to is done: its commands are run. Without commands nothing is changed, and it is told that the plan is the committed set. A fault is told, and nothing is changed.
 abbrev pub EndsAs : (wrote : Bool) → Result (Option Revision) Fault → Content → Content → Result Revised Fault → Type 0
@@ -132,3 +132,9 @@ RevisesAs bytes edit old new result = (wrote : Bool) × RevisesSo wrote bytes ed
 -- tables as one of the commands of an edit by a file makes them, those of its commit among them
 abbrev pub AfterRevising : (bytes : List ℕ) → Edit → Content → Content → Type 0
 AfterRevising bytes edit old found = (it : Revision) × ComesTo bytes edit old (Ok (Some it)) × AfterRevision it old found
+
+-- AN EDIT revises the plan so; the fault of one that was refused may be explained
+abbrev pub Edits : (bytes : List ℕ) → Edit → Content → Content → Result Revised Fault → Type 0
+Edits bytes edit old new result =
+    RevisesAs bytes edit old new result
+    ⊎ ((why told : Fault) × RevisesAs bytes edit old new (Err why) × (result ≡ Err told))

@@ -1,10 +1,6 @@
 //! What is reported of records that were tried: those that would be refused, and how many.
 
-ghost use Rattle.std.specs.Prelude.{◌≡◌, ◌+◌, ◌++◌, OnOk, IfOk, string_bytes};
-ghost use Rattle.signal_office_commands.specs.Texts.{by_text, checked_line, checked_lines, checks_text, closed_text, order_text, there_text, refused_line, used_text};
-
-use crate::counts::Counts;
-use cabinet_core::{Closing, Day, Order, UsedLine, push_date};
+use cabinet_core::{Closing, Day, Order, push_date};
 use office_desk::{Checked, There};
 use office_machine::refusal::Refusal;
 use signal_office_faults::line_of_record;
@@ -18,52 +14,34 @@ fn push_by(
     day: Day,
     clerk: &Words<40>,
     what: &Words<500>,
-) -> Result<(), AllocError>
-    ensures { OnOk result (string_bytes text.new ≡
-        string_bytes text.old ++ by_text day clerk.now what.now) }
-{
-    let clerk = clerk.as_str();
-    let what = what.as_str();
+) -> Result<(), AllocError> {
     push_date(text, day.date())?;
-    write!(text, " {clerk} {what}")
+    text.push_str(" ")?;
+    text.push_str(clerk.as_str())?;
+    text.push_str(" ")?;
+    text.push_str(what.as_str())
 }
 
 /// Appends how an order was closed, if it was: `, closed 2026-05-02 Bo`.
-fn push_closed(text: &mut String, closing: &Option<Closing>) -> Result<(), AllocError>
-    ensures { OnOk result (string_bytes text.new ≡
-        string_bytes text.old ++ closed_text closing.now) }
-{
+fn push_closed(text: &mut String, closing: &Option<Closing>) -> Result<(), AllocError> {
     let Some(closing) = closing else {
         return Ok(());
     };
-    let closer = closing.closer.as_str();
     text.push_str(", closed ")?;
     push_date(text, closing.day.date())?;
-    write!(text, " {closer}")
+    text.push_str(" ")?;
+    text.push_str(closing.closer.as_str())
 }
 
 /// Appends a work order: `2026-03-01 Ana Fan is loud, closed 2026-05-02 Bo`.
-fn push_order(text: &mut String, order: &Order) -> Result<(), AllocError>
-    ensures { OnOk result (string_bytes text.new ≡ string_bytes text.old ++ order_text order.now) }
-{
+fn push_order(text: &mut String, order: &Order) -> Result<(), AllocError> {
     push_by(text, order.opened, &order.clerk, &order.text)?;
     push_closed(text, &order.closing)
 }
 
-/// Appends a used part that is there, and its pieces: `: there is RELAY 2`.
-fn push_used(text: &mut String, line: &UsedLine) -> Result<(), AllocError>
-    ensures { OnOk result (string_bytes text.new ≡ string_bytes text.old ++ used_text line.now) }
-{
-    let part = line.part.as_str();
-    let count = line.count.get();
-    write!(text, ": there is {part} {count}")
-}
-
 /// Appends what the register holds where it refuses a record: a record, or the pieces on hand, as
 /// `: RELAY, 2 on hand`; or nothing.
-fn push_there(text: &mut String, there: &There) -> Result<(), AllocError>
-    ensures { OnOk result (string_bytes text.new ≡ string_bytes text.old ++ there_text there.now) }
-{
+fn push_there(text: &mut String, there: &There) -> Result<(), AllocError> {
     match there {
         There::Nothing => Ok(()),
         There::Inspection(inspection) => {
@@ -74,7 +52,11 @@ fn push_there(text: &mut String, there: &There) -> Result<(), AllocError>
             text.push_str(": there is ")?;
             push_order(text, order)
         }
-        There::UsedLine(line) => push_used(text, line),
+        There::UsedLine(line) => {
+            let part = line.part.as_str();
+            let count = line.count.get();
+            write!(text, ": there is {part} {count}")
+        }
         There::Delivery(delivery) => {
             let count = delivery.count.get();
             text.push_str(": there is ")?;
@@ -95,40 +77,21 @@ fn push_refused(
     line: usize,
     refusal: Refusal,
     there: &There,
-) -> Result<(), AllocError>
-    ensures { OnOk result (string_bytes text.new ≡
-        string_bytes text.old ++ refused_line at line refusal there.now) }
-{
+) -> Result<(), AllocError> {
     let name = refusal.name();
     write!(text, "record {at}, line {line}: {name}")?;
     push_there(text, there)?;
     text.push_str("\n")
 }
 
-/// Appends the line of a record that was tried, if it would be refused.
-fn push_checked(
-    text: &mut String,
-    at: usize,
-    line: usize,
-    checked: &Checked,
-) -> Result<(), AllocError>
-    ensures { OnOk result (string_bytes text.new ≡
-        string_bytes text.old ++ checked_line at line checked.now) }
-{
-    match checked {
-        Checked::Added | Checked::Same => Ok(()),
-        Checked::Refused { refusal, there } => push_refused(text, at, line, *refusal, there),
-    }
-}
-
 /// Appends a line for each record that would be refused, with its number, counted from 1, and the
 /// line of the file on which it begins, of `lines`.
-fn push_all(text: &mut String, lines: &[usize], all: &[Checked]) -> Result<(), AllocError>
-    ensures { OnOk result (string_bytes text.new ≡
-        string_bytes text.old ++ checked_lines 0 lines.now all.now) }
-{
+fn push_all(text: &mut String, lines: &[usize], all: &[Checked]) -> Result<(), AllocError> {
     for (index, checked) in all.iter().enumerate() {
-        push_checked(text, index + 1, line_of_record(lines, index + 1), checked)?;
+        if let Checked::Refused { refusal, there } = checked {
+            let line = line_of_record(lines, index + 1);
+            push_refused(text, index + 1, line, *refusal, there)?;
+        }
     }
     Ok(())
 }
@@ -139,15 +102,13 @@ pub(crate) fn checks_text(
     alloc: Global,
     lines: &[usize],
     all: &[Checked],
-    counts: Counts,
-) -> Result<Vec<u8>, NoMemory>
-    ensures { IfOk result (λ text. text.items ≡ checks_text lines.now all.now counts) }
-{
-    let Counts {
-        added,
-        same,
-        refused,
-    } = counts;
+    refused: usize,
+) -> Result<Vec<u8>, NoMemory> {
+    let added = all
+        .iter()
+        .filter(|&it| matches!(it, Checked::Added))
+        .count();
+    let same = all.iter().filter(|&it| matches!(it, Checked::Same)).count();
     let mut text = String::new(alloc);
     push_all(&mut text, lines, all)?;
     writeln!(text, "would add {added}, same {same}, refused {refused}")?;

@@ -1,39 +1,78 @@
-//! What the plans in two CSV files differ in.
+//! What two plans differ in: of two CSV files, of a draft, or of a file and what runs.
+#![tactic(auto, using(office_desk::proofs::Looks::keeps_then))]
 
-ghost use Rattle.std.specs.Prelude.{◌≢◌, IfOk, IfErr};
-ghost use Rattle.office_files.specs.Changes.{changes_of};
-ghost use Rattle.office_files.specs.Plan.{IsPlan};
-ghost use Rattle.signal_office_commands.specs.Comparing.{ComparesFiles, IsOtherUnread};
-ghost use Rattle.signal_office_faults.specs.Done.{came_to};
+ghost use Rattle.office_desk.specs.Asks.{KeepsOffice};
 
-use office_files::{CsvFault, read_plan_csv};
+use crate::reads::read_timing;
+use crate::refused::fault_of;
+use office_desk::office::Office;
+use office_files::{CsvFault, changes_csv, read_plan_csv};
+use office_tables_shelf::shelf::Shelf;
 use signal_office_faults::{Done, Fault};
-use signal_office_queries::comparison;
-use signal_plans::compare;
-use signal_records::TimingSet;
+use signal_plans::{changes, compare, comparison_text};
+use signal_records::{InterId, TimingSet};
 use std::alloc::Global;
 
-/// The plan in the second of two files. Its first bad record is reported as that of the other file.
-fn other_plan(alloc: Global, bytes: &[u8]) -> Result<TimingSet, Fault>
-    ensures plan { IfOk result (IsPlan bytes.now) }
-    ensures fault { IfErr result (λ why. why ≢ Fault.Memory →
-        IsOtherUnread (changes_of bytes.now) why) }
-{
-    match read_plan_csv(alloc, bytes) {
-        Ok(plan) => Ok(plan),
+/// The status with which the program ends where plans differ.
+const DIFFERS: u8 = 4;
+
+/// What two plans differ in, in the order of the keys: a text, or as CSV the changes that make the
+/// second of the first. The status is 4 where they differ, else 0.
+fn comparison(
+    alloc: Global,
+    before: &TimingSet,
+    after: &TimingSet,
+    csv: bool,
+) -> Result<Done, Fault> {
+    let differences = compare(alloc, before, after)?;
+    let text = if csv {
+        changes_csv(alloc, &changes(alloc, &differences)?)?
+    } else {
+        comparison_text(alloc, &differences)?
+    };
+    let status = if differences.is_empty() { 0 } else { DIFFERS };
+    Ok(Done::ending(text, status))
+}
+
+/// What the plans in two CSV files differ in. A bad record of the second file is reported only
+/// where the first spells a plan.
+pub fn compare_files(alloc: Global, first: &[u8], second: &[u8], csv: bool) -> Result<Done, Fault> {
+    let before = read_plan_csv(alloc, first)?;
+    match read_plan_csv(alloc, second) {
+        Ok(after) => comparison(alloc, &before, &after, csv),
         Err(CsvFault::Row(bad)) => Err(Fault::OtherCsv(bad)),
         Err(CsvFault::NoMemory) => Err(Fault::Memory),
     }
 }
 
-/// What the plans in two CSV files differ in, in the order of their keys, as a text or as CSV, with
-/// status 4 if there is a difference; or the first bad record, or that memory was refused. A bad
-/// record of the second file is reported only where the first file spells a plan.
-pub fn compare_files(alloc: Global, first: &[u8], second: &[u8], csv: bool) -> Result<Done, Fault>
-    ensures { ComparesFiles csv first.now second.now (came_to result) }
+/// What a draft changes of the committed timing set.
+pub(crate) fn compare_draft<S: Shelf>(
+    alloc: Global,
+    office: &mut Office<S>,
+    id: InterId,
+    csv: bool,
+) -> Result<Done, Fault>
+    ensures { KeepsOffice S.Shelf office.old office.new }
 {
-    let before = read_plan_csv(alloc, first)?;
-    let after = other_plan(alloc, second)?;
-    let differences = compare(alloc, &before, &after)?;
-    comparison(alloc, &differences, csv)
+    let timing = read_timing(alloc, office, id)?;
+    match office.draft(alloc, id) {
+        Ok(draft) => comparison(alloc, &timing.rows, &draft.rows, csv),
+        Err(why) => Err(fault_of(why)),
+    }
+}
+
+/// What the plan in a CSV file differs in from the committed timing set. The first bad record of
+/// the file is reported only where the intersection is there.
+pub(crate) fn compare_running<S: Shelf>(
+    alloc: Global,
+    office: &mut Office<S>,
+    id: InterId,
+    plan: &[u8],
+    csv: bool,
+) -> Result<Done, Fault>
+    ensures { KeepsOffice S.Shelf office.old office.new }
+{
+    let timing = read_timing(alloc, office, id)?;
+    let plan = read_plan_csv(alloc, plan)?;
+    comparison(alloc, &timing.rows, &plan, csv)
 }

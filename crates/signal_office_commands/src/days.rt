@@ -4,8 +4,8 @@ ghost use Rattle.std.specs.Prelude.{◌≡◌, ◌<◌, IfSome, length};
 ghost use Rattle.std.specs.List.{position};
 ghost use Rattle.signal_office_commands.specs.Days.{AreInTime, first_late, is_late, record_day};
 
+use crate::reading::records_in;
 use cabinet_core::{Day, RecordCommand};
-use office_files::read_records_csv;
 use signal_office_faults::Fault;
 use std::alloc::Global;
 
@@ -59,7 +59,7 @@ pub fn check_days(alloc: Global, csv: &[u8], until: Option<Day>) -> Result<(), F
     let Some(until) = until else {
         return Ok(());
     };
-    let records = read_records_csv(alloc, csv)?;
+    let records = records_in(alloc, csv)?;
     match first_late(until, &records) {
         Some(at) => Err(Fault::Late { at }),
         None => Ok(()),

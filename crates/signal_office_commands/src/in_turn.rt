@@ -4,6 +4,7 @@ ghost use Rattle.std.specs.Prelude.{◌≡◌};
 ghost use Rattle.signal_office_commands.specs.Changing.{AfterOneOf, ChangesShelf};
 ghost use Rattle.signal_office_commands.specs.InTurn.{RunsInTurn, is_not_due, passed};
 
+use crate::refused::fault_of;
 use draft_core::refusal::DraftRefusal;
 use office_desk::office::Office;
 use office_machine::command::Command;
@@ -11,7 +12,6 @@ use office_machine::refusal::Refusal;
 use office_machine::reply::Reply;
 use office_tables_shelf::shelf::Shelf;
 use signal_office_faults::Fault;
-use signal_office_queries::fault_of;
 use std::alloc::Global;
 
 /// Whether a refusal says that a step of a transaction is not due: to begin one, where one is under

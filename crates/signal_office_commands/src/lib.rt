@@ -1,17 +1,28 @@
-//! The commands of the program that change an office or try records on it, and those that show or
-//! compare plans in CSV files. Each gives what is printed of it and its status, or a fault.
+//! The reports and the commands of the program, over any office.
+//!
+//! A report reads an office, which stays as it is, and gives what is printed. A command that
+//! changes an office gives what the office replied, or what became of a plan; `told` and
+//! `tell_revised` tell that once the file is closed. Other commands show or compare plans in CSV
+//! files.
 #![tactic(auto)]
 
 mod changing;
 mod check_text;
 mod checking;
 mod comparing;
-mod counts;
 mod days;
 mod editing;
 mod explained;
+mod filling;
 mod in_turn;
+mod index;
+mod listing;
+mod page;
+mod reading;
+mod reads;
+mod refused;
 mod remarks;
+mod reporting;
 mod revising;
 mod showing;
 mod standing;
@@ -22,6 +33,9 @@ pub use checking::check;
 pub use comparing::compare_files;
 pub use days::check_days;
 pub use editing::edit;
+pub use filling::fill;
+pub use refused::fault_of;
+pub use reporting::report;
 pub use revising::{Revised, revise_plan};
 pub use showing::show_plan;
-pub use telling::report;
+pub use telling::{tell_revised, told};

@@ -1,8 +1,5 @@
 //! What is told of a plan: the rules that it breaks, and what an engineer is warned of in it.
 
-ghost use Rattle.std.specs.Prelude.{◌≡◌, IfOk};
-ghost use Rattle.signal_office_commands.specs.Plans.{advice_lines, broken_text, checked_status, remarks_text};
-
 use office_files::{explained_text, violation_text};
 use signal_plans::{warnings, warnings_text};
 use signal_records::{NoMemory, TimingSet};
@@ -13,9 +10,7 @@ use std::alloc::Global;
 const HAS_VIOLATIONS: u8 = 3;
 
 /// The status of a plan that was checked: 3 if it breaks a rule, else 0.
-pub(crate) fn checked_status(violations: &[Violation]) -> u8
-    ensures { result ≡ checked_status violations.now }
-{
+pub(crate) fn checked_status(violations: &[Violation]) -> u8 {
     if violations.is_empty() {
         0
     } else {
@@ -30,9 +25,7 @@ fn broken_text(
     plan: &TimingSet,
     violations: &[Violation],
     explain: bool,
-) -> Result<Vec<u8>, NoMemory>
-    ensures { IfOk result (λ text. text.items ≡ broken_text explain plan.now violations.now) }
-{
+) -> Result<Vec<u8>, NoMemory> {
     if explain {
         explained_text(alloc, &reasons(alloc, plan)?)
     } else {
@@ -41,9 +34,7 @@ fn broken_text(
 }
 
 /// A line for each warning of a plan.
-pub(crate) fn advice_text(alloc: Global, plan: &TimingSet) -> Result<Vec<u8>, NoMemory>
-    ensures { IfOk result (λ text. text.items ≡ advice_lines plan.now) }
-{
+pub(crate) fn advice_text(alloc: Global, plan: &TimingSet) -> Result<Vec<u8>, NoMemory> {
     warnings_text(alloc, &warnings(alloc, plan)?)
 }
 
@@ -55,10 +46,7 @@ pub(crate) fn remarks_text(
     violations: &[Violation],
     explain: bool,
     advise: bool,
-) -> Result<Vec<u8>, NoMemory>
-    ensures { IfOk result (λ text.
-        text.items ≡ remarks_text explain advise plan.now violations.now) }
-{
+) -> Result<Vec<u8>, NoMemory> {
     let mut text = broken_text(alloc, plan, violations, explain)?;
     if advise {
         text.extend_from_slice(&advice_text(alloc, plan)?)?;

@@ -1,27 +1,25 @@
 //! A plan that is revised by a CSV file: its draft is edited, and committed where that is asked.
 
 ghost use Rattle.std.specs.Prelude.{◌≡◌, ◌==◌, not, IfOk};
+ghost use Rattle.office_desk.specs.Asks.{OnlyLooks};
 ghost use Rattle.office_desk.specs.Running.{MakesTables};
 ghost use Rattle.office_tables_shelf.specs.Counts.{count_of};
 ghost use Rattle.signal_office_commands.specs.Changing.{AfterOneOf, ChangesShelf};
 ghost use Rattle.signal_office_commands.specs.InTurn.{Makes};
 ghost use Rattle.signal_office_commands.specs.Replacing.{LeavesPlan};
 ghost use Rattle.signal_office_commands.specs.Revising.{AfterRevising, AfterRevision, ComesTo, Drafts, IsRevision, RevisesAs, RevisesSo, WouldBe, commands_due, committing, drafted, drafting, revised_by, wrote_timing};
-ghost use Rattle.signal_office_commands.specs.Standing.{standing_rows};
-ghost use Rattle.signal_office_queries.specs.Asks.{OnlyLooks};
 
 use crate::in_turn::run_in_turn;
-use crate::standing::{StandingPlan, standing_seen};
+use crate::reading::changes_in;
+use crate::standing::{StandingPlan, standing_plan};
 use draft_core::changes::Changes;
 use office_desk::office::Office;
-use office_files::read_timing_csv;
 use office_machine::command::Command;
 use office_machine::reply::{OpenDraft, Reply};
 use office_tables_shelf::rows::Table;
 use office_tables_shelf::shelf::Shelf;
 use signal_office_faults::Fault;
 use signal_office_line::Edit;
-use signal_office_queries::{Query, look};
 use signal_records::{Change, InterId, NoMemory, Words};
 use signal_rules::Violation;
 use std::alloc::Global;
@@ -98,11 +96,11 @@ fn committing(
 /// Whether these changes make the draft the committed set, if a commit is asked for; else no.
 fn would_be(
     alloc: Global,
-    standing: &StandingPlan<'_>,
+    standing: &StandingPlan,
     changes: &[Change],
     commit: bool,
 ) -> Result<bool, NoMemory>
-    ensures { IfOk result (λ same. WouldBe commit (standing_rows standing.now) changes.now same) }
+    ensures { IfOk result (λ same. WouldBe commit standing.now changes.now same) }
 {
     if !commit {
         return Ok(false);
@@ -115,10 +113,10 @@ fn would_be(
 fn revision_of(
     alloc: Global,
     edit: &Edit<'_>,
-    standing: &StandingPlan<'_>,
+    standing: &StandingPlan,
     asked: Vec<Change>,
 ) -> Result<Option<Revision>, NoMemory>
-    ensures { IfOk result (λ it. IsRevision edit.now (standing_rows standing.now) asked.items it) }
+    ensures { IfOk result (λ it. IsRevision edit.now standing.now asked.items it) }
 {
     let changes = standing.wanted(alloc, asked, edit.replace)?;
     let same = would_be(alloc, standing, changes.as_slice(), edit.commit)?;
@@ -185,10 +183,8 @@ fn revision_in<S: Shelf>(
     ensures { OnlyLooks S.Shelf office.old office.new
         (λ tables. ComesTo bytes.now edit.now tables result) }
 {
-    let asked = read_timing_csv(alloc, bytes)?;
-    let id = edit.id;
-    let seen = look(alloc, office, &[Query::Timing { id }, Query::Draft { id }])?;
-    let standing = standing_seen(seen.as_slice())?;
+    let asked = changes_in(alloc, bytes)?;
+    let standing = standing_plan(alloc, office, edit.id)?;
     Ok(revision_of(alloc, edit, &standing, asked)?)
 }
 

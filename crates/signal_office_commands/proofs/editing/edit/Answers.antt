@@ -1,10 +1,10 @@
-use Rattle.std.proofs.Common.{Ok, Err, refl}
+use Rattle.std.proofs.Common.{inl, inr, refl}
 use Rattle.signal_office_commands.proofs.ChangingLemmas.{asks_after, changes_weaker}
 use Rattle.signal_office_commands.proofs.editing.edit.Goals as goal
 
 pub returns-in-Ok : goal.returns-in-Ok
-returns-in-Ok g c = changes_weaker c.in-Ok.ensures.writes (λ tables made so. (Ok c.in-Ok.revised, (_, so), c.tell_revised.ensures)) (λ tables found after. after)
+returns-in-Ok g c = changes_weaker c.in-Ok.ensures.writes (λ tables made so. inl (_, so)) (λ tables found after. after)
 
 pub returns-in-Err : goal.returns-in-Err
 returns-in-Err g c = changes_weaker (asks_after c.in-Err.ensures.writes c.refused_edit.ensures)
-    (λ tables made both. (Err c.in-Err.why, (_, both.0), (c.refused_edit.result, refl, both.1))) (λ tables found after. after)
+    (λ tables made both. inr (c.in-Err.why, c.refused_edit.result, (_, both.0), refl)) (λ tables found after. after)

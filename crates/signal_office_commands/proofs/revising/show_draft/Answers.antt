@@ -2,7 +2,7 @@ use Rattle.std.proofs.Common.{Ok, Err, refl}
 use Rattle.signal_office_commands.proofs.InTurnLemmas.{makes_of}
 use Rattle.signal_office_commands.proofs.revising.show_draft.Goals as goal
 use Rattle.signal_office_commands.specs.{Changing.AfterOneOf, Changing.ChangesShelf, InTurn.Makes, Revising.drafted}
-use Rattle.signal_office_queries.proofs.SeenLemmas.{handed}
+use Rattle.signal_office_commands.proofs.FaultLemmas.{handed}
 
 pub returns : goal.returns
 returns g c = makes_of drafted c.args.commands.now (Ok c.in_ok-reply.reply) _ c.drafted.ensures c.in_ok-reply.ensures

@@ -7,7 +7,7 @@ use Rattle.signal_records.specs.TimingSet.{after_changes}
 
 pub returns : goal.returns
 returns c =
-    let committed = c.args.self.now.committed.now in
+    let committed = c.args.self.now.committed in
     let after = c.in_ok-after.ensures ∙ ap (λ set. after_changes set c.args.changes.now) (c.in_ok-copy.ensures ∙ c.base.ensures) in
     let told = tells_same committed c.in_ok-after.after c.in_ok-compare.field-0.items c.in_ok-compare.ensures.told c.in_ok-compare.ensures.makes in
     subst (λ set. TellsSame committed set c.are_none.result) after (subst (TellsSame committed c.in_ok-after.after) (sym (c.are_none.ensures ∙ ap (λ (found : List Difference). length found == 0) c.deref.ensures.value)) told)

@@ -1,0 +1,212 @@
+//! Folders that are filled with what an office shows.
+//!
+//! All rows are read twice: first only to learn that each is a record, so that nothing is put where
+//! one is not; then, intersection by intersection, for the texts. So memory does not grow with
+//! texts.
+#![tactic(auto, using(office_desk::proofs::Looks::keeps_then, office_desk::proofs::Looks::keeps_none))]
+
+ghost use Rattle.office_desk.specs.Asks.{KeepsOffice};
+
+use crate::index::{Gathered, index_over};
+use crate::page::read_page;
+use crate::reads::{read_cabinet, read_intersections, read_stock, read_timing};
+use crate::reporting::report;
+use cabinet_core::Day;
+use office_desk::office::Office;
+use office_machine::intersections::ListedIntersection;
+use office_tables_shelf::shelf::Shelf;
+use signal_office_faults::{Fault, Folder};
+use signal_office_line::{Folder as FolderKind, Shown, View};
+use signal_plans::warnings;
+use signal_records::InterId;
+use std::alloc::Global;
+
+/// Reads all rows that a folder shows of an intersection.
+fn read_shown<S: Shelf>(
+    alloc: Global,
+    office: &mut Office<S>,
+    kind: &FolderKind,
+    id: InterId,
+) -> Result<(), Fault>
+    ensures { KeepsOffice S.Shelf office.old office.new }
+{
+    match kind {
+        FolderKind::Records => {
+            read_timing(alloc, office, id)?;
+            read_cabinet(alloc, office, id)?;
+            Ok(())
+        }
+        FolderKind::Pages { .. } => {
+            read_page(alloc, office, id)?;
+            Ok(())
+        }
+    }
+}
+
+/// Reads all rows that a folder shows of an office. The fault is `Damaged` where one is no record.
+fn read_all<S: Shelf>(
+    alloc: Global,
+    office: &mut Office<S>,
+    kind: &FolderKind,
+    listed: &[ListedIntersection],
+) -> Result<(), Fault>
+    ensures { KeepsOffice S.Shelf office.old office.new }
+{
+    read_stock(alloc, office)?;
+    for one in listed {
+        read_shown(alloc, office, kind, one.id)?;
+    }
+    Ok(())
+}
+
+/// Puts a file that has what a report prints.
+fn put_report<S: Shelf, D: Folder>(
+    alloc: Global,
+    office: &mut Office<S>,
+    shown: &Shown<'_>,
+    name: &str,
+    folder: &mut D,
+) -> Result<(), Fault>
+    ensures { KeepsOffice S.Shelf office.old office.new }
+{
+    let done = report(alloc, office, shown, &[])?;
+    folder.put(name, done.as_bytes())
+}
+
+/// Puts the plan and the cabinet of an intersection.
+fn put_exports<S: Shelf, D: Folder>(
+    alloc: Global,
+    office: &mut Office<S>,
+    id: InterId,
+    folder: &mut D,
+) -> Result<(), Fault>
+    ensures { KeepsOffice S.Shelf office.old office.new }
+{
+    let number = id.get();
+    let plan = format!(in alloc; "{number}-plan.csv")?;
+    let cabinet = format!(in alloc; "{number}-cabinet.csv")?;
+    let (timing, records) = (View::Timing, View::Cabinet);
+    put_report(
+        alloc,
+        office,
+        &Shown::Export { id, view: timing },
+        plan.as_str(),
+        folder,
+    )?;
+    put_report(
+        alloc,
+        office,
+        &Shown::Export { id, view: records },
+        cabinet.as_str(),
+        folder,
+    )
+}
+
+/// Puts CSV files: the lists, then the plan and the cabinet of each intersection.
+fn put_records<S: Shelf, D: Folder>(
+    alloc: Global,
+    office: &mut Office<S>,
+    listed: &[ListedIntersection],
+    folder: &mut D,
+) -> Result<(), Fault>
+    ensures { KeepsOffice S.Shelf office.old office.new }
+{
+    put_report(
+        alloc,
+        office,
+        &Shown::List { csv: true },
+        "intersections.csv",
+        folder,
+    )?;
+    put_report(
+        alloc,
+        office,
+        &Shown::Stock { csv: true },
+        "stock.csv",
+        folder,
+    )?;
+    for one in listed {
+        put_exports(alloc, office, one.id, folder)?;
+    }
+    Ok(())
+}
+
+/// Puts the page of an intersection, and gathers what the index shows of it.
+fn put_page<S: Shelf, D: Folder>(
+    alloc: Global,
+    office: &mut Office<S>,
+    listed: &ListedIntersection,
+    gathered: &mut Gathered,
+    folder: &mut D,
+) -> Result<(), Fault>
+    ensures { KeepsOffice S.Shelf office.old office.new }
+{
+    let read = read_page(alloc, office, listed.id)?;
+    let warnings = warnings(alloc, &read.committed)?;
+    let number = listed.id.get();
+    let name = format!(in alloc; "{number}.html")?;
+    folder.put(name.as_str(), &read.text(alloc, &warnings, true)?)?;
+    Ok(gathered.add(listed, &read.cabinet, warnings.len())?)
+}
+
+/// Puts the page of each intersection, and then the index, which links to them.
+fn put_pages<S: Shelf, D: Folder>(
+    alloc: Global,
+    office: &mut Office<S>,
+    listed: &[ListedIntersection],
+    day: Option<Day>,
+    folder: &mut D,
+) -> Result<(), Fault>
+    ensures { KeepsOffice S.Shelf office.old office.new }
+{
+    let mut gathered = Gathered::new(alloc);
+    for one in listed {
+        put_page(alloc, office, one, &mut gathered, folder)?;
+    }
+    let text = index_over(alloc, office, gathered, day)?;
+    folder.put("index.html", &text)
+}
+
+/// Puts the files of a folder of a kind.
+fn put_files<S: Shelf, D: Folder>(
+    alloc: Global,
+    office: &mut Office<S>,
+    kind: &FolderKind,
+    listed: &[ListedIntersection],
+    folder: &mut D,
+) -> Result<(), Fault>
+    ensures { KeepsOffice S.Shelf office.old office.new }
+{
+    match kind {
+        FolderKind::Records => put_records(alloc, office, listed, folder),
+        FolderKind::Pages { day } => put_pages(alloc, office, listed, *day, folder),
+    }
+}
+
+/// A row that was a record as all were read, and is none as its file is made, is a fault of the
+/// database.
+fn late(fault: Fault) -> Fault {
+    match fault {
+        Fault::Damaged => Fault::Store,
+        fault => fault,
+    }
+}
+
+/// Fills a folder of a kind with the files of an office, which stays as it is. Where a row that they
+/// show is no record, no file is put, and the fault is Damaged. Where a file is later not put, those
+/// before it are: the fault is Write, Memory or Store.
+pub fn fill<S: Shelf, D: Folder>(
+    alloc: Global,
+    office: &mut Office<S>,
+    kind: &FolderKind,
+    folder: &mut D,
+) -> Result<(), Fault>
+    ensures { KeepsOffice S.Shelf office.old office.new }
+{
+    let listed = read_intersections(alloc, office)?;
+    read_all(alloc, office, kind, &listed)?;
+    match put_files(alloc, office, kind, &listed, folder) {
+        Ok(()) => Ok(()),
+        Err(fault) => Err(late(fault)),
+    }
+}

@@ -1,0 +1,109 @@
+//! The index of all intersections.
+#![tactic(auto, using(office_desk::proofs::Looks::keeps_then, office_desk::proofs::Looks::keeps_none))]
+
+ghost use Rattle.office_desk.specs.Asks.{KeepsOffice};
+
+use crate::reads::{read_cabinet, read_intersections, read_stock, read_timing};
+use cabinet_core::Day;
+use office_desk::office::Office;
+use office_machine::intersections::ListedIntersection;
+use office_machine::orders::{NamedOrder, add_named_orders};
+use office_machine::reply::CabinetShown;
+use office_tables_shelf::shelf::Shelf;
+use office_views::{IndexEntry, IndexShown, add_entry, index_page};
+use signal_office_faults::{Done, Fault};
+use signal_plans::warnings;
+use signal_records::{Listing, NoMemory};
+use std::alloc::Global;
+
+/// What an index shows of the intersections that were gathered so far.
+#[derive(Drop)]
+pub(crate) struct Gathered {
+    entries: Vec<IndexEntry>,
+    orders: Vec<NamedOrder>,
+}
+
+impl Gathered {
+    pub(crate) fn new(alloc: Global) -> Gathered {
+        Gathered {
+            entries: Vec::new(alloc),
+            orders: Vec::new(alloc),
+        }
+    }
+
+    /// Adds an intersection with its cabinet, and with how many warnings its committed plan has.
+    pub(crate) fn add(
+        &mut self,
+        listed: &ListedIntersection,
+        cabinet: &CabinetShown,
+        warnings: usize,
+    ) -> Result<(), NoMemory> {
+        add_entry(&mut self.entries, listed, cabinet, warnings)?;
+        add_named_orders(&mut self.orders, &listed.name, cabinet)
+    }
+
+    fn into_shown(self) -> IndexShown {
+        let Gathered { entries, orders } = self;
+        IndexShown {
+            entries: Listing::new(entries),
+            orders: Listing::new(orders),
+        }
+    }
+}
+
+/// The index page over what was gathered; if a day is given, those that are overdue for an
+/// inspection on it stand first and are marked.
+pub(crate) fn index_over<S: Shelf>(
+    alloc: Global,
+    office: &mut Office<S>,
+    gathered: Gathered,
+    day: Option<Day>,
+) -> Result<Vec<u8>, Fault>
+    ensures { KeepsOffice S.Shelf office.old office.new }
+{
+    let stock = read_stock(alloc, office)?;
+    Ok(index_page(alloc, &gathered.into_shown(), stock.as_slice(), day)?)
+}
+
+/// Reads what the index shows of an intersection, and adds it.
+fn gather<S: Shelf>(
+    alloc: Global,
+    office: &mut Office<S>,
+    gathered: &mut Gathered,
+    listed: &ListedIntersection,
+) -> Result<(), Fault>
+    ensures { KeepsOffice S.Shelf office.old office.new }
+{
+    let cabinet = read_cabinet(alloc, office, listed.id)?;
+    let timing = read_timing(alloc, office, listed.id)?;
+    let warnings = warnings(alloc, &timing.rows)?;
+    Ok(gathered.add(listed, &cabinet, warnings.len())?)
+}
+
+/// What the index shows of these intersections.
+fn gather_all<S: Shelf>(
+    alloc: Global,
+    office: &mut Office<S>,
+    listed: &[ListedIntersection],
+) -> Result<Gathered, Fault>
+    ensures { KeepsOffice S.Shelf office.old office.new }
+{
+    let mut gathered = Gathered::new(alloc);
+    for one in listed {
+        gather(alloc, office, &mut gathered, one)?;
+    }
+    Ok(gathered)
+}
+
+/// The index page of all intersections.
+pub(crate) fn index<S: Shelf>(
+    alloc: Global,
+    office: &mut Office<S>,
+    day: Option<Day>,
+) -> Result<Done, Fault>
+    ensures { KeepsOffice S.Shelf office.old office.new }
+{
+    let listed = read_intersections(alloc, office)?;
+    let gathered = gather_all(alloc, office, &listed)?;
+    Ok(Done::with(index_over(alloc, office, gathered, day)?))
+}

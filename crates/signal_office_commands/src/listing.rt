@@ -1,0 +1,178 @@
+//! Lists of an office: intersections, stock, orders, used parts, late inspections.
+#![tactic(auto, using(office_desk::proofs::Looks::keeps_then, office_desk::proofs::Looks::keeps_none, crate::proofs::LookLemmas::keeps_shelf))]
+
+ghost use Rattle.office_desk.specs.Asks.{KeepsOffice};
+
+use crate::reads::{read_cabinet, read_intersections, read_state, read_stock};
+use crate::refused::fault_of;
+use cabinet_core::{Day, Order, PartCode};
+use office_desk::office::Office;
+use office_files::overdue_text;
+use office_machine::intersections::ListedIntersection;
+use office_machine::orders::{NamedOrder, add_named, add_named_orders, add_open_orders};
+use office_tables_shelf::shelf::Shelf;
+use office_views::{
+    UsedPart, add_used, intersections_list, orders_list, orders_text, overdue_csv, stock_list,
+    used_list,
+};
+use signal_office_faults::{Done, Fault};
+use signal_office_line::Part;
+use signal_records::{InterId, NoMemory};
+use std::alloc::Global;
+use std::collections::BTreeMap;
+
+/// The first `most` of the intersections that are overdue for an inspection on a day.
+pub(crate) fn overdue<S: Shelf>(
+    alloc: Global,
+    office: &mut Office<S>,
+    day: Day,
+    most: usize,
+    csv: bool,
+) -> Result<Done, Fault>
+    ensures { KeepsOffice S.Shelf office.old office.new }
+{
+    let rows = match office.overdue_first(alloc, day, most) {
+        Ok(rows) => rows,
+        Err(why) => return Err(fault_of(why)),
+    };
+    let text = if csv {
+        overdue_csv(alloc, &rows)?
+    } else {
+        overdue_text(alloc, day, &rows)?
+    };
+    Ok(Done::with(text))
+}
+
+pub(crate) fn list<S: Shelf>(
+    alloc: Global,
+    office: &mut Office<S>,
+    csv: bool,
+) -> Result<Done, Fault>
+    ensures { KeepsOffice S.Shelf office.old office.new }
+{
+    let listed = read_intersections(alloc, office)?;
+    Ok(Done::with(intersections_list(alloc, csv, &listed)?))
+}
+
+pub(crate) fn stock<S: Shelf>(
+    alloc: Global,
+    office: &mut Office<S>,
+    csv: bool,
+) -> Result<Done, Fault>
+    ensures { KeepsOffice S.Shelf office.old office.new }
+{
+    let parts = read_stock(alloc, office)?;
+    Ok(Done::with(stock_list(alloc, csv, parts.as_slice())?))
+}
+
+/// The orders that a map has for an intersection, none where it has no entry.
+fn orders_in(orders: &BTreeMap<InterId, Vec<Order>>, id: InterId) -> &[Order] {
+    match orders.get(&id) {
+        Some(found) => found.as_slice(),
+        None => &[],
+    }
+}
+
+/// The open orders that a map has for the intersections of a list, each with the number and the
+/// name of its intersection.
+fn named_orders(
+    alloc: Global,
+    listed: &[ListedIntersection],
+    orders: &BTreeMap<InterId, Vec<Order>>,
+) -> Result<Vec<NamedOrder>, NoMemory> {
+    let mut found = Vec::new(alloc);
+    for one in listed {
+        add_named(&mut found, &one.name, one.id, orders_in(orders, one.id))?;
+    }
+    Ok(found)
+}
+
+fn orders_of_all<S: Shelf>(alloc: Global, office: &mut Office<S>, csv: bool) -> Result<Done, Fault>
+    ensures { KeepsOffice S.Shelf office.old office.new }
+{
+    let listed = read_intersections(alloc, office)?;
+    match office.open_orders(alloc) {
+        Ok(orders) => {
+            let found = named_orders(alloc, &listed, &orders)?;
+            Ok(Done::with(orders_list(alloc, csv, &found)?))
+        }
+        Err(why) => Err(fault_of(why)),
+    }
+}
+
+fn orders_on<S: Shelf>(alloc: Global, office: &mut Office<S>, id: InterId) -> Result<Done, Fault>
+    ensures { KeepsOffice S.Shelf office.old office.new }
+{
+    let cabinet = read_cabinet(alloc, office, id)?;
+    let mut found = Vec::new(alloc);
+    add_open_orders(&mut found, &cabinet)?;
+    Ok(Done::with(orders_text(alloc, &found)?))
+}
+
+fn orders_csv_on<S: Shelf>(
+    alloc: Global,
+    office: &mut Office<S>,
+    id: InterId,
+) -> Result<Done, Fault>
+    ensures { KeepsOffice S.Shelf office.old office.new }
+{
+    let state = read_state(alloc, office, id)?;
+    let cabinet = read_cabinet(alloc, office, id)?;
+    let mut found = Vec::new(alloc);
+    add_named_orders(&mut found, &state.name, &cabinet)?;
+    Ok(Done::with(orders_list(alloc, true, &found)?))
+}
+
+/// The open orders of an intersection, or of all.
+pub(crate) fn orders<S: Shelf>(
+    alloc: Global,
+    office: &mut Office<S>,
+    id: Option<InterId>,
+    csv: bool,
+) -> Result<Done, Fault>
+    ensures { KeepsOffice S.Shelf office.old office.new }
+{
+    match (id, csv) {
+        (None, csv) => orders_of_all(alloc, office, csv),
+        (Some(id), true) => orders_csv_on(alloc, office, id),
+        (Some(id), false) => orders_on(alloc, office, id),
+    }
+}
+
+/// What was used of all parts, or of one, for the orders of all intersections, closed ones too.
+fn used_parts<S: Shelf>(
+    alloc: Global,
+    office: &mut Office<S>,
+    part: &Option<PartCode>,
+) -> Result<Vec<UsedPart>, Fault>
+    ensures { KeepsOffice S.Shelf office.old office.new }
+{
+    let listed = read_intersections(alloc, office)?;
+    let mut found = Vec::new(alloc);
+    for one in &listed {
+        let cabinet = read_cabinet(alloc, office, one.id)?;
+        add_used(&mut found, part, &cabinet)?;
+    }
+    Ok(found)
+}
+
+/// The code of a part, in memory of its own, where one is named.
+fn code_of(alloc: Global, part: &Option<Part<'_>>) -> Result<Option<PartCode>, NoMemory> {
+    match part {
+        Some(part) => Ok(Some(part.to_code(alloc)?)),
+        None => Ok(None),
+    }
+}
+
+pub(crate) fn used<S: Shelf>(
+    alloc: Global,
+    office: &mut Office<S>,
+    part: &Option<Part<'_>>,
+    csv: bool,
+) -> Result<Done, Fault>
+    ensures { KeepsOffice S.Shelf office.old office.new }
+{
+    let part = code_of(alloc, part)?;
+    let found = used_parts(alloc, office, &part)?;
+    Ok(Done::with(used_list(alloc, csv, &found)?))
+}

@@ -1,0 +1,76 @@
+//! The page of an intersection, and all that is read for it.
+#![tactic(auto, using(office_desk::proofs::Looks::keeps_then))]
+
+ghost use Rattle.office_desk.specs.Asks.{KeepsOffice};
+
+use crate::reads::{read_cabinet, read_open_draft, read_state, read_timing};
+use office_desk::office::Office;
+use office_machine::reply::{CabinetShown, IntersectionState};
+use office_tables_shelf::shelf::Shelf;
+use office_views::{IntersectionShown, intersection_page};
+use signal_office_faults::{Done, Fault};
+use signal_plans::{Warning, warnings};
+use signal_records::{InterId, NoMemory, TimingSet};
+use std::alloc::Global;
+
+/// What a page shows of an intersection.
+#[derive(Drop)]
+pub(crate) struct PageRead {
+    pub(crate) state: IntersectionState,
+    pub(crate) committed: TimingSet,
+    pub(crate) draft: Option<TimingSet>,
+    pub(crate) cabinet: CabinetShown,
+}
+
+/// Reads what the page of an intersection shows.
+pub(crate) fn read_page<S: Shelf>(
+    alloc: Global,
+    office: &mut Office<S>,
+    id: InterId,
+) -> Result<PageRead, Fault>
+    ensures { KeepsOffice S.Shelf office.old office.new }
+{
+    let state = read_state(alloc, office, id)?;
+    let timing = read_timing(alloc, office, id)?;
+    let draft = read_open_draft(alloc, office, &state)?;
+    let cabinet = read_cabinet(alloc, office, id)?;
+    Ok(PageRead {
+        state,
+        committed: timing.rows,
+        draft,
+        cabinet,
+    })
+}
+
+impl PageRead {
+    /// The page with the warnings of the committed plan, linked to the index of all or not.
+    pub(crate) fn text(
+        &self,
+        alloc: Global,
+        warnings: &[Warning],
+        linked: bool,
+    ) -> Result<Vec<u8>, NoMemory> {
+        let shown = IntersectionShown {
+            state: &self.state,
+            committed: &self.committed,
+            warnings,
+            draft: self.draft.as_ref(),
+            cabinet: &self.cabinet,
+        };
+        intersection_page(alloc, linked, &shown)
+    }
+}
+
+/// The page of an intersection, linked to the index of all or not.
+pub(crate) fn page<S: Shelf>(
+    alloc: Global,
+    office: &mut Office<S>,
+    id: InterId,
+    linked: bool,
+) -> Result<Done, Fault>
+    ensures { KeepsOffice S.Shelf office.old office.new }
+{
+    let read = read_page(alloc, office, id)?;
+    let warnings = warnings(alloc, &read.committed)?;
+    Ok(Done::with(read.text(alloc, &warnings, linked)?))
+}

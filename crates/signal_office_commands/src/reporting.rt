@@ -1,0 +1,126 @@
+//! Reports of an office: what is read of it, and the text that is made of that. A new report is a
+//! `Shown` with a function of its own.
+#![tactic(auto, using(office_desk::proofs::Looks::keeps))]
+
+ghost use Rattle.office_desk.specs.Asks.{KeepsOffice};
+
+use crate::comparing::{compare_draft, compare_running};
+use crate::index::index;
+use crate::listing::{list, orders, overdue, stock, used};
+use crate::page::page;
+use crate::reads::{read_cabinet, read_state, read_timing};
+use crate::refused::fault_of;
+use office_desk::office::Office;
+use office_files::{records_csv, timing_csv, timing_sheet};
+use office_tables_shelf::shelf::Shelf;
+use office_views::cabinet_text;
+use signal_diagram::diagram;
+use signal_office_faults::{Done, Fault};
+use signal_office_line::{Shown, View};
+use signal_records::{InterId, PatternNo};
+use std::alloc::Global;
+
+fn sheet<S: Shelf>(alloc: Global, office: &mut Office<S>, id: InterId) -> Result<Done, Fault>
+    ensures { KeepsOffice S.Shelf office.old office.new }
+{
+    let timing = read_timing(alloc, office, id)?;
+    Ok(Done::with(timing_sheet(alloc, id, &timing.name, timing.revision, &timing.rows)?))
+}
+
+fn cabinet<S: Shelf>(alloc: Global, office: &mut Office<S>, id: InterId) -> Result<Done, Fault>
+    ensures { KeepsOffice S.Shelf office.old office.new }
+{
+    let state = read_state(alloc, office, id)?;
+    let cabinet = read_cabinet(alloc, office, id)?;
+    Ok(Done::with(cabinet_text(alloc, &state.name, state.interval, &cabinet)?))
+}
+
+fn export_timing<S: Shelf>(
+    alloc: Global,
+    office: &mut Office<S>,
+    id: InterId,
+) -> Result<Done, Fault>
+    ensures { KeepsOffice S.Shelf office.old office.new }
+{
+    let timing = read_timing(alloc, office, id)?;
+    Ok(Done::with(timing_csv(alloc, &timing.rows)?))
+}
+
+fn export_draft<S: Shelf>(alloc: Global, office: &mut Office<S>, id: InterId) -> Result<Done, Fault>
+    ensures { KeepsOffice S.Shelf office.old office.new }
+{
+    match office.draft(alloc, id) {
+        Ok(draft) => Ok(Done::with(timing_csv(alloc, &draft.rows)?)),
+        Err(why) => Err(fault_of(why)),
+    }
+}
+
+fn export_cabinet<S: Shelf>(
+    alloc: Global,
+    office: &mut Office<S>,
+    id: InterId,
+) -> Result<Done, Fault>
+    ensures { KeepsOffice S.Shelf office.old office.new }
+{
+    let cabinet = read_cabinet(alloc, office, id)?;
+    Ok(Done::with(records_csv(alloc, id, &cabinet.view)?))
+}
+
+fn export<S: Shelf>(
+    alloc: Global,
+    office: &mut Office<S>,
+    id: InterId,
+    view: View,
+) -> Result<Done, Fault>
+    ensures { KeepsOffice S.Shelf office.old office.new }
+{
+    match view {
+        View::Timing => export_timing(alloc, office, id),
+        View::Draft => export_draft(alloc, office, id),
+        View::Cabinet => export_cabinet(alloc, office, id),
+    }
+}
+
+fn picture<S: Shelf>(
+    alloc: Global,
+    office: &mut Office<S>,
+    id: InterId,
+    pattern: PatternNo,
+) -> Result<Done, Fault>
+    ensures { KeepsOffice S.Shelf office.old office.new }
+{
+    let timing = read_timing(alloc, office, id)?;
+    match diagram(alloc, &timing.rows, pattern)? {
+        Some(text) => Ok(Done::with(text)),
+        None => Err(Fault::UnknownPattern),
+    }
+}
+
+/// What is printed of an office, which stays as it is; `plan` is the text of the CSV file that
+/// `CompareRunning` names. The fault is UnknownIntersection, UnknownPattern, Refused where nobody
+/// holds a draft, Csv where `plan` is not read, Memory or Store where memory or the database
+/// refused, and Damaged where a row that is read is no record.
+pub fn report<S: Shelf>(
+    alloc: Global,
+    office: &mut Office<S>,
+    shown: &Shown<'_>,
+    plan: &[u8],
+) -> Result<Done, Fault>
+    ensures { KeepsOffice S.Shelf office.old office.new }
+{
+    match shown {
+        Shown::Sheet { id } => sheet(alloc, office, *id),
+        Shown::Overdue { day, most, csv } => overdue(alloc, office, *day, *most, *csv),
+        Shown::List { csv } => list(alloc, office, *csv),
+        Shown::Stock { csv } => stock(alloc, office, *csv),
+        Shown::Orders { id, csv } => orders(alloc, office, *id, *csv),
+        Shown::Used { part, csv } => used(alloc, office, part, *csv),
+        Shown::Cabinet { id } => cabinet(alloc, office, *id),
+        Shown::Export { id, view } => export(alloc, office, *id, *view),
+        Shown::Diagram { id, pattern } => picture(alloc, office, *id, *pattern),
+        Shown::CompareDraft { id, csv } => compare_draft(alloc, office, *id, *csv),
+        Shown::CompareRunning { id, csv, .. } => compare_running(alloc, office, *id, plan, *csv),
+        Shown::Page { id, linked } => page(alloc, office, *id, *linked),
+        Shown::Index { day } => index(alloc, office, *day),
+    }
+}

@@ -1,4 +1,0 @@
-pub mod SeenLemmas
-pub mod AskLemmas
-pub mod LookLemmas
-mod GatheringLemmas
