@@ -28,26 +28,26 @@ IsRevised (Ok it) result = (edit : Bor Edit) × (result ≡ Ok (outcome.Revised 
 IsRevised (Err why) result = result ≡ Err why
 
 -- what looks at the tables leaves them as they were, whatever it gives, also after a stop
-abbrev pub looking : Effect Outcome
-looking = record { does = λ old result new. new ≡ old; leaves = λ old found. found ≡ old }
+abbrev pub look_effect : Effect Outcome
+look_effect = record { does = λ old result new. new ≡ old; leaves = λ old found. found ≡ old }
 
 -- a change gives the outcome of what it came to; a stop leaves the tables as they were, or after it
-abbrev pub changing : {T : Type 0} → (Gives : Result T Fault → Result Outcome Fault → Type 0) → (Makes : Content → Content → Result T Fault → Type 0) → (After : Content → Content → Type 0) → Effect Outcome
-changing {T} Gives Makes After = record {
+abbrev pub change_effect : {T : Type 0} → (Gives : Result T Fault → Result Outcome Fault → Type 0) → (Makes : Content → Content → Result T Fault → Type 0) → (After : Content → Content → Type 0) → Effect Outcome
+change_effect {T} Gives Makes After = record {
   does = λ old result new. (it : Result T Fault) × Makes old new it × Gives it result;
   leaves = SameOr After;
 }
 
 -- one command of the office is run
-abbrev pub running : Command → Effect Outcome
-running asked = changing IsReplied (Changes asked) (AfterStep asked)
+abbrev pub command_effect : Command → Effect Outcome
+command_effect asked = change_effect IsReplied (Changes asked) (AfterStep asked)
 
 -- WHAT BECOMES OF THE TABLES BY EACH REQUEST, with the text of the CSV file that was read for it, and what the outcome tells of that
 abbrev pub effect_of : Request → (text : List ℕ) → Effect Outcome
-effect_of (request.Show it) text = looking
-effect_of (request.Fill dir folder) text = looking
-effect_of (request.Add id interval name) text = running (command.AddIntersection id interval name)
-effect_of (request.Import csv until true) text = looking
-effect_of (request.Import csv until false) text = changing IsReplied (Imports text) (AfterImporting text)
-effect_of (request.Edit edit) text = changing IsRevised (Edits text edit) (AfterRevising text edit)
-effect_of (request.Abandon id clerk) text = running (command.Abandon id clerk)
+effect_of (request.Show it) text = look_effect
+effect_of (request.Fill dir folder) text = look_effect
+effect_of (request.Add id interval name) text = command_effect (command.AddIntersection id interval name)
+effect_of (request.Import csv until true) text = look_effect
+effect_of (request.Import csv until false) text = change_effect IsReplied (Imports text) (AfterImporting text)
+effect_of (request.Edit edit) text = change_effect IsRevised (Edits text edit) (AfterRevising text edit)
+effect_of (request.Abandon id clerk) text = command_effect (command.Abandon id clerk)

@@ -81,5 +81,5 @@ AfterServing old found =
     (before : Office) → StandForSound old before → (connections : List Connected) × SameOr (λ _. AfterConnection before connections) old found
 
 -- serving `count` connections on a port as a task: what it does to the tables, and what a stop may leave of them
-abbrev pub serving : (count : ℕ) → Effect ⊤
-serving count = record { does = ServesAs count; leaves = AfterServing }
+abbrev pub serve_effect : (count : ℕ) → Effect ⊤
+serve_effect count = record { does = ServesAs count; leaves = AfterServing }

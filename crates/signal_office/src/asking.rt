@@ -1,8 +1,7 @@
 //! What is asked of the office of a file, and what is told of it once the file is closed.
 
 ghost use Rattle.office_desk.specs.Asks.{KeepsOffice};
-ghost use Rattle.signal_office_file.specs.Task.{DoesTask};
-ghost use Rattle.signal_office.specs.Requests.{IsReplied, IsRevised, effect_of};
+ghost use Rattle.signal_office.specs.Requests.{IsReplied, IsRevised};
 
 use crate::reading::read_for;
 use office_desk::office::Office;
@@ -38,7 +37,7 @@ struct Asked<'a> {
 }
 
 /// What was seen of an office, as the outcome.
-fn seen<'a>(done: Result<Done, Fault>) -> Result<Outcome<'a>, Fault> {
+fn look_outcome<'a>(done: Result<Done, Fault>) -> Result<Outcome<'a>, Fault> {
     match done {
         Ok(done) => Ok(Outcome::Seen(done)),
         Err(fault) => Err(fault),
@@ -46,7 +45,7 @@ fn seen<'a>(done: Result<Done, Fault>) -> Result<Outcome<'a>, Fault> {
 }
 
 /// The reply to a command, as the outcome.
-fn replied<'a>(reply: Result<Reply, Fault>) -> Result<Outcome<'a>, Fault>
+fn reply_outcome<'a>(reply: Result<Reply, Fault>) -> Result<Outcome<'a>, Fault>
     ensures { IsReplied reply result }
 {
     match reply {
@@ -56,7 +55,7 @@ fn replied<'a>(reply: Result<Reply, Fault>) -> Result<Outcome<'a>, Fault>
 }
 
 /// What became of the plan that was edited, as the outcome.
-fn revised<'a>(edit: &'a Edit<'a>, plan: Result<Revised, Fault>) -> Result<Outcome<'a>, Fault>
+fn edit_outcome<'a>(edit: &'a Edit<'a>, plan: Result<Revised, Fault>) -> Result<Outcome<'a>, Fault>
     ensures { IsRevised plan result }
 {
     match plan {
@@ -82,33 +81,6 @@ fn fill_folder<S: Shelf>(
     }
 }
 
-/// Does what is asked.
-fn answer<'a, S: Shelf>(
-    rt: &HostRuntime,
-    alloc: Global,
-    office: &mut Office<S>,
-    asked: &Asked<'a>,
-) -> Result<Outcome<'a>, Fault>
-    ensures { DoesTask S.Shelf office.old office.new
-        (effect_of asked.now.request.now asked.now.text.now) result }
-{
-    let (text, lines) = (asked.text, asked.lines);
-    match asked.request {
-        Request::Show(shown) => seen(report(alloc, office, shown, text)),
-        Request::Fill { dir, folder } => seen(fill_folder(rt, alloc, office, dir, folder)),
-        Request::Add { id, interval, name } => replied(add(alloc, office, *id, *interval, name)),
-        Request::Import { check: tried, .. } => {
-            if *tried {
-                seen(check(alloc, office, text, lines))
-            } else {
-                replied(import(alloc, office, text))
-            }
-        }
-        Request::Edit(it) => revised(it, edit(alloc, office, it, text, lines)),
-        Request::Abandon { id, clerk } => replied(abandon(alloc, office, *id, clerk)),
-    }
-}
-
 impl<'a> OfficeTask<Outcome<'a>> for Asked<'a> {
     ghost use Rattle.signal_office.specs.Requests.{effect_of};
 
@@ -118,11 +90,28 @@ impl<'a> OfficeTask<Outcome<'a>> for Asked<'a> {
         &self,
         rt: &HostRuntime,
         alloc: Global,
-        mut office: Office<S>,
+        office: &mut Office<S>,
         _out: &mut W,
-    ) -> (Office<S>, Result<Outcome<'a>, Fault>) {
-        let outcome = answer(rt, alloc, &mut office, self);
-        (office, outcome)
+    ) -> Result<Outcome<'a>, Fault> {
+        let (text, lines) = (self.text, self.lines);
+        match self.request {
+            Request::Show(shown) => look_outcome(report(alloc, office, shown, text)),
+            Request::Fill { dir, folder } => {
+                look_outcome(fill_folder(rt, alloc, office, dir, folder))
+            }
+            Request::Add { id, interval, name } => {
+                reply_outcome(add(alloc, office, *id, *interval, name))
+            }
+            Request::Import { check: tried, .. } => {
+                if *tried {
+                    look_outcome(check(alloc, office, text, lines))
+                } else {
+                    reply_outcome(import(alloc, office, text))
+                }
+            }
+            Request::Edit(it) => edit_outcome(it, edit(alloc, office, it, text, lines)),
+            Request::Abandon { id, clerk } => reply_outcome(abandon(alloc, office, *id, clerk)),
+        }
     }
 }
 

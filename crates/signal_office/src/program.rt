@@ -6,13 +6,13 @@ use crate::memory::{open_in_memory, serve_new_office};
 use crate::reading::read_plan;
 use crate::serving::{Serving, serve_port};
 use arrayvec::ArrayString;
-use itoa::Buffer;
 use office_http::{Sink, Source};
 use signal_office_commands::{compare_files, show_plan};
 use signal_office_faults::{Done, Fault, is_missing, print_done, print_text, report};
 use signal_office_file::{answer_stream, do_task, migrate_at};
 use signal_office_line::{BadWord, CsvFile, Job, JobFault, OfficeFile, PlanShown, job_of};
 use std::alloc::Global;
+use std::fmt::Write;
 
 /// The most requests of one run of `batch`.
 const BATCH_LIMIT: u32 = 1_000_000;
@@ -36,10 +36,8 @@ fn batch<R: Source, W: Sink>(
             answer_stream(rt, alloc, path, db.wait, source, out, BATCH_LIMIT)?
         }
     };
-    match served {
-        Ok(_) => Ok(0),
-        Err(fault) => Err(Fault::from(fault)),
-    }
+    served?;
+    Ok(0)
 }
 
 /// Serves connections on a port by an office over tables in memory, or in a file where one is
@@ -47,14 +45,17 @@ fn batch<R: Source, W: Sink>(
 fn serve<W: Sink>(
     rt: &HostRuntime,
     alloc: Global,
-    task: Serving,
+    port: u16,
+    count: u32,
     db: &Option<OfficeFile<'_>>,
     out: &mut W,
 ) -> Result<u8, Fault> {
-    let Serving { port, count } = task;
     match db {
         None => serve_port(rt, alloc, &mut open_in_memory(alloc), port, count, out).1?,
-        Some(db) => do_task(rt, alloc, db.path.as_str(), db.wait, &task, out)?,
+        Some(db) => {
+            let task = Serving { port, count };
+            do_task(rt, alloc, db.path.as_str(), db.wait, &task, out)?;
+        }
     }
     Ok(0)
 }
@@ -73,11 +74,8 @@ fn migrate<W: Sink>(
         return Err(Fault::Version);
     }
     let rows = migrate_at(rt, alloc, path, db.wait)?;
-    let mut digits = Buffer::new();
     let mut line = ArrayString::new();
-    line.push_str("migrated ");
-    line.push_str(digits.format(rows));
-    line.push_str(" rows\n");
+    let _ = writeln!(line, "migrated {rows} rows"); // has room for any number
     print_done(Ok(Done::line(line)), out)
 }
 
@@ -109,34 +107,6 @@ fn show<R: Source, W: Sink, E: Sink>(
 ) -> Result<u8, Fault> {
     let plan = read_plan(rt, alloc, file, false, source, err)?;
     print_done(show_plan(alloc, &plan.text, &plan.lines, shown), out)
-}
-
-/// Does a job, and gives the status.
-fn do_job<R: Source, W: Sink, E: Sink>(
-    rt: &HostRuntime,
-    alloc: Global,
-    job: &Job<'_>,
-    source: &mut R,
-    out: &mut W,
-    err: &mut E,
-) -> Result<u8, Fault> {
-    match job {
-        Job::Batch { db } => batch(rt, alloc, db, source, out),
-        Job::Serve { port, count, db } => {
-            let task = Serving {
-                port: *port,
-                count: *count,
-            };
-            serve(rt, alloc, task, db, out)
-        }
-        Job::Office { db, request } => ask(rt, alloc, db, request, source, out, err),
-        Job::Migrate { db } => migrate(rt, alloc, db, out),
-        Job::Backup { db, to, force } => backup(rt, alloc, db, to, *force, out),
-        Job::CompareFiles { first, second, csv } => {
-            compare(rt, alloc, (first, second), *csv, source, out, err)
-        }
-        Job::ShowPlan { csv, shown } => show(rt, alloc, csv, *shown, source, out, err),
-    }
 }
 
 /// Prints help or the version on standard output, with status 0, and why words are refused on
@@ -177,7 +147,15 @@ pub(crate) fn run_words<R: Source, W: Sink, E: Sink>(
     err: &mut E,
 ) -> u8 {
     let done = match &job_of(alloc, words) {
-        Ok(job) => do_job(rt, alloc, job, source, out, err),
+        Ok(Job::Batch { db }) => batch(rt, alloc, db, source, out),
+        Ok(Job::Serve { port, count, db }) => serve(rt, alloc, *port, *count, db, out),
+        Ok(Job::Office { db, request }) => ask(rt, alloc, db, request, source, out, err),
+        Ok(Job::Migrate { db }) => migrate(rt, alloc, db, out),
+        Ok(Job::Backup { db, to, force }) => backup(rt, alloc, db, to, *force, out),
+        Ok(Job::CompareFiles { first, second, csv }) => {
+            compare(rt, alloc, (first, second), *csv, source, out, err)
+        }
+        Ok(Job::ShowPlan { csv, shown }) => show(rt, alloc, csv, *shown, source, out, err),
         Err(JobFault::Refused(error)) => refuse(alloc, error, out, err),
         Err(JobFault::Bad(bad)) => Err(fault_of_word(*bad)),
         Err(JobFault::NoMemory) => Err(Fault::Memory),

@@ -32,7 +32,7 @@ fn say<W: Sink>(alloc: Global, port: u16, out: &mut W) -> Result<(), Fault>
 }
 
 /// The fault that tells why a listener was not served to the last connection.
-fn fault_of(stop: ServeStop) -> Fault
+fn stop_fault(stop: ServeStop) -> Fault
     ensures { result ≡ fault_of_stop stop }
 {
     match stop {
@@ -77,7 +77,7 @@ pub fn serve_port<S: Shelf, W: Sink>(
         return (Some(listener), Err(fault));
     }
     let served = serve_each(alloc, &mut listener, count, office);
-    (Some(listener), served.map_err(fault_of))
+    (Some(listener), served.map_err(stop_fault))
 }
 
 /// The task of serving `count` connections on a port of 127.0.0.1 by an office.
@@ -88,18 +88,17 @@ pub(crate) struct Serving {
 }
 
 impl OfficeTask<()> for Serving {
-    ghost use Rattle.signal_office.specs.Serving.{serving};
+    ghost use Rattle.signal_office.specs.Serving.{serve_effect};
 
-    ghost effect = { λ it. serving it.count };
+    ghost effect = { λ it. serve_effect it.count };
 
     fn done_with<S: Shelf, W: Sink>(
         &self,
         rt: &HostRuntime,
         alloc: Global,
-        mut office: Office<S>,
+        office: &mut Office<S>,
         out: &mut W,
-    ) -> (Office<S>, Result<(), Fault>) {
-        let (_, served) = serve_port(rt, alloc, &mut office, self.port, self.count, out);
-        (office, served)
+    ) -> Result<(), Fault> {
+        serve_port(rt, alloc, office, self.port, self.count, out).1
     }
 }
