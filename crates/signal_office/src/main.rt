@@ -1,11 +1,22 @@
-//! The program of the traffic signal office.
+//! The program of the traffic signal office: it does what its words ask for, and prints what came
+//! of that.
+//!
+//! A job is one function: it reads the CSV files that it names, opens the office of a file, does
+//! its work, closes the file, and only then prints. `run_words` (`program.rt`) is the table of jobs;
+//! what is asked of the office of a file is a `Request`, an arm of `done_with` (`asking.rt`) and
+//! a row of `effect_of` (`specs/Requests`).
 #![tactic(auto)]
 
+mod asking;
+mod backup;
+mod memory;
+mod program;
+mod reading;
+mod serving;
+
+use crate::program::run_words;
 use office_http::{FromRead, ToWrite};
-use signal_office_commands::report;
-use signal_office_faults::Fault;
-use signal_office_file::TablesInFile;
-use signal_office_jobs::run_words;
+use signal_office_faults::{Fault, report};
 use std::env;
 use std::io::ErrorKind;
 use std::process::ExitCode;
@@ -25,16 +36,7 @@ fn run(rt: &HostRuntime) -> Result<u8, Fault> {
     let mut source = FromRead::new(rt.stdin());
     let mut out = ToWrite::new(rt.stdout());
     let mut err = ToWrite::new(rt.stderr());
-    let mut files = TablesInFile::new(alloc);
-    Ok(run_words(
-        &mut files,
-        rt,
-        alloc,
-        &words,
-        &mut source,
-        &mut out,
-        &mut err,
-    ))
+    Ok(run_words(rt, alloc, &words, &mut source, &mut out, &mut err))
 }
 
 fn main(rt: HostRuntime) -> ExitCode {

@@ -1,0 +1,3 @@
+pub mod MemoryLemmas
+pub mod RequestLemmas
+pub mod ServingLemmas

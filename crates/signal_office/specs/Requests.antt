@@ -1,0 +1,53 @@
+-- What becomes of the tables of an office by each request.
+use Rattle.std.specs.Prelude.{◌≡◌, ℕ, List, true, false, Result, Ok, Err}
+use denote.Bor.{Bor}
+use Rattle.office_machine.specs.declared.command.Command.{Command}
+use Rattle.office_machine.specs.declared.command.Command.TheVariants as command
+use Rattle.office_machine.specs.declared.reply.Reply.{Reply}
+use Rattle.office_tables_shelf.specs.Content.{Content}
+use Rattle.signal_office.specs.declared.asking.Outcome.{Outcome}
+use Rattle.signal_office.specs.declared.asking.Outcome.TheVariants as outcome
+use Rattle.signal_office_commands.specs.Changing.{AfterImporting, AfterStep, Changes, Imports}
+use Rattle.signal_office_commands.specs.Revising.{AfterRevising, Edits}
+use Rattle.signal_office_commands.specs.declared.revising.Revised.{Revised}
+use Rattle.signal_office_faults.specs.declared.fault.Fault.{Fault}
+use Rattle.signal_office_file.specs.Task.{Effect}
+use Rattle.signal_office_file.specs.Stopping.{SameOr}
+use Rattle.signal_office_line.specs.declared.job.Edit.{Edit}
+use Rattle.signal_office_line.specs.declared.job.Request.{Request}
+use Rattle.signal_office_line.specs.declared.job.Request.TheVariants as request
+
+-- what was replied to a command, or the fault that is told in place of a reply, is given as the outcome
+abbrev pub IsReplied : Result Reply Fault → Result Outcome Fault → Type 0
+IsReplied (Ok reply) result = result ≡ Ok (outcome.Replied reply)
+IsReplied (Err why) result = result ≡ Err why
+
+-- what became of a plan, or why it was not edited, is given as the outcome
+abbrev pub IsRevised : Result Revised Fault → Result Outcome Fault → Type 0
+IsRevised (Ok it) result = (edit : Bor Edit) × (result ≡ Ok (outcome.Revised edit it))
+IsRevised (Err why) result = result ≡ Err why
+
+-- what looks at the tables leaves them as they were, whatever it gives, also after a stop
+abbrev pub look_effect : Effect Outcome
+look_effect = record { does = λ old result new. new ≡ old; leaves = λ old found. found ≡ old }
+
+-- a change gives the outcome of what it came to; a stop leaves the tables as they were, or after it
+abbrev pub change_effect : {T : Type 0} → (Gives : Result T Fault → Result Outcome Fault → Type 0) → (Makes : Content → Content → Result T Fault → Type 0) → (After : Content → Content → Type 0) → Effect Outcome
+change_effect {T} Gives Makes After = record {
+  does = λ old result new. (it : Result T Fault) × Makes old new it × Gives it result;
+  leaves = SameOr After;
+}
+
+-- one command of the office is run
+abbrev pub command_effect : Command → Effect Outcome
+command_effect asked = change_effect IsReplied (Changes asked) (AfterStep asked)
+
+-- WHAT BECOMES OF THE TABLES BY EACH REQUEST, with the text of the CSV file that was read for it, and what the outcome tells of that
+abbrev pub effect_of : Request → (text : List ℕ) → Effect Outcome
+effect_of (request.Show it) text = look_effect
+effect_of (request.Fill dir folder) text = look_effect
+effect_of (request.Add id interval name) text = command_effect (command.AddIntersection id interval name)
+effect_of (request.Import csv until true) text = look_effect
+effect_of (request.Import csv until false) text = change_effect IsReplied (Imports text) (AfterImporting text)
+effect_of (request.Edit edit) text = change_effect IsRevised (Edits text edit) (AfterRevising text edit)
+effect_of (request.Abandon id clerk) text = command_effect (command.Abandon id clerk)

@@ -1,0 +1,158 @@
+//! What is asked of the office of a file, and what is told of it once the file is closed.
+
+ghost use Rattle.office_desk.specs.Asks.{KeepsOffice};
+ghost use Rattle.signal_office.specs.Requests.{IsReplied, IsRevised};
+
+use crate::reading::read_for;
+use office_desk::office::Office;
+use office_http::{Sink, Source};
+use office_machine::reply::Reply;
+use office_tables_shelf::shelf::Shelf;
+use signal_office_commands::{
+    Revised, abandon, add, check, edit, fill, import, report, tell_revised, told,
+};
+use signal_office_faults::{Done, Fault, SystemFolder, is_missing, print_done};
+use signal_office_file::{OfficeTask, do_task};
+use signal_office_line::{Edit, Folder as FolderKind, OfficeFile, Path, Request};
+use std::alloc::Global;
+
+/// What an office gave for a request.
+#[derive(Drop)]
+pub(crate) enum Outcome<'a> {
+    /// What was seen of the office, to be printed.
+    Seen(Done),
+    /// The reply to a command.
+    Replied(Reply),
+    /// What became of the plan that was edited.
+    Revised(&'a Edit<'a>, Revised),
+}
+
+/// A request, with the text of the CSV file that was read for it, and the lines of that file on
+/// which the records begin, counted from 1; both are empty where none was read.
+#[derive(Clone, Copy)]
+struct Asked<'a> {
+    request: &'a Request<'a>,
+    text: &'a [u8],
+    lines: &'a [usize],
+}
+
+/// What was seen of an office, as the outcome.
+fn look_outcome<'a>(done: Result<Done, Fault>) -> Result<Outcome<'a>, Fault> {
+    match done {
+        Ok(done) => Ok(Outcome::Seen(done)),
+        Err(fault) => Err(fault),
+    }
+}
+
+/// The reply to a command, as the outcome.
+fn reply_outcome<'a>(reply: Result<Reply, Fault>) -> Result<Outcome<'a>, Fault>
+    ensures { IsReplied reply result }
+{
+    match reply {
+        Ok(reply) => Ok(Outcome::Replied(reply)),
+        Err(fault) => Err(fault),
+    }
+}
+
+/// What became of the plan that was edited, as the outcome.
+fn edit_outcome<'a>(edit: &'a Edit<'a>, plan: Result<Revised, Fault>) -> Result<Outcome<'a>, Fault>
+    ensures { IsRevised plan result }
+{
+    match plan {
+        Ok(plan) => Ok(Outcome::Revised(edit, plan)),
+        Err(fault) => Err(fault),
+    }
+}
+
+/// Fills a folder of the system with what the office shows, and has nothing to print.
+fn fill_folder<S: Shelf>(
+    rt: &HostRuntime,
+    alloc: Global,
+    office: &mut Office<S>,
+    dir: &Path<'_>,
+    kind: &FolderKind,
+) -> Result<Done, Fault>
+    ensures { KeepsOffice S.Shelf office.old office.new }
+{
+    let mut folder = SystemFolder::new(rt, alloc, dir.as_str());
+    match fill(alloc, office, kind, &mut folder) {
+        Ok(()) => Ok(Done::telling("")),
+        Err(fault) => Err(fault),
+    }
+}
+
+impl<'a> OfficeTask<Outcome<'a>> for Asked<'a> {
+    ghost use Rattle.signal_office.specs.Requests.{effect_of};
+
+    ghost effect = { λ asked. effect_of asked.request.now asked.text.now };
+
+    fn done_with<S: Shelf, W: Sink>(
+        &self,
+        rt: &HostRuntime,
+        alloc: Global,
+        office: &mut Office<S>,
+        _out: &mut W,
+    ) -> Result<Outcome<'a>, Fault> {
+        let (text, lines) = (self.text, self.lines);
+        match self.request {
+            Request::Show(shown) => look_outcome(report(alloc, office, shown, text)),
+            Request::Fill { dir, folder } => {
+                look_outcome(fill_folder(rt, alloc, office, dir, folder))
+            }
+            Request::Add { id, interval, name } => {
+                reply_outcome(add(alloc, office, *id, *interval, name))
+            }
+            Request::Import { check: tried, .. } => {
+                if *tried {
+                    look_outcome(check(alloc, office, text, lines))
+                } else {
+                    reply_outcome(import(alloc, office, text))
+                }
+            }
+            Request::Edit(it) => edit_outcome(it, edit(alloc, office, it, text, lines)),
+            Request::Abandon { id, clerk } => reply_outcome(abandon(alloc, office, *id, clerk)),
+        }
+    }
+}
+
+/// What is printed of an outcome, and the status. Of a change that was made no want of memory is
+/// told.
+fn tell(alloc: Global, outcome: Outcome<'_>) -> Result<Done, Fault> {
+    match outcome {
+        Outcome::Seen(done) => Ok(done),
+        Outcome::Replied(reply) => Ok(told(&reply)),
+        Outcome::Revised(edit, revised) => tell_revised(alloc, edit, &revised),
+    }
+}
+
+/// Whether a request makes the file of an office where there is none. Only adding an intersection
+/// does: a mistyped name is no office.
+fn makes_file(request: &Request<'_>) -> bool {
+    matches!(request, Request::Add { .. })
+}
+
+/// Reads the CSV file that a request names, asks the office of a file, and prints what came of it
+/// once the file is closed, so that nothing is told as done that is not on disk. A file that is not
+/// there, or is empty with no log beside it, is made only by `add`; else the fault is File.
+pub(crate) fn ask<R: Source, W: Sink, E: Sink>(
+    rt: &HostRuntime,
+    alloc: Global,
+    db: &OfficeFile<'_>,
+    request: &Request<'_>,
+    source: &mut R,
+    out: &mut W,
+    err: &mut E,
+) -> Result<u8, Fault> {
+    let csv = read_for(rt, alloc, request, source, err)?;
+    let path = db.path.as_str();
+    if !makes_file(request) && is_missing(rt, alloc, path)? {
+        return Err(Fault::File);
+    }
+    let asked = Asked {
+        request,
+        text: &csv.text,
+        lines: &csv.lines,
+    };
+    let outcome = do_task(rt, alloc, path, db.wait, &asked, out)?;
+    print_done(tell(alloc, outcome), out)
+}

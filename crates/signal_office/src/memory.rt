@@ -1,0 +1,54 @@
+//! The office over new tables in memory, of which nothing has to be assumed.
+
+ghost use Rattle.std.specs.Prelude.{◌≡◌, ◌≤◌, ◌+◌, ◌*◌, IfErr};
+ghost use Rattle.office_machine.specs.Office.{Office as OfficeState};
+ghost use Rattle.office_http.specs.Protocol.{office_protocol};
+ghost use Rattle.office_http_framing.specs.Asks.{OnlyAsks};
+ghost use Rattle.office_http_framing.specs.Limits.{longest_request};
+ghost use Rattle.office_http_framing.specs.Serve.{Did, TellsFault, ends_of};
+ghost use Rattle.signal_office.specs.Memory.{ServesInMemory, StandsInMemory, new_office};
+
+use office_desk::office::Office;
+use office_http::{ServeFault, Served, Sink, Source, serve};
+use office_tables_maps::map_shelf::MapShelf;
+use std::alloc::Global;
+
+/// An office without intersections, over tables in memory.
+pub fn open_in_memory(alloc: Global) -> Office<MapShelf>
+    ensures { StandsInMemory result new_office }
+{
+    let shelf = MapShelf::new(alloc);
+    Office::new(shelf)
+}
+
+/// Serves at most `max_requests` requests of the reader by a new office over tables in memory, with
+/// no premise on these or on a disk. The fault is Read where the reader failed, Write where the
+/// writer failed or took no byte, and NoMemory where the buffer was refused.
+pub fn serve_new_office<R: Source, W: Sink>(
+    alloc: Global,
+    reader: &mut R,
+    writer: &mut W,
+    max_requests: u32,
+) -> Result<Served, ServeFault>
+    // The bytes answered are those of the office machine, run over the requests of the bytes read;
+    // each request wrote the rows that its command may, and one that changes nothing left the
+    // tables as they were; and the run keeps the laws of the office: each office of it is sound.
+    ensures did { (after : OfficeState)
+        × Did office_protocol (ServesInMemory after) max_requests
+        (ends_of (R.told reader.old) (W.told writer.old))
+        (ends_of (R.told reader.new) (W.told writer.new)) result }
+    // Read and Write are told only where a call of that end failed, or the writer took no byte.
+    ensures fault { TellsFault (ends_of (R.told reader.old) (W.told writer.old))
+        (ends_of (R.told reader.new) (W.told writer.new)) result }
+    // Where the buffer was refused nothing was read or written.
+    ensures untouched { IfErr result (λ why. why ≡ ServeFault.NoMemory →
+        ends_of (R.told reader.new) (W.told writer.new)
+        ≡ ends_of (R.told reader.old) (W.told writer.old)) }
+    // The reader is called only while a request is awaited, and at most as often as `reads` says.
+    ensures asks { OnlyAsks R.told max_requests reader.old reader.new }
+    ensures reads { (R.told reader.new).counts.calls
+        ≤ (R.told reader.old).counts.calls + longest_request * (max_requests + 1) + 1 }
+{
+    let mut office = open_in_memory(alloc);
+    serve(alloc, &mut office, reader, writer, max_requests)
+}

@@ -1,0 +1,167 @@
+//! What the program's words ask for, from a source of bytes to its two outputs.
+
+use crate::asking::ask;
+use crate::backup::backup;
+use crate::memory::{open_in_memory, serve_new_office};
+use crate::reading::read_plan;
+use crate::serving::{Serving, serve_port};
+use arrayvec::ArrayString;
+use office_http::{Sink, Source};
+use signal_office_commands::{compare_files, show_plan};
+use signal_office_faults::{Done, Fault, is_missing, print_done, print_text, report};
+use signal_office_file::{answer_stream, do_task, migrate_at};
+use signal_office_line::{BadWord, CsvFile, Job, JobFault, OfficeFile, PlanShown, job_of};
+use std::alloc::Global;
+use std::fmt::Write;
+
+/// The most requests of one run of `batch`.
+const BATCH_LIMIT: u32 = 1_000_000;
+
+/// The status where the words of the command line are refused.
+const WORDS_REFUSED: u8 = 2;
+
+/// Answers the requests of the source, at most `BATCH_LIMIT`, by an office over tables in memory,
+/// or in a file where one is given.
+fn batch<R: Source, W: Sink>(
+    rt: &HostRuntime,
+    alloc: Global,
+    db: &Option<OfficeFile<'_>>,
+    source: &mut R,
+    out: &mut W,
+) -> Result<u8, Fault> {
+    let served = match db {
+        None => serve_new_office(alloc, source, out, BATCH_LIMIT),
+        Some(db) => {
+            let path = db.path.as_str();
+            answer_stream(rt, alloc, path, db.wait, source, out, BATCH_LIMIT)?
+        }
+    };
+    served?;
+    Ok(0)
+}
+
+/// Serves connections on a port by an office over tables in memory, or in a file where one is
+/// given.
+fn serve<W: Sink>(
+    rt: &HostRuntime,
+    alloc: Global,
+    port: u16,
+    count: u32,
+    db: &Option<OfficeFile<'_>>,
+    out: &mut W,
+) -> Result<u8, Fault> {
+    match db {
+        None => serve_port(rt, alloc, &mut open_in_memory(alloc), port, count, out).1?,
+        Some(db) => {
+            let task = Serving { port, count };
+            do_task(rt, alloc, db.path.as_str(), db.wait, &task, out)?;
+        }
+    }
+    Ok(0)
+}
+
+/// Brings the tables of a file to today's version, and prints how many rows were written anew, in a
+/// line that needs no memory. A file that is not there, or is empty with no log beside it, is not
+/// made; the fault is Version.
+fn migrate<W: Sink>(
+    rt: &HostRuntime,
+    alloc: Global,
+    db: &OfficeFile<'_>,
+    out: &mut W,
+) -> Result<u8, Fault> {
+    let path = db.path.as_str();
+    if is_missing(rt, alloc, path)? {
+        return Err(Fault::Version);
+    }
+    let rows = migrate_at(rt, alloc, path, db.wait)?;
+    let mut line = ArrayString::new();
+    let _ = writeln!(line, "migrated {rows} rows"); // has room for any number
+    print_done(Ok(Done::line(line)), out)
+}
+
+/// Prints what the plans of two CSV files differ in.
+fn compare<R: Source, W: Sink, E: Sink>(
+    rt: &HostRuntime,
+    alloc: Global,
+    files: (&CsvFile<'_>, &CsvFile<'_>),
+    csv: bool,
+    source: &mut R,
+    out: &mut W,
+    err: &mut E,
+) -> Result<u8, Fault> {
+    let first = read_plan(rt, alloc, files.0, false, source, err)?;
+    let second = read_plan(rt, alloc, files.1, true, source, err)?;
+    let done = compare_files(alloc, &first.text, &second.text, csv);
+    print_done(done, out)
+}
+
+/// Prints what is shown of the plan in a CSV file.
+fn show<R: Source, W: Sink, E: Sink>(
+    rt: &HostRuntime,
+    alloc: Global,
+    file: &CsvFile<'_>,
+    shown: PlanShown,
+    source: &mut R,
+    out: &mut W,
+    err: &mut E,
+) -> Result<u8, Fault> {
+    let plan = read_plan(rt, alloc, file, false, source, err)?;
+    print_done(show_plan(alloc, &plan.text, &plan.lines, shown), out)
+}
+
+/// Prints help or the version on standard output, with status 0, and why words are refused on
+/// standard error, with status 2.
+fn refuse<W: Sink, E: Sink>(
+    alloc: Global,
+    error: &clap::Error,
+    out: &mut W,
+    err: &mut E,
+) -> Result<u8, Fault> {
+    let text = error.to_string(alloc)?;
+    if error.use_stderr() {
+        print_text(text.as_str().as_bytes(), WORDS_REFUSED, err)
+    } else {
+        print_text(text.as_str().as_bytes(), 0, out)
+    }
+}
+
+/// The fault that tells of a word that is not what it is to be.
+fn fault_of_word(bad: BadWord) -> Fault {
+    match bad {
+        BadWord::Day => Fault::Day,
+        BadWord::Clerk => Fault::Clerk,
+        BadWord::Name => Fault::Name,
+        BadWord::Part => Fault::Part,
+    }
+}
+
+/// Does what the words ask for, and gives the status: 0 done, 1 a fault, 2 the words were refused,
+/// 3 a plan breaks a rule, 4 two plans differ. The first word is the name under which the program
+/// was called.
+pub(crate) fn run_words<R: Source, W: Sink, E: Sink>(
+    rt: &HostRuntime,
+    alloc: Global,
+    words: &[&str],
+    source: &mut R,
+    out: &mut W,
+    err: &mut E,
+) -> u8 {
+    let done = match &job_of(alloc, words) {
+        Ok(Job::Batch { db }) => batch(rt, alloc, db, source, out),
+        Ok(Job::Serve { port, count, db }) => serve(rt, alloc, *port, *count, db, out),
+        Ok(Job::Office { db, request }) => ask(rt, alloc, db, request, source, out, err),
+        Ok(Job::Migrate { db }) => migrate(rt, alloc, db, out),
+        Ok(Job::Backup { db, to, force }) => backup(rt, alloc, db, to, *force, out),
+        Ok(Job::CompareFiles { first, second, csv }) => {
+            compare(rt, alloc, (first, second), *csv, source, out, err)
+        }
+        Ok(Job::ShowPlan { csv, shown }) => show(rt, alloc, csv, *shown, source, out, err),
+        Err(JobFault::Refused(error)) => refuse(alloc, error, out, err),
+        Err(JobFault::Bad(bad)) => Err(fault_of_word(*bad)),
+        Err(JobFault::NoMemory) => Err(Fault::Memory),
+    };
+    match done {
+        Ok(status) => status,
+        Err(fault) => report(err, fault),
+    }
+}
