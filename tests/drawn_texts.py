@@ -110,8 +110,8 @@ class Trial:
     def note(self, words, told):
         """Notes what was compared."""
         name, options, _ = program.asked(words)
-        lines = re.sub(r"\d+", "#", told.err)
-        self.seen |= {name, *(f"{name} {it}" for it in options)}
+        lines = texts.marked(told.err)
+        self.seen |= {name, *(f"{name} {it}" for it in options), *texts.forms_in(told.out, told.err)}
         for line in re.findall(r"^fault: .*(?:\n(?:line|held by))?", lines, re.M):
             self.seen.add(line.replace("\n", "/"))
         self.note_pieces(told.out + told.err)
@@ -136,17 +136,18 @@ class Trial:
 
     def differs_in_folder(self, words):
         """What is wrong with a command that puts files into a folder."""
-        if wrong := self.differs([*words, "--db", "office.db", "folder"]):
-            return wrong
         made = self.folder / "folder"
-        came = {it.name: it.read_text() for it in made.iterdir()}
-        shutil.rmtree(made)
+        if wrong := self.differs([*words, "--db", "office.db", made.name]):
+            return wrong
+        came = {it.name: it.read_text() for it in made.iterdir()} if made.exists() else {}
+        shutil.rmtree(made, ignore_errors=True)
         for name, told in program.folder_of(self.second.office, words).items():
             self.count += 1
             self.note_pieces(told + name)
-            if came.pop(name, None) != told:
-                return f"{words}: {name} differs: {parting(told, (made / name).name)}"
-        return f"{words}: more came: {sorted(came)}" if came else None
+            text = came.pop(name, "")
+            if text != told:
+                return f"{shlex.join(words)}: {name}: {parting(told, text)}"
+        return f"{shlex.join(words)}: more came: {sorted(came)}" if came else None
 
     def differs_in_tables(self, name="office.db"):
         """What is wrong with the tables of a file."""
@@ -161,43 +162,75 @@ class Trial:
         """A command over the file."""
         return [words[0], "--db", "office.db", *words[1:]]
 
-    def damaged(self, dice):
-        """What is wrong with reports over a file of which a row is damaged."""
-        harm = damage.draw(dice, self.second.office)
-        if not harm:
-            return None
+    def change(self, statement):
+        """Changes the tables of the file by another tool."""
         with contextlib.closing(sqlite3.connect(self.db)) as db, db:
-            db.execute(harm.sql)
+            db.execute(*statement)
+
+    def told_of(self, harm, words):
+        """What is told of a command that reads the damaged row; none of another one."""
+        is_read = harm.is_read_by(self.second.office, words)
+        return program.Ran(1, "", "fault: damaged\n") if is_read else None
+
+    def damaged(self, dice, harm):
+        """What is wrong over a file of which a row is damaged, after each thing that is tried."""
+        self.change(harm.sql())
         for words in asking.reports(dice, self.second.office):
-            told = program.Ran(1, "", "fault: damaged\n") if harm.is_read_by(
-                self.second.office, words) else None
-            if wrong := self.differs(self.over(words), None, told):
-                return f"after {harm.sql}: {wrong}"
+            yield self.differs(self.over(words), None, self.told_of(harm, words))
         for words in asking.folders(dice, self.second.office):
-            if harm.is_read_by(self.second.office, words):
-                told = program.Ran(1, "", "fault: damaged\n")
-                wrong = self.differs([*self.over(words), "folder"], None, told)
-                if wrong or (self.folder / "folder").exists():
-                    return f"after {harm.sql}: {wrong or 'a folder was made'}"
-        return None
+            if told := self.told_of(harm, words):
+                yield self.differs([*self.over(words), "folder"], None, told)
+                yield "a folder was made" if (self.folder / "folder").exists() else None
+        for _ in range(4):
+            words, csvs = asking.draw_edit(dice, self.second.office)
+            if not harm.is_read_by(self.second.office, words):
+                yield self.differs(words, csvs)
+        self.change(harm.sql(is_mended=True))
+        yield self.differs_in_tables()
+
+    def changed(self, words, csvs):
+        """What is wrong with a command that may change the tables."""
+        if wrong := self.differs(words, csvs):
+            return wrong
+        told = self.differs_in_tables()
+        return told and f"after {shlex.join(words)}: {told}"
+
+    def missing(self, dice):
+        """What is wrong with a command over a file that is not there, and is made by none but add."""
+        words, csvs = asking.draw_command(dice, self.second.office)
+        words = ["none.db" if it == "office.db" else it for it in words]
+        second = program.Program(Office(), csvs, is_missing=True)
+        if wrong := self.differs(words, csvs, second.run(words)):
+            return wrong
+        is_made = (self.folder / "none.db").exists()
+        return f"{shlex.join(words)}: a file was made" if is_made and words[0] != "add" else None
+
+    def aged(self, dice):
+        """What is wrong with commands over a file of version 1, which is migrated at the end."""
+        for words in asking.some_reports(dice, self.second.office):
+            yield self.differs(self.over(words))
+            yield self.differs_in_tables()
+        for _ in range(3):
+            yield self.changed(*asking.draw_change(dice, self.second.office))
+        yield self.changed(["migrate", "--db", "office.db"], {})
 
     def wrongs(self, dice):
         """What is wrong, after each thing that is tried; none where nothing is."""
         if self.second.is_old:
-            yield self.differs(["list", "--db", "office.db"])
-            yield self.differs_in_tables()
-            yield self.differs(["migrate", "--db", "office.db"])
-            yield self.differs_in_tables()
+            yield from self.aged(dice)
+        yield self.missing(dice)
         for _ in range(COMMANDS):
-            yield self.differs(*asking.draw_command(dice, self.second.office))
-        for name in ("office.db", *self.second.copies):
+            yield self.changed(*asking.draw_command(dice, self.second.office))
+        for name in self.second.copies:
             yield self.differs_in_tables(name)
         for words in asking.reports(dice, self.second.office):
             yield self.differs(self.over(words))
         for words in asking.folders(dice, self.second.office):
             yield self.differs_in_folder(words)
-        if dice.random() < DAMAGED:
-            yield self.damaged(dice)
+        yield self.differs_in_tables()
+        harm = damage.draw(dice, self.second.office) if dice.random() < DAMAGED else None
+        for wrong in self.damaged(dice, harm) if harm else ():
+            yield wrong and f"while {harm} is damaged: {wrong}"
 
 
 def tried(asked):

@@ -4,14 +4,19 @@ Read from the sources and from the program's own help, so that no text is forgot
 
 - each piece of text in the code of the crates that print (PRINTING),
 - each command with each of its options,
-- each fault with which the program ends, and each public function that gives a text.
+- each fault with which the program ends, each hint, each note on a plan's records, and each refusal
+  of a record,
+- each public function that gives a text.
 
 tests/drawn_texts.py compares what it can, and notes what it saw in a text that it compared. All else
 stands in the tables below, with the test that has it: a row or a script in which the text stands.
 """
+import itertools
 import pathlib
 import re
 import subprocess
+
+from model import hints, plan, refusal
 
 TESTS = pathlib.Path(__file__).resolve().parent
 TOP = TESTS.parent
@@ -185,6 +190,50 @@ def missing_faults():
         yield f"the fault {name} is in one of the sources and tests/texts.py alone"
 
 
+def marked(text):
+    """A text with a mark for each number."""
+    return re.sub(r"\d+", "#", text)
+
+
+def hint_forms():
+    """The second line of a bad record: of each field, and of kinds and numbers of fields."""
+    for kind, (_, form, _) in plan.KINDS.items():
+        whole = (*form, *plan.PEDESTRIAN) if kind == "phase" else form
+        for (word, unit), field in zip(hints.FIELDS[kind], whole, strict=True):
+            hint = marked(f"line 1, {word}: {hints.values(field, unit)}")
+            yield hint
+            if isinstance(field, hints.Number):
+                yield f"{hint}, in digits without leading zeros"
+    yield "line #, kind: phase, seq, split, pattern or remove; no header row"
+    yield "line #, kind: phase, seq, split or pattern after remove"
+    yield from ("line #, fields: #, not #", "line #, fields: #, not # or #")
+
+
+def note_forms():
+    """The notes on keys that come again."""
+    keys = "phase #", "sequence # ring #", "split # phase #", "pattern #"
+    for called, deed, key in itertools.product(("record", "other record"), ("puts", "removes"), keys):
+        yield f"note: {called} # {deed} {key} again, after record #"
+
+
+def refusal_forms():
+    """A record that the office refuses, or would refuse."""
+    for number in (10, *range(20, 30)):
+        yield f"fault: record #: {refusal.NAMES[number]}"
+        yield f"record #, line #: {refusal.NAMES[number]}"
+
+
+def forms():
+    """The lines that must come in what is compared, with a mark for each number."""
+    return [*hint_forms(), *note_forms(), *refusal_forms()]
+
+
+def forms_in(out, err):
+    """The lines of what was printed and told that are of these forms."""
+    told = [*re.findall(r"^record #, line #: \w+", marked(out), re.M), *marked(err).splitlines()]
+    return {it for it in told if it.startswith(("record", "fault", "note", "line"))}
+
+
 def untold(program, seen):
     """What is wrong with the tables, and each text that no test compares: `seen` has the pieces, the
     commands with options, and the faults that were in what was compared."""
@@ -198,6 +247,7 @@ def untold(program, seen):
         name, _, option = command.partition(" ")
         if not {command, name, option} & {*OPTIONS} | {command} & seen:
             yield f"no test has the command {command}"
+    yield from (f"no drawn command told {it!r}" for it in forms() if it not in seen)
     for name, (text, test) in FAULTS.items():
         if not test and text not in seen:
             yield f"no drawn command ended with the fault {name}, {text!r}"

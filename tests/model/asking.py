@@ -177,13 +177,19 @@ def draw_migration(dice, office):
 
 
 CHANGING = (draw_edit, draw_edit, draw_edit, draw_edit, draw_import, draw_import, draw_import,
-            draw_add, draw_abandon, draw_backup, draw_migration, draw_verify, draw_verify,
-            draw_comparison, draw_comparison, draw_picture, draw_picture)
+            draw_add, draw_abandon, draw_backup)
+LOOKING = (draw_migration, draw_verify, draw_verify, draw_comparison, draw_comparison, draw_picture,
+           draw_picture)
+
+
+def draw_change(dice, office):
+    """A command that may change an office, with the CSV texts of its files."""
+    return dice.choice(CHANGING)(dice, office)
 
 
 def draw_command(dice, office):
-    """A command that changes an office, or looks at files, with the CSV texts of its files."""
-    return dice.choice(CHANGING)(dice, office)
+    """The same, or one that changes nothing of an office of today's version or looks at files."""
+    return dice.choice(CHANGING + LOOKING)(dice, office)
 
 
 def reports(dice, office):
@@ -200,6 +206,12 @@ def reports(dice, office):
                     ["orders", "--csv", id], ["export", id], ["export", "--draft", id],
                     ["export", "--cabinet", id], ["compare", id], ["compare", "--csv", id],
                     ["diagram", id, dice.choice(numbers)], ["diagram", id, "1"])
+
+
+def some_reports(dice, office):
+    """A few of the reports."""
+    all_of = [*reports(dice, office)]
+    return dice.sample(all_of, min(4, len(all_of)))
 
 
 def folders(dice, office):

@@ -1,35 +1,37 @@
-"""A row of the tables that is no record, and which reports read it (docs/COMMANDS.md, "Faults")."""
+"""A row of the tables that is no record, and which commands read it (docs/COMMANDS.md, "Faults")."""
 import dataclasses
 
 from . import tables
 from .program import asked
 
 REGISTER = ("inspection", "work_order", "used_part")
-# Of each table a change after which a row is no record, and the column of its intersection.
+# Of each table the columns of its key, and a column with a value of which no record has it.
 HARMS = {
-    "intersection": ("state = 4", "id"),
-    "timing": ("body = 'seq,1'", "inter"),
-    "draft": ("body = 'seq,1'", "inter"),
-    "inspection": ("day = 84006", "inter"),
-    "work_order": ("clerk = ''", "inter"),
-    "used_part": ("amount = 0", "inter"),
-    "part": ("hand = 1000000000", None),
+    "intersection": (("id",), "state", 4, 4),
+    "timing": (("inter", "kind", "a", "b"), "body", 4, "seq,1"),
+    "draft": (("inter", "kind", "a", "b"), "body", 4, "seq,1"),
+    "inspection": (("inter", "number"), "day", 2, 84_006),
+    "work_order": (("inter", "number"), "clerk", 3, ""),
+    "used_part": (("inter", "ord", "line"), "amount", 4, 0),
+    "part": (("code",), "hand", 1, 1_000_000_000),
 }
+EDITS = ("intersection", "timing", "draft")  # what an edit of an intersection reads
 
 
 def reads(office, words):
-    """The tables that a report reads, of all intersections, and those of one."""
+    """The tables that a command reads, of all intersections, and those of one."""
     name, options, others = asked(words)
     there = office.intersections.get(int(others[0])) if others and others[0].isdigit() else None
-    has_draft = there is not None and there.draft is not None
-    if name in ("sheet", "diagram") or name == "export" and not options:
+    drafted = ("draft",) if there is not None and there.draft is not None else ()
+    if name in ("sheet", "diagram") or name == "export" and not {*options} - {"--db"}:
         return (), ("intersection", "timing")
-    if name == "compare" or name == "export" and "--draft" in options:
-        return (), ("intersection", "timing", *(("draft",) if has_draft else ()))
+    if name == "compare" or "--draft" in options:
+        return (), ("intersection", "timing", *drafted)
     if name == "page":
         return (), ("intersection", "timing", "draft", *REGISTER)
-    if name == "cabinet" or name == "export" and "--cabinet" in options or (
-            name == "orders" and others):
+    if name == "edit":
+        return (), EDITS
+    if name == "cabinet" or "--cabinet" in options or name == "orders" and others:
         return (), ("intersection", *REGISTER)
     return {
         "list": ("intersection",), "stock": ("part",), "orders": ("intersection", "work_order"),
@@ -41,17 +43,24 @@ def reads(office, words):
 
 @dataclasses.dataclass
 class Harm:
-    """A row that is damaged: of a table, and perhaps of an intersection."""
+    """A row of a table that is damaged: its columns, and what one of them becomes and was."""
 
     table: str
-    id: int | None
-    sql: str
+    row: tuple
+
+    def sql(self, is_mended=False):
+        """The statement that damages the row, or mends it, and its values."""
+        keys, column, place, bad = HARMS[self.table]
+        where = " AND ".join(f"{it} = ?" for it in keys)
+        value = self.row[place] if is_mended else bad
+        return f"UPDATE {self.table} SET {column} = ? WHERE {where}", (value, *self.row[:len(keys)])
 
     def is_read_by(self, office, words):
-        """Whether a report reads it."""
+        """Whether a command reads it."""
         of_all, of_one = reads(office, words)
         numbers = [it for it in words[1:] if it.isdigit()]
-        return self.table in of_all or self.table in of_one and numbers[:1] == [str(self.id)]
+        return self.table in of_all or (
+            self.table in of_one and numbers[:1] == [str(self.row[0])])
 
 
 def is_judged(office, table, id):
@@ -63,10 +72,4 @@ def draw(dice, office):
     """A row that is there, damaged; none where the table that is drawn has none."""
     table = dice.choice([*HARMS])
     found = [row for row in tables.rows(office)[table] if not is_judged(office, table, row[0])]
-    if not found:
-        return None
-    change, column = HARMS[table]
-    row = dice.choice(found)
-    if column is None:
-        return Harm(table, None, f"UPDATE {table} SET {change} WHERE code = '{row[0]}'")
-    return Harm(table, row[0], f"UPDATE {table} SET {change} WHERE {column} = {row[0]}")
+    return Harm(table, dice.choice(found)) if found else None
