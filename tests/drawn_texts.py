@@ -87,8 +87,9 @@ def draw_office(dice):
 class Trial:
     """The program over the file of an office in a folder of its own, beside the second one."""
 
-    def __init__(self, path, office, folder, is_old):
+    def __init__(self, path, office, folder, is_old, is_first):
         self.path, self.folder, self.db = path, folder, folder / "office.db"
+        self.is_first = is_first  # what is not drawn is tried once
         self.second = program.Program(office, {}, is_old)
         self.count, self.seen = 0, set()
 
@@ -228,6 +229,8 @@ class Trial:
         for words in asking.folders(dice, self.second.office):
             yield self.differs_in_folder(words)
         yield self.differs_in_tables()
+        for words, csvs in (*asking.bad_files(), *asking.rare_files()) if self.is_first else ():
+            yield self.differs(words, csvs)
         harm = damage.draw(dice, self.second.office) if dice.random() < DAMAGED else None
         for wrong in self.damaged(dice, harm) if harm else ():
             yield wrong and f"while {harm} is damaged: {wrong}"
@@ -243,7 +246,8 @@ def tried(asked):
     if not unseen:
         unseen.update(dict.fromkeys([*texts.pieces(), ""]))
     with tempfile.TemporaryDirectory(dir=ROOM) as folder:
-        trial = Trial(path, office, pathlib.Path(folder), is_old)
+        is_first = seed.endswith(" 0")
+        trial = Trial(path, office, pathlib.Path(folder), is_old, is_first)
         trial.put(empty)
         wrong = next((it for it in trial.wrongs(dice) if it), None)
     return trial.count, trial.seen, wrong

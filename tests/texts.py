@@ -55,6 +55,7 @@ ELSEWHERE = {
 # Pieces of text that are no part of what is printed.
 UNPRINTED = {
     "names of files beside an office or a copy": "-wal .part",
+    "kinds of records, as they are read": "delivery",
     "how a file of a database begins, and names that are no file's": "SQLite~format~3\0 :memory: file:",
 }
 # Commands and options that no drawn command has, each with the tests that have it.
@@ -77,17 +78,17 @@ FAULTS = {
     "Exists": ("fault: exists", None),
     "UnknownIntersection": ("fault: unknown intersection", None),
     "UnknownPattern": ("fault: unknown pattern", None),
-    "Day": ("fault: day", "rows/a_word_that_is_no_day.row"),
-    "Clerk": ("fault: clerk", "rows/names_that_are_none.row"),
-    "Name": ("fault: name", "rows/names_that_are_none.row"),
-    "Part": ("fault: part", "rows/used_parts_are_listed.row"),
+    "Day": ("fault: day", None),
+    "Clerk": ("fault: clerk", None),
+    "Name": ("fault: name", None),
+    "Part": ("fault: part", None),
     "Refused": ("fault: IntersectionDiffers", None),
     "Record": ("fault: record #: NoStock", None),
     "Late": ("fault: record #: Late", None),
     "Csv": ("fault: record #: Number #", None),
     "Explained": ("fault: record #: Number #/line", None),
     "HeldBy": ("fault: NotOwner/held by", None),
-    "OtherCsv": ("fault: other record #: Range #", None),
+    "OtherCsv": ("fault: other record #: ", None),
     "Words": ("the command line is not UTF-8", "outputs.py"),
 }
 # Public functions that give a text of the crates in VIEWS, by the command that prints it.
@@ -99,7 +100,7 @@ FUNCTIONS = {
     "figure": "page", "explained_text": "verify-file --explain", "violation_text": "verify-file",
     "timing_csv": "export", "records_csv": "export --cabinet", "changes_csv": "compare --csv",
     "overdue_text": "overdue", "timing_sheet": "sheet", "comparison_text": "compare",
-    "warnings_text": "verify-file --advise", "next_numbers": "cabinet",
+    "warnings_text": "verify-file --advise", "csv_file": "list --csv",
 }
 
 
@@ -241,7 +242,7 @@ def untold(program, seen):
     yield from missing_faults()
     elsewhere = {it for group in ELSEWHERE.values() for it in group}
     for piece, crate in pieces().items():
-        if piece not in seen and not any(it.strip() in piece for it in elsewhere):
+        if piece not in seen and not any(it.strip() in piece or piece in it for it in elsewhere):
             yield f"no test has the text {piece[:200]!r} of {crate}"
     for command in options(program):
         name, _, option = command.partition(" ")
@@ -249,7 +250,7 @@ def untold(program, seen):
             yield f"no test has the command {command}"
     yield from (f"no drawn command told {it!r}" for it in forms() if it not in seen)
     for name, (text, test) in FAULTS.items():
-        if not test and text not in seen:
+        if not test and not any(it.startswith(text) for it in seen):
             yield f"no drawn command ended with the fault {name}, {text!r}"
     for name in functions():
         if FUNCTIONS.get(name) not in seen:

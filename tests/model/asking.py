@@ -67,6 +67,78 @@ def any_rows(dice):
     return [[kind, *(dice.choice(("1", "2", "", "phase", "x")) for _ in range(dice.randrange(16)))]]
 
 
+def bad_fields():
+    """Of each kind of row each field as no number and as one out of its range, and a kind and a
+    count that are none; all of them as removals too."""
+    rows = [["phase", "2", "1", "8", "20", "40", "40", "15", "6", "7", "12", "490", "60", "0", "0"],
+            ["seq", "1", "1", "2 4"], ["split", "1", "2", "35", "2", "1"],
+            ["pattern", "1", "60", "0", "1", "1"]]
+    rows += [["remove", *row[:1 + KINDS[row[0]][2]]] for row in rows]
+    for row in rows:
+        for at in range(len(row)):
+            for bad in ("x", "01", "10000", "2 2"):
+                yield [*row[:at], bad, *row[at + 1:]]
+        yield [*row, "1"]
+        yield row[:-1]
+    yield ["remove"]
+
+
+def bad_files():
+    """Commands that explain each of them, behind a good row, and that compare two such files."""
+    good = "seq,1,1,2\nseq,1,1,3\n\n"
+    for row in bad_fields():
+        text = good + ",".join(row) + "\n"
+        yield ["verify-file", "--explain", "a.csv"], {"a.csv": text}
+    for keys in ("phase,2", "seq,1,1", "split,1,2", "pattern,1"):
+        twice = f"remove,{keys}\n" * 2
+        yield ["compare", "a.csv", "b.csv"], {"a.csv": twice, "b.csv": twice}
+    yield ["compare", "a.csv", "b.csv"], {"a.csv": good, "b.csv": text}
+
+
+# Changes of a good plan: with each of them it has a reason or a warning that is seldom drawn.
+RARE = """\
+phase,4,1,50,20,40,40,15,8
+phase,4,1,0,20,40,40,15,8
+phase,4,1,8,20,40,40,15,
+phase,4,1,8,20,40,40,15,6 8
+phase,4,1,8,20,40,40,15,2
+phase,4,1,8,20,40,40,15,31
+phase,2,1,8,20,40,40,15,6,7,0,490,60,0,0
+phase,2,1,8,20,40,40,15,6,7,12,0,60,0,0
+phase,2,1,28,20,40,40,15,6,7,12,490,60,0,3
+phase,2,1,8,20,40,40,15,6,7,12,490,60,0,8
+split,1,2,20,2,1
+split,1,4,25,6,0
+split,1,4,6,2,1
+split,1,4,25,2,1
+split,1,4,25,7,0
+split,1,4,25,7,1
+split,1,4,0,7,1
+split,1,4,0,7,0
+split,1,4,0,2,0
+split,1,30,9,2,0
+split,1,2,35,2,0;split,1,6,35,2,0
+split,1,4,25,2,1;split,1,8,25,2,1
+remove,pattern,1
+remove,split,1,4
+pattern,1,60,0,1,9
+pattern,1,61,61,1,1
+seq,1,1,2 4 6
+seq,1,1,2 31
+seq,1,1,4 2
+phase,2,1,8,20,40,40,15,6 8;phase,4,1,8,20,40,40,15,6 8;phase,6,2,8,20,40,40,15,2 4;phase,8,2,8,20,\
+40,40,15,2 4""".splitlines()
+
+
+def rare_files():
+    """Commands that explain and advise on a good plan with each of these changes, and its pages."""
+    good = "".join(f"{','.join(row)}\n" for row in BASE)
+    for changes in RARE:
+        text = good + changes.replace(";", "\n") + "\n"
+        yield ["verify-file", "--explain", "--advise", "a.csv"], {"a.csv": text}
+        yield ["page", "--file", "a.csv"], {"a.csv": text}
+
+
 def record_rows(dice, office):
     """Records of the register, whose clerks and texts are of others."""
     orders, rows = sorted(office.register.orders), []
@@ -176,10 +248,23 @@ def draw_migration(dice, office):
     return ["migrate", "--db", "office.db"], {}
 
 
+def draw_wrong_word(dice, office):
+    """A command of which one word is no day, clerk, name or part."""
+    day = dice.choice(("2026-02-29", "1969-12-31", "2200-01-01", "2026-1-1", "", "today"))
+    text = dice.choice(("", "A\tB", "\x7f", "\u00e9" * 61, "x" * 121))
+    part = dice.choice(("", "lamp", "LAMP 2", "A" * 21, "\u00c4"))
+    return dice.choice((
+        ["overdue", "--db", "office.db", day], ["pages", "--db", "office.db", "--day", day, "folder"],
+        ["import", "--db", "office.db", "--until", day, MISSING], ["used", "--db", "office.db", part],
+        ["abandon", "--db", "office.db", "--clerk", text, "1"],
+        ["edit", "--db", "office.db", "--clerk", text, "1", MISSING],
+        ["add", "--db", "office.db", "1", "365", text])), {}
+
+
 CHANGING = (draw_edit, draw_edit, draw_edit, draw_edit, draw_import, draw_import, draw_import,
             draw_add, draw_abandon, draw_backup)
-LOOKING = (draw_migration, draw_verify, draw_verify, draw_comparison, draw_comparison, draw_picture,
-           draw_picture)
+LOOKING = (draw_wrong_word, draw_migration, draw_verify, draw_verify, draw_comparison,
+           draw_comparison, draw_picture, draw_picture)
 
 
 def draw_change(dice, office):

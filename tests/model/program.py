@@ -70,6 +70,17 @@ def asked(words):
     return name, options, others
 
 
+def judge_words(name, options, others):
+    """Words that are no day, clerk, name or part are faults, before anything is read."""
+    words = {"day": [options.get(it) for it in ("--until", "--day")], "clerk": [options.get("--clerk")],
+             "name": others[2:] * (name == "add"), "part": others * (name == "used")}
+    words["day"] += others * (name == "overdue")
+    for fault, form in (("day", fields.DAY), ("clerk", fields.CLERK), ("name", fields.NAME),
+                        ("part", fields.PART)):
+        if not all(form.has(it) for it in words[fault] if it is not None):
+            raise Fault(fault)
+
+
 class Program:
     """Runs commands over an office in a file, whose tables may be of version 1, or which may be
     missing; and over CSV texts."""
@@ -83,6 +94,7 @@ class Program:
         name, options, others = asked(words)
         self.notes = []
         try:
+            judge_words(name, options, others)
             status, out = COMMANDS[name](self, options, *others)
             told = ""
         except Fault as it:
