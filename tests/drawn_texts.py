@@ -138,7 +138,7 @@ class Trial:
     def differs_in_folder(self, words):
         """What is wrong with a command that puts files into a folder."""
         made = self.folder / "folder"
-        if wrong := self.differs([*words, "--db", "office.db", made.name]):
+        if wrong := self.differs([*self.over(words), made.name]):
             return wrong
         came = {it.name: it.read_text() for it in made.iterdir()} if made.exists() else {}
         shutil.rmtree(made, ignore_errors=True)

@@ -38,7 +38,7 @@ ELSEWHERE = {
         "fault: store": "hostile.py",
         "fault: write": "outputs.py",
         "the command line is not UTF-8": "outputs.py",
-        "its warnings could not be read": "model/commands.py",
+        "its warnings could not be read": "memory.py",
         "another run has ": "in_use.py", " open; waiting": "in_use.py",
         " is a folder": "in_use.py", " is no file": "in_use.py", " is no database": "in_use.py",
         " has more than one name, by hard links": "in_use.py",
