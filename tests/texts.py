@@ -1,4 +1,8 @@
+#!/usr/bin/env python3
 """What the program prints, and which test compares it.
+
+    tests/texts.py [PROGRAM]        lists each text with its test
+
 
 Read from the sources and from the program's own help, so that no text is forgotten:
 
@@ -15,8 +19,10 @@ import itertools
 import pathlib
 import re
 import subprocess
+import sys
 
 from model import hints, plan, refusal
+from program import found
 
 TESTS = pathlib.Path(__file__).resolve().parent
 TOP = TESTS.parent
@@ -28,6 +34,8 @@ TOKEN = re.compile(r"""//[^\n]*|b?"((?:[^"\\]|\\.)*)"|b?'(?:[^'\\\n]|\\[^\n]{1,9
 HOLE = re.compile(r"\{[\w.:>#?]*\}")
 ESCAPES = {"n": "\n", "t": "\t", "r": "\r", "0": "\0", '"': '"', "'": "'", "\\": "\\"}
 WORD = re.compile(r"[A-Za-z]{2}")
+
+DRAWN = "drawn_texts.py"
 
 # Pieces of text that no drawn text has, each with the test that has it.
 ELSEWHERE = {
@@ -255,3 +263,30 @@ def untold(program, seen):
     for name in functions():
         if FUNCTIONS.get(name) not in seen:
             yield f"no test has what the function {name} gives"
+
+
+def listed(program):
+    """Each text with its test, as the tables have it."""
+    for command in options(program):
+        name, _, option = command.partition(" ")
+        tests = (OPTIONS.get(it) for it in (command, option, name))
+        yield command, next(filter(None, tests), DRAWN)
+    for name, (text, test) in FAULTS.items():
+        yield f"fault {name}, {text!r}", test or DRAWN
+    for form in forms():
+        yield repr(form), DRAWN
+    for name in functions():
+        yield f"fn {name}, by {FUNCTIONS.get(name)}", DRAWN
+    elsewhere = {piece: test for group in ELSEWHERE.values() for piece, test in group.items()}
+    for piece, crate in sorted(pieces().items(), key=lambda it: it[1]):
+        test = next((test for it, test in elsewhere.items() if it.strip() in piece), DRAWN)
+        yield f"{crate} {piece!r}", test
+
+
+def main():
+    for text, test in listed(found(sys.argv[1:])):
+        print(f"{test}: {text}")
+
+
+if __name__ == "__main__":
+    main()
