@@ -176,7 +176,8 @@ class Trial:
     def damaged(self, dice, harm):
         """What is wrong over a file of which a row is damaged, after each thing that is tried."""
         self.change(harm.sql())
-        for words in asking.reports(dice, self.second.office):
+        whole = (it for it in asking.reports(dice, self.second.office) if "--first" not in it)
+        for words in whole:
             yield self.differs(self.over(words), None, self.told_of(harm, words))
         for words in asking.folders(dice, self.second.office):
             if told := self.told_of(harm, words):
