@@ -185,6 +185,14 @@ def draw_edit(dice, office):
     return [*words, name], texts
 
 
+def new_plan():
+    """An intersection is added, and gets a plan."""
+    plan = {"a.csv": "".join(f"{','.join(row)}\n" for row in BASE)}
+    yield ["add", "--db", "office.db", "9997", "30", "New"], {}
+    yield ["edit", "--db", "office.db", "--clerk", "Ana", "--commit", "9997", "a.csv"], plan
+    yield ["export", "--db", "office.db", "9997"], {}
+
+
 def draw_import(dice, office):
     """Records are taken, or tried."""
     options = flags(dice, "--check", "--padded")
