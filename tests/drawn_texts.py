@@ -1,15 +1,16 @@
 #!/usr/bin/env python3
-"""Compares what the program prints with the second writer (tests/model), byte for byte: each command
-over drawn offices and drawn CSV files, with its status, its lines on standard error and what it does
-to the tables.
+"""Compares what the program prints with the second writer (tests/model), byte for byte: each
+command over drawn offices and drawn CSV files, with its status, its lines on standard error and
+what it does to the tables.
 
     tests/drawn_texts.py [PROGRAM [SEED COUNT]]
 
 COUNT offices are drawn, 400 by default, in some two minutes of four processors; 5,000 take half an
-hour. Each has plans, drafts and a register, of which some break every rule, and names and
-texts with markup, quotes, other scripts and marks of direction; some begin as version 1, and in some
-a row is damaged at the end. Of each, all reports are compared, folders of pages and of CSV, and some
-commands that change it or look at plans in files.
+hour. Each has plans, drafts and a register, with names and texts that have markup, quotes, other
+scripts and marks of direction; drafts break any rule. Some offices begin as version 1, and in some
+a row is damaged at the end. Of each, all reports are compared, folders of pages and of CSV, and
+some commands that change it or look at plans in files. Each bad field, and each reason and warning
+that is seldom drawn, is tried once.
 
 Ends with status 1 at the first text that differs, with its office; or where the program has a text,
 an option or a fault that neither came in what was compared nor stands in the tables of
@@ -117,7 +118,8 @@ class Trial:
         """Notes what was compared."""
         name, options, _ = program.asked(words)
         lines = texts.marked(told.err)
-        self.seen |= {name, *(f"{name} {it}" for it in options), *texts.forms_in(told.out, told.err)}
+        self.seen |= {name, *(f"{name} {it}" for it in options)}
+        self.seen |= texts.forms_in(told.out, told.err)
         for line in re.findall(r"^fault: .*(?:\n(?:line|held by))?", lines, re.M):
             self.seen.add(line.replace("\n", "/"))
         self.note_pieces(told.out + told.err)
@@ -164,7 +166,8 @@ class Trial:
                 came = tables.found(db)
             except sqlite3.Error as it:
                 return f"the tables of {name}: {it}"
-        return None if came == (told, tables.rows(office, told)) else f"the tables of {name} are others"
+        is_same = came == (told, tables.rows(office, told))
+        return None if is_same else f"the tables of {name} are others"
 
     def over(self, words):
         """A command over the file."""
@@ -205,7 +208,7 @@ class Trial:
         return told and f"after {shlex.join(words)}: {told}"
 
     def missing(self, dice):
-        """What is wrong with a command over a file that is not there, and is made by none but add."""
+        """What is wrong with a command over a file that is not there, which add alone makes."""
         words, csvs = asking.draw_command(dice, self.second.office)
         words = ["none.db" if it == "office.db" else it for it in words]
         second = program.Program(Office(), csvs, is_missing=True)
@@ -252,7 +255,7 @@ def tried(asked):
     if is_old:
         tables.age(office)
     if not unseen:
-        unseen.update(dict.fromkeys([*texts.pieces(), ""]))
+        unseen.update(texts.pieces())
     with tempfile.TemporaryDirectory(dir=ROOM) as folder:
         is_first = seed.endswith(" 0")
         trial = Trial(path, office, pathlib.Path(folder), is_old, is_first)

@@ -16,7 +16,8 @@ from model import refusal
 TOP = pathlib.Path(__file__).resolve().parent.parent
 CRATES = TOP / "crates"
 CONSTANT = re.compile(r"const (\w+): \w+ = ([\d_]+);")
-RANGE = re.compile(r"(?:type|const) (\w+)(?: = Number<\w+, |: Range = Range\()([\w_]+), ([\w_]+)[>)];")
+RANGE = re.compile(
+    r"(?:type|const) (\w+)(?: = Number<\w+, |: Range = Range\()([\w_]+), ([\w_]+)[>)];")
 COMMANDS, HTTP, PLANS, PROOF = (f"docs/{it}.md" for it in ("COMMANDS", "HTTP", "PLANS", "PROOF"))
 ANY = r"([\d,.]+\d|\d)"
 

@@ -244,7 +244,8 @@ def without_room(folder):
     path = folder / "empty.db"
     for words in (("add", 12, 365, "Main St"), ("batch",)):
         path.write_bytes(b"")
-        refused(path, f"{path} is empty, and no office can be begun in it", words, preexec_fn=limit)
+        note = f"{path} is empty, and no office can be begun in it"
+        refused(path, note, words, preexec_fn=limit)
 
 
 def without_permission(folder):

@@ -12,8 +12,8 @@ Read from the sources and from the program's own help, so that no text is forgot
   of a record,
 - each public function that gives a text.
 
-tests/drawn_texts.py compares what it can, and notes what it saw in a text that it compared. All else
-stands in the tables below, with the test that has it: a row or a script in which the text stands.
+tests/drawn_texts.py compares what it can, and notes what it saw in a text that it compared. All
+else stands in the tables below, with the test that has it: a row or a script that has the text.
 """
 import itertools
 import pathlib
@@ -64,7 +64,8 @@ ELSEWHERE = {
 UNPRINTED = {
     "names of files beside an office or a copy": "-wal .part",
     "kinds of records, as they are read": "delivery",
-    "how a file of a database begins, and names that are no file's": "SQLite~format~3\0 :memory: file:",
+    "how a file of a database begins, and names that are no file's":
+        "SQLite~format~3\0 :memory: file:",
 }
 # Commands and options that no drawn command has, each with the tests that have it.
 STREAMS = "drawn.py lives.py clients.py server.sh"
@@ -221,7 +222,8 @@ def hint_forms():
 def note_forms():
     """The notes on keys that come again."""
     keys = "phase #", "sequence # ring #", "split # phase #", "pattern #"
-    for called, deed, key in itertools.product(("record", "other record"), ("puts", "removes"), keys):
+    files = "record", "other record"
+    for called, deed, key in itertools.product(files, ("puts", "removes"), keys):
         yield f"note: {called} # {deed} {key} again, after record #"
 
 

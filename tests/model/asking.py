@@ -235,7 +235,8 @@ def draw_comparison(dice, office):
 def draw_picture(dice, office):
     """A plan in a file is drawn, or a page of it is made."""
     options = flags(dice, "--padded")
-    name, texts = file_of(dice, plan_rows(dice) if dice.random() < 0.3 else draw_plan(dice), options)
+    rows = plan_rows(dice) if dice.random() < 0.3 else draw_plan(dice)
+    name, texts = file_of(dice, rows, options)
     if dice.random() < 0.4:
         return ["page", "--file", name, *options], texts
     return ["diagram", "--file", name, *options, dice.choice(("1", "1", "2", "48"))], texts
@@ -243,12 +244,14 @@ def draw_picture(dice, office):
 
 def draw_abandon(dice, office):
     """A draft is dropped."""
-    return ["abandon", "--db", "office.db", "--clerk", told(dice, "Ana"), an_id(dice, office)], {}
+    clerk = told(dice, "Ana")
+    return ["abandon", "--db", "office.db", "--clerk", clerk, an_id(dice, office)], {}
 
 
 def draw_backup(dice, office):
     """A copy of the office is made."""
-    return ["backup", "--db", "office.db", *flags(dice, "--force"), dice.choice(("1.db", "2.db"))], {}
+    to = dice.choice(("1.db", "2.db"))
+    return ["backup", "--db", "office.db", *flags(dice, "--force"), to], {}
 
 
 def draw_migration(dice, office):
@@ -262,8 +265,10 @@ def draw_wrong_word(dice, office):
     text = dice.choice(("", "A\tB", "\x7f", "\u00e9" * 61, "x" * 121))
     part = dice.choice(("", "lamp", "LAMP 2", "A" * 21, "\u00c4"))
     return dice.choice((
-        ["overdue", "--db", "office.db", day], ["pages", "--db", "office.db", "--day", day, "folder"],
-        ["import", "--db", "office.db", "--until", day, MISSING], ["used", "--db", "office.db", part],
+        ["overdue", "--db", "office.db", day],
+        ["pages", "--db", "office.db", "--day", day, "folder"],
+        ["import", "--db", "office.db", "--until", day, MISSING],
+        ["used", "--db", "office.db", part],
         ["abandon", "--db", "office.db", "--clerk", text, "1"],
         ["edit", "--db", "office.db", "--clerk", text, "1", MISSING],
         ["add", "--db", "office.db", "1", "365", text])), {}

@@ -72,9 +72,9 @@ def asked(words):
 
 def judge_words(name, options, others):
     """Words that are no day, clerk, name or part are faults, before anything is read."""
-    words = {"day": [options.get(it) for it in ("--until", "--day")], "clerk": [options.get("--clerk")],
+    words = {"day": [options.get("--until"), options.get("--day"), *others * (name == "overdue")],
+             "clerk": [options.get("--clerk")],
              "name": others[2:] * (name == "add"), "part": others * (name == "used")}
-    words["day"] += others * (name == "overdue")
     for fault, form in (("day", fields.DAY), ("clerk", fields.CLERK), ("name", fields.NAME),
                         ("part", fields.PART)):
         if not all(form.has(it) for it in words[fault] if it is not None):
