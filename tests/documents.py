@@ -69,7 +69,8 @@ def missing_names(document, known):
         if not file_named(name).exists():
             yield f"{document}: there is no file {name}"
     for names, file in re.findall(rf"((?:`\w+`(?: and )?)+)\s+in\s+{FILE}", text):
-        there = re.findall(r"\w+", "".join(file_named(it).read_text() for it in spread(file)))
+        files = [file_named(it) for it in spread(file)]
+        there = re.findall(r"\w+", "".join(it.read_text() for it in files if it.exists()))
         yield from (f"{document}: there is no {it} in {file}" for it in NAME.findall(names)
                     if it not in there)
 

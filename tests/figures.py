@@ -16,7 +16,8 @@ from model import refusal
 TOP = pathlib.Path(__file__).resolve().parent.parent
 CRATES = TOP / "crates"
 CONSTANT = re.compile(r"const (\w+): \w+ = ([\d_]+);")
-RANGE = re.compile(r"type (\w+) = Number<\w+, ([\w_]+), ([\w_]+)>;")
+RANGE = re.compile(
+    r"(?:type|const) (\w+)(?: = Number<\w+, |: Range = Range\()([\w_]+), ([\w_]+)[>)];")
 COMMANDS, HTTP, PLANS, PROOF = (f"docs/{it}.md" for it in ("COMMANDS", "HTTP", "PLANS", "PROOF"))
 ANY = r"([\d,.]+\d|\d)"
 
@@ -24,10 +25,10 @@ ANY = r"([\d,.]+\d|\d)"
 # an end of a type's range, an end times or by some number, or a count.
 SENTENCES = [
     (COMMANDS, f"ID is an intersection \\({ANY} to {ANY}\\)", "InterId.low", "InterId.high"),
-    (COMMANDS, f"`--wait SECONDS` \\(0 to {ANY}\\)", "LONGEST_WAIT of signal_office_line"),
+    (COMMANDS, f"`--wait SECONDS` \\(0 to {ANY}\\)", "WAITS.high"),
     (COMMANDS, f"open, {ANY} if it is left out", "USUAL_WAIT"),
     (COMMANDS, f"standard output, at most {ANY}, over", "BATCH_LIMIT"),
-    (COMMANDS, f"\\(1 to {ANY}, the default\\)", "MOST_CONNECTIONS"),
+    (COMMANDS, f"\\(1 to {ANY}, the default\\)", "COUNTS.high"),
     (COMMANDS, f"every INTERVAL days \\({ANY} to {ANY}\\)", "Interval.low", "Interval.high"),
     (COMMANDS, f"a pattern \\({ANY} to {ANY}\\)", "PatternNo.low", "PatternNo.high"),
     (COMMANDS, f"at most N \\(1 to {ANY}\\)", "InterId.high"),
@@ -62,10 +63,10 @@ SENTENCES = [
     (PLANS, f"at revision {ANY};", "LAST_REVISION"),
     (PLANS, f"more than {ANY} on hand", "MOST_ON_HAND"),
     ("docs/ARCHITECTURE.md", f"its buffer of {ANY} bytes", "BUFFER_LEN"),
-    ("docs/OPERATING.md", f"After {ANY} connections", "MOST_CONNECTIONS"),
+    ("docs/OPERATING.md", f"After {ANY} connections", "COUNTS.high"),
     ("docs/OPERATING.md", f"tries again for {ANY} seconds", "USUAL_WAIT"),
     ("docs/OPERATING.md", f"or as many as `--wait SECONDS` says \\(0 to {ANY}\\)",
-     "LONGEST_WAIT of signal_office_line"),
+     "WAITS.high"),
     ("docs/OPERATING.md", f"within {ANY} bytes, more than {ANY} bytes of body", "HEAD_LIMIT",
      "LARGEST_BODY"),
     ("README.md", "needs (\\w+) processors", "four"),

@@ -162,6 +162,7 @@ class Office:
         return files
 
     def held(self, name):
+        assert (self.folder / name).is_dir(), f"there is no folder {name}"
         return {it.name: it.read_bytes() for it in (self.folder / name).iterdir()}
 
 
@@ -172,7 +173,7 @@ def moments(office, name):
 
 def writes_whole(office):
     assert office.export("city") == (0, b"", b"")
-    assert office.held("city") == office.wanted()
+    assert office.held("city") == office.wanted(), "a file is not what the commands print"
     (office.folder / "city" / "notes.txt").write_text("kept\n")
     before = moments(office, "city")
     assert office.export("city") == (0, b"", b"")
@@ -227,7 +228,8 @@ def leaves_whole_files_on_a_full_disk(office):
             return "not tried: it needs root and mount"
         try:
             wanted = office.filled(kind)
-            assert office.fill(kind, full.name) == WRITE_FAULT
+            came = office.fill(kind, full.name)
+            assert came == WRITE_FAULT, f"{kind} on a full disk ended with {came}"
             held = office.held(full.name)
             assert held and all(wanted.get(name) == text for name, text in held.items()), held
         finally:

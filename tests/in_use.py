@@ -9,7 +9,8 @@
 - A command, `batch` and `serve` that find the file locked are done when the lock goes, two seconds
   later; `serve` does not listen before.
 - A folder, a file that is no database, one without permission and other names that are no office's
-  are refused at once, with a note that says what the name is.
+  are refused at once, with a note that says what the name is; so is a file beside a log that can't
+  be opened or a rollback journal, and an empty one that can't grow.
 
 The locks of other runs are set as SQLite sets them. Prints a line a case, and ok; ends with status
 1 where anything else happened. Takes half a minute.
@@ -18,8 +19,10 @@ import contextlib
 import fcntl
 import os
 import pathlib
+import resource
 import select
 import shutil
+import signal
 import socket
 import sqlite3
 import subprocess
@@ -206,6 +209,45 @@ def other_names(folder):
     refused(":memory:", ":memory: names no file for SQLite; write ./:memory:", add)
 
 
+def what_stands_beside(folder):
+    """A log that is a folder or has two names, and the journal of a change that SQLite did not end."""
+    add = ("add", 12, 365, "Main St")
+    for name in ("beside.db", "linked.db"):
+        path = office(folder, name)
+        log = folder / f"{name}-wal"
+        log.unlink(missing_ok=True)
+        if name == "beside.db":
+            log.mkdir()
+        else:
+            log.write_bytes(b"log")
+            os.link(log, folder / "another.db-wal")
+        refused(path, f"{path} can't be opened beside its log")
+    with contextlib.closing(sqlite3.connect(folder / "begun.db", isolation_level=None)) as db:
+        db.execute("PRAGMA journal_mode = DELETE")
+        db.execute("CREATE TABLE note (text TEXT)")
+        db.execute("PRAGMA cache_size = 1")
+        db.execute("BEGIN")
+        db.executemany("INSERT INTO note VALUES (?)", [("x" * 100,)] * 10_000)
+        for end in ("", "-journal"):
+            shutil.copy(folder / f"begun.db{end}", folder / f"stopped.db{end}")
+    path = folder / "stopped.db"
+    refused(path, f"{path} has a rollback journal; open it by sqlite3 first", add)
+
+
+def without_room(folder):
+    """An empty file that may not grow. The signal that comes with this limit is ignored, as a
+    shell's trap '' XFSZ does."""
+    def limit():
+        signal.signal(signal.SIGXFSZ, signal.SIG_IGN)
+        resource.setrlimit(resource.RLIMIT_FSIZE, (0, 0))
+
+    path = folder / "empty.db"
+    for words in (("add", 12, 365, "Main St"), ("batch",)):
+        path.write_bytes(b"")
+        note = f"{path} is empty, and no office can be begun in it"
+        refused(path, note, words, preexec_fn=limit)
+
+
 def without_permission(folder):
     """Another user runs the program, by a copy of it, where this one is root."""
     path = office(folder, "kept.db")
@@ -225,6 +267,8 @@ def main():
         waits(folder)
         serves(folder)
         other_names(folder)
+        what_stands_beside(folder)
+        without_room(folder)
         without_permission(folder)
     if failed:
         print(f"in_use.py: {len(failed)} cases are not as they must be", file=sys.stderr)

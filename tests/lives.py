@@ -30,7 +30,7 @@ import tempfile
 
 from disk import DISK, FAILED, FULL, UNSYNCED, Off, Program, Trouble, draw_trouble
 from drawn import spelled
-from model import commands, heads, requests, tables
+from model import commands, fields, heads, requests, tables
 from model.office import Intersection, Office
 from model.plan import apply, read_change
 from model.planning import BASE, CHANGES, draw_changes, draw_plan
@@ -107,7 +107,8 @@ def draw_edit(dice, office, id, path):
     flags = [*["--commit"] * commits, *["--advise"] * advises]
     words = ["--clerk", clerk, *flags, str(id), str(path)]
     return Command("edit", words, functools.partial(
-        commands.edit, id=id, clerk=clerk, csv=csv, commits=commits, advises=advises))
+        commands.edit, id=id, clerk=clerk, records=fields.read_csv(csv), commits=commits,
+        advises=advises))
 
 
 def takes(office, row):

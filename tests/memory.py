@@ -9,7 +9,7 @@ the outcome.
   program reports memory or the database before the first. The file then holds the office after the
   last request that was not answered so, or after a later one.
 - Commands of the program: each prints what it always prints, or reports memory or the database, and
-  prints the same when it is run again.
+  prints the same when it is run again. A commit may be told with `its warnings could not be read`.
 
 Each ends with the run in which nothing was refused. Prints how often each outcome came, and ends
 with status 1 if any other came. Needs a C compiler, `cc`. Takes some minutes.

@@ -2,7 +2,7 @@
 
 A command is a function of an office and of its values. It yields after each change that it makes,
 since a stop may leave those before it, and gives the status and the text that it prints."""
-from . import fields, rules, warnings
+from . import comparing, fields, listings, reasons, rules, warnings
 from .fields import write_csv
 from .plan import apply, read_change
 from .refusal import NAMES, Refused
@@ -27,10 +27,11 @@ def fault(refused):
     return f"fault: {NAMES[refused.number]}"
 
 
-def violation_lines(plan):
-    """What a plan breaks, a line each."""
-    lines = [f"{it['subject']} {it['rule']}\n" for it in rules.violations(plan)]
-    return "".join(lines) or "no violations\n"
+def violation_lines(plan, explains=False):
+    """What a plan breaks, a line each, with its reason where that is asked."""
+    found = (reasons.explained(plan) if explains
+             else [f"{it['subject']} {it['rule']}" for it in rules.violations(plan)])
+    return "".join(f"{it}\n" for it in found) or "no violations\n"
 
 
 def warning_lines(plan):
@@ -52,14 +53,21 @@ def take(office, csv):
     return 0, f"added {told['added']}, same {told['same']}\n"
 
 
-def edit(office, id, clerk, csv, commits, advises=False):
+def replacing(before, after):
+    """The changes that turn one plan into another."""
+    return [(key, after.get(key)) for key in comparing.differing(before, after)]
+
+
+def edit(office, id, clerk, records, commits, replaces=False, explains=False, advises=False):
     """Changes the draft, in a transaction that it begins or in the clerk's own, whose draft is
-    opened again where it was handed over or checked. Commits it where that is asked, no rule is
-    broken and it is not the committed plan; for one that would be that plan nothing is begun.
-    Where that is asked, the warnings of the draft are told behind what it breaks."""
-    changes = read_each(read_change, fields.read_csv(csv))
+    opened again where it was handed over or checked; where that is asked, into the plan of the
+    records alone. Commits it where that is asked, no rule is broken and it is not the committed
+    plan; for one that would be that plan nothing is begun. Where that is asked, what it breaks has
+    reasons, and the warnings of the draft are told behind that."""
+    changes = read_each(read_change, records)
     it = office.find(id)
     stands = it.committed if it.state == "normal" else it.draft
+    changes = replacing(stands, apply({}, changes)) if replaces else changes
     is_same = commits and apply(stands, changes) == it.committed
     if is_same and it.state == "normal":
         return 0, "no changes\n"
@@ -75,7 +83,7 @@ def edit(office, id, clerk, csv, commits, advises=False):
     if is_same:
         return 0, "no changes\n"
     draft = office.find(id).draft
-    broken, advice = violation_lines(draft), warning_lines(draft) if advises else ""
+    broken, advice = violation_lines(draft, explains), warning_lines(draft) if advises else ""
     if not commits:
         return 0, f"{broken}{advice}the draft of {clerk} {STAYS_OPEN}"
     if broken != "no violations\n":
@@ -106,26 +114,13 @@ def showing(text_of):
 @showing
 def listed(office, as_csv):
     """All intersections by number."""
-    listed = sorted(office.intersections.items())
-    if as_csv:
-        return write_csv((id, it.revision, it.state, it.owner or "", len(it.committed), it.name,
-                          it.interval) for id, it in listed)
-    rows = [(id, it.revision, it.state, it.owner or "-", len(it.committed), it.interval, it.name)
-            for id, it in listed]
-    form = "{:>6}{:>8}  {:11}  {:12}{:>6}{:>6}  {}\n"
-    heading = "No", "Rev", "State", "Owner", "Rows", "Days", "Name"
-    lines = [form.format(*row) for row in [heading, *rows]]
-    return "".join(lines) + f"Count {len(rows)}\n"
+    return listings.intersections(office)[as_csv]
 
 
 @showing
 def stock(office, as_csv):
     """What is on hand of each part that was ever delivered."""
-    rows = [(it["part"], it["count"]) for it in office.stock()["hand"]]
-    if as_csv:
-        return write_csv(rows)
-    lines = [f"{count:>10}  {part}\n" for part, count in [("Part", "Count"), *rows]]
-    return "".join(lines) + f"Count {len(rows)}\n"
+    return listings.stock(office)[as_csv]
 
 
 @showing
@@ -139,9 +134,7 @@ def export(office, id, view):
 @showing
 def overdue(office, day):
     """Who is overdue on a day."""
-    rows = office.overdue(day)["overdue"]
-    lines = [f"{it['id']:>4}  {it['due'] or 'never':10}  {it['name']}\n" for it in rows]
-    return f"Overdue on {day}\n{''.join(lines)}Count {len(rows)}\n"
+    return listings.overdue(office, day)[0]
 
 
 @showing

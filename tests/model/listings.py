@@ -1,6 +1,7 @@
 """What an office holds, as texts in columns and as CSV."""
 from . import fields
-from .pages import next_number
+from .pages import next_number, tenths
+from .plan import Pattern, Phase, Sequence, Split
 from .register import records_of
 
 
@@ -61,6 +62,13 @@ def orders_of(office, id):
     return counted("    No   Order  Opened      Clerk         Text\n", lines)
 
 
+def all_orders_of(office, id):
+    """The open orders of an intersection, and their records, which have its name too."""
+    name = office.find(id).name
+    return orders_of(office, id), fields.write_csv(
+        [[id, name, number, it.opened, it.clerk, it.text] for number, it in open_orders(office, id)])
+
+
 def used(office, part=None):
     """What was used, of a part if one is named, and its records."""
     held = [(id, number, order, line, it) for id in sorted(office.intersections)
@@ -105,7 +113,52 @@ def cabinet(office, id):
         f"{len(open_orders(office, id))} open\n"])
 
 
-def overdue(office, day):
-    """The records of the overdue."""
-    return fields.write_csv([[it["id"], it["name"], it["due"] or ""]
-                             for it in office.overdue(day)["overdue"]])
+def overdue(office, day, most=9_999):
+    """The overdue on a day, at most so many, and their records."""
+    held = office.overdue(day)["overdue"][:most]
+    lines = [f"{it['id']:>4}  {it['due'] or 'never':10}  {it['name']}\n" for it in held]
+    return (counted(f"Overdue on {day}\n", lines),
+            fields.write_csv([[it["id"], it["name"], it["due"] or ""] for it in held]))
+
+
+def right(*values):
+    """Each at the right of six places."""
+    return "".join(f"{it:>6}" for it in values)
+
+
+def numbers(phases):
+    """Numbers, each behind a space, or a dash."""
+    return "".join(f" {it}" for it in phases) or " -"
+
+
+def sheet_line(row):
+    """The line of a row of a plan."""
+    if isinstance(row, Sequence):
+        return right(row.number, row.ring) + numbers(row.phases)
+    if not isinstance(row, Phase):
+        return right(*row)
+    crossing = ["-"] * 6
+    if row.walk is not None:
+        crossing = [row.walk, row.clear, tenths(row.width), tenths(row.setback), row.short,
+                    row.lead]
+    return right(row.number, row.ring, row.min_green, tenths(row.passage), row.max1,
+                 tenths(row.yellow), tenths(row.red), *crossing) + numbers(row.mates)
+
+
+SECTIONS = {
+    "Phases": (Phase, "    No  Ring   Min  Pass   Max   Yel   Red  Walk Clear Width Setbk Short"
+                      "  Lead Mates"),
+    "Sequences": (Sequence, "    No  Ring Phases"),
+    "Splits": (Split, "    No Phase  Time  Mode Coord"),
+    "Patterns": (Pattern, "    No Cycle  Offs Split   Seq"),
+}
+
+
+def sheet(office, id):
+    """The timing sheet of the committed plan."""
+    it = office.find(id)
+    lines = [f"Intersection {id}: {it.name}", f"Revision {it.revision}"]
+    for name, (kind, heading) in SECTIONS.items():
+        rows = [row for _, row in sorted(it.committed.items()) if isinstance(row, kind)]
+        lines += [name, heading, *map(sheet_line, rows)]
+    return "".join(f"{it}\n" for it in lines)

@@ -79,13 +79,14 @@ def verified(text, flags):
     return (found or ["no violations"]) + advice + noted(changes)
 
 
-def noted(changes):
-    """The notes on the records that put or remove a key again, each after the latest before it."""
+def noted(changes, called="record"):
+    """The notes on the records, called so, that put or remove a key again, each after the latest
+    before it."""
     last, notes = {}, []
     for number, (key, row) in enumerate(changes, 1):
         if key in last:
             deed, words = "removes" if row is None else "puts", NOTED[plan.ORDER[key[0]]]
-            notes.append(f"note: record {number} {deed} {words.format(*key[1:])} again, "
+            notes.append(f"note: {called} {number} {deed} {words.format(*key[1:])} again, "
                          f"after record {last[key]}")
         last[key] = number
     return notes
@@ -128,7 +129,8 @@ def shown(offices, files, words):
         if name == "add":
             ran(commands.add(office, int(rest[0]), int(rest[1]), rest[2]))
         elif name == "edit":
-            ran(commands.edit(office, int(rest[-2]), flags["--clerk"], csv, "--commit" in rest))
+            ran(commands.edit(office, int(rest[-2]), flags["--clerk"], fields.read_csv(csv),
+                              "--commit" in rest))
         elif name == "import":
             ran(commands.take(office, csv))
         elif name == "page" and len(rest) == 1 and "--db" in flags:

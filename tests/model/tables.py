@@ -3,6 +3,7 @@
 import datetime
 
 from .plan import Phase, spelled
+from .rules import violations
 
 STATES = ("normal", "transaction", "verify", "done")
 TABLES = ("intersection", "timing", "draft", "inspection", "work_order", "part", "delivery",
@@ -25,6 +26,20 @@ def is_old(row):
     phases = (*getattr(row, "phases", ()), *getattr(row, "mates", ()), getattr(row, "phase", 0))
     number = row.number if isinstance(row, Phase) else 0
     return max(number, *phases) <= 16 and getattr(row, "ring", 1) <= 4
+
+
+def aged(plan):
+    """The rows of a plan that version 1 had, each without its lead."""
+    return {key: row._replace(lead=0) if is_widened(row) else row
+            for key, row in plan.items() if is_old(row)}
+
+
+def age(office):
+    """Makes the plans of an office such as version 1 had."""
+    for it in office.intersections.values():
+        plan = aged(it.committed)
+        it.committed = {} if violations(plan) else plan
+        it.draft = None if it.draft is None else aged(it.draft)
 
 
 def timing_row(id, key, row, version):
