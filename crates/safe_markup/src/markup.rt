@@ -56,7 +56,7 @@ impl Markup {
     }
 
     /// Appends words between tags. The error means that a growth was refused.
-    pub fn tagged<D: Display>(
+    pub fn enclose<D: Display>(
         &mut self,
         opening: &'static str,
         words: &D,

@@ -31,8 +31,8 @@ fn draw_title(svg: &mut Markup, n: PatternNo, pattern: &Pattern) -> fmt::Result 
 
 /// Writes which rule is broken, and why.
 fn draw_note(svg: &mut Markup, broken: &Explained) -> fmt::Result {
-    svg.tagged("<text x='120' y='68'>", &broken.violation.rule, ": ")?;
-    svg.tagged("", &broken.reason, "</text>\n")
+    svg.enclose("<text x='120' y='68'>", &broken.violation.rule, ": ")?;
+    svg.enclose("", &broken.reason, "</text>\n")
 }
 
 /// Draws a colour, and what it means.
@@ -100,7 +100,7 @@ pub(crate) fn warnings_height(warnings: &[Warning]) -> u64
 /// of 135 letters, fits a picture of the least width.
 fn draw_warning(svg: &mut Markup, y: u64, warning: &Warning) -> fmt::Result {
     put(svg, "<text x='12' y='", y)?;
-    svg.tagged("' font-size='15'>Warning: ", warning, "</text>\n")
+    svg.enclose("' font-size='15'>Warning: ", warning, "</text>\n")
 }
 
 /// Writes a line for each warning, the first so many units down and each other one 22 units below

@@ -108,14 +108,14 @@ fn push_due_note(page: &mut Markup, interval: Interval, latest: Option<Day>) -> 
         }
     }
     let days = interval.get();
-    page.tagged(" Days from one inspection to the next: ", &days, ".</p>\n")
+    page.enclose(" Days from one inspection to the next: ", &days, ".</p>\n")
 }
 
 /// Writes the numbers that the next inspection and the next order may have.
 fn push_next_note(page: &mut Markup, view: &CabinetView) -> fmt::Result {
     let mut words = String::new(page.alloc());
     push_next_numbers(&mut words, view)?;
-    page.tagged("<p>", &words, "</p>\n")
+    page.enclose("<p>", &words, "</p>\n")
 }
 
 /// Writes the section of the cabinet, whose inspections have this interval.

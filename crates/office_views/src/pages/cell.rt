@@ -76,7 +76,7 @@ pub(crate) fn tags_of(cell: &Cell<'_>) -> (&'static str, &'static str) {
 /// Writes a name or text of others in an element that keeps its direction of writing from what
 /// stands beside it.
 pub(crate) fn push_name(page: &mut Markup, name: &str) -> fmt::Result {
-    page.tagged("<bdi>", &name, "</bdi>")
+    page.enclose("<bdi>", &name, "</bdi>")
 }
 
 pub(crate) fn push_date(page: &mut Markup, date: Date) -> fmt::Result {
@@ -136,7 +136,7 @@ pub(crate) fn push_content(page: &mut Markup, cell: &Cell<'_>) -> fmt::Result {
     match *cell {
         Cell::Head(n) => write!(page, "{n}"),
         Cell::Link(n) => {
-            page.tagged("<a href='", &n, ".html'>")?;
+            page.enclose("<a href='", &n, ".html'>")?;
             write!(page, "{n}")?;
             page.own("</a>")
         }
@@ -147,7 +147,7 @@ pub(crate) fn push_content(page: &mut Markup, cell: &Cell<'_>) -> fmt::Result {
         Cell::Words(words) => write!(page, "{words}"),
         Cell::Short(words, by) => {
             write!(page, "{words}")?;
-            page.tagged(" <strong class='short'>", &by, " s short</strong>")
+            page.enclose(" <strong class='short'>", &by, " s short</strong>")
         }
         Cell::Name(name) => push_name(page, name),
         Cell::Phases(phases) => push_phases(page, phases),

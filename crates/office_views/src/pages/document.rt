@@ -28,7 +28,7 @@ const HEAD: &str = "\
 
 /// Writes the head of a page, up to its body.
 pub(crate) fn push_head(page: &mut Markup, title: &str) -> fmt::Result {
-    page.tagged(HEAD, &title, "</title>\n<style>\n")?;
+    page.enclose(HEAD, &title, "</title>\n<style>\n")?;
     page.own(STYLE)?;
     page.own("</style>\n</head>\n")
 }

@@ -29,7 +29,7 @@ pub(crate) fn date_of(day: Option<Day>) -> Option<Date> {
 /// Writes facts, each with its name.
 fn push_facts(page: &mut Markup, names: &[&str], values: &[Cell<'_>]) -> fmt::Result {
     for (name, value) in names.iter().zip(values) {
-        page.tagged("<div><dt>", name, "</dt><dd>")?;
+        page.enclose("<div><dt>", name, "</dt><dd>")?;
         push_content(page, value)?;
         page.own("</dd></div>\n")?;
     }

@@ -35,7 +35,7 @@ pub(crate) fn push_warnings_note(page: &mut Markup, warnings: &[Warning]) -> fmt
     page.own("</p>\n")?;
     for warning in warnings {
         if warning.subject == Scope::Plan {
-            page.tagged("<p class='warned'>Warning: ", &warning.advice, "</p>\n")?;
+            page.enclose("<p class='warned'>Warning: ", &warning.advice, "</p>\n")?;
         }
     }
     Ok(())

@@ -26,7 +26,7 @@ fn push_reasons(
 ) -> fmt::Result {
     for broken in reasons {
         if broken.violation.subject == *subject {
-            page.tagged("<tr class='why'><td colspan='", &columns, "'><p>")?;
+            page.enclose("<tr class='why'><td colspan='", &columns, "'><p>")?;
             write!(page, "{}: {}", broken.violation.rule, broken.reason)?;
             page.own("</p></td></tr>\n")?;
         }
@@ -43,7 +43,7 @@ fn push_warnings(
 ) -> fmt::Result {
     for warning in warnings {
         if warning.subject == Scope::Subject(*subject) {
-            page.tagged("<tr class='warned'><td colspan='", &columns, "'><p>")?;
+            page.enclose("<tr class='warned'><td colspan='", &columns, "'><p>")?;
             write!(page, "Warning: {}", warning.advice)?;
             page.own("</p></td></tr>\n")?;
         }

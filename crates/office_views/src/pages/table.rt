@@ -14,9 +14,9 @@ pub(crate) enum Column {
 fn push_headings(page: &mut Markup, columns: &[Column]) -> fmt::Result {
     for column in columns {
         match *column {
-            Column::Numbers(heading) => page.tagged("<th scope='col'>", &heading, "</th>")?,
+            Column::Numbers(heading) => page.enclose("<th scope='col'>", &heading, "</th>")?,
             Column::Words(heading) => {
-                page.tagged("<th scope='col' class='w'>", &heading, "</th>")?;
+                page.enclose("<th scope='col' class='w'>", &heading, "</th>")?;
             }
         }
     }
@@ -46,7 +46,7 @@ pub(crate) fn open_table(
 
 /// Writes the row of a table that has no other.
 pub(crate) fn push_none(page: &mut Markup, columns: usize) -> fmt::Result {
-    page.tagged(
+    page.enclose(
         "<tr><td class='none' colspan='",
         &columns,
         "'>none</td></tr>\n",
