@@ -13,7 +13,7 @@ use office_tables_shelf::shelf::Shelf;
 use office_views::{IndexEntry, IndexShown, add_entry, index_page};
 use signal_office_faults::{Done, Fault};
 use signal_plans::warnings;
-use signal_records::{Listing, NoMemory};
+use signal_records::{InterId, Listing, NoMemory};
 use std::alloc::Global;
 
 /// What an index shows of the intersections that were gathered so far.
@@ -65,6 +65,18 @@ pub(crate) fn index_over<S: Shelf>(
     Ok(index_page(alloc, &gathered.into_shown(), stock.as_slice(), day)?)
 }
 
+/// How many warnings the committed plan of an intersection has.
+fn count_warnings<S: Shelf>(
+    alloc: Global,
+    office: &mut Office<S>,
+    id: InterId,
+) -> Result<usize, Fault>
+    ensures { KeepsOffice S.Shelf office.old office.new }
+{
+    let timing = read_timing(alloc, office, id)?;
+    Ok(warnings(alloc, &timing.rows)?.len())
+}
+
 /// Reads what the index shows of an intersection, and adds it.
 fn gather<S: Shelf>(
     alloc: Global,
@@ -75,9 +87,8 @@ fn gather<S: Shelf>(
     ensures { KeepsOffice S.Shelf office.old office.new }
 {
     let cabinet = read_cabinet(alloc, office, listed.id)?;
-    let timing = read_timing(alloc, office, listed.id)?;
-    let warnings = warnings(alloc, &timing.rows)?;
-    Ok(gathered.add(listed, &cabinet, warnings.len())?)
+    let warnings = count_warnings(alloc, office, listed.id)?;
+    Ok(gathered.add(listed, &cabinet, warnings)?)
 }
 
 /// What the index shows of these intersections.

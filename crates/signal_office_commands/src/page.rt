@@ -4,6 +4,7 @@
 ghost use Rattle.office_desk.specs.Asks.{KeepsOffice};
 
 use crate::reads::{read_cabinet, read_open_draft, read_state, read_timing};
+use crate::reporting::report_of;
 use office_desk::office::Office;
 use office_machine::reply::{CabinetShown, IntersectionState};
 use office_tables_shelf::shelf::Shelf;
@@ -59,6 +60,12 @@ impl PageRead {
         };
         intersection_page(alloc, linked, &shown)
     }
+
+    /// The page, linked to the index of all or not.
+    fn page(&self, alloc: Global, linked: bool) -> Result<Vec<u8>, NoMemory> {
+        let warnings = warnings(alloc, &self.committed)?;
+        self.text(alloc, &warnings, linked)
+    }
 }
 
 /// The page of an intersection, linked to the index of all or not.
@@ -71,6 +78,5 @@ pub(crate) fn page<S: Shelf>(
     ensures { KeepsOffice S.Shelf office.old office.new }
 {
     let read = read_page(alloc, office, id)?;
-    let warnings = warnings(alloc, &read.committed)?;
-    Ok(Done::with(read.text(alloc, &warnings, linked)?))
+    report_of(read.page(alloc, linked))
 }

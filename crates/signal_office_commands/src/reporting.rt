@@ -17,14 +17,19 @@ use office_views::cabinet_text;
 use signal_diagram::diagram;
 use signal_office_faults::{Done, Fault};
 use signal_office_line::{Shown, View};
-use signal_records::{InterId, PatternNo};
+use signal_records::{InterId, NoMemory, PatternNo};
 use std::alloc::Global;
+
+/// What is printed of a text, with status 0; or that memory for it was refused.
+pub(crate) fn report_of(text: Result<Vec<u8>, NoMemory>) -> Result<Done, Fault> {
+    Ok(Done::with(text?))
+}
 
 fn sheet<S: Shelf>(alloc: Global, office: &mut Office<S>, id: InterId) -> Result<Done, Fault>
     ensures { KeepsOffice S.Shelf office.old office.new }
 {
     let timing = read_timing(alloc, office, id)?;
-    Ok(Done::with(timing_sheet(alloc, id, &timing.name, timing.revision, &timing.rows)?))
+    report_of(timing_sheet(alloc, id, &timing.name, timing.revision, &timing.rows))
 }
 
 fn cabinet<S: Shelf>(alloc: Global, office: &mut Office<S>, id: InterId) -> Result<Done, Fault>
@@ -32,7 +37,7 @@ fn cabinet<S: Shelf>(alloc: Global, office: &mut Office<S>, id: InterId) -> Resu
 {
     let state = read_state(alloc, office, id)?;
     let cabinet = read_cabinet(alloc, office, id)?;
-    Ok(Done::with(cabinet_text(alloc, &state.name, state.interval, &cabinet)?))
+    report_of(cabinet_text(alloc, &state.name, state.interval, &cabinet))
 }
 
 fn export_timing<S: Shelf>(
@@ -43,14 +48,14 @@ fn export_timing<S: Shelf>(
     ensures { KeepsOffice S.Shelf office.old office.new }
 {
     let timing = read_timing(alloc, office, id)?;
-    Ok(Done::with(timing_csv(alloc, &timing.rows)?))
+    report_of(timing_csv(alloc, &timing.rows))
 }
 
 fn export_draft<S: Shelf>(alloc: Global, office: &mut Office<S>, id: InterId) -> Result<Done, Fault>
     ensures { KeepsOffice S.Shelf office.old office.new }
 {
     match office.draft(alloc, id) {
-        Ok(draft) => Ok(Done::with(timing_csv(alloc, &draft.rows)?)),
+        Ok(draft) => report_of(timing_csv(alloc, &draft.rows)),
         Err(why) => Err(fault_of(why)),
     }
 }
@@ -63,7 +68,7 @@ fn export_cabinet<S: Shelf>(
     ensures { KeepsOffice S.Shelf office.old office.new }
 {
     let cabinet = read_cabinet(alloc, office, id)?;
-    Ok(Done::with(records_csv(alloc, id, &cabinet.view)?))
+    report_of(records_csv(alloc, id, &cabinet.view))
 }
 
 fn export<S: Shelf>(
