@@ -3,13 +3,13 @@
 //! All rows are read twice: first only to learn that each is a record, so that nothing is put where
 //! one is not; then, intersection by intersection, for the texts. So memory does not grow with
 //! texts.
-#![tactic(auto, using(office_desk::proofs::Looks::keeps_then, office_desk::proofs::Looks::keeps_none))]
+#![tactic(auto, using(office_desk::proofs::Looks::keeps, office_desk::proofs::Looks::keeps_then, office_desk::proofs::Looks::keeps_none))]
 
 ghost use Rattle.office_desk.specs.Asks.{KeepsOffice};
 
 use crate::index::{Gathered, index_over};
 use crate::page::{PageRead, read_page};
-use crate::reads::{read_cabinet, read_intersections, read_stock, read_timing};
+use crate::reads::{or_fault, read_intersections};
 use crate::reporting::report;
 use cabinet_core::Day;
 use office_desk::office::Office;
@@ -25,8 +25,8 @@ use std::alloc::Global;
 fn read_exports<S: Shelf>(alloc: Global, office: &mut Office<S>, id: InterId) -> Result<(), Fault>
     ensures { KeepsOffice S.Shelf office.old office.new }
 {
-    read_timing(alloc, office, id)?;
-    read_cabinet(alloc, office, id)?;
+    or_fault(office.timing(alloc, id))?;
+    or_fault(office.cabinet(alloc, id))?;
     Ok(())
 }
 
@@ -57,7 +57,7 @@ fn read_all<S: Shelf>(
 ) -> Result<(), Fault>
     ensures { KeepsOffice S.Shelf office.old office.new }
 {
-    read_stock(alloc, office)?;
+    or_fault(office.stock(alloc))?;
     for one in listed {
         read_shown(alloc, office, kind, one.id)?;
     }

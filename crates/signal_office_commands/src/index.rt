@@ -1,9 +1,10 @@
 //! The index of all intersections.
-#![tactic(auto, using(office_desk::proofs::Looks::keeps_then, office_desk::proofs::Looks::keeps_none))]
+#![tactic(auto, using(office_desk::proofs::Looks::keeps, office_desk::proofs::Looks::keeps_then, office_desk::proofs::Looks::keeps_none))]
 
 ghost use Rattle.office_desk.specs.Asks.{KeepsOffice};
 
-use crate::reads::{read_cabinet, read_intersections, read_stock, read_timing};
+use crate::reads::{or_fault, read_intersections};
+use crate::reporting::Report;
 use cabinet_core::Day;
 use office_desk::office::Office;
 use office_machine::intersections::ListedIntersection;
@@ -61,7 +62,7 @@ pub(crate) fn index_over<S: Shelf>(
 ) -> Result<Vec<u8>, Fault>
     ensures { KeepsOffice S.Shelf office.old office.new }
 {
-    let stock = read_stock(alloc, office)?;
+    let stock = or_fault(office.stock(alloc))?;
     Ok(index_page(alloc, &gathered.into_shown(), stock.as_slice(), day)?)
 }
 
@@ -73,7 +74,7 @@ fn count_warnings<S: Shelf>(
 ) -> Result<usize, Fault>
     ensures { KeepsOffice S.Shelf office.old office.new }
 {
-    let timing = read_timing(alloc, office, id)?;
+    let timing = or_fault(office.timing(alloc, id))?;
     Ok(warnings(alloc, &timing.rows)?.len())
 }
 
@@ -86,7 +87,7 @@ fn gather<S: Shelf>(
 ) -> Result<(), Fault>
     ensures { KeepsOffice S.Shelf office.old office.new }
 {
-    let cabinet = read_cabinet(alloc, office, listed.id)?;
+    let cabinet = or_fault(office.cabinet(alloc, listed.id))?;
     let warnings = count_warnings(alloc, office, listed.id)?;
     Ok(gathered.add(listed, &cabinet, warnings)?)
 }
@@ -107,11 +108,7 @@ fn gather_all<S: Shelf>(
 }
 
 /// The index page of all intersections.
-pub(crate) fn index<S: Shelf>(
-    alloc: Global,
-    office: &mut Office<S>,
-    day: Option<Day>,
-) -> Result<Done, Fault>
+pub(crate) fn index<S: Shelf>(alloc: Global, office: &mut Office<S>, day: Option<Day>) -> Report
     ensures { KeepsOffice S.Shelf office.old office.new }
 {
     let listed = read_intersections(alloc, office)?;

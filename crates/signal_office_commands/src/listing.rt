@@ -1,11 +1,10 @@
 //! Lists of an office: intersections, stock, orders, used parts, late inspections.
-#![tactic(auto, using(office_desk::proofs::Looks::keeps_then, office_desk::proofs::Looks::keeps_none, crate::proofs::LookLemmas::keeps_shelf))]
+#![tactic(auto, using(office_desk::proofs::Looks::keeps, office_desk::proofs::Looks::keeps_then, office_desk::proofs::Looks::keeps_none, crate::proofs::LookLemmas::keeps_shelf))]
 
 ghost use Rattle.office_desk.specs.Asks.{KeepsOffice};
 
-use crate::reads::{read_cabinet, read_intersections, read_state, read_stock};
-use crate::refused::fault_of;
-use crate::reporting::report_of;
+use crate::reads::{or_fault, read_intersections};
+use crate::reporting::{Report, report_of};
 use cabinet_core::{Day, Order, OverdueRow, PartCode};
 use office_desk::office::Office;
 use office_files::overdue_text;
@@ -17,7 +16,7 @@ use office_views::{
     UsedPart, add_used, intersections_list, orders_list, orders_text, overdue_csv, stock_list,
     used_list,
 };
-use signal_office_faults::{Done, Fault};
+use signal_office_faults::Fault;
 use signal_office_line::Part;
 use signal_records::{InterId, NoMemory, Words};
 use std::alloc::Global;
@@ -43,34 +42,24 @@ pub(crate) fn overdue<S: Shelf>(
     day: Day,
     most: usize,
     csv: bool,
-) -> Result<Done, Fault>
+) -> Report
     ensures { KeepsOffice S.Shelf office.old office.new }
 {
-    match office.overdue_first(alloc, day, most) {
-        Ok(rows) => report_of(overdue_list(alloc, day, csv, &rows)),
-        Err(why) => Err(fault_of(why)),
-    }
+    let rows = or_fault(office.overdue_first(alloc, day, most))?;
+    report_of(overdue_list(alloc, day, csv, &rows))
 }
 
-pub(crate) fn list<S: Shelf>(
-    alloc: Global,
-    office: &mut Office<S>,
-    csv: bool,
-) -> Result<Done, Fault>
+pub(crate) fn list<S: Shelf>(alloc: Global, office: &mut Office<S>, csv: bool) -> Report
     ensures { KeepsOffice S.Shelf office.old office.new }
 {
     let listed = read_intersections(alloc, office)?;
     report_of(intersections_list(alloc, csv, &listed))
 }
 
-pub(crate) fn stock<S: Shelf>(
-    alloc: Global,
-    office: &mut Office<S>,
-    csv: bool,
-) -> Result<Done, Fault>
+pub(crate) fn stock<S: Shelf>(alloc: Global, office: &mut Office<S>, csv: bool) -> Report
     ensures { KeepsOffice S.Shelf office.old office.new }
 {
-    let parts = read_stock(alloc, office)?;
+    let parts = or_fault(office.stock(alloc))?;
     report_of(stock_list(alloc, csv, parts.as_slice()))
 }
 
@@ -97,14 +86,12 @@ fn named_list(
     orders_list(alloc, csv, &found)
 }
 
-fn orders_of_all<S: Shelf>(alloc: Global, office: &mut Office<S>, csv: bool) -> Result<Done, Fault>
+fn orders_of_all<S: Shelf>(alloc: Global, office: &mut Office<S>, csv: bool) -> Report
     ensures { KeepsOffice S.Shelf office.old office.new }
 {
     let listed = read_intersections(alloc, office)?;
-    match office.open_orders(alloc) {
-        Ok(orders) => report_of(named_list(alloc, &listed, &orders, csv)),
-        Err(why) => Err(fault_of(why)),
-    }
+    let orders = or_fault(office.open_orders(alloc))?;
+    report_of(named_list(alloc, &listed, &orders, csv))
 }
 
 fn open_text(alloc: Global, cabinet: &CabinetShown) -> Result<Vec<u8>, NoMemory> {
@@ -113,10 +100,10 @@ fn open_text(alloc: Global, cabinet: &CabinetShown) -> Result<Vec<u8>, NoMemory>
     orders_text(alloc, &found)
 }
 
-fn orders_on<S: Shelf>(alloc: Global, office: &mut Office<S>, id: InterId) -> Result<Done, Fault>
+fn orders_on<S: Shelf>(alloc: Global, office: &mut Office<S>, id: InterId) -> Report
     ensures { KeepsOffice S.Shelf office.old office.new }
 {
-    let cabinet = read_cabinet(alloc, office, id)?;
+    let cabinet = or_fault(office.cabinet(alloc, id))?;
     report_of(open_text(alloc, &cabinet))
 }
 
@@ -126,15 +113,11 @@ fn open_csv(alloc: Global, name: &Words<120>, cabinet: &CabinetShown) -> Result<
     orders_list(alloc, true, &found)
 }
 
-fn orders_csv_on<S: Shelf>(
-    alloc: Global,
-    office: &mut Office<S>,
-    id: InterId,
-) -> Result<Done, Fault>
+fn orders_csv_on<S: Shelf>(alloc: Global, office: &mut Office<S>, id: InterId) -> Report
     ensures { KeepsOffice S.Shelf office.old office.new }
 {
-    let state = read_state(alloc, office, id)?;
-    let cabinet = read_cabinet(alloc, office, id)?;
+    let state = or_fault(office.state(alloc, id))?;
+    let cabinet = or_fault(office.cabinet(alloc, id))?;
     report_of(open_csv(alloc, &state.name, &cabinet))
 }
 
@@ -144,7 +127,7 @@ pub(crate) fn orders<S: Shelf>(
     office: &mut Office<S>,
     id: Option<InterId>,
     csv: bool,
-) -> Result<Done, Fault>
+) -> Report
     ensures { KeepsOffice S.Shelf office.old office.new }
 {
     match (id, csv) {
@@ -164,7 +147,7 @@ fn add_used_on<S: Shelf>(
 ) -> Result<(), Fault>
     ensures { KeepsOffice S.Shelf office.old office.new }
 {
-    let cabinet = read_cabinet(alloc, office, id)?;
+    let cabinet = or_fault(office.cabinet(alloc, id))?;
     Ok(add_used(found, part, &cabinet)?)
 }
 
@@ -197,7 +180,7 @@ pub(crate) fn used<S: Shelf>(
     office: &mut Office<S>,
     part: &Option<Part<'_>>,
     csv: bool,
-) -> Result<Done, Fault>
+) -> Report
     ensures { KeepsOffice S.Shelf office.old office.new }
 {
     let part = code_of(alloc, part)?;
