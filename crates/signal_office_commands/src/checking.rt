@@ -5,7 +5,7 @@ ghost use Rattle.office_desk.specs.Asks.{KeepsOffice};
 
 use crate::check_text::checks_text;
 use crate::reading::records_in;
-use crate::refused::fault_of;
+use crate::reads::or_fault;
 use office_desk::Checked;
 use office_desk::office::Office;
 use office_tables_shelf::shelf::Shelf;
@@ -40,8 +40,6 @@ pub fn check<S: Shelf>(
     ensures { KeepsOffice S.Shelf office.old office.new }
 {
     let records = records_in(alloc, csv)?;
-    match office.check(alloc, &records) {
-        Ok(all) => tell_checked(alloc, lines, &all),
-        Err(why) => Err(fault_of(why)),
-    }
+    let all = or_fault(office.check(alloc, &records))?;
+    tell_checked(alloc, lines, &all)
 }

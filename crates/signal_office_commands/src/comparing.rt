@@ -1,10 +1,10 @@
 //! What two plans differ in: of two CSV files, of a draft, or of a file and what runs.
-#![tactic(auto, using(office_desk::proofs::Looks::keeps_then))]
+#![tactic(auto, using(office_desk::proofs::Looks::keeps, office_desk::proofs::Looks::keeps_then))]
 
 ghost use Rattle.office_desk.specs.Asks.{KeepsOffice};
 
-use crate::reads::read_timing;
-use crate::refused::fault_of;
+use crate::reads::or_fault;
+use crate::reporting::Report;
 use office_desk::office::Office;
 use office_files::{CsvFault, changes_csv, read_plan_csv};
 use office_tables_shelf::shelf::Shelf;
@@ -18,12 +18,7 @@ const DIFFERS: u8 = 4;
 
 /// What two plans differ in, in the order of the keys: a text, or as CSV the changes that make the
 /// second of the first. The status is 4 where they differ, else 0.
-fn comparison(
-    alloc: Global,
-    before: &TimingSet,
-    after: &TimingSet,
-    csv: bool,
-) -> Result<Done, Fault> {
+fn comparison(alloc: Global, before: &TimingSet, after: &TimingSet, csv: bool) -> Report {
     let differences = compare(alloc, before, after)?;
     let text = if csv {
         changes_csv(alloc, &changes(alloc, &differences)?)?
@@ -51,14 +46,12 @@ pub(crate) fn compare_draft<S: Shelf>(
     office: &mut Office<S>,
     id: InterId,
     csv: bool,
-) -> Result<Done, Fault>
+) -> Report
     ensures { KeepsOffice S.Shelf office.old office.new }
 {
-    let timing = read_timing(alloc, office, id)?;
-    match office.draft(alloc, id) {
-        Ok(draft) => comparison(alloc, &timing.rows, &draft.rows, csv),
-        Err(why) => Err(fault_of(why)),
-    }
+    let timing = or_fault(office.timing(alloc, id))?;
+    let draft = or_fault(office.draft(alloc, id))?;
+    comparison(alloc, &timing.rows, &draft.rows, csv)
 }
 
 /// What the plan in a CSV file differs in from the committed timing set. The first bad record of
@@ -69,10 +62,10 @@ pub(crate) fn compare_running<S: Shelf>(
     id: InterId,
     plan: &[u8],
     csv: bool,
-) -> Result<Done, Fault>
+) -> Report
     ensures { KeepsOffice S.Shelf office.old office.new }
 {
-    let timing = read_timing(alloc, office, id)?;
+    let timing = or_fault(office.timing(alloc, id))?;
     let plan = read_plan_csv(alloc, plan)?;
     comparison(alloc, &timing.rows, &plan, csv)
 }

@@ -3,13 +3,13 @@
 //! All rows are read twice: first only to learn that each is a record, so that nothing is put where
 //! one is not; then, intersection by intersection, for the texts. So memory does not grow with
 //! texts.
-#![tactic(auto, using(office_desk::proofs::Looks::keeps_then, office_desk::proofs::Looks::keeps_none))]
+#![tactic(auto, using(office_desk::proofs::Looks::keeps, office_desk::proofs::Looks::keeps_then, office_desk::proofs::Looks::keeps_none))]
 
 ghost use Rattle.office_desk.specs.Asks.{KeepsOffice};
 
 use crate::index::{Gathered, index_over};
-use crate::page::read_page;
-use crate::reads::{read_cabinet, read_intersections, read_stock, read_timing};
+use crate::page::{PageRead, read_page};
+use crate::reads::{or_fault, read_intersections};
 use crate::reporting::report;
 use cabinet_core::Day;
 use office_desk::office::Office;
@@ -21,6 +21,15 @@ use signal_plans::warnings;
 use signal_records::InterId;
 use std::alloc::Global;
 
+/// Reads the plan and the cabinet of an intersection.
+fn read_exports<S: Shelf>(alloc: Global, office: &mut Office<S>, id: InterId) -> Result<(), Fault>
+    ensures { KeepsOffice S.Shelf office.old office.new }
+{
+    or_fault(office.timing(alloc, id))?;
+    or_fault(office.cabinet(alloc, id))?;
+    Ok(())
+}
+
 /// Reads all rows that a folder shows of an intersection.
 fn read_shown<S: Shelf>(
     alloc: Global,
@@ -31,11 +40,7 @@ fn read_shown<S: Shelf>(
     ensures { KeepsOffice S.Shelf office.old office.new }
 {
     match kind {
-        FolderKind::Records => {
-            read_timing(alloc, office, id)?;
-            read_cabinet(alloc, office, id)?;
-            Ok(())
-        }
+        FolderKind::Records => read_exports(alloc, office, id),
         FolderKind::Pages { .. } => {
             read_page(alloc, office, id)?;
             Ok(())
@@ -52,7 +57,7 @@ fn read_all<S: Shelf>(
 ) -> Result<(), Fault>
     ensures { KeepsOffice S.Shelf office.old office.new }
 {
-    read_stock(alloc, office)?;
+    or_fault(office.stock(alloc))?;
     for one in listed {
         read_shown(alloc, office, kind, one.id)?;
     }
@@ -131,6 +136,21 @@ fn put_records<S: Shelf, D: Folder>(
     Ok(())
 }
 
+/// Puts the page of an intersection, by what was read of it, and gathers what the index shows of it.
+fn put_read_page<D: Folder>(
+    alloc: Global,
+    listed: &ListedIntersection,
+    read: &PageRead,
+    gathered: &mut Gathered,
+    folder: &mut D,
+) -> Result<(), Fault> {
+    let warnings = warnings(alloc, &read.committed)?;
+    gathered.add(listed, &read.cabinet, warnings.len())?;
+    let number = listed.id.get();
+    let name = format!(in alloc; "{number}.html")?;
+    folder.put(name.as_str(), &read.text(alloc, &warnings, true)?)
+}
+
 /// Puts the page of an intersection, and gathers what the index shows of it.
 fn put_page<S: Shelf, D: Folder>(
     alloc: Global,
@@ -142,11 +162,7 @@ fn put_page<S: Shelf, D: Folder>(
     ensures { KeepsOffice S.Shelf office.old office.new }
 {
     let read = read_page(alloc, office, listed.id)?;
-    let warnings = warnings(alloc, &read.committed)?;
-    let number = listed.id.get();
-    let name = format!(in alloc; "{number}.html")?;
-    folder.put(name.as_str(), &read.text(alloc, &warnings, true)?)?;
-    Ok(gathered.add(listed, &read.cabinet, warnings.len())?)
+    put_read_page(alloc, listed, &read, gathered, folder)
 }
 
 /// Puts the page of each intersection, and then the index, which links to them.

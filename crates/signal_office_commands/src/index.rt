@@ -1,9 +1,10 @@
 //! The index of all intersections.
-#![tactic(auto, using(office_desk::proofs::Looks::keeps_then, office_desk::proofs::Looks::keeps_none))]
+#![tactic(auto, using(office_desk::proofs::Looks::keeps, office_desk::proofs::Looks::keeps_then, office_desk::proofs::Looks::keeps_none))]
 
 ghost use Rattle.office_desk.specs.Asks.{KeepsOffice};
 
-use crate::reads::{read_cabinet, read_intersections, read_stock, read_timing};
+use crate::reads::{or_fault, read_intersections};
+use crate::reporting::Report;
 use cabinet_core::Day;
 use office_desk::office::Office;
 use office_machine::intersections::ListedIntersection;
@@ -13,7 +14,7 @@ use office_tables_shelf::shelf::Shelf;
 use office_views::{IndexEntry, IndexShown, add_entry, index_page};
 use signal_office_faults::{Done, Fault};
 use signal_plans::warnings;
-use signal_records::{Listing, NoMemory};
+use signal_records::{InterId, Listing, NoMemory};
 use std::alloc::Global;
 
 /// What an index shows of the intersections that were gathered so far.
@@ -61,8 +62,20 @@ pub(crate) fn index_over<S: Shelf>(
 ) -> Result<Vec<u8>, Fault>
     ensures { KeepsOffice S.Shelf office.old office.new }
 {
-    let stock = read_stock(alloc, office)?;
+    let stock = or_fault(office.stock(alloc))?;
     Ok(index_page(alloc, &gathered.into_shown(), stock.as_slice(), day)?)
+}
+
+/// How many warnings the committed plan of an intersection has.
+fn count_warnings<S: Shelf>(
+    alloc: Global,
+    office: &mut Office<S>,
+    id: InterId,
+) -> Result<usize, Fault>
+    ensures { KeepsOffice S.Shelf office.old office.new }
+{
+    let timing = or_fault(office.timing(alloc, id))?;
+    Ok(warnings(alloc, &timing.rows)?.len())
 }
 
 /// Reads what the index shows of an intersection, and adds it.
@@ -74,10 +87,9 @@ fn gather<S: Shelf>(
 ) -> Result<(), Fault>
     ensures { KeepsOffice S.Shelf office.old office.new }
 {
-    let cabinet = read_cabinet(alloc, office, listed.id)?;
-    let timing = read_timing(alloc, office, listed.id)?;
-    let warnings = warnings(alloc, &timing.rows)?;
-    Ok(gathered.add(listed, &cabinet, warnings.len())?)
+    let cabinet = or_fault(office.cabinet(alloc, listed.id))?;
+    let warnings = count_warnings(alloc, office, listed.id)?;
+    Ok(gathered.add(listed, &cabinet, warnings)?)
 }
 
 /// What the index shows of these intersections.
@@ -96,11 +108,7 @@ fn gather_all<S: Shelf>(
 }
 
 /// The index page of all intersections.
-pub(crate) fn index<S: Shelf>(
-    alloc: Global,
-    office: &mut Office<S>,
-    day: Option<Day>,
-) -> Result<Done, Fault>
+pub(crate) fn index<S: Shelf>(alloc: Global, office: &mut Office<S>, day: Option<Day>) -> Report
     ensures { KeepsOffice S.Shelf office.old office.new }
 {
     let listed = read_intersections(alloc, office)?;

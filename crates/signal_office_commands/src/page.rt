@@ -1,14 +1,15 @@
 //! The page of an intersection, and all that is read for it.
-#![tactic(auto, using(office_desk::proofs::Looks::keeps_then))]
+#![tactic(auto, using(office_desk::proofs::Looks::keeps, office_desk::proofs::Looks::keeps_then))]
 
 ghost use Rattle.office_desk.specs.Asks.{KeepsOffice};
 
-use crate::reads::{read_cabinet, read_open_draft, read_state, read_timing};
+use crate::reads::{or_fault, read_open_draft};
+use crate::reporting::{Report, report_of};
 use office_desk::office::Office;
 use office_machine::reply::{CabinetShown, IntersectionState};
 use office_tables_shelf::shelf::Shelf;
 use office_views::{IntersectionShown, intersection_page};
-use signal_office_faults::{Done, Fault};
+use signal_office_faults::Fault;
 use signal_plans::{Warning, warnings};
 use signal_records::{InterId, NoMemory, TimingSet};
 use std::alloc::Global;
@@ -30,10 +31,10 @@ pub(crate) fn read_page<S: Shelf>(
 ) -> Result<PageRead, Fault>
     ensures { KeepsOffice S.Shelf office.old office.new }
 {
-    let state = read_state(alloc, office, id)?;
-    let timing = read_timing(alloc, office, id)?;
+    let state = or_fault(office.state(alloc, id))?;
+    let timing = or_fault(office.timing(alloc, id))?;
     let draft = read_open_draft(alloc, office, &state)?;
-    let cabinet = read_cabinet(alloc, office, id)?;
+    let cabinet = or_fault(office.cabinet(alloc, id))?;
     Ok(PageRead {
         state,
         committed: timing.rows,
@@ -59,6 +60,12 @@ impl PageRead {
         };
         intersection_page(alloc, linked, &shown)
     }
+
+    /// The page, linked to the index of all or not.
+    fn page(&self, alloc: Global, linked: bool) -> Result<Vec<u8>, NoMemory> {
+        let warnings = warnings(alloc, &self.committed)?;
+        self.text(alloc, &warnings, linked)
+    }
 }
 
 /// The page of an intersection, linked to the index of all or not.
@@ -67,10 +74,9 @@ pub(crate) fn page<S: Shelf>(
     office: &mut Office<S>,
     id: InterId,
     linked: bool,
-) -> Result<Done, Fault>
+) -> Report
     ensures { KeepsOffice S.Shelf office.old office.new }
 {
     let read = read_page(alloc, office, id)?;
-    let warnings = warnings(alloc, &read.committed)?;
-    Ok(Done::with(read.text(alloc, &warnings, linked)?))
+    report_of(read.page(alloc, linked))
 }

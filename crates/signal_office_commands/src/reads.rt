@@ -8,38 +8,29 @@ use crate::standing::held_rows;
 use draft_core::state::DbState;
 use office_desk::office::Office;
 use office_machine::intersections::ListedIntersection;
-use office_machine::reply::{CabinetShown, IntersectionState, RunningTiming, Stock};
+use office_machine::refusal::Refusal;
+use office_machine::reply::IntersectionState;
 use office_tables_shelf::shelf::Shelf;
 use signal_office_faults::Fault;
-use signal_records::{InterId, TimingSet};
+use signal_records::TimingSet;
 use std::alloc::Global;
 
-/// The state of an intersection.
-pub(crate) fn read_state<S: Shelf>(
-    alloc: Global,
-    office: &mut Office<S>,
-    id: InterId,
-) -> Result<IntersectionState, Fault>
-    ensures { KeepsOffice S.Shelf office.old office.new }
-{
-    match office.state(alloc, id) {
-        Ok(state) => Ok(state),
+/// What was read, or the fault of a refused read.
+pub(crate) fn or_fault<T: Drop>(read: Result<T, Refusal>) -> Result<T, Fault> {
+    match read {
+        Ok(it) => Ok(it),
         Err(why) => Err(fault_of(why)),
     }
 }
 
-/// The committed timing set of an intersection, with its name and its revision.
-pub(crate) fn read_timing<S: Shelf>(
+/// All intersections, in ascending order of their numbers.
+pub(crate) fn read_intersections<S: Shelf>(
     alloc: Global,
     office: &mut Office<S>,
-    id: InterId,
-) -> Result<RunningTiming, Fault>
+) -> Result<Vec<ListedIntersection>, Fault>
     ensures { KeepsOffice S.Shelf office.old office.new }
 {
-    match office.timing(alloc, id) {
-        Ok(timing) => Ok(timing),
-        Err(why) => Err(fault_of(why)),
-    }
+    or_fault(office.intersections(alloc))
 }
 
 /// The rows of the draft of an intersection, where a clerk holds one. No draft is read where the
@@ -54,42 +45,5 @@ pub(crate) fn read_open_draft<S: Shelf>(
     match state.state {
         DbState::Normal => Ok(None),
         _ => held_rows(office.draft(alloc, state.id)),
-    }
-}
-
-/// All that the register holds of an intersection.
-pub(crate) fn read_cabinet<S: Shelf>(
-    alloc: Global,
-    office: &mut Office<S>,
-    id: InterId,
-) -> Result<CabinetShown, Fault>
-    ensures { KeepsOffice S.Shelf office.old office.new }
-{
-    match office.cabinet(alloc, id) {
-        Ok(cabinet) => Ok(cabinet),
-        Err(why) => Err(fault_of(why)),
-    }
-}
-
-/// How many of each part are on hand.
-pub(crate) fn read_stock<S: Shelf>(alloc: Global, office: &mut Office<S>) -> Result<Stock, Fault>
-    ensures { KeepsOffice S.Shelf office.old office.new }
-{
-    match office.stock(alloc) {
-        Ok(parts) => Ok(parts),
-        Err(why) => Err(fault_of(why)),
-    }
-}
-
-/// All intersections, in ascending order of their numbers.
-pub(crate) fn read_intersections<S: Shelf>(
-    alloc: Global,
-    office: &mut Office<S>,
-) -> Result<Vec<ListedIntersection>, Fault>
-    ensures { KeepsOffice S.Shelf office.old office.new }
-{
-    match office.intersections(alloc) {
-        Ok(listed) => Ok(listed),
-        Err(why) => Err(fault_of(why)),
     }
 }

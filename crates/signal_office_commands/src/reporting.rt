@@ -1,6 +1,6 @@
 //! Reports of an office: what is read of it, and the text that is made of that. A new report is a
 //! `Shown` with a function of its own.
-#![tactic(auto, using(office_desk::proofs::Looks::keeps))]
+#![tactic(auto, using(office_desk::proofs::Looks::keeps, office_desk::proofs::Looks::keeps_then))]
 
 ghost use Rattle.office_desk.specs.Asks.{KeepsOffice};
 
@@ -8,8 +8,7 @@ use crate::comparing::{compare_draft, compare_running};
 use crate::index::index;
 use crate::listing::{list, orders, overdue, stock, used};
 use crate::page::page;
-use crate::reads::{read_cabinet, read_state, read_timing};
-use crate::refused::fault_of;
+use crate::reads::or_fault;
 use office_desk::office::Office;
 use office_files::{records_csv, timing_csv, timing_sheet};
 use office_tables_shelf::shelf::Shelf;
@@ -17,61 +16,54 @@ use office_views::cabinet_text;
 use signal_diagram::diagram;
 use signal_office_faults::{Done, Fault};
 use signal_office_line::{Shown, View};
-use signal_records::{InterId, PatternNo};
+use signal_records::{InterId, NoMemory, PatternNo};
 use std::alloc::Global;
 
-fn sheet<S: Shelf>(alloc: Global, office: &mut Office<S>, id: InterId) -> Result<Done, Fault>
-    ensures { KeepsOffice S.Shelf office.old office.new }
-{
-    let timing = read_timing(alloc, office, id)?;
-    Ok(Done::with(timing_sheet(alloc, id, &timing.name, timing.revision, &timing.rows)?))
+/// What a report comes to.
+pub(crate) type Report = Result<Done, Fault>;
+
+/// What is printed of a text, with status 0; or that memory for it was refused.
+pub(crate) fn report_of(text: Result<Vec<u8>, NoMemory>) -> Report {
+    Ok(Done::with(text?))
 }
 
-fn cabinet<S: Shelf>(alloc: Global, office: &mut Office<S>, id: InterId) -> Result<Done, Fault>
+fn sheet<S: Shelf>(alloc: Global, office: &mut Office<S>, id: InterId) -> Report
     ensures { KeepsOffice S.Shelf office.old office.new }
 {
-    let state = read_state(alloc, office, id)?;
-    let cabinet = read_cabinet(alloc, office, id)?;
-    Ok(Done::with(cabinet_text(alloc, &state.name, state.interval, &cabinet)?))
+    let timing = or_fault(office.timing(alloc, id))?;
+    report_of(timing_sheet(alloc, id, &timing.name, timing.revision, &timing.rows))
 }
 
-fn export_timing<S: Shelf>(
-    alloc: Global,
-    office: &mut Office<S>,
-    id: InterId,
-) -> Result<Done, Fault>
+fn cabinet<S: Shelf>(alloc: Global, office: &mut Office<S>, id: InterId) -> Report
     ensures { KeepsOffice S.Shelf office.old office.new }
 {
-    let timing = read_timing(alloc, office, id)?;
-    Ok(Done::with(timing_csv(alloc, &timing.rows)?))
+    let state = or_fault(office.state(alloc, id))?;
+    let cabinet = or_fault(office.cabinet(alloc, id))?;
+    report_of(cabinet_text(alloc, &state.name, state.interval, &cabinet))
 }
 
-fn export_draft<S: Shelf>(alloc: Global, office: &mut Office<S>, id: InterId) -> Result<Done, Fault>
+fn export_timing<S: Shelf>(alloc: Global, office: &mut Office<S>, id: InterId) -> Report
     ensures { KeepsOffice S.Shelf office.old office.new }
 {
-    match office.draft(alloc, id) {
-        Ok(draft) => Ok(Done::with(timing_csv(alloc, &draft.rows)?)),
-        Err(why) => Err(fault_of(why)),
-    }
+    let timing = or_fault(office.timing(alloc, id))?;
+    report_of(timing_csv(alloc, &timing.rows))
 }
 
-fn export_cabinet<S: Shelf>(
-    alloc: Global,
-    office: &mut Office<S>,
-    id: InterId,
-) -> Result<Done, Fault>
+fn export_draft<S: Shelf>(alloc: Global, office: &mut Office<S>, id: InterId) -> Report
     ensures { KeepsOffice S.Shelf office.old office.new }
 {
-    let cabinet = read_cabinet(alloc, office, id)?;
-    Ok(Done::with(records_csv(alloc, id, &cabinet.view)?))
+    let draft = or_fault(office.draft(alloc, id))?;
+    report_of(timing_csv(alloc, &draft.rows))
 }
 
-fn export<S: Shelf>(
-    alloc: Global,
-    office: &mut Office<S>,
-    id: InterId,
-    view: View,
-) -> Result<Done, Fault>
+fn export_cabinet<S: Shelf>(alloc: Global, office: &mut Office<S>, id: InterId) -> Report
+    ensures { KeepsOffice S.Shelf office.old office.new }
+{
+    let cabinet = or_fault(office.cabinet(alloc, id))?;
+    report_of(records_csv(alloc, id, &cabinet.view))
+}
+
+fn export<S: Shelf>(alloc: Global, office: &mut Office<S>, id: InterId, view: View) -> Report
     ensures { KeepsOffice S.Shelf office.old office.new }
 {
     match view {
@@ -86,10 +78,10 @@ fn picture<S: Shelf>(
     office: &mut Office<S>,
     id: InterId,
     pattern: PatternNo,
-) -> Result<Done, Fault>
+) -> Report
     ensures { KeepsOffice S.Shelf office.old office.new }
 {
-    let timing = read_timing(alloc, office, id)?;
+    let timing = or_fault(office.timing(alloc, id))?;
     match diagram(alloc, &timing.rows, pattern)? {
         Some(text) => Ok(Done::with(text)),
         None => Err(Fault::UnknownPattern),
