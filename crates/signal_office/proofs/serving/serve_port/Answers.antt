@@ -1,9 +1,11 @@
-use Rattle.std.proofs.Common.{◌≡◌, [], ap, inl, inr, refl, subst}
+use Rattle.std.proofs.Common.{◌≡◌, ◌∙◌, [], ap, inl, inr, refl, subst, sym}
 use Rattle.std.specs.Prelude.{IsErrAnd, MatchResult, Result, Ok, Err, ⊤}
 use Rattle.office_http.proofs.ListeningLemmas.{listens-start}
 use Rattle.office_http.specs.Listening.{EndsListening, counts_alone}
 use Rattle.office_http.specs.declared.listening.ServeStop.{ServeStop}
+use Rattle.office_http.specs.declared.listening.ServeStop.TheVariants as stop
 use Rattle.signal_office_faults.specs.declared.fault.Fault.{Fault}
+use Rattle.signal_office_faults.specs.declared.fault.Fault.TheVariants as fault
 use Rattle.signal_office.specs.Serving.{ended_as, fault_of_stop}
 use Rattle.signal_office.proofs.serving.serve_port.Goals as goal
 
@@ -26,3 +28,13 @@ returns-clause-did g c clean before tables keeps =
     let ended = c.serve_each-served.ensures.did clean before tables keeps in
     let counted = subst (λ counts. EndsListening c.args.count (counts_alone counts) (counts_alone c.serve_each-served.new.listener) ended.0 c.serve_each-served.result) c.new-listener.ensures ended.2 in
     (ended.0, ended.1, inr (c.serve_each-served.result, counted, told_as c.serve_each-served.result c.map_err.result c.map_err.ensures.cases))
+
+-- a listener that was not served to the last connection is not told as an output that failed
+never_write : (ended : Result ⊤ ServeStop) → ended_as ended ≡ Err fault.Write → ⊥
+never_write (Ok done) is = cc
+never_write (Err stop.Accept) is = cc
+never_write (Err stop.NoMemory) is = cc
+
+pub returns-clause-unwritten : goal.returns-clause-unwritten
+returns-clause-unwritten g c is =
+    absurd (never_write c.serve_each-served.result (sym (told_as c.serve_each-served.result c.map_err.result c.map_err.ensures.cases) ∙ is))

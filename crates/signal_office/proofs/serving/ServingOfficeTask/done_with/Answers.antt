@@ -9,7 +9,7 @@ returns g c =
       clean = port.clean;
       honest = port.honest;
       does = λ clean honest.
-          serves g.S.Shelf c.args.self.now.count c.args.office.old c.serve_port.new.office served.0 served.1 port.told (port.did clean) honest;
-      stop = served_within g.S.Shelf c.args.office.old c.serve_port.new.office
+          serves g.S.Shelf c.args.self.now.count c.args.office.now c.serve_port.new.office served.0 served.1 port.told (port.did clean) honest;
+      stop = served_within g.S.Shelf c.args.office.now c.serve_port.new.office
           (λ clean before tables keeps. let x = port.did clean before tables keeps in (x.0, x.1));
     }
