@@ -103,11 +103,6 @@ pub(crate) fn push_line(
     Ok(push_record(text, columns, &record)?)
 }
 
-/// Appends words.
-pub(crate) fn push_words(text: &mut Vec<u8>, words: &str) -> Result<(), AllocError> {
-    text.extend_from_slice(words.as_bytes())
-}
-
 /// A list as lines: its heading, the line of each record, and their count.
 pub(crate) fn print_lines(
     alloc: Global,
@@ -118,11 +113,11 @@ pub(crate) fn print_lines(
     let count = records.len();
     let end = format!(in alloc; "Count {count}\n")?;
     let mut text = Vec::new(alloc);
-    push_words(&mut text, heading)?;
+    text.extend_from_slice(heading.as_bytes())?;
     for record in records {
         push_record(&mut text, columns, record)?;
     }
-    push_words(&mut text, end.as_str())?;
+    text.extend_from_slice(end.as_bytes())?;
     Ok(text)
 }
 

@@ -1,9 +1,7 @@
 //! The printed register of a cabinet.
 
-use super::list::{Cell, Column, push_line, push_words};
-use cabinet_core::{
-    CabinetView, Closing, Inspection, Order, UsedLine, due, latest, open_count, push_date,
-};
+use super::list::{Cell, Column, push_line};
+use cabinet_core::{CabinetView, Inspection, Order, UsedLine, due, latest, open_count, push_date};
 use office_files::push_next_numbers;
 use office_machine::reply::CabinetShown;
 use signal_records::{Interval, NoMemory, Words};
@@ -45,10 +43,7 @@ fn push_inspections(
     text: &mut Vec<u8>,
     inspections: &[Inspection],
 ) -> Result<(), NoMemory> {
-    push_words(
-        text,
-        "\nInspections\n    No  Day         Clerk         Text\n",
-    )?;
+    text.extend_from_slice(b"\nInspections\n    No  Day         Clerk         Text\n")?;
     for inspection in inspections {
         let cells = [
             Cell::Number(u64::from(inspection.number.get())),
@@ -67,26 +62,7 @@ const USED_COLUMNS: [Column; 3] = [
     Column::Right(2, 8),
 ];
 
-fn push_used(alloc: Global, text: &mut Vec<u8>, used: &UsedLine) -> Result<(), NoMemory> {
-    let cells = [
-        Cell::Number(u64::from(used.line.get())),
-        Cell::Word(used.part.as_str()),
-        Cell::Number(u64::from(used.count.get())),
-    ];
-    push_words(text, "           used")?;
-    push_line(alloc, text, &USED_COLUMNS, &cells)
-}
-
 const CLOSING_COLUMNS: [Column; 2] = [Column::Left(0, 0), Column::Left(1, 0)];
-
-fn push_closing(alloc: Global, text: &mut Vec<u8>, closing: &Closing) -> Result<(), NoMemory> {
-    let cells = [
-        Cell::Day(closing.day.date()),
-        Cell::Word(closing.closer.as_str()),
-    ];
-    push_words(text, "         closed")?;
-    push_line(alloc, text, &CLOSING_COLUMNS, &cells)
-}
 
 /// Appends the lines of an order: its opening, its parts among those of its cabinet, and its
 /// closing.
@@ -105,17 +81,28 @@ fn push_order(
     push_line(alloc, text, &COLUMNS, &cells)?;
     for line in lines {
         if line.order == order.number {
-            push_used(alloc, text, line)?;
+            let cells = [
+                Cell::Number(u64::from(line.line.get())),
+                Cell::Word(line.part.as_str()),
+                Cell::Number(u64::from(line.count.get())),
+            ];
+            text.extend_from_slice(b"           used")?;
+            push_line(alloc, text, &USED_COLUMNS, &cells)?;
         }
     }
-    match &order.closing {
-        None => Ok(()),
-        Some(closing) => push_closing(alloc, text, closing),
+    if let Some(closing) = &order.closing {
+        let cells = [
+            Cell::Day(closing.day.date()),
+            Cell::Word(closing.closer.as_str()),
+        ];
+        text.extend_from_slice(b"         closed")?;
+        push_line(alloc, text, &CLOSING_COLUMNS, &cells)?;
     }
+    Ok(())
 }
 
 fn push_orders(alloc: Global, text: &mut Vec<u8>, view: &CabinetView) -> Result<(), NoMemory> {
-    push_words(text, "Orders\n    No  Day         Clerk         Text\n")?;
+    text.extend_from_slice(b"Orders\n    No  Day         Clerk         Text\n")?;
     for order in view.orders.as_slice() {
         push_order(alloc, text, view.lines.as_slice(), order)?;
     }
@@ -130,7 +117,7 @@ fn push_counts(alloc: Global, text: &mut Vec<u8>, view: &CabinetView) -> Result<
     let words = format!(in alloc;
         "Count {inspected} inspections, {ordered} orders, {open} open\n"
     )?;
-    push_words(text, words.as_str())
+    text.extend_from_slice(words.as_bytes())
 }
 
 /// The register of a cabinet, as lines of UTF-8: the intersection's number and name, the days from

@@ -10,15 +10,8 @@ use signal_records::Interval;
 use std::alloc::{AllocError, Global};
 use std::fmt;
 
-const OPEN_COLUMNS: [Column; 5] = [
-    Column::Numbers("Order"),
-    Column::Words("Opened"),
-    Column::Words("Clerk"),
-    Column::Words("Work"),
-    Column::Words("Lines: parts used (pieces)"),
-];
-
-const CLOSED_COLUMNS: [Column; 7] = [
+/// The columns of orders. Open ones do not have the last two.
+const ORDER_COLUMNS: [Column; 7] = [
     Column::Numbers("Order"),
     Column::Words("Opened"),
     Column::Words("Clerk"),
@@ -131,8 +124,8 @@ pub(crate) fn push_cabinet(
     )?;
     push_due_note(page, interval, latest(inspections))?;
     push_next_note(page, view)?;
-    push_orders(page, "Open orders", &OPEN_COLUMNS, view, false)?;
-    push_orders(page, "Closed orders", &CLOSED_COLUMNS, view, true)?;
+    push_orders(page, "Open orders", &ORDER_COLUMNS[..5], view, false)?;
+    push_orders(page, "Closed orders", &ORDER_COLUMNS, view, true)?;
     push_inspections(page, inspections)?;
     page.own("</section>\n")
 }

@@ -3,7 +3,7 @@
 use super::cabinet::push_cabinet;
 use super::cell::push_name;
 use super::changes::push_changes;
-use super::facts::{push_cabinet_facts, push_plan_facts};
+use super::facts::push_facts;
 use super::notes::{push_reasons_note, push_warnings_note};
 use super::pictures::push_pictures;
 use super::plan_tables::{Remarks, push_plan_tables};
@@ -26,7 +26,6 @@ const HEAD: &str = "\
 <meta name='viewport' content='width=device-width, initial-scale=1'>
 <title>";
 
-/// Writes the head of a page, up to its body.
 pub(crate) fn push_head(page: &mut Markup, title: &str) -> fmt::Result {
     page.enclose(HEAD, &title, "</title>\n<style>\n")?;
     page.own(STYLE)?;
@@ -37,7 +36,6 @@ pub(crate) fn end_page(page: &mut Markup) -> fmt::Result {
     page.own("</main>\n</body>\n</html>\n")
 }
 
-/// Opens the body of the page of a plan, up to its heading.
 fn open_body(page: &mut Markup) -> fmt::Result {
     page.own("<body>\n<a class='skip' href='#main'>Skip to the plan</a>\n<header>\n<h1>")
 }
@@ -58,7 +56,6 @@ fn push_plan(
     push_plan_tables(page, whose, set, remarks, &rows)
 }
 
-/// Writes the head of the page of an intersection, and its heading.
 fn push_heading(page: &mut Markup, state: &IntersectionState) -> fmt::Result {
     let id = state.id.get();
     let name = state.name.as_str();
@@ -83,7 +80,6 @@ fn push_links(page: &mut Markup, linked: bool, drafted: bool) -> fmt::Result {
     page.own("<li><a href='#cabinet'>The cabinet</a></li>\n</ul>\n</nav>\n")
 }
 
-/// Writes the section of the committed plan.
 fn push_committed(page: &mut Markup, committed: &TimingSet, remarks: &Remarks<'_>) -> fmt::Result {
     page.own(
         "<section id='plan' aria-labelledby='plan-title'>\n\
@@ -94,8 +90,6 @@ fn push_committed(page: &mut Markup, committed: &TimingSet, remarks: &Remarks<'_
     page.own("</section>\n")
 }
 
-/// Writes the section of the draft: how many reasons there are why it breaks rules, how many
-/// warnings, what it changes of the committed plan, and the whole of it.
 fn push_draft(page: &mut Markup, committed: &TimingSet, draft: &TimingSet) -> fmt::Result {
     let differences = compare(page.alloc(), committed, draft)?;
     let reasons = reasons(page.alloc(), draft)?;
@@ -132,10 +126,7 @@ fn push_intersection(
         warnings,
     };
     push_heading(page, state)?;
-    page.own("<dl>\n")?;
-    push_cabinet_facts(page, state.interval, cabinet)?;
-    push_plan_facts(page, state, warnings.len())?;
-    page.own("</dl>\n")?;
+    push_facts(page, state, &cabinet.view, warnings.len())?;
     push_links(page, linked, draft.is_some())?;
     page.own("</header>\n<main id='main'>\n")?;
     push_committed(page, committed, &remarks)?;

@@ -1,11 +1,11 @@
 //! The facts of an intersection that stand above its plan.
 
 use super::cell::{Cell, due_cell, last_cell, push_content};
-use cabinet_core::{Date, Day, due, latest, open_count};
+use cabinet_core::{CabinetView, Date, Day, due, latest, open_count};
 use draft_core::state::Verdict;
-use office_machine::reply::{CabinetShown, IntersectionState, state_name};
+use office_machine::reply::{IntersectionState, state_name};
 use safe_markup::Markup;
-use signal_records::Interval;
+use signal_records::{Interval, Words};
 use std::fmt;
 
 fn verdict_words(verdict: Verdict) -> &'static str {
@@ -13,6 +13,13 @@ fn verdict_words(verdict: Verdict) -> &'static str {
         Verdict::NotDone => "not done",
         Verdict::DoneWithError => "done, with errors",
         Verdict::DoneWithNoError => "done, without errors",
+    }
+}
+
+fn owner_cell(owner: &Option<Words<40>>) -> Cell<'_> {
+    match owner {
+        None => Cell::Words("nobody"),
+        Some(owner) => Cell::Name(owner.as_str()),
     }
 }
 
@@ -26,35 +33,10 @@ pub(crate) fn date_of(day: Option<Day>) -> Option<Date> {
     day.map(|day| day.date())
 }
 
-/// Writes facts, each with its name.
-fn push_facts(page: &mut Markup, names: &[&str], values: &[Cell<'_>]) -> fmt::Result {
-    for (name, value) in names.iter().zip(values) {
-        page.enclose("<div><dt>", name, "</dt><dd>")?;
-        push_content(page, value)?;
-        page.own("</dd></div>\n")?;
-    }
-    Ok(())
-}
-
-const CABINET_FACTS: [&str; 3] = ["Last inspection", "Next inspection due", "Open orders"];
-
-/// Writes the facts of the cabinet.
-pub(crate) fn push_cabinet_facts(
-    page: &mut Markup,
-    interval: Interval,
-    cabinet: &CabinetShown,
-) -> fmt::Result {
-    let inspections = cabinet.view.inspections.as_slice();
-    let orders = cabinet.view.orders.as_slice();
-    let values = [
-        last_cell(date_of(latest(inspections))),
-        due_cell(due_date(interval, latest(inspections))),
-        Cell::Number(open_count(orders) as u64),
-    ];
-    push_facts(page, &CABINET_FACTS, &values)
-}
-
-const PLAN_FACTS: [&str; 6] = [
+const NAMES: [&str; 9] = [
+    "Last inspection",
+    "Next inspection due",
+    "Open orders",
     "State",
     "Draft of",
     "Verify status",
@@ -63,27 +45,34 @@ const PLAN_FACTS: [&str; 6] = [
     "Warnings of the committed plan",
 ];
 
-/// Writes the facts of the plan and its draft, with how many warnings the committed plan has.
-pub(crate) fn push_plan_facts(
+/// Writes the facts of the cabinet, of the plan and of its draft.
+pub(crate) fn push_facts(
     page: &mut Markup,
     state: &IntersectionState,
+    view: &CabinetView,
     warnings: usize,
 ) -> fmt::Result {
-    let owner = match &state.owner {
-        None => Cell::Words("nobody"),
-        Some(owner) => Cell::Name(owner.as_str()),
-    };
+    let inspections = view.inspections.as_slice();
     let warnings = match warnings {
         0 => Cell::Words("none"),
         _ => Cell::Number(warnings as u64),
     };
     let values = [
+        last_cell(date_of(latest(inspections))),
+        due_cell(due_date(state.interval, latest(inspections))),
+        Cell::Number(open_count(view.orders.as_slice()) as u64),
         Cell::Words(state_name(state.state)),
-        owner,
+        owner_cell(&state.owner),
         Cell::Words(verdict_words(state.verify)),
         Cell::Number(u64::from(state.revision.get())),
         Cell::Number(state.rows as u64),
         warnings,
     ];
-    push_facts(page, &PLAN_FACTS, &values)
+    page.own("<dl>\n")?;
+    for (name, value) in NAMES.iter().zip(&values) {
+        page.enclose("<div><dt>", name, "</dt><dd>")?;
+        push_content(page, value)?;
+        page.own("</dd></div>\n")?;
+    }
+    page.own("</dl>\n")
 }

@@ -88,7 +88,6 @@ fn push_intersections(page: &mut Markup, entries: &[IndexEntry], day: &Option<Da
     close_table(page)
 }
 
-/// Writes the table of the open orders on all intersections.
 fn push_orders(page: &mut Markup, orders: &[NamedOrder]) -> fmt::Result {
     open_table(page, "Open orders", "", &[], &ORDER_COLUMNS)?;
     if orders.is_empty() {
