@@ -1,6 +1,5 @@
 -- What becomes of the tables of an office by each request.
 use Rattle.std.specs.Prelude.{◌≡◌, ℕ, List, true, false, Result, Ok, Err}
-use denote.Bor.{Bor}
 use Rattle.office_machine.specs.declared.command.Command.{Command}
 use Rattle.office_machine.specs.declared.command.Command.TheVariants as command
 use Rattle.office_machine.specs.declared.reply.Reply.{Reply}
@@ -13,7 +12,6 @@ use Rattle.signal_office_commands.specs.declared.revising.Revised.{Revised}
 use Rattle.signal_office_faults.specs.declared.fault.Fault.{Fault}
 use Rattle.signal_office_file.specs.Task.{Effect}
 use Rattle.signal_office_file.specs.Stopping.{SameOr}
-use Rattle.signal_office_line.specs.declared.job.Edit.{Edit}
 use Rattle.signal_office_line.specs.declared.job.Request.{Request}
 use Rattle.signal_office_line.specs.declared.job.Request.TheVariants as request
 
@@ -24,7 +22,7 @@ IsReplied (Err why) result = result ≡ Err why
 
 -- what became of a plan, or why it was not edited, is given as the outcome
 abbrev pub IsRevised : Result Revised Fault → Result Outcome Fault → Type 0
-IsRevised (Ok it) result = (edit : Bor Edit) × (result ≡ Ok (outcome.Revised edit it))
+IsRevised (Ok plan) result = result ≡ Ok (outcome.Revised plan)
 IsRevised (Err why) result = result ≡ Err why
 
 -- what looks at the tables leaves them as they were, whatever it gives, also after a stop

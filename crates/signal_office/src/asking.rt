@@ -13,18 +13,18 @@ use signal_office_commands::{
 };
 use signal_office_faults::{Done, Fault, SystemFolder, is_missing, print_done};
 use signal_office_file::{OfficeTask, do_task};
-use signal_office_line::{Edit, Folder as FolderKind, OfficeFile, Path, Request};
+use signal_office_line::{Folder as FolderKind, OfficeFile, Path, Request};
 use std::alloc::Global;
 
 /// What an office gave for a request.
 #[derive(Drop)]
-pub(crate) enum Outcome<'a> {
+pub(crate) enum Outcome {
     /// What was seen of the office, to be printed.
     Seen(Done),
     /// The reply to a command.
     Replied(Reply),
     /// What became of the plan that was edited.
-    Revised(&'a Edit<'a>, Revised),
+    Revised(Revised),
 }
 
 /// A request, with the text of the CSV file that was read for it, and the lines of that file on
@@ -37,7 +37,7 @@ struct Asked<'a> {
 }
 
 /// What was seen of an office, as the outcome.
-fn look_outcome<'a>(done: Result<Done, Fault>) -> Result<Outcome<'a>, Fault> {
+fn look_outcome(done: Result<Done, Fault>) -> Result<Outcome, Fault> {
     match done {
         Ok(done) => Ok(Outcome::Seen(done)),
         Err(fault) => Err(fault),
@@ -45,7 +45,7 @@ fn look_outcome<'a>(done: Result<Done, Fault>) -> Result<Outcome<'a>, Fault> {
 }
 
 /// The reply to a command, as the outcome.
-fn reply_outcome<'a>(reply: Result<Reply, Fault>) -> Result<Outcome<'a>, Fault>
+fn reply_outcome(reply: Result<Reply, Fault>) -> Result<Outcome, Fault>
     ensures { IsReplied reply result }
 {
     match reply {
@@ -55,11 +55,11 @@ fn reply_outcome<'a>(reply: Result<Reply, Fault>) -> Result<Outcome<'a>, Fault>
 }
 
 /// What became of the plan that was edited, as the outcome.
-fn edit_outcome<'a>(edit: &'a Edit<'a>, plan: Result<Revised, Fault>) -> Result<Outcome<'a>, Fault>
+fn edit_outcome(plan: Result<Revised, Fault>) -> Result<Outcome, Fault>
     ensures { IsRevised plan result }
 {
     match plan {
-        Ok(plan) => Ok(Outcome::Revised(edit, plan)),
+        Ok(plan) => Ok(Outcome::Revised(plan)),
         Err(fault) => Err(fault),
     }
 }
@@ -81,7 +81,7 @@ fn fill_folder<S: Shelf>(
     }
 }
 
-impl<'a> OfficeTask<Outcome<'a>> for Asked<'a> {
+impl OfficeTask<Outcome> for Asked<'_> {
     ghost use Rattle.signal_office.specs.Requests.{effect_of};
 
     ghost effect = { λ asked. effect_of asked.request.now asked.text.now };
@@ -92,7 +92,7 @@ impl<'a> OfficeTask<Outcome<'a>> for Asked<'a> {
         alloc: Global,
         office: &mut Office<S>,
         _out: &mut W,
-    ) -> Result<Outcome<'a>, Fault> {
+    ) -> Result<Outcome, Fault> {
         let (text, lines) = (self.text, self.lines);
         match self.request {
             Request::Show(shown) => look_outcome(report(alloc, office, shown, text)),
@@ -109,19 +109,27 @@ impl<'a> OfficeTask<Outcome<'a>> for Asked<'a> {
                     reply_outcome(import(alloc, office, text))
                 }
             }
-            Request::Edit(it) => edit_outcome(it, edit(alloc, office, it, text, lines)),
+            Request::Edit(it) => edit_outcome(edit(alloc, office, it, text, lines)),
             Request::Abandon { id, clerk } => reply_outcome(abandon(alloc, office, *id, clerk)),
         }
     }
 }
 
+/// What is printed of a plan that was edited, and the status. Only an edit revises a plan.
+fn tell_plan(alloc: Global, request: &Request<'_>, plan: &Revised) -> Result<Done, Fault> {
+    match request {
+        Request::Edit(edit) => tell_revised(alloc, edit, plan),
+        _ => Err(Fault::Store),
+    }
+}
+
 /// What is printed of an outcome, and the status. Of a change that was made no want of memory is
 /// told.
-fn tell(alloc: Global, outcome: Outcome<'_>) -> Result<Done, Fault> {
+fn tell(alloc: Global, request: &Request<'_>, outcome: Outcome) -> Result<Done, Fault> {
     match outcome {
         Outcome::Seen(done) => Ok(done),
         Outcome::Replied(reply) => Ok(told(&reply)),
-        Outcome::Revised(edit, revised) => tell_revised(alloc, edit, &revised),
+        Outcome::Revised(plan) => tell_plan(alloc, request, &plan),
     }
 }
 
@@ -154,5 +162,5 @@ pub(crate) fn ask<R: Source, W: Sink, E: Sink>(
         lines: &csv.lines,
     };
     let outcome = do_task(rt, alloc, path, db.wait, &asked, out)?;
-    print_done(tell(alloc, outcome), out)
+    print_done(tell(alloc, request, outcome), out)
 }

@@ -51,7 +51,11 @@ fn serve<W: Sink>(
     out: &mut W,
 ) -> Result<u8, Fault> {
     match db {
-        None => serve_port(rt, alloc, &mut open_in_memory(alloc), port, count, out).1?,
+        None => {
+            let mut office = open_in_memory(alloc);
+            let (_, served) = serve_port(rt, alloc, &mut office, port, count, out);
+            served?;
+        }
         Some(db) => {
             let task = Serving { port, count };
             do_task(rt, alloc, db.path.as_str(), db.wait, &task, out)?;

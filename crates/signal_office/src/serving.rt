@@ -99,6 +99,7 @@ impl OfficeTask<()> for Serving {
         office: &mut Office<S>,
         out: &mut W,
     ) -> Result<(), Fault> {
-        serve_port(rt, alloc, office, self.port, self.count, out).1
+        let (_, served) = serve_port(rt, alloc, office, self.port, self.count, out);
+        served
     }
 }

@@ -18,7 +18,7 @@ returns-in-Err-clause-did g c clean before tables keeps =
 
 -- each outcome of the serving is told as `ended_as` says
 told_as : (ended : Result ⊤ ServeStop) (result : Result ⊤ Fault)
-    → MatchResult ended (λ done. result ≡ Ok done) (λ why. IsErrAnd result (λ fault. fault ≡ fault_of_stop why)) → result ≡ ended_as ended
+    → MatchResult ended (λ done. result ≡ Ok done) (λ why. IsErrAnd result (λ it. it ≡ fault_of_stop why)) → result ≡ ended_as ended
 told_as (Ok done) result is = is
 told_as (Err why) (Ok done) is = absurd is
 told_as (Err why) (Err fault) is = ap Err is
