@@ -1,5 +1,5 @@
 -- What is done for a request, from what is known of the call that did it: of one that looks, and of one that changes.
-use Rattle.std.proofs.Common.{◌≡◌, inl, inr, List, ℕ, subst, sym}
+use Rattle.std.proofs.Common.{◌≡◌, inl, inr, refl, subst, sym}
 use Rattle.std.specs.Prelude.{Result}
 use Rattle.office_desk.specs.Asks.{KeepsOffice}
 use Rattle.office_tables_shelf.specs.{Content.Content, declared.shelf.Shelf.Ghosts}
