@@ -2,7 +2,6 @@ use Rattle.std.proofs.Common.{ap, ◌∙◌}
 use Rattle.signal_office.proofs.RequestLemmas.{does_change, does_look}
 use Rattle.signal_office.proofs.asking.AskedOfficeTaskOutcome.done_with.Goals as goal
 use Rattle.signal_office.specs.Requests.{effect_of}
-use Rattle.signal_office_line.specs.declared.job.Request.{Request}
 use Rattle.signal_office_line.specs.declared.job.Request.TheVariants as request
 
 pub returns-in-Show : goal.returns-in-Show
