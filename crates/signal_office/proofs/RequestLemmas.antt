@@ -1,9 +1,9 @@
 -- What is done for a request, from what is known of the call that did it: of one that looks, and of one that changes.
-use Rattle.std.proofs.Common.{◌≡◌, inl, inr, List, ℕ, subst, sym}
+use Rattle.std.proofs.Common.{◌≡◌, inl, inr, refl, subst, sym}
 use Rattle.std.specs.Prelude.{Result}
 use Rattle.office_desk.specs.Asks.{KeepsOffice}
 use Rattle.office_tables_shelf.specs.{Content.Content, declared.shelf.Shelf.Ghosts}
-use Rattle.signal_office.specs.Requests.{change_effect, effect_of, look_effect}
+use Rattle.signal_office.specs.Requests.{change_effect, look_effect}
 use Rattle.signal_office.specs.declared.asking.Outcome.{Outcome}
 use Rattle.signal_office_commands.specs.Changing.{ChangesShelf}
 use Rattle.signal_office_faults.specs.declared.fault.Fault.{Fault}

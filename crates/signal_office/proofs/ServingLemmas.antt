@@ -1,5 +1,5 @@
 -- A port that was served, as a task of the tables of a file: what it did, and what a stop leaves of it.
-use Rattle.std.proofs.Common.{◌≡◌, ℕ, List, [], ◌∷◌, refl, sym, subst, ◌⊎◌, inl, inr}
+use Rattle.std.proofs.Common.{ℕ, List, [], ◌∷◌, refl, sym, subst, ◌⊎◌, inl, inr}
 use Rattle.std.specs.Prelude.{Option, Result, ⊤}
 use Rattle.office_http.specs.Laws.{KeepsLaws}
 use Rattle.office_http.specs.Listening.{Connected, Listens, ServesConnection, ServesEach, connection_limit}

@@ -157,7 +157,7 @@ pub(crate) fn ask<R: Source, W: Sink, E: Sink>(
         return Err(Fault::File);
     }
     let asked = Asked {
-        request,
+        request: &*request, // lent again, for a shorter time
         text: &csv.text,
         lines: &csv.lines,
     };

@@ -2,7 +2,6 @@ use Rattle.std.proofs.Common.{ap, ◌∙◌}
 use Rattle.signal_office.proofs.RequestLemmas.{does_change, does_look}
 use Rattle.signal_office.proofs.asking.AskedOfficeTaskOutcome.done_with.Goals as goal
 use Rattle.signal_office.specs.Requests.{effect_of}
-use Rattle.signal_office_line.specs.declared.job.Request.{Request}
 use Rattle.signal_office_line.specs.declared.job.Request.TheVariants as request
 
 pub returns-in-Show : goal.returns-in-Show
@@ -20,10 +19,10 @@ returns-then-tried g c =
 
 pub returns-else-tried : goal.returns-else-tried
 returns-else-tried g c =
-    does_change _ _ _ _ _ (ap (λ it. effect_of it c.args.self.now.text.now) (c.in-Import.is ∙ ap (request.Import c.in-Import.csv c.in-Import.until) c.if-tried.false)) c.import.ensures c.reply_outcome.ensures
+    does_change _ _ _ _ _ (ap (λ it. effect_of it c.args.self.now.text.now) (c.in-Import.is ∙ ap (request.Import c.in-Import.csv c.in-Import.until) c.if-tried.false)) c.import.ensures c.reply_outcome-else-tried.ensures
 
 pub returns-in-Edit : goal.returns-in-Edit
 returns-in-Edit g c = does_change _ _ _ _ _ (ap (λ it. effect_of it c.args.self.now.text.now) c.in-Edit.is) c.edit.ensures c.edit_outcome.ensures
 
 pub returns-in-Abandon : goal.returns-in-Abandon
-returns-in-Abandon g c = does_change _ _ _ _ _ (ap (λ it. effect_of it c.args.self.now.text.now) c.in-Abandon.is) c.abandon.ensures c.reply_outcome.ensures
+returns-in-Abandon g c = does_change _ _ _ _ _ (ap (λ it. effect_of it c.args.self.now.text.now) c.in-Abandon.is) c.abandon.ensures c.reply_outcome-in-Abandon.ensures

@@ -1,5 +1,5 @@
 use Rattle.signal_office.proofs.ServingLemmas.{served_within, serves}
-use Rattle.signal_office.proofs.serving.ServingOfficeTask.done_with.Goals as goal
+use Rattle.signal_office.proofs.serving.ServingOfficeTaskUnit.done_with.Goals as goal
 
 pub returns : goal.returns
 returns g c =
