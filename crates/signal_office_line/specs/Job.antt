@@ -5,7 +5,7 @@ use Rattle.std.specs.Option.{option_map_or}
 use Rattle.std.specs.Str.{bytes_eq}
 use Rattle.clap.specs.Walk.{Row, Text, first_of}
 use Rattle.office_files.specs.RecordReading.{day_of, part_of}
-use Rattle.signal_office_line.specs.Values.{Stated, ◌>>=◌, needed, choice_at, number_in, flag_at, word_at, name_at, any_of, day_at, csv_at, any_db_at, db_at}
+use Rattle.signal_office_line.specs.Values.{Stated, ◌>>=◌, needed, choice_at, number_within, flag_at, word_at, name_at, any_of, day_at, csv_at, any_db_at, db_at}
 use Rattle.signal_office_line.specs.declared.job.BadWord.TheVariants as wrong
 use Rattle.signal_office_line.specs.declared.shows.CsvFile.{CsvFile}
 use Rattle.signal_office_line.specs.declared.job.Folder.TheVariants as folder
@@ -34,8 +34,8 @@ overdue_at rows = do
 -- next, 1 to 3650, and its name of 1 to 120 bytes
 unfoldable pub add_at : List Row → Stated Request
 add_at rows = do
-  id ← number_in 1 9_999 (codes "ID") rows
-  interval ← number_in 1 3_650 (codes "INTERVAL") rows
+  id ← number_within 1 9_999 (codes "ID") rows
+  interval ← number_within 1 3_650 (codes "INTERVAL") rows
   name ← name_at wrong.Name 120 (codes "NAME") rows
   Ok (request.Add id interval name)
 
@@ -54,7 +54,7 @@ view_of draft cabinet = if draft then view.Draft else (if cabinet then view.Cabi
 abbrev pub export_of : (all : Option Text) → List Row → Stated Request
 export_of (Some dir) rows = Ok (request.Fill dir folder.Records)
 export_of None rows = do
-  id ← number_in 1 9_999 (codes "ID") rows
+  id ← number_within 1 9_999 (codes "ID") rows
   Ok (request.Show (shown.Export id (view_of (flag_at (codes "draft") rows) (flag_at (codes "cabinet") rows))))
 
 -- what `export` asks for, by whether `--all` is given
@@ -72,7 +72,7 @@ pages_at rows = do
 -- `edit --db FILE --clerk NAME --commit [--explain] [--advise] ID`
 unfoldable pub edit_at : List Row → Stated Request
 edit_at rows = do
-  id ← number_in 1 9_999 (codes "ID") rows
+  id ← number_within 1 9_999 (codes "ID") rows
   clerk ← name_at wrong.Clerk 40 (codes "clerk") rows
   Ok (request.Edit (record {
     id = id;
@@ -91,7 +91,7 @@ under name among = option_map (λ c. c.1) (find (λ c. bytes_eq name c.0) among)
 -- the request to show something of the intersection in the argument ID
 abbrev pub shown_at : (ℕ → Shown) → List Row → Stated Request
 shown_at show rows = do
-  id ← number_in 1 9_999 (codes "ID") rows
+  id ← number_within 1 9_999 (codes "ID") rows
   Ok (request.Show (show id))
 
 -- the commands that ask something of the office of a file
@@ -110,7 +110,7 @@ requests =
     -- `used --db FILE [--csv] [PART]`
     ∷ (codes "used", λ rows. any_of wrong.Part part_of (first_of (codes "PART") rows) >>= (λ part. Ok (request.Show (shown.Used part (flag_at (codes "csv") rows)))))
     -- `abandon --db FILE --clerk NAME ID`
-    ∷ (codes "abandon", λ rows. number_in 1 9_999 (codes "ID") rows >>= (λ id. name_at wrong.Clerk 40 (codes "clerk") rows >>= (λ clerk. Ok (request.Abandon id clerk))))
+    ∷ (codes "abandon", λ rows. number_within 1 9_999 (codes "ID") rows >>= (λ id. name_at wrong.Clerk 40 (codes "clerk") rows >>= (λ clerk. Ok (request.Abandon id clerk))))
     ∷ (codes "overdue", overdue_at) ∷ (codes "add", add_at) ∷ (codes "import", import_at)
     ∷ (codes "export", export_at) ∷ (codes "pages", pages_at) ∷ (codes "edit", edit_at) ∷ []
 
@@ -132,7 +132,7 @@ office_of asked rows = do
 -- served, 1 to 1,000,000; without K the most
 unfoldable pub serve_at : List Row → Stated Job
 serve_at rows = do
-  port ← number_in 1 65_535 (codes "port") rows
+  port ← number_within 1 65_535 (codes "port") rows
   count ← choice_at 1 1_000_000 (codes "count") rows
   db ← any_db_at rows
   Ok (job.Serve port (unwrap_or count 1_000_000) db)
@@ -149,7 +149,7 @@ compare_of None rows = do
   other ← needed (csv_at (codes "OTHER") rows)
   Ok (job.CompareFiles plan other (flag_at (codes "csv") rows))
 compare_of (Some db) rows = do
-  id ← number_in 1 9_999 (codes "PLAN") rows
+  id ← number_within 1 9_999 (codes "PLAN") rows
   Ok (job.Office db (request.Show (comparison_of id (csv_at (codes "OTHER") rows) (flag_at (codes "csv") rows))))
 
 -- what `compare` asks for, by whether `--db` is given
@@ -162,12 +162,12 @@ compare_at rows = do
 -- argument ID
 abbrev pub diagram_of : Option CsvFile → List Row → Stated Job
 diagram_of (Some file) rows = do
-  pattern ← number_in 1 48 (codes "ID") rows
+  pattern ← number_within 1 48 (codes "ID") rows
   Ok (job.ShowPlan file (plan.Diagram pattern))
 diagram_of None rows = do
   db ← db_at rows
-  id ← number_in 1 9_999 (codes "ID") rows
-  pattern ← number_in 1 48 (codes "PATTERN") rows
+  id ← number_within 1 9_999 (codes "ID") rows
+  pattern ← number_within 1 48 (codes "PATTERN") rows
   Ok (job.Office db (request.Show (shown.Diagram id pattern)))
 
 -- what `diagram` asks for, by whether `--file` is given

@@ -46,8 +46,8 @@ abbrev pub choice_at : (least most : ℕ) → Text → List Row → Stated (Opti
 choice_at least most id rows = choice_of least most (first_of id rows)
 
 -- the number from least to most that an argument's word spells, which has to be there
-abbrev pub number_in : (least most : ℕ) → Text → List Row → Stated ℕ
-number_in least most id rows = do
+abbrev pub number_within : (least most : ℕ) → Text → List Row → Stated ℕ
+number_within least most id rows = do
   number ← choice_at least most id rows
   needed number
 

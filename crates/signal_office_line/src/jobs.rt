@@ -5,7 +5,7 @@ ghost use Rattle.std.specs.Prelude.{◌≡◌};
 ghost use Rattle.clap.specs.Matches.{found_of};
 ghost use Rattle.clap.specs.Walk.{rows_of};
 ghost use Rattle.signal_office_line.specs.Job.{add_at, compare_at, diagram_at, edit_at, export_at, import_at, job_at, office_of, overdue_at, page_at, pages_at, request_at, serve_at};
-ghost use Rattle.signal_office_line.specs.Values.{number_in};
+ghost use Rattle.signal_office_line.specs.Values.{number_within};
 
 use crate::command_line::{COUNTS, IDS, INTERVALS, PATTERNS, PORTS};
 use crate::job::{BadWord, Edit, Folder, Job, NoJob, Request};
@@ -185,7 +185,7 @@ fn compare<'a>(matches: &ArgMatches<'a>) -> Result<Job<'a>, NoJob>
 
 /// The number of a pattern, 1 to 48, in an argument; `Unstated` says that there is none.
 fn pattern(matches: &ArgMatches<'_>, id: &str) -> Result<PatternNo, NoJob>
-    ensures { result ≡ number_in 1 48 id.now (rows_of (found_of matches.now)) }
+    ensures { result ≡ number_within 1 48 id.now (rows_of (found_of matches.now)) }
 {
     PatternNo::new(number(matches, id, PATTERNS)?).ok_or(NoJob::Unstated)
 }

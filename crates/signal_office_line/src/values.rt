@@ -3,7 +3,7 @@
 ghost use Rattle.std.specs.Prelude.{◌≡◌, option_map};
 ghost use Rattle.clap.specs.Matches.{found_of};
 ghost use Rattle.clap.specs.Walk.{first_of, rows_of};
-ghost use Rattle.signal_office_line.specs.Values.{any_db_at, any_of, choice_at, csv_at, day_at, db_at, flag_at, name_at, needed, number_in, number_of, word_at};
+ghost use Rattle.signal_office_line.specs.Values.{any_db_at, any_of, choice_at, csv_at, day_at, db_at, flag_at, name_at, needed, number_within, number_of, word_at};
 ghost use Rattle.office_files.specs.RecordReading.{day_of, part_of};
 
 use crate::arguments::Range;
@@ -66,14 +66,14 @@ pub(crate) fn choice(matches: &ArgMatches<'_>, id: &str, range: Range) -> Result
 
 /// The number of an argument; `Unstated` says that there is none of the range.
 pub(crate) fn number(matches: &ArgMatches<'_>, id: &str, range: Range) -> Result<u32, NoJob>
-    ensures { result ≡ number_in range.0 range.1 id.now (rows_of (found_of matches.now)) }
+    ensures { result ≡ number_within range.0 range.1 id.now (rows_of (found_of matches.now)) }
 {
     choice(matches, id, range)?.ok_or(NoJob::Unstated)
 }
 
 /// The number of an intersection, 1 to 9999, in an argument; `Unstated` says that there is none.
 pub(crate) fn intersection(matches: &ArgMatches<'_>, id: &str) -> Result<InterId, NoJob>
-    ensures { result ≡ number_in 1 9_999 id.now (rows_of (found_of matches.now)) }
+    ensures { result ≡ number_within 1 9_999 id.now (rows_of (found_of matches.now)) }
 {
     InterId::new(number(matches, id, IDS)?).ok_or(NoJob::Unstated)
 }
