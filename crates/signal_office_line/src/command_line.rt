@@ -10,7 +10,7 @@ use std::alloc::{AllocError, Global};
 
 /// The program's version, which is the newest heading of CHANGELOG.md: a day, and the version of
 /// the tables.
-const VERSION: &str = "2026-11-28, tables of version 2";
+const VERSION: &str = "2026-11-30, tables of version 2";
 
 /// The number of an intersection; also how many are listed at most.
 pub(crate) const IDS: Range = Range(1, 9_999);
