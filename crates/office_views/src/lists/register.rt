@@ -112,10 +112,8 @@ pub fn cabinet_text(
     interval: Interval,
     cabinet: &CabinetShown,
 ) -> Result<Vec<u8>, NoMemory> {
-    let (inspections, orders) = (
-        cabinet.view.inspections.as_slice(),
-        cabinet.view.orders.as_slice(),
-    );
+    let inspections = cabinet.view.inspections.as_slice();
+    let orders = cabinet.view.orders.as_slice();
     let mut text = title(alloc, name, interval, cabinet)?.into_bytes();
     push_inspections(alloc, &mut text, inspections)?;
     text.extend_from_slice(b"Orders\n    No  Day         Clerk         Text\n")?;

@@ -33,12 +33,8 @@ fn push_remarks(
     }
     for warning in remarks.warnings {
         if warning.subject == Scope::Subject(*subject) {
-            page.enclose(
-                "<tr class='warned'><td colspan='",
-                &columns,
-                "'><p>Warning: ",
-            )?;
-            page.enclose("", &warning.advice, "</p></td></tr>\n")?;
+            page.enclose("<tr class='warned'><td colspan='", &columns, "'><p>")?;
+            page.enclose("Warning: ", &warning.advice, "</p></td></tr>\n")?;
         }
     }
     Ok(())
