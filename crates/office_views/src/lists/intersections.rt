@@ -1,10 +1,10 @@
-//! The list of the intersections.
+//! The list of the intersections, and that of the overdue inspections.
 
-use super::list::{Cell, Column, print_list, record_of};
+use super::list::{Cell, Column, print_csv, print_list, record_of};
+use cabinet_core::OverdueRow;
 use office_files::state_word;
 use office_machine::intersections::ListedIntersection;
 use signal_records::NoMemory;
-use signal_records::state::Holder;
 use std::alloc::Global;
 
 const HEADING: &str = "    No     Rev  State        Owner         Rows  Days  Name\n";
@@ -19,15 +19,6 @@ const COLUMNS: [Column; 7] = [
     Column::Left(5, 0),
 ];
 
-/// The clerk who holds the draft, or an empty word where nobody does: a line shows this as `-`, and
-/// a record of CSV as nothing, since a clerk may be called `-`.
-fn owner_word(holder: &Option<Holder>) -> &str {
-    match holder {
-        None => "",
-        Some(holder) => holder.owner.as_str(),
-    }
-}
-
 /// The list of intersections in UTF-8: the number of each, its revision, state, owner or `-`,
 /// number of committed rows, days from one inspection to the next, and name. As CSV a record for
 /// each, with the name before the days, nothing for `-`, and no heading. `NoMemory` means that a
@@ -39,11 +30,16 @@ pub fn intersections_list(
 ) -> Result<Vec<u8>, NoMemory> {
     let mut records = Vec::new(alloc);
     for listed in list {
+        // A clerk may be called `-`: nobody is an empty word, shown so as CSV.
+        let owner = match &listed.holder {
+            None => "",
+            Some(holder) => holder.owner.as_str(),
+        };
         let cells = [
             Cell::Number(u64::from(listed.id.get())),
             Cell::Number(u64::from(listed.revision.get())),
             Cell::Word(state_word(&listed.holder)),
-            Cell::Word(owner_word(&listed.holder)),
+            Cell::Word(owner),
             Cell::Number(listed.rows as u64),
             Cell::Word(listed.name.as_str()),
             Cell::Number(u64::from(listed.interval.get())),
@@ -51,4 +47,24 @@ pub fn intersections_list(
         records.push(record_of(alloc, &cells)?)?;
     }
     print_list(alloc, csv, HEADING, &COLUMNS, &records)
+}
+
+/// The overdue intersections as CSV, in UTF-8: a record for each, in order, with its number, its
+/// name, and the day on which its inspection fell due, as `YYYY-MM-DD`, or nothing where there
+/// never was one. No record is a heading. `NoMemory` means that a growth was refused.
+pub fn overdue_csv(alloc: Global, rows: &[OverdueRow]) -> Result<Vec<u8>, NoMemory> {
+    let mut records = Vec::new(alloc);
+    for row in rows {
+        let due = match row.due {
+            None => Cell::Word(""),
+            Some(due) => Cell::Day(due),
+        };
+        let cells = [
+            Cell::Number(u64::from(row.id.get())),
+            Cell::Word(row.name.as_str()),
+            due,
+        ];
+        records.push(record_of(alloc, &cells)?)?;
+    }
+    print_csv(alloc, &records)
 }

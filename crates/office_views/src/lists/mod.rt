@@ -8,14 +8,10 @@
 mod intersections;
 mod list;
 mod orders;
-mod overdue;
+mod parts;
 mod register;
-mod stock;
-mod used;
 
-pub use intersections::intersections_list;
+pub use intersections::{intersections_list, overdue_csv};
 pub use orders::{orders_list, orders_text};
-pub use overdue::overdue_csv;
+pub use parts::{UsedPart, add_used, stock_list, used_list};
 pub use register::cabinet_text;
-pub use stock::stock_list;
-pub use used::{UsedPart, add_used, used_list};

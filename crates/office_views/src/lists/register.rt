@@ -1,7 +1,7 @@
 //! The printed register of a cabinet.
 
 use super::list::{Cell, Column, push_line};
-use cabinet_core::{CabinetView, Inspection, Order, UsedLine, due, latest, open_count, push_date};
+use cabinet_core::{Inspection, Order, UsedLine, due, latest, open_count, push_date};
 use office_files::push_next_numbers;
 use office_machine::reply::CabinetShown;
 use signal_records::{Interval, NoMemory, Words};
@@ -101,25 +101,6 @@ fn push_order(
     Ok(())
 }
 
-fn push_orders(alloc: Global, text: &mut Vec<u8>, view: &CabinetView) -> Result<(), NoMemory> {
-    text.extend_from_slice(b"Orders\n    No  Day         Clerk         Text\n")?;
-    for order in view.orders.as_slice() {
-        push_order(alloc, text, view.lines.as_slice(), order)?;
-    }
-    Ok(())
-}
-
-/// Appends how many inspections, orders and open orders there are.
-fn push_counts(alloc: Global, text: &mut Vec<u8>, view: &CabinetView) -> Result<(), AllocError> {
-    let inspected = view.inspections.as_slice().len();
-    let orders = view.orders.as_slice();
-    let (ordered, open) = (orders.len(), open_count(orders));
-    let words = format!(in alloc;
-        "Count {inspected} inspections, {ordered} orders, {open} open\n"
-    )?;
-    text.extend_from_slice(words.as_bytes())
-}
-
 /// The register of a cabinet, as lines of UTF-8: the intersection's number and name, the days from
 /// one inspection to the next and the day on which the next is due, which follows the latest
 /// inspection, the next free numbers, then the inspections, and the orders, each with its used
@@ -131,9 +112,18 @@ pub fn cabinet_text(
     interval: Interval,
     cabinet: &CabinetShown,
 ) -> Result<Vec<u8>, NoMemory> {
+    let inspections = cabinet.view.inspections.as_slice();
+    let orders = cabinet.view.orders.as_slice();
     let mut text = title(alloc, name, interval, cabinet)?.into_bytes();
-    push_inspections(alloc, &mut text, cabinet.view.inspections.as_slice())?;
-    push_orders(alloc, &mut text, &cabinet.view)?;
-    push_counts(alloc, &mut text, &cabinet.view)?;
+    push_inspections(alloc, &mut text, inspections)?;
+    text.extend_from_slice(b"Orders\n    No  Day         Clerk         Text\n")?;
+    for order in orders {
+        push_order(alloc, &mut text, cabinet.view.lines.as_slice(), order)?;
+    }
+    let (inspected, ordered, open) = (inspections.len(), orders.len(), open_count(orders));
+    let counts = format!(in alloc;
+        "Count {inspected} inspections, {ordered} orders, {open} open\n"
+    )?;
+    text.extend_from_slice(counts.as_bytes())?;
     Ok(text)
 }

@@ -2,8 +2,8 @@
 //! inspections, each table with the greatest numbers first.
 
 use super::cell::{Cell, push_date};
-use super::table::{Column, close_table, open_table, push_none, push_row};
-use cabinet_core::{CabinetView, Day, Inspection, Order, UsedLine, due, latest};
+use super::table::{Column, close_table, open_table, push_row};
+use cabinet_core::{CabinetView, Inspection, Order, UsedLine, due, latest};
 use office_files::push_next_numbers;
 use safe_markup::Markup;
 use signal_records::Interval;
@@ -57,15 +57,12 @@ fn push_orders(
     view: &CabinetView,
     closed: bool,
 ) -> fmt::Result {
-    let lines = view.lines.as_slice();
     let orders = view.orders.as_slice();
-    open_table(page, name, "", &[], columns)?;
-    if !orders.iter().any(|order| order.closing.is_some() == closed) {
-        push_none(page, columns.len())?;
-    }
+    let is_shown = orders.iter().any(|order| order.closing.is_some() == closed);
+    open_table(page, name, "", columns, !is_shown)?;
     for order in orders.iter().rev() {
         if order.closing.is_some() == closed {
-            let cells = order_cells(page.alloc(), lines, order)?;
+            let cells = order_cells(page.alloc(), view.lines.as_slice(), order)?;
             push_row(page, "<tr>", &cells, &[])?;
         }
     }
@@ -73,10 +70,8 @@ fn push_orders(
 }
 
 fn push_inspections(page: &mut Markup, inspections: &[Inspection]) -> fmt::Result {
-    open_table(page, "Inspections", "", &[], &INSPECTION_COLUMNS)?;
-    if inspections.is_empty() {
-        push_none(page, INSPECTION_COLUMNS.len())?;
-    }
+    let is_empty = inspections.is_empty();
+    open_table(page, "Inspections", "", &INSPECTION_COLUMNS, is_empty)?;
     for inspection in inspections.iter().rev() {
         let cells = [
             Cell::Head(inspection.number.get()),
@@ -89,10 +84,10 @@ fn push_inspections(page: &mut Markup, inspections: &[Inspection]) -> fmt::Resul
     close_table(page)
 }
 
-/// Writes when the next inspection is due, and how many days there are from one inspection to the
-/// next.
-fn push_due_note(page: &mut Markup, interval: Interval, latest: Option<Day>) -> fmt::Result {
-    match latest {
+/// Writes when the next inspection is due, how many days there are from one inspection to the
+/// next, and the numbers that the next inspection and the next order may have.
+fn push_notes(page: &mut Markup, interval: Interval, view: &CabinetView) -> fmt::Result {
+    match latest(view.inspections.as_slice()) {
         None => page.own("<p>It was never inspected.")?,
         Some(latest) => {
             page.own("<p>The next inspection is due on <strong>")?;
@@ -100,15 +95,11 @@ fn push_due_note(page: &mut Markup, interval: Interval, latest: Option<Day>) -> 
             page.own("</strong>.")?;
         }
     }
-    let days = interval.get();
-    page.enclose(" Days from one inspection to the next: ", &days, ".</p>\n")
-}
-
-/// Writes the numbers that the next inspection and the next order may have.
-fn push_next_note(page: &mut Markup, view: &CabinetView) -> fmt::Result {
-    let mut words = String::new(page.alloc());
-    push_next_numbers(&mut words, view)?;
-    page.enclose("<p>", &words, "</p>\n")
+    let mut next = String::new(page.alloc());
+    push_next_numbers(&mut next, view)?;
+    page.own(" Days from one inspection to the next: ")?;
+    page.enclose("", &interval.get(), ".</p>\n")?;
+    page.enclose("<p>", &next, "</p>\n")
 }
 
 /// Writes the section of the cabinet, whose inspections have this interval.
@@ -117,15 +108,11 @@ pub(crate) fn push_cabinet(
     interval: Interval,
     view: &CabinetView,
 ) -> fmt::Result {
-    let inspections = view.inspections.as_slice();
-    page.own(
-        "<section id='cabinet' aria-labelledby='cabinet-title'>\n\
-         <h2 id='cabinet-title'>The cabinet</h2>\n",
-    )?;
-    push_due_note(page, interval, latest(inspections))?;
-    push_next_note(page, view)?;
+    page.own("<section id='cabinet' aria-labelledby='cabinet-title'>\n")?;
+    page.own("<h2 id='cabinet-title'>The cabinet</h2>\n")?;
+    push_notes(page, interval, view)?;
     push_orders(page, "Open orders", &ORDER_COLUMNS[..5], view, false)?;
     push_orders(page, "Closed orders", &ORDER_COLUMNS, view, true)?;
-    push_inspections(page, inspections)?;
+    push_inspections(page, view.inspections.as_slice())?;
     page.own("</section>\n")
 }

@@ -1,9 +1,8 @@
 //! What stands in a cell of a table, or beside the name of a fact.
 
-use super::phases::PhaseSet;
-use cabinet_core::{Date, UsedLine, write_date};
+use cabinet_core::{Date, Day, UsedLine, due, write_date};
 use safe_markup::Markup;
-use signal_records::{PhaseNo, RecordNo};
+use signal_records::{Interval, PHASES, PhaseNo, RecordNo};
 use std::fmt::{self, Write};
 
 /// Tenths of a unit, maybe below zero, as `4.5` or `-0.5`.
@@ -19,6 +18,9 @@ impl fmt::Display for Tenths {
     }
 }
 
+/// Phases, each marked at the place of its number.
+pub(crate) type PhaseSet = [bool; PHASES as usize + 1];
+
 #[derive(Clone, Copy, PartialEq, Eq)]
 pub(crate) enum Cell<'a> {
     /// A number that heads a row.
@@ -27,9 +29,8 @@ pub(crate) enum Cell<'a> {
     Link(u32),
     Number(u64),
     Tenths(Tenths),
-    /// A dash in place of a number.
-    Dash,
-    Empty,
+    /// A dash or nothing in place of a number.
+    NoNumber(&'a str),
     Words(&'a str),
     /// Words, and by how many seconds a split is short.
     Short(&'a str, Tenths),
@@ -39,10 +40,8 @@ pub(crate) enum Cell<'a> {
     Phases(&'a [PhaseNo]),
     PhaseSet(PhaseSet),
     Day(Date),
-    /// A day, or words in its place.
-    DayOr(Option<Date>, &'a str),
-    /// The day on which an inspection fell due that is overdue, if there was one before.
-    Overdue(Option<Date>),
+    /// A day, or words in its place, and whether an inspection is overdue since then.
+    DayOr(Option<Date>, &'a str, bool),
     /// Of these lines, those of the order with this number.
     Parts(&'a [UsedLine], RecordNo),
 }
@@ -52,14 +51,20 @@ pub(crate) fn in_tenths(n: u32) -> Cell<'static> {
     Cell::Tenths(Tenths(i64::from(n)))
 }
 
+pub(crate) const DASH: Cell<'static> = Cell::NoNumber("-");
+
+pub(crate) const EMPTY: Cell<'static> = Cell::NoNumber("");
+
 /// The day of the latest inspection, if there was one.
-pub(crate) fn last_cell(last: Option<Date>) -> Cell<'static> {
-    Cell::DayOr(last, "none")
+pub(crate) fn last_cell(last: Option<Day>) -> Cell<'static> {
+    Cell::DayOr(last.map(|day| day.date()), "none", false)
 }
 
-/// The day on which the next inspection falls due, if there was one before.
-pub(crate) fn due_cell(due: Option<Date>) -> Cell<'static> {
-    Cell::DayOr(due, "never inspected")
+/// The day on which the next inspection falls due, if there was one before, and whether it is
+/// overdue.
+pub(crate) fn due_cell(last: Option<Day>, interval: Interval, overdue: bool) -> Cell<'static> {
+    let date = last.map(|day| due(day, interval));
+    Cell::DayOr(date, "never inspected", overdue)
 }
 
 /// The tags of a cell: one that heads a row; one of a day; one of words, which stand at the left;
@@ -67,28 +72,15 @@ pub(crate) fn due_cell(due: Option<Date>) -> Cell<'static> {
 pub(crate) fn tags_of(cell: &Cell<'_>) -> (&'static str, &'static str) {
     match cell {
         Cell::Head(_) | Cell::Link(_) => ("<th scope='row'>", "</th>"),
-        Cell::Day(_) | Cell::DayOr(_, _) | Cell::Overdue(_) => ("<td class='d'>", "</td>"),
-        Cell::Number(_) | Cell::Tenths(_) | Cell::Dash | Cell::Empty => ("<td>", "</td>"),
+        Cell::Day(_) | Cell::DayOr(_, _, _) => ("<td class='d'>", "</td>"),
+        Cell::Number(_) | Cell::Tenths(_) | Cell::NoNumber(_) => ("<td>", "</td>"),
         _ => ("<td class='w'>", "</td>"),
     }
-}
-
-/// Writes a name or text of others in an element that keeps its direction of writing from what
-/// stands beside it.
-pub(crate) fn push_name(page: &mut Markup, name: &str) -> fmt::Result {
-    page.enclose("<bdi>", &name, "</bdi>")
 }
 
 pub(crate) fn push_date(page: &mut Markup, date: Date) -> fmt::Result {
     let date = write_date(page.alloc(), date)?;
     write!(page, "{date}")
-}
-
-fn push_date_or(page: &mut Markup, date: Option<Date>, words: &str) -> fmt::Result {
-    match date {
-        None => write!(page, "{words}"),
-        Some(date) => push_date(page, date),
-    }
 }
 
 fn push_phases(page: &mut Markup, phases: &[PhaseNo]) -> fmt::Result {
@@ -102,12 +94,12 @@ fn push_phases(page: &mut Markup, phases: &[PhaseNo]) -> fmt::Result {
 }
 
 fn push_phase_set(page: &mut Markup, phases: &PhaseSet) -> fmt::Result {
-    if *phases == PhaseSet::empty() {
+    if !phases.iter().any(|is_in| *is_in) {
         return write!(page, " -");
     }
-    for p in PhaseNo::all() {
-        if phases.contains(p) {
-            write!(page, " {}", p.get())?;
+    for (p, is_in) in phases.iter().enumerate() {
+        if *is_in {
+            write!(page, " {p}")?;
         }
     }
     Ok(())
@@ -121,15 +113,15 @@ fn push_parts(page: &mut Markup, lines: &[UsedLine], order: RecordNo) -> fmt::Re
     }
     for line in lines {
         if line.order == order {
-            page.own("<div>")?;
-            write!(page, "{}: {}", line.line.get(), line.count.get())?;
-            page.own(" &times; ")?;
-            push_name(page, line.part.as_str())?;
-            page.own("</div>")?;
+            page.enclose("<div>", &line.line.get(), ": ")?;
+            page.enclose("", &line.count.get(), " &times; <bdi>")?;
+            page.enclose("", &line.part.as_str(), "</bdi></div>")?;
         }
     }
     Ok(())
 }
+
+const OVERDUE: &str = " <strong class='late'>overdue</strong>";
 
 /// Writes what stands in a cell.
 pub(crate) fn push_content(page: &mut Markup, cell: &Cell<'_>) -> fmt::Result {
@@ -137,26 +129,25 @@ pub(crate) fn push_content(page: &mut Markup, cell: &Cell<'_>) -> fmt::Result {
         Cell::Head(n) => write!(page, "{n}"),
         Cell::Link(n) => {
             page.enclose("<a href='", &n, ".html'>")?;
-            write!(page, "{n}")?;
-            page.own("</a>")
+            page.enclose("", &n, "</a>")
         }
         Cell::Number(n) => write!(page, "{n}"),
         Cell::Tenths(n) => write!(page, "{n}"),
-        Cell::Dash => write!(page, "-"),
-        Cell::Empty => Ok(()),
-        Cell::Words(words) => write!(page, "{words}"),
+        Cell::Words(words) | Cell::NoNumber(words) => write!(page, "{words}"),
         Cell::Short(words, by) => {
-            write!(page, "{words}")?;
-            page.enclose(" <strong class='short'>", &by, " s short</strong>")
+            page.enclose("", &words, " <strong class='short'>")?;
+            page.enclose("", &by, " s short</strong>")
         }
-        Cell::Name(name) => push_name(page, name),
+        Cell::Name(name) => page.enclose("<bdi>", &name, "</bdi>"),
         Cell::Phases(phases) => push_phases(page, phases),
         Cell::PhaseSet(phases) => push_phase_set(page, &phases),
         Cell::Day(date) => push_date(page, date),
-        Cell::DayOr(date, words) => push_date_or(page, date, words),
-        Cell::Overdue(date) => {
-            push_date_or(page, date, "never inspected")?;
-            page.own(" <strong class='late'>overdue</strong>")
+        Cell::DayOr(date, words, overdue) => {
+            match date {
+                None => write!(page, "{words}")?,
+                Some(date) => push_date(page, date)?,
+            }
+            page.own(if overdue { OVERDUE } else { "" })
         }
         Cell::Parts(lines, order) => push_parts(page, lines, order),
     }

@@ -1,11 +1,19 @@
 //! The rows in which a draft differs from the committed plan.
 
-use super::plan_rows::{KINDS, Kind, cells_of, kind_of, table_of};
+use super::plan_rows::{TABLES, cells_of, kind_of_row};
 use super::table::{Column, close_table, open_table, push_row};
 use safe_markup::Markup;
-use signal_plans::Difference;
+use signal_plans::{Difference, compare};
 use signal_records::TimingSet;
 use std::fmt;
+
+const REMOVED: &str = "<tr class='removed'><td class='w'>removed</td>";
+
+const ADDED: &str = "<tr class='added'><td class='w'>added</td>";
+
+const BEFORE: &str = "<tr class='before'><td class='w'>changed from</td>";
+
+const AFTER: &str = "<tr class='after'><td class='w'>changed to</td>";
 
 /// Writes a difference: one row that is removed or added, or two of a row that changes, with marks
 /// where they differ.
@@ -17,49 +25,40 @@ fn push_change(
 ) -> fmt::Result {
     match difference {
         Difference::Removed(row) => {
-            let opening = "<tr class='removed'><td class='w'>removed</td>";
             let cells = cells_of(page.alloc(), committed, row)?;
-            push_row(page, opening, &cells, &[])
+            push_row(page, REMOVED, &cells, &[])
         }
         Difference::Added(row) => {
-            let opening = "<tr class='added'><td class='w'>added</td>";
             let cells = cells_of(page.alloc(), draft, row)?;
-            push_row(page, opening, &cells, &[])
+            push_row(page, ADDED, &cells, &[])
         }
         Difference::Changed { before, after } => {
-            let before_opening = "<tr class='before'><td class='w'>changed from</td>";
-            let after_opening = "<tr class='after'><td class='w'>changed to</td>";
             let before = cells_of(page.alloc(), committed, before)?;
             let after = cells_of(page.alloc(), draft, after)?;
-            push_row(page, before_opening, &before, &after)?;
-            push_row(page, after_opening, &after, &before)
+            push_row(page, BEFORE, &before, &after)?;
+            push_row(page, AFTER, &after, &before)
         }
     }
 }
 
-fn kind_of_change(difference: &Difference) -> Kind {
-    match difference {
-        Difference::Removed(row) | Difference::Added(row) => kind_of(row),
-        Difference::Changed { before, .. } => kind_of(before),
+fn kind_of(change: &Difference) -> usize {
+    match change {
+        Difference::Removed(row) | Difference::Added(row) => kind_of_row(row),
+        Difference::Changed { before, .. } => kind_of_row(before),
     }
 }
 
-/// The column before those of a kind.
-const CHANGE_COLUMN: [Column; 1] = [Column::Words("Change")];
-
-/// Writes the table of the changes in rows of a kind.
+/// Writes the changes in rows of a kind.
 fn push_kind(
     page: &mut Markup,
-    kind: Kind,
+    kind: usize,
     committed: &TimingSet,
     draft: &TimingSet,
-    differences: &[Difference],
+    changes: &[Difference],
 ) -> fmt::Result {
-    let (name, columns) = table_of(kind);
-    open_table(page, name, " that change", &CHANGE_COLUMN, columns)?;
-    for difference in differences {
-        if kind_of_change(difference) == kind {
-            push_change(page, committed, draft, difference)?;
+    for change in changes {
+        if kind_of(change) == kind {
+            push_change(page, committed, draft, change)?;
         }
     }
     close_table(page)
@@ -70,18 +69,19 @@ pub(crate) fn push_changes(
     page: &mut Markup,
     committed: &TimingSet,
     draft: &TimingSet,
-    differences: &[Difference],
 ) -> fmt::Result {
+    let changes = compare(page.alloc(), committed, draft)?;
     page.own("<div class='changes'>\n<h3>What it changes</h3>\n")?;
-    if differences.is_empty() {
+    if changes.is_empty() {
         page.own("<p>It changes nothing of the committed plan.</p>\n")?;
     }
-    for kind in KINDS {
-        if differences
-            .iter()
-            .any(|difference| kind_of_change(difference) == kind)
-        {
-            push_kind(page, kind, committed, draft, differences)?;
+    for (kind, (name, columns)) in TABLES.iter().enumerate() {
+        if changes.iter().any(|change| kind_of(change) == kind) {
+            let mut all = Vec::new(page.alloc());
+            all.extend_from_slice(&[Column::Words("Change")])?;
+            all.extend_from_slice(columns)?;
+            open_table(page, name, " that change", &all, false)?;
+            push_kind(page, kind, committed, draft, &changes)?;
         }
     }
     page.own("</div>\n")

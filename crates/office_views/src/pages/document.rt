@@ -1,7 +1,6 @@
 //! The page of an intersection, and that of a plan alone.
 
 use super::cabinet::push_cabinet;
-use super::cell::push_name;
 use super::changes::push_changes;
 use super::facts::push_facts;
 use super::notes::{push_reasons_note, push_warnings_note};
@@ -11,11 +10,11 @@ use super::shown::IntersectionShown;
 use super::style::STYLE;
 use office_machine::reply::IntersectionState;
 use safe_markup::Markup;
-use signal_plans::{compare, warnings};
+use signal_plans::{Warning, warnings};
 use signal_records::{NoMemory, TimingSet};
 use signal_rules::reasons;
 use std::alloc::Global;
-use std::fmt::{self, Write};
+use std::fmt;
 
 /// The markup of a page up to its title.
 const HEAD: &str = "\
@@ -32,13 +31,11 @@ pub(crate) fn push_head(page: &mut Markup, title: &str) -> fmt::Result {
     page.own("</style>\n</head>\n")
 }
 
-pub(crate) fn end_page(page: &mut Markup) -> fmt::Result {
-    page.own("</main>\n</body>\n</html>\n")
-}
+/// The markup of a page between its head and its heading.
+const BODY: &str = "<body>\n<a class='skip' href='#main'>Skip to the plan</a>\n<header>\n<h1>";
 
-fn open_body(page: &mut Markup) -> fmt::Result {
-    page.own("<body>\n<a class='skip' href='#main'>Skip to the plan</a>\n<header>\n<h1>")
-}
+/// The end of a page.
+pub(crate) const END: &str = "</main>\n</body>\n</html>\n";
 
 /// Writes the pictures and tables of a plan with the remarks on it, or that it has none; `whose`
 /// stands behind the name of each table.
@@ -61,10 +58,9 @@ fn push_heading(page: &mut Markup, state: &IntersectionState) -> fmt::Result {
     let name = state.name.as_str();
     let title = format!(in page.alloc(); "Intersection {id}: {name}")?;
     push_head(page, &title)?;
-    open_body(page)?;
-    write!(page, "Intersection {id}: ")?;
-    push_name(page, name)?;
-    page.own("</h1>\n")
+    page.own(BODY)?;
+    page.enclose("Intersection ", &id, ": <bdi>")?;
+    page.enclose("", &name, "</bdi></h1>\n")
 }
 
 /// Writes links to the index, where that is wanted, and to the parts of the page.
@@ -80,33 +76,39 @@ fn push_links(page: &mut Markup, linked: bool, drafted: bool) -> fmt::Result {
     page.own("<li><a href='#cabinet'>The cabinet</a></li>\n</ul>\n</nav>\n")
 }
 
-fn push_committed(page: &mut Markup, committed: &TimingSet, remarks: &Remarks<'_>) -> fmt::Result {
-    page.own(
-        "<section id='plan' aria-labelledby='plan-title'>\n\
-         <h2 id='plan-title'>The committed plan</h2>\n",
-    )?;
-    push_warnings_note(page, remarks.warnings)?;
-    push_plan(page, " of the committed plan", committed, remarks)?;
+fn push_committed(page: &mut Markup, plan: &TimingSet, warnings: &[Warning]) -> fmt::Result {
+    let remarks = Remarks {
+        reasons: &[],
+        warnings,
+    };
+    page.own("<section id='plan' aria-labelledby='plan-title'>\n")?;
+    page.own("<h2 id='plan-title'>The committed plan</h2>\n")?;
+    push_warnings_note(page, warnings)?;
+    push_plan(page, " of the committed plan", plan, &remarks)?;
     page.own("</section>\n")
 }
 
-fn push_draft(page: &mut Markup, committed: &TimingSet, draft: &TimingSet) -> fmt::Result {
-    let differences = compare(page.alloc(), committed, draft)?;
-    let reasons = reasons(page.alloc(), draft)?;
-    let warnings = warnings(page.alloc(), draft)?;
+/// Writes a plan with the remarks on it, below what it changes of the committed one, if it is a
+/// draft.
+fn push_judged(
+    page: &mut Markup,
+    whose: &'static str,
+    plan: &TimingSet,
+    committed: Option<&TimingSet>,
+) -> fmt::Result {
+    let reasons = reasons(page.alloc(), plan)?;
+    let warnings = warnings(page.alloc(), plan)?;
     let remarks = Remarks {
         reasons: &reasons,
         warnings: &warnings,
     };
-    page.own(
-        "<section id='draft' aria-labelledby='draft-title'>\n<h2 id='draft-title'>The draft</h2>\n",
-    )?;
     push_reasons_note(page, &reasons)?;
     push_warnings_note(page, &warnings)?;
-    push_changes(page, committed, draft, &differences)?;
-    page.own("<h3>The whole draft</h3>\n")?;
-    push_plan(page, " of the draft", draft, &remarks)?;
-    page.own("</section>\n")
+    if let Some(committed) = committed {
+        push_changes(page, committed, plan)?;
+        page.own("<h3>The whole draft</h3>\n")?;
+    }
+    push_plan(page, whose, plan, &remarks)
 }
 
 fn push_intersection(
@@ -114,27 +116,20 @@ fn push_intersection(
     linked: bool,
     shown: &IntersectionShown<'_>,
 ) -> fmt::Result {
-    let IntersectionShown {
-        state,
-        committed,
-        warnings,
-        draft,
-        cabinet,
-    } = *shown;
-    let remarks = Remarks {
-        reasons: &[],
-        warnings,
-    };
-    push_heading(page, state)?;
-    push_facts(page, state, &cabinet.view, warnings.len())?;
-    push_links(page, linked, draft.is_some())?;
+    let view = &shown.cabinet.view;
+    push_heading(page, shown.state)?;
+    push_facts(page, shown.state, view, shown.warnings.len())?;
+    push_links(page, linked, shown.draft.is_some())?;
     page.own("</header>\n<main id='main'>\n")?;
-    push_committed(page, committed, &remarks)?;
-    if let Some(draft) = draft {
-        push_draft(page, committed, draft)?;
+    push_committed(page, shown.committed, shown.warnings)?;
+    if let Some(draft) = shown.draft {
+        page.own("<section id='draft' aria-labelledby='draft-title'>\n")?;
+        page.own("<h2 id='draft-title'>The draft</h2>\n")?;
+        push_judged(page, " of the draft", draft, Some(shown.committed))?;
+        page.own("</section>\n")?;
     }
-    push_cabinet(page, state.interval, &cabinet.view)?;
-    end_page(page)
+    push_cabinet(page, shown.state.interval, view)?;
+    page.own(END)
 }
 
 /// The page of an intersection as one HTML text in UTF-8, which needs no other file: facts,
@@ -148,26 +143,16 @@ pub fn intersection_page(
     shown: &IntersectionShown<'_>,
 ) -> Result<Vec<u8>, NoMemory> {
     let mut page = Markup::new(alloc);
-    match push_intersection(&mut page, linked, shown) {
-        Ok(()) => Ok(page.into_bytes()),
-        Err(fmt::Error) => Err(NoMemory),
-    }
+    push_intersection(&mut page, linked, shown).map_err(|_| NoMemory)?;
+    Ok(page.into_bytes())
 }
 
 fn push_plan_page(page: &mut Markup, plan: &TimingSet) -> fmt::Result {
-    let reasons = reasons(page.alloc(), plan)?;
-    let warnings = warnings(page.alloc(), plan)?;
-    let remarks = Remarks {
-        reasons: &reasons,
-        warnings: &warnings,
-    };
     push_head(page, "Timing plan")?;
-    open_body(page)?;
+    page.own(BODY)?;
     page.own("Timing plan</h1>\n</header>\n<main id='main'>\n")?;
-    push_reasons_note(page, &reasons)?;
-    push_warnings_note(page, &warnings)?;
-    push_plan(page, "", plan, &remarks)?;
-    end_page(page)
+    push_judged(page, "", plan, None)?;
+    page.own(END)
 }
 
 /// The page of a plan alone as one HTML text in UTF-8, which needs no other file: how many reasons
@@ -175,8 +160,6 @@ fn push_plan_page(page: &mut Markup, plan: &TimingSet) -> fmt::Result {
 /// reasons and warnings below it. `NoMemory` means that a growth was refused.
 pub fn plan_page(alloc: Global, plan: &TimingSet) -> Result<Vec<u8>, NoMemory> {
     let mut page = Markup::new(alloc);
-    match push_plan_page(&mut page, plan) {
-        Ok(()) => Ok(page.into_bytes()),
-        Err(fmt::Error) => Err(NoMemory),
-    }
+    push_plan_page(&mut page, plan).map_err(|_| NoMemory)?;
+    Ok(page.into_bytes())
 }

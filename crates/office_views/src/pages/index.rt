@@ -1,17 +1,16 @@
 //! The index page of an office: its intersections, the open orders on them, and the stock.
 
 use super::cell::{Cell, due_cell, last_cell, push_date};
-use super::document::{end_page, push_head};
-use super::facts::{date_of, due_date};
+use super::document::{END, push_head};
 use super::shown::{IndexEntry, IndexShown};
-use super::table::{Column, close_table, open_table, push_none, push_row};
+use super::table::{Column, close_table, open_table, push_row};
 use cabinet_core::{Day, Hand, PartCode, due};
 use office_files::state_word;
 use office_machine::orders::NamedOrder;
 use safe_markup::Markup;
 use signal_records::NoMemory;
 use std::alloc::Global;
-use std::fmt::{self, Write};
+use std::fmt;
 
 const INTERSECTION_COLUMNS: [Column; 10] = [
     Column::Numbers("No"),
@@ -52,7 +51,6 @@ fn push_entry(page: &mut Markup, entry: &IndexEntry, overdue: bool) -> fmt::Resu
         None => Cell::Words("nobody"),
         Some(holder) => Cell::Name(holder.owner.as_str()),
     };
-    let due = due_date(listed.interval, entry.last);
     let cells = [
         Cell::Link(listed.id.get()),
         Cell::Name(listed.name.as_str()),
@@ -62,22 +60,16 @@ fn push_entry(page: &mut Markup, entry: &IndexEntry, overdue: bool) -> fmt::Resu
         Cell::Number(listed.rows as u64),
         Cell::Number(entry.warnings as u64),
         Cell::Number(entry.open_orders as u64),
-        last_cell(date_of(entry.last)),
-        if overdue {
-            Cell::Overdue(due)
-        } else {
-            due_cell(due)
-        },
+        last_cell(entry.last),
+        due_cell(entry.last, listed.interval, overdue),
     ];
     push_row(page, "<tr>", &cells, &[])
 }
 
 /// Writes the table of the intersections, those that are overdue on the day first.
 fn push_intersections(page: &mut Markup, entries: &[IndexEntry], day: &Option<Day>) -> fmt::Result {
-    open_table(page, "Intersections", "", &[], &INTERSECTION_COLUMNS)?;
-    if entries.is_empty() {
-        push_none(page, INTERSECTION_COLUMNS.len())?;
-    }
+    let is_empty = entries.is_empty();
+    open_table(page, "Intersections", "", &INTERSECTION_COLUMNS, is_empty)?;
     for overdue in [true, false] {
         for entry in entries {
             if is_overdue(entry, day) == overdue {
@@ -89,10 +81,7 @@ fn push_intersections(page: &mut Markup, entries: &[IndexEntry], day: &Option<Da
 }
 
 fn push_orders(page: &mut Markup, orders: &[NamedOrder]) -> fmt::Result {
-    open_table(page, "Open orders", "", &[], &ORDER_COLUMNS)?;
-    if orders.is_empty() {
-        push_none(page, ORDER_COLUMNS.len())?;
-    }
+    open_table(page, "Open orders", "", &ORDER_COLUMNS, orders.is_empty())?;
     for named in orders {
         let order = &named.listed.order;
         let cells = [
@@ -109,10 +98,7 @@ fn push_orders(page: &mut Markup, orders: &[NamedOrder]) -> fmt::Result {
 }
 
 fn push_stock(page: &mut Markup, stock: &[(PartCode, Hand)]) -> fmt::Result {
-    open_table(page, "Stock", "", &[], &STOCK_COLUMNS)?;
-    if stock.is_empty() {
-        push_none(page, STOCK_COLUMNS.len())?;
-    }
+    open_table(page, "Stock", "", &STOCK_COLUMNS, stock.is_empty())?;
     for (part, hand) in stock {
         let cells = [
             Cell::Name(part.as_str()),
@@ -132,12 +118,10 @@ fn push_day_note(page: &mut Markup, entries: &[IndexEntry], day: &Option<Day>) -
         .iter()
         .filter(|entry| is_overdue(entry, day))
         .count();
-    let all = entries.len();
     page.own("<p>Inspections overdue on <strong>")?;
     push_date(page, given.date())?;
-    page.own("</strong>")?;
-    write!(page, ": {overdue} of {all}.")?;
-    page.own("</p>\n")
+    page.enclose("</strong>: ", &overdue, " of ")?;
+    page.enclose("", &entries.len(), ".</p>\n")
 }
 
 fn push_index(
@@ -147,14 +131,14 @@ fn push_index(
     day: &Option<Day>,
 ) -> fmt::Result {
     let entries = shown.entries.as_slice();
-    push_head(page, &"Intersections")?;
+    push_head(page, "Intersections")?;
     page.own("<body>\n<header>\n<h1>Intersections</h1>\n")?;
     push_day_note(page, entries, day)?;
     page.own("</header>\n<main>\n")?;
     push_intersections(page, entries, day)?;
     push_orders(page, shown.orders.as_slice())?;
     push_stock(page, stock)?;
-    end_page(page)
+    page.own(END)
 }
 
 /// The index page of an office as one HTML text in UTF-8: its intersections, those whose inspection
@@ -168,8 +152,6 @@ pub fn index_page(
     day: Option<Day>,
 ) -> Result<Vec<u8>, NoMemory> {
     let mut page = Markup::new(alloc);
-    match push_index(&mut page, shown, stock, &day) {
-        Ok(()) => Ok(page.into_bytes()),
-        Err(fmt::Error) => Err(NoMemory),
-    }
+    push_index(&mut page, shown, stock, &day).map_err(|_| NoMemory)?;
+    Ok(page.into_bytes())
 }

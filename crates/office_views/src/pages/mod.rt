@@ -11,7 +11,6 @@ mod document;
 mod facts;
 mod index;
 mod notes;
-mod phases;
 mod pictures;
 mod plan_rows;
 mod plan_tables;

@@ -1,42 +1,26 @@
 //! The rows of a timing set as rows of tables.
 
-use super::cell::{Cell, in_tenths};
+use super::cell::{Cell, DASH, in_tenths};
 use super::splits::{coordinated_in, need_cells};
 use super::table::Column;
-use signal_records::{
-    Pattern, PatternNo, Ped, Phase, PhaseNo, RingNo, Row, SeqNo, SeqRow, Split, SplitMode, SplitNo,
-    TimingSet,
-};
+use signal_records::{Pattern, PatternNo, Ped, Phase, PhaseNo, Row, SplitMode, TimingSet};
 use std::alloc::{AllocError, Global};
 
-/// The kinds of rows, each of which has a table.
-#[derive(Clone, Copy, PartialEq, Eq)]
-pub(crate) enum Kind {
-    Patterns,
-    Sequences,
-    Splits,
-    Phases,
-}
+/// The name and the columns of each table, in their order. A kind of rows is the place of its
+/// table.
+pub(crate) const TABLES: [(&str, &[Column]); 4] = [
+    ("Patterns", &PATTERN_COLUMNS),
+    ("Sequences", &SEQUENCE_COLUMNS),
+    ("Splits", &SPLIT_COLUMNS),
+    ("Phases", &PHASE_COLUMNS),
+];
 
-/// The kinds in the order of their tables.
-pub(crate) const KINDS: [Kind; 4] = [Kind::Patterns, Kind::Sequences, Kind::Splits, Kind::Phases];
-
-pub(crate) fn kind_of(row: &Row) -> Kind {
+pub(crate) fn kind_of_row(row: &Row) -> usize {
     match row {
-        Row::Phase(_, _) => Kind::Phases,
-        Row::Seq(_, _, _) => Kind::Sequences,
-        Row::Split(_, _, _) => Kind::Splits,
-        Row::Pattern(_, _) => Kind::Patterns,
-    }
-}
-
-/// The name and the columns of the table of a kind.
-pub(crate) fn table_of(kind: Kind) -> (&'static str, &'static [Column]) {
-    match kind {
-        Kind::Patterns => ("Patterns", &PATTERN_COLUMNS),
-        Kind::Sequences => ("Sequences", &SEQUENCE_COLUMNS),
-        Kind::Splits => ("Splits", &SPLIT_COLUMNS),
-        Kind::Phases => ("Phases", &PHASE_COLUMNS),
+        Row::Pattern(_, _) => 0,
+        Row::Seq(_, _, _) => 1,
+        Row::Split(_, _, _) => 2,
+        Row::Phase(_, _) => 3,
     }
 }
 
@@ -49,30 +33,11 @@ const PATTERN_COLUMNS: [Column; 6] = [
     Column::Words("Coordinated phases"),
 ];
 
-fn pattern_cells(set: &TimingSet, n: PatternNo, pattern: &Pattern) -> [Cell<'static>; 6] {
-    [
-        Cell::Head(n.get()),
-        Cell::Number(u64::from(pattern.cycle.get())),
-        Cell::Number(u64::from(pattern.offset)),
-        Cell::Number(u64::from(pattern.split.get())),
-        Cell::Number(u64::from(pattern.seq.get())),
-        Cell::PhaseSet(coordinated_in(set, pattern.split)),
-    ]
-}
-
 const SEQUENCE_COLUMNS: [Column; 3] = [
     Column::Numbers("Sequence"),
     Column::Numbers("Ring"),
     Column::Words("Phases in turn"),
 ];
-
-fn sequence_cells(n: SeqNo, ring: RingNo, seq: &SeqRow) -> [Cell<'_>; 3] {
-    [
-        Cell::Head(n.get()),
-        Cell::Head(ring.get()),
-        Cell::Phases(seq.list.as_slice()),
-    ]
-}
 
 const SPLIT_COLUMNS: [Column; 9] = [
     Column::Numbers("Split"),
@@ -85,30 +50,6 @@ const SPLIT_COLUMNS: [Column; 9] = [
     Column::Words("Mode"),
     Column::Words("Coordinated"),
 ];
-
-fn mode_words(mode: SplitMode) -> &'static str {
-    match mode {
-        SplitMode::NoRecall => "none",
-        SplitMode::MinimumVehicleRecall => "minimum vehicle recall",
-        SplitMode::MaximumVehicleRecall => "maximum vehicle recall",
-        SplitMode::PedestrianRecall => "pedestrian recall",
-        SplitMode::MaximumVehicleAndPedestrianRecall => "maximum vehicle and pedestrian recall",
-        SplitMode::PhaseOmitted => "phase omitted",
-    }
-}
-
-fn flag(set: bool) -> Cell<'static> {
-    Cell::Words(if set { "yes" } else { "no" })
-}
-
-/// The first cells of a split; those of its needs follow.
-fn split_cells(n: SplitNo, p: PhaseNo, split: &Split) -> [Cell<'static>; 3] {
-    [
-        Cell::Head(n.get()),
-        Cell::Head(p.get()),
-        Cell::Number(u64::from(split.time)),
-    ]
-}
 
 const PHASE_COLUMNS: [Column; 14] = [
     Column::Numbers("Phase"),
@@ -127,6 +68,32 @@ const PHASE_COLUMNS: [Column; 14] = [
     Column::Words("Concurrent phases"),
 ];
 
+fn pattern_cells(set: &TimingSet, n: PatternNo, pattern: &Pattern) -> [Cell<'static>; 6] {
+    [
+        Cell::Head(n.get()),
+        Cell::Number(u64::from(pattern.cycle.get())),
+        Cell::Number(u64::from(pattern.offset)),
+        Cell::Number(u64::from(pattern.split.get())),
+        Cell::Number(u64::from(pattern.seq.get())),
+        Cell::PhaseSet(coordinated_in(set, pattern.split)),
+    ]
+}
+
+fn mode_words(mode: SplitMode) -> &'static str {
+    match mode {
+        SplitMode::NoRecall => "none",
+        SplitMode::MinimumVehicleRecall => "minimum vehicle recall",
+        SplitMode::MaximumVehicleRecall => "maximum vehicle recall",
+        SplitMode::PedestrianRecall => "pedestrian recall",
+        SplitMode::MaximumVehicleAndPedestrianRecall => "maximum vehicle and pedestrian recall",
+        SplitMode::PhaseOmitted => "phase omitted",
+    }
+}
+
+fn flag(set: bool) -> Cell<'static> {
+    Cell::Words(if set { "yes" } else { "no" })
+}
+
 /// The first cells of a phase; those of its pedestrian part follow.
 fn phase_cells(p: PhaseNo, phase: &Phase) -> [Cell<'static>; 7] {
     [
@@ -143,14 +110,7 @@ fn phase_cells(p: PhaseNo, phase: &Phase) -> [Cell<'static>; 7] {
 /// The cells of a phase's pedestrian part, or a dash in each where there is none.
 fn ped_cells(ped: &Option<Ped>) -> [Cell<'static>; 6] {
     match ped {
-        None => [
-            Cell::Dash,
-            Cell::Dash,
-            Cell::Dash,
-            Cell::Dash,
-            Cell::Words("-"),
-            Cell::Dash,
-        ],
+        None => [DASH, DASH, DASH, DASH, Cell::Words("-"), DASH],
         Some(ped) => [
             Cell::Number(u64::from(ped.walk)),
             Cell::Number(u64::from(ped.clear)),
@@ -175,11 +135,16 @@ pub(crate) fn cells_of<'a>(
             cells.extend_from_slice(&ped_cells(&phase.ped))?;
             cells.extend_from_slice(&[Cell::Phases(phase.mates.as_slice())])?;
         }
-        Row::Seq(n, ring, seq) => cells.extend_from_slice(&sequence_cells(*n, *ring, seq))?,
+        Row::Seq(n, ring, seq) => cells.extend_from_slice(&[
+            Cell::Head(n.get()),
+            Cell::Head(ring.get()),
+            Cell::Phases(seq.list.as_slice()),
+        ])?,
         Row::Split(n, p, split) => {
-            cells.extend_from_slice(&split_cells(*n, *p, split))?;
-            cells.extend_from_slice(&need_cells(set, *p, split))?;
+            let time = Cell::Number(u64::from(split.time));
             let mode = Cell::Words(mode_words(split.mode));
+            cells.extend_from_slice(&[Cell::Head(n.get()), Cell::Head(p.get()), time])?;
+            cells.extend_from_slice(&need_cells(set, *p, split))?;
             cells.extend_from_slice(&[mode, flag(split.coord)])?;
         }
         Row::Pattern(n, pattern) => cells.extend_from_slice(&pattern_cells(set, *n, pattern))?,

@@ -41,22 +41,6 @@ pub struct IndexShown {
     pub orders: Listing<NamedOrder>,
 }
 
-fn listed_copied(listed: &ListedIntersection) -> Result<ListedIntersection, NoMemory> {
-    let name = listed.name.clone()?;
-    let holder = match &listed.holder {
-        None => None,
-        Some(holder) => Some(holder.clone()?),
-    };
-    Ok(ListedIntersection {
-        id: listed.id,
-        name,
-        interval: listed.interval,
-        revision: listed.revision,
-        holder,
-        rows: listed.rows,
-    })
-}
-
 /// Appends what the index shows of an intersection that is listed, by what the register holds of
 /// it, and by how many warnings its committed plan has. `NoMemory` means that a growth was refused.
 pub fn add_entry(
@@ -65,8 +49,20 @@ pub fn add_entry(
     cabinet: &CabinetShown,
     warnings: usize,
 ) -> Result<(), NoMemory> {
+    let holder = match &listed.holder {
+        None => None,
+        Some(holder) => Some(holder.clone()?),
+    };
+    let listed = ListedIntersection {
+        id: listed.id,
+        name: listed.name.clone()?,
+        interval: listed.interval,
+        revision: listed.revision,
+        holder,
+        rows: listed.rows,
+    };
     let entry = IndexEntry {
-        listed: listed_copied(listed)?,
+        listed,
         last: latest(cabinet.view.inspections.as_slice()),
         open_orders: open_count(cabinet.view.orders.as_slice()),
         warnings,

@@ -1,8 +1,7 @@
 //! What a plan says of its splits beyond their rows: needs, and the phases that are coordinated.
 
-use super::cell::{Cell, Tenths, in_tenths};
-use super::phases::PhaseSet;
-use signal_records::{Phase, PhaseNo, Split, SplitMode, SplitNo, TimingSet, need};
+use super::cell::{Cell, DASH, EMPTY, PhaseSet, Tenths, in_tenths};
+use signal_records::{PHASES, Phase, PhaseNo, Split, SplitMode, SplitNo, TimingSet, need};
 use signal_rules::{
     NeedPart, SplitNeed, has_phase, is_coordinated, need_if_called, phase_at, split_at,
 };
@@ -27,7 +26,7 @@ fn cells_of_needs(phase: &Phase, mode: SplitMode, time: u32) -> [Cell<'static>; 
     let need = need(phase, mode);
     let spare = Cell::Tenths(Tenths(i64::from(time) - i64::from(need)));
     if phase.ped.is_none() {
-        return [in_tenths(need), spare, Cell::Dash, Cell::Words("-")];
+        return [in_tenths(need), spare, DASH, Cell::Words("-")];
     }
     let called = need_if_called(phase);
     let governs = governs_cell(called, time);
@@ -38,20 +37,20 @@ fn cells_of_needs(phase: &Phase, mode: SplitMode, time: u32) -> [Cell<'static>; 
 /// have it.
 pub(crate) fn need_cells(set: &TimingSet, p: PhaseNo, split: &Split) -> [Cell<'static>; 4] {
     let Split { time, mode, .. } = *split;
-    match (mode, phase_at(set, p)) {
-        (SplitMode::PhaseOmitted, _) | (_, None) => {
-            [Cell::Empty, Cell::Empty, Cell::Empty, Cell::Empty]
+    match phase_at(set, p) {
+        Some(phase) if mode != SplitMode::PhaseOmitted => {
+            cells_of_needs(phase, mode, 10 * u32::from(time))
         }
-        (_, Some(phase)) => cells_of_needs(phase, mode, 10 * u32::from(time)),
+        _ => [EMPTY, EMPTY, EMPTY, EMPTY],
     }
 }
 
 /// The phases of the set that split plan `n` coordinates.
 pub(crate) fn coordinated_in(set: &TimingSet, n: SplitNo) -> PhaseSet {
-    let mut phases = PhaseSet::empty();
+    let mut phases = [false; PHASES as usize + 1];
     for p in PhaseNo::all() {
         if has_phase(set, p) && is_coordinated(split_at(set, n, p)) {
-            phases.insert(p);
+            phases[p.get() as usize] = true;
         }
     }
     phases

@@ -11,63 +11,39 @@ pub(crate) enum Column {
     Words(&'static str),
 }
 
-fn push_headings(page: &mut Markup, columns: &[Column]) -> fmt::Result {
-    for column in columns {
-        match *column {
-            Column::Numbers(heading) => page.enclose("<th scope='col'>", &heading, "</th>")?,
-            Column::Words(heading) => {
-                page.enclose("<th scope='col' class='w'>", &heading, "</th>")?;
-            }
-        }
+fn push_heading(page: &mut Markup, column: Column) -> fmt::Result {
+    match column {
+        Column::Numbers(heading) => page.enclose("<th scope='col'>", &heading, "</th>"),
+        Column::Words(heading) => page.enclose("<th scope='col' class='w'>", &heading, "</th>"),
     }
-    Ok(())
 }
 
 /// Opens a table up to its rows, in a box that scrolls where the page is narrow. `whose` stands
-/// behind its name, and the first columns before the others.
+/// behind its name. An empty one says so in its only row.
 pub(crate) fn open_table(
     page: &mut Markup,
     name: &'static str,
     whose: &'static str,
-    first: &[Column],
     columns: &[Column],
+    is_empty: bool,
 ) -> fmt::Result {
-    page.own("<div class='scroll' role='group' tabindex='0' aria-label='")?;
-    page.own(name)?;
-    page.own(whose)?;
-    page.own("'>\n<table>\n<caption>")?;
-    page.own(name)?;
-    page.own(whose)?;
+    let scroll = "<div class='scroll' role='group' tabindex='0' aria-label='";
+    page.enclose(scroll, &name, whose)?;
+    page.enclose("'>\n<table>\n<caption>", &name, whose)?;
     page.own("</caption>\n<thead><tr>")?;
-    push_headings(page, first)?;
-    push_headings(page, columns)?;
-    page.own("</tr></thead>\n<tbody>")
-}
-
-/// Writes the row of a table that has no other.
-pub(crate) fn push_none(page: &mut Markup, columns: usize) -> fmt::Result {
-    page.enclose(
-        "<tr><td class='none' colspan='",
-        &columns,
-        "'>none</td></tr>\n",
-    )
+    for column in columns {
+        push_heading(page, *column)?;
+    }
+    page.own("</tr></thead>\n<tbody>")?;
+    if is_empty {
+        let none = "'>none</td></tr>\n";
+        page.enclose("<tr><td class='none' colspan='", &columns.len(), none)?;
+    }
+    Ok(())
 }
 
 pub(crate) fn close_table(page: &mut Markup) -> fmt::Result {
     page.own("</tbody>\n</table>\n</div>\n")
-}
-
-fn push_cell(page: &mut Markup, cell: &Cell<'_>, marked: bool) -> fmt::Result {
-    let (opening, end) = tags_of(cell);
-    page.own(opening)?;
-    if marked {
-        page.own("<mark>")?;
-    }
-    push_content(page, cell)?;
-    if marked {
-        page.own("</mark>")?;
-    }
-    page.own(end)
 }
 
 /// Writes a row of cells. A cell is marked where that of the other row in its column shows
@@ -80,8 +56,13 @@ pub(crate) fn push_row(
 ) -> fmt::Result {
     page.own(opening)?;
     for (at, cell) in cells.iter().enumerate() {
+        let (opening, end) = tags_of(cell);
         let marked = others.get(at).is_some_and(|other| cell != other);
-        push_cell(page, cell, marked)?;
+        page.own(opening)?;
+        page.own(if marked { "<mark>" } else { "" })?;
+        push_content(page, cell)?;
+        page.own(if marked { "</mark>" } else { "" })?;
+        page.own(end)?;
     }
     page.own("</tr>\n")
 }

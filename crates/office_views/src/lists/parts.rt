@@ -1,10 +1,30 @@
-//! The lists of used parts.
+//! The list of the parts on hand, and that of used parts.
 
 use super::list::{Cell, Column, print_list, record_of};
-use cabinet_core::{Day, Order, PartCode, UsedLine};
+use cabinet_core::{Day, Hand, Order, PartCode, UsedLine};
 use office_machine::reply::CabinetShown;
 use signal_records::{InterId, NoMemory, Words};
 use std::alloc::Global;
+
+const STOCK_COLUMNS: [Column; 2] = [Column::Right(1, 10), Column::Left(0, 0)];
+
+/// What is on hand, in UTF-8: how many there are of each part, and its code. As CSV a record for
+/// each, with the code first, and no heading. `NoMemory` means that a growth was refused.
+pub fn stock_list(
+    alloc: Global,
+    csv: bool,
+    parts: &[(PartCode, Hand)],
+) -> Result<Vec<u8>, NoMemory> {
+    let mut records = Vec::new(alloc);
+    for (part, hand) in parts {
+        let cells = [
+            Cell::Word(part.as_str()),
+            Cell::Number(u64::from(hand.get())),
+        ];
+        records.push(record_of(alloc, &cells)?)?;
+    }
+    print_list(alloc, csv, "     Count  Part\n", &STOCK_COLUMNS, &records)
+}
 
 /// A part that was used for an order, with the intersection and the opening of the order.
 #[derive(Drop)]
@@ -17,15 +37,6 @@ pub struct UsedPart {
     pub clerk: Words<40>,
     /// The line of the order: its number and the order's, the part, and how many pieces.
     pub used: UsedLine,
-}
-
-fn used_for(id: InterId, order: &Order, used: &UsedLine) -> Result<UsedPart, NoMemory> {
-    Ok(UsedPart {
-        id,
-        opened: order.opened,
-        clerk: order.clerk.clone()?,
-        used: used.clone()?,
-    })
 }
 
 /// Appends those of a cabinet's lines that are of this order and, where a part is named, of it.
@@ -42,7 +53,12 @@ fn add_used_in(
             None => true,
         };
         if used.order == order.number && is_asked {
-            found.push(used_for(id, order, used)?)?;
+            found.push(UsedPart {
+                id,
+                opened: order.opened,
+                clerk: order.clerk.clone()?,
+                used: used.clone()?,
+            })?;
         }
     }
     Ok(())
