@@ -84,11 +84,11 @@ fn shapes_of(
     Ok(shapes)
 }
 
-/// The picture of the pattern with this number: each ring that is used has a lane with its phases in
-/// the order of the pattern's sequence, each as long as its split. A phase has a lead before its
+/// The picture of the pattern with this number: each ring that is used has a lane with its phases
+/// in the order of the pattern's sequence, each as long as its split. A phase has a lead before its
 /// green, yellow and red at its end, and below it walk and clearance. A line stands over all lanes
 /// where all rings change phase, and at the end of the cycle; a scale has a tick each 10 seconds.
-/// Lanes of a pattern that breaks V9, V12 or V13 end where they end. A sheet has its warnings too.
+/// Where the pattern breaks V9, V12 or V13, its lanes end where they end. A sheet has its warnings.
 ///
 /// Nothing, where the set has no such pattern. `NoMemory` means that a growth was refused.
 pub fn picture_of(
