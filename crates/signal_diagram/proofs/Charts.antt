@@ -1,12 +1,11 @@
 -- The lanes of a pattern are its chart.
-use Rattle.std.proofs.Common.{◌≡◌, ℕ, eqb, List, [], ◌∷◌, map, length, get_or, Some, refl, sym, ap, ◌∙◌, arith}
+use Rattle.std.proofs.Common.{◌≡◌, ℕ, eqb, List, [], ◌∷◌, map, length, get_or, refl, sym, ap, ◌∙◌, arith}
 use Rattle.std.proofs.lemmas.List.{Elements.All-map, Folds.list_all-map}
 use Rattle.std.specs.List.{list_all}
 use Rattle.signal_records.specs.{declared.record.Pattern.Pattern, TimingSet.Rows}
-use Rattle.signal_rules.specs.{Lookup.pattern_at, SequenceRule.ring_row, PatternRules.used_rings, PatternRules.lanes_fill_cycle, CutPoints.row_seconds, Starts.times, Starts.rings_fill}
+use Rattle.signal_rules.specs.{SequenceRule.ring_row, PatternRules.used_rings, PatternRules.lanes_fill_cycle, CutPoints.row_seconds, Starts.times, Starts.rings_fill}
 use Rattle.signal_rules.proofs.Starts.{fill_by_rings}
-use Rattle.signal_diagram.specs.declared.{chart.Bar.Bar, picture.Sizing.Sizing, picture.Picture.Picture}
-use Rattle.signal_diagram.specs.{Lane.RingLane, Chart.with_time, Chart.bars_from, Chart.lane_of, Chart.lanes_of, Chart.end_of, Chart.lanes_end, Chart.IsLane, Chart.IsChart, Shapes.shapes_of, Picture.told_below, Picture.DrawsChart}
+use Rattle.signal_diagram.specs.{Lane.RingLane, Chart.with_time, Chart.bars_from, Chart.lane_of, Chart.lanes_of, Chart.end_of, Chart.lanes_end, Chart.IsLane, Chart.IsChart}
 use Rattle.signal_diagram.proofs.Bars.{order, follow, lasts, ends, same_seconds, seconds}
 
 is_lane : (set : Rows) (pattern : Pattern) (ring : ℕ)
@@ -27,44 +26,25 @@ each_ring set pattern [] = refl
 each_ring set pattern (ring ∷ rings) =
     ap (λ (xs : List ℕ). ring ∷ xs) (each_ring set pattern rings)
 
-end_together : (set : Rows) (pattern : Pattern) (rings : List ℕ)
-    → rings_fill set pattern rings ≡ lanes_end pattern.cycle (map (lane_of set pattern) rings)
-end_together set pattern rings =
-    let time : ℕ → ℕ = times set pattern.split in
-    let row : ℕ → List ℕ = ring_row set pattern.seq in
-    let bars : ℕ → List Bar = λ ring. bars_from time 0 (with_time time (row ring)) in
-    let whole : (ring : ℕ) → length (row_seconds time (row ring)) ≡ end_of 0 (bars ring) =
-    λ ring. omega (arith, ends time (with_time time (row ring)) 0, ap length (same_seconds time (row ring))) in
-    let each : list_all (λ ring. eqb (length (row_seconds time (row ring))) pattern.cycle) rings
-    ≡ list_all (λ ring. eqb (end_of 0 (bars ring)) pattern.cycle) rings =
-    λ i. list_all (λ ring. eqb (whole ring i) pattern.cycle) rings in
-    each ∙ sym (list_all-map _ (lane_of set pattern) rings)
-
 -- the lanes end with the cycle where V12 holds
-pub fill_by_lanes : (set : Rows) (pattern : Pattern)
+fill_by_lanes : (set : Rows) (pattern : Pattern)
     → lanes_fill_cycle set pattern ≡ lanes_end pattern.cycle (lanes_of set pattern)
 fill_by_lanes set pattern =
-    sym (fill_by_rings set pattern (used_rings set) refl)
-    ∙ end_together set pattern (used_rings set)
+    let time : ℕ → ℕ = times set pattern.split in
+    let row : ℕ → List ℕ = ring_row set pattern.seq in
+    let rings : List ℕ = used_rings set in
+    let whole : (ring : ℕ) → length (row_seconds time (row ring)) ≡ end_of 0 (bars_from time 0 (with_time time (row ring))) =
+    λ ring. omega (arith, ends time (with_time time (row ring)) 0, ap length (same_seconds time (row ring))) in
+    let each : rings_fill set pattern rings
+    ≡ list_all (λ ring. eqb (end_of 0 (bars_from time 0 (with_time time (row ring)))) pattern.cycle) rings =
+    λ i. list_all (λ ring. eqb (whole ring i) pattern.cycle) rings in
+    sym (fill_by_rings set pattern rings refl)
+    ∙ each ∙ sym (list_all-map _ (lane_of set pattern) rings)
 
-is_chart : (set : Rows) (pattern : Pattern) → IsChart set pattern (lanes_of set pattern)
+pub is_chart : (set : Rows) (pattern : Pattern) → IsChart set pattern (lanes_of set pattern)
 is_chart set pattern = record {
   rings = each_ring set pattern (used_rings set);
   each = All-map (IsLane set pattern) (lane_of set pattern) (used_rings set)
       (λ k d lt. is_lane set pattern (get_or (used_rings set) k d));
   together = fill_by_lanes set pattern;
-}
-
--- a picture of these shapes draws the chart
-pub draws : (sizing : Sizing) (set : Rows) (n : ℕ) (pattern : Pattern) (shown : Picture)
-    → pattern_at set n ≡ Some pattern
-    → shown.shapes.items ≡ shapes_of set pattern (lanes_of set pattern)
-    → shown.warnings.items ≡ told_below sizing set n → DrawsChart sizing set n shown
-draws sizing set n pattern shown found shapes warnings = record {
-  pattern = pattern;
-  found = found;
-  lanes = lanes_of set pattern;
-  is_chart = is_chart set pattern;
-  shapes = shapes;
-  warnings = warnings;
 }

@@ -1,10 +1,9 @@
 -- The chart of a pattern, which a reader takes from its picture: which phase each ring has from
 -- which second of the cycle to which, and where all rings change phase.
 use Rattle.std.specs.Prelude.{◌≡◌, ℕ, ◌+◌, ◌==◌, ◌&&◌, ◌||◌, not, max, if◌then◌else◌, nat_lt, nat_le, ⊤, Bool, List, [], ◌∷◌, All, map, filter, find, length, Option, option_map, slice_get}
-use Rattle.std.specs.List.{list_any, list_all}
+use Rattle.std.specs.List.{list_any, list_all, fold, range_with_len}
 use Rattle.signal_records.specs.declared.record.Pattern.{Pattern}
 use Rattle.signal_records.specs.TimingSet.{Rows}
-use Rattle.signal_values.specs.Numbers.{numbers}
 use Rattle.signal_rules.specs.SequenceRule.{ring_row}
 use Rattle.signal_rules.specs.PatternRules.{lane, lanes_fill_cycle, used_rings}
 use Rattle.signal_rules.specs.Lanes.{list_each_other}
@@ -37,8 +36,7 @@ lanes_of set pattern = map (lane_of set pattern) (used_rings set)
 
 -- the second at which the last of these phases ends; where there is none, the given one
 abbrev pub end_of : ℕ → List Bar → ℕ
-end_of second [] = second
-end_of second (bar ∷ bars) = end_of bar.to bars
+end_of second bars = fold (λ _ bar. bar.to) second bars
 
 -- each lane ends at the second at which the cycle ends
 abbrev pub lanes_end : ℕ → List RingLane → Bool
@@ -46,8 +44,7 @@ lanes_end cycle lanes = list_all (λ shown. end_of 0 shown.bars == cycle) lanes
 
 -- the largest of a number of seconds and the seconds at which lanes end
 abbrev pub longest : ℕ → List RingLane → ℕ
-longest seconds [] = seconds
-longest seconds (shown ∷ more) = longest (max seconds (end_of 0 shown.bars)) more
+longest seconds lanes = fold (λ most shown. max most (end_of 0 shown.bars)) seconds lanes
 
 -- ---- where all rings change phase
 
@@ -68,7 +65,7 @@ has_line cycle lanes second = second == cycle || all_change second second lanes
 
 -- the seconds at which a line stands, ascending
 abbrev pub line_seconds : ℕ → List RingLane → List ℕ
-line_seconds cycle lanes = filter (has_line cycle lanes) (numbers cycle 1)
+line_seconds cycle lanes = filter (has_line cycle lanes) (range_with_len 1 cycle)
 
 -- the second at which the phases behind a line begin: 0 behind the end of the cycle, where the
 -- first ones follow

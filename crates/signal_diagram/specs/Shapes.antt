@@ -8,7 +8,7 @@ use Rattle.signal_records.specs.declared.record.Split.{Split}
 use Rattle.signal_records.specs.declared.record.SplitMode.{SplitMode}
 use Rattle.signal_records.specs.declared.record.SplitMode.TheVariants as mode
 use Rattle.signal_records.specs.TimingSet.{Rows}
-use Rattle.signal_values.specs.Numbers.{numbers}
+use Rattle.std.specs.List.{range_with_len}
 use Rattle.signal_rules.specs.Lookup.{phase_at, split_at}
 use Rattle.signal_rules.specs.PatternRules.{is_coordinated}
 use Rattle.signal_diagram.specs.declared.chart.Bar.{Bar}
@@ -41,11 +41,6 @@ tenth_after bar limit seconds = min (10 * (bar.from + seconds)) limit
 abbrev pub tenth_before : Bar → ℕ → ℕ
 tenth_before bar tenths = max (10 * bar.from) (10 * bar.to - tenths)
 
--- the tenth at which the yellow of a phase begins and its green ends: yellow and red are its last
--- tenths
-abbrev pub yellow_from : Bar → Phase → ℕ
-yellow_from bar phase = tenth_before bar (phase.yellow + phase.red)
-
 -- the tenth at which the green of a phase begins: after a lead that comes without a button, else
 -- where the phase begins
 abbrev pub green_from : Bar → ℕ → Bool → Option Ped → ℕ
@@ -77,7 +72,7 @@ walk_intervals lane comes bar limit (Some ped) =
 abbrev pub intervals : ℕ → Bool → Bar → Option Phase → List Shape
 intervals lane comes bar None = []
 intervals lane comes bar (Some phase) =
-    let limit = yellow_from bar phase in
+    let limit = tenth_before bar (phase.yellow + phase.red) in
     let red_from = tenth_before bar phase.red in
     interval lane Green true (green_from bar limit comes phase.ped) limit
     ++ walk_intervals lane comes bar limit phase.ped
@@ -111,15 +106,15 @@ abbrev pub line_shapes : Rows → ℕ → List RingLane → List Shape
 line_shapes set cycle lanes =
     map (λ second. shape.Line (length lanes) (10 * second) (is_barrier set cycle lanes second)) (line_seconds cycle lanes)
 
--- a scale over so many seconds, with a tick each 10 seconds
-abbrev pub scale_shapes : ℕ → ℕ → List Shape
-scale_shapes seconds lanes =
-    shape.Scale lanes (10 * seconds)
-    ∷ map (λ tens. shape.Tick lanes (100 * tens)) (numbers (seconds / 10 + 1) 0)
+-- the ticks of a scale over so many seconds, one each 10 seconds
+abbrev pub tick_shapes : ℕ → ℕ → List Shape
+tick_shapes seconds lanes =
+    map (λ tens. shape.Tick lanes (100 * tens)) (range_with_len 0 (seconds / 10 + 1))
 
 -- the shapes of a pattern with these lanes: the lanes, the lines over them, and the scale below
 -- them
 abbrev pub shapes_of : Rows → Pattern → List RingLane → List Shape
 shapes_of set pattern lanes =
+    let seconds = longest pattern.cycle lanes in
     lanes_shapes set pattern 0 lanes ++ line_shapes set pattern.cycle lanes
-    ++ scale_shapes (longest pattern.cycle lanes) (length lanes)
+    ++ shape.Scale (length lanes) (10 * seconds) ∷ tick_shapes seconds (length lanes)

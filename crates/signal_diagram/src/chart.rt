@@ -1,12 +1,12 @@
 //! The chart of a pattern: which phase each ring has from which second of the cycle to which.
 
-ghost use Rattle.std.specs.Prelude.{◌≡◌, ◌≤◌, IfOk, length, map};
+ghost use Rattle.std.specs.Prelude.{◌≡◌, ◌≤◌, IfOk, length};
 ghost use Rattle.signal_rules.specs.SequenceRule.{ring_row};
 ghost use Rattle.signal_rules.specs.Starts.{times};
-ghost use Rattle.signal_diagram.specs.Chart.{bars_from, with_time, end_of, lane_of, longest};
+ghost use Rattle.signal_diagram.specs.Chart.{bars_from, with_time, end_of, lanes_of, longest};
 
 use signal_records::{NoMemory, Pattern, PhaseNo, RingNo, TimingSet};
-use signal_rules::{ring_row, split_at, time_of};
+use signal_rules::{ring_row, split_at, time_of, used_rings};
 use std::alloc::Global;
 use std::marker::Model;
 
@@ -62,18 +62,19 @@ fn bars_of(
     Ok(bars)
 }
 
-/// The lanes of these rings, in their order: the phases of each ring's row in the pattern's
-/// sequence, each as long as the pattern's split.
+/// The lanes of the rings that have a phase, in their order: the phases of each ring's row in the
+/// pattern's sequence, each as long as the pattern's split.
 pub(crate) fn lanes_of(
     alloc: Global,
     set: &TimingSet,
     pattern: &Pattern,
-    rings: &[RingNo],
 ) -> Result<Vec<Lane>, NoMemory>
-    ensures { IfOk result (λ lanes. lanes.items ≡ map (lane_of set.now pattern.now) rings.now) }
+    ensures lanes { IfOk result (λ lanes. lanes.items ≡ lanes_of set.now pattern.now) }
+    ensures few { IfOk result (λ lanes. length lanes.items ≤ 8) }
 {
+    let rings = used_rings(alloc, set)?;
     let mut lanes = Vec::new(alloc);
-    for ring in rings {
+    for ring in &rings {
         let bars = bars_of(alloc, set, pattern, *ring)?;
         lanes.push(Lane { ring: *ring, bars })?;
     }
@@ -84,20 +85,14 @@ pub(crate) fn lanes_of(
 fn end_of(lane: &Lane) -> u16
     ensures { result ≡ end_of 0 lane.now.bars }
 {
-    let mut second: u16 = 0;
-    for bar in &lane.bars {
-        second = bar.to;
-    }
-    second
+    lane.bars.iter().fold(0, |_, bar| bar.to)
 }
 
 /// The largest of a number of seconds and the seconds at which the lanes end.
 pub(crate) fn longest(seconds: u16, lanes: &[Lane]) -> u16
     ensures { result ≡ longest seconds lanes.now }
 {
-    let mut most = seconds;
-    for lane in lanes {
-        most = most.max(end_of(lane));
-    }
-    most
+    lanes
+        .iter()
+        .fold(seconds, |most, lane| most.max(end_of(lane)))
 }

@@ -5,7 +5,7 @@ ghost use Rattle.signal_rules.specs.Lookup.{pattern_at};
 
 use crate::picture::{Picture, Sizing, picture_of};
 use crate::svg::{draw_shapes, put, top_of};
-use crate::words::{draw_head, draw_warnings, warnings_height};
+use crate::words::{draw_head, draw_warnings};
 use safe_markup::Markup;
 use signal_records::{NoMemory, PatternNo, TimingSet};
 use std::alloc::Global;
@@ -20,8 +20,7 @@ fn open_sheet(svg: &mut Markup, width: u64, height: u64) -> fmt::Result {
 }
 
 /// Opens a picture in a page, as wide and as high as its units, and at least so wide that its
-/// letters, 20 units high, are 13 pixels. It says in words what it shows, for those who don't see
-/// it.
+/// letters, 20 units high, are 13 pixels. Its label says what it shows, for those who don't see it.
 fn open_figure(svg: &mut Markup, n: PatternNo, width: u64, height: u64) -> fmt::Result
     requires { width < 2 ^ 20 }
 {
@@ -42,7 +41,7 @@ fn draw_picture(svg: &mut Markup, sizing: Sizing, picture: &Picture) -> fmt::Res
     let seconds = picture.seconds;
     let width = 180 + (10 * u64::from(seconds)).max(900);
     let bottom = top_of(picture.lanes) + 60;
-    let height = bottom + warnings_height(&picture.warnings);
+    let height = bottom.saturating_add(22u64.saturating_mul(picture.warnings.len() as u64));
     match sizing {
         Sizing::Sheet => open_sheet(svg, width, height)?,
         Sizing::Figure => open_figure(svg, picture.number, width, height)?,
@@ -55,18 +54,27 @@ fn draw_picture(svg: &mut Markup, sizing: Sizing, picture: &Picture) -> fmt::Res
     svg.own("</svg>\n")
 }
 
-/// A picture as SVG.
-fn svg_of(alloc: Global, sizing: Sizing, picture: &Picture) -> Result<Markup, NoMemory> {
+/// The picture of a pattern as SVG; nothing, where the set has no such pattern.
+fn svg_of(
+    alloc: Global,
+    sizing: Sizing,
+    set: &TimingSet,
+    number: PatternNo,
+) -> Result<Option<Markup>, NoMemory>
+    ensures { IfOk result (λ shown. IsSome shown ↔ IsSome (pattern_at set.now number)) }
+{
+    let Some(picture) = picture_of(alloc, sizing, set, number)? else {
+        return Ok(None);
+    };
     let mut svg = Markup::new(alloc);
-    match draw_picture(&mut svg, sizing, picture) {
-        Ok(()) => Ok(svg),
+    match draw_picture(&mut svg, sizing, &picture) {
+        Ok(()) => Ok(Some(svg)),
         Err(fmt::Error) => Err(NoMemory),
     }
 }
 
-/// The diagram of a pattern: its picture for a sheet as an SVG text, in ASCII, which prints on
-/// one page, landscape. Nothing, where the set has no such pattern. `NoMemory` means that a growth
-/// was really refused.
+/// The picture of a pattern for a sheet, which prints on one page, landscape: an SVG text in ASCII,
+/// or nothing, where the set has no such pattern. `NoMemory` means that a growth was refused.
 pub fn diagram(
     alloc: Global,
     set: &TimingSet,
@@ -74,20 +82,16 @@ pub fn diagram(
 ) -> Result<Option<Vec<u8>>, NoMemory>
     ensures { IfOk result (λ shown. IsSome shown ↔ IsSome (pattern_at set.now number)) }
 {
-    match picture_of(alloc, Sizing::Sheet, set, number)? {
-        Some(picture) => Ok(Some(svg_of(alloc, Sizing::Sheet, &picture)?.into_bytes())),
+    match svg_of(alloc, Sizing::Sheet, set, number)? {
+        Some(svg) => Ok(Some(svg.into_bytes())),
         None => Ok(None),
     }
 }
 
-/// The picture of a pattern for a page, as markup, in ASCII, to stand in HTML: it is as wide and
-/// as high as its units, so that the page may scale it. Nothing, where the set has no such pattern.
-/// `NoMemory` means that a growth was really refused.
+/// The picture of a pattern for a page of HTML, which may scale it: markup in ASCII, or nothing,
+/// where the set has no such pattern. `NoMemory` means that a growth was refused.
 pub fn figure(alloc: Global, set: &TimingSet, number: PatternNo) -> Result<Option<Markup>, NoMemory>
     ensures { IfOk result (λ shown. IsSome shown ↔ IsSome (pattern_at set.now number)) }
 {
-    match picture_of(alloc, Sizing::Figure, set, number)? {
-        Some(picture) => Ok(Some(svg_of(alloc, Sizing::Figure, &picture)?)),
-        None => Ok(None),
-    }
+    svg_of(alloc, Sizing::Figure, set, number)
 }

@@ -1,10 +1,8 @@
 //! The picture of a pattern: its rings and barriers, and below them its warnings.
 //!
-//! What engineers call a ring-and-barrier or phase diagram: a lane for each ring that is used, with
-//! its phases in the order of the sequence, each as long as its split. `chart` says which phase
-//! each ring has from which second to which, `phases` and `lines` which shapes are drawn of it, in
-//! tenths of a second, and `picture` has them as a value, of which the contracts speak. `document`,
-//! `words` and `svg` draw that value, and see nothing else of a plan.
+//! Engineers call it a ring-and-barrier or phase diagram. `chart` says which phase each ring has
+//! from which second to which, `phases` and `lines` which shapes are drawn of it, and `picture` has
+//! them as a value, of which the contracts speak. `document`, `words` and `svg` draw that value.
 #![tactic(auto)]
 
 mod chart;

@@ -1,37 +1,37 @@
 //! The lines over the lanes of a picture, and the scale below them.
 
-ghost use Rattle.std.specs.Prelude.{◌≡◌, ◌==◌, ◌++◌, ◌≤◌, OnOk, length};
+ghost use Rattle.std.specs.Prelude.{◌≡◌, ◌==◌, ◌≤◌, IfOk, length};
 ghost use Rattle.std.specs.List.{list_any, list_all};
 ghost use Rattle.signal_rules.specs.Lanes.{list_each_other};
 ghost use Rattle.signal_diagram.specs.Chart.{changes, all_change, has_line, behind, conflicts_with_lane, conflicts_with_all, lane_conflicts, is_barrier};
-ghost use Rattle.signal_diagram.specs.Shapes.{line_shapes, scale_shapes};
+ghost use Rattle.signal_diagram.specs.Shapes.{line_shapes, tick_shapes};
 
 use crate::chart::{Bar, Lane};
 use crate::shapes::Shape;
 use signal_records::{PhaseNo, TimingSet};
 use signal_rules::lists;
-use std::alloc::AllocError;
+use std::alloc::{AllocError, Global};
 
-fn ends_at(second: u32, bars: &[Bar]) -> bool
+fn ends_at(second: u16, bars: &[Bar]) -> bool
     ensures { result ≡ list_any (λ bar. bar.to == second) bars.now }
 {
-    bars.iter().any(|bar| u32::from(bar.to) == second)
+    bars.iter().any(|bar| bar.to == second)
 }
 
-fn begins_at(second: u32, bars: &[Bar]) -> bool
+fn begins_at(second: u16, bars: &[Bar]) -> bool
     ensures { result ≡ list_any (λ bar. bar.from == second) bars.now }
 {
-    bars.iter().any(|bar| u32::from(bar.from) == second)
+    bars.iter().any(|bar| bar.from == second)
 }
 
 /// Whether a ring changes phase: one of its phases ends at a second, and one begins at another.
-fn changes(ends: u32, begins: u32, lane: &Lane) -> bool
+fn changes(ends: u16, begins: u16, lane: &Lane) -> bool
     ensures { result ≡ changes ends begins lane.now }
 {
     ends_at(ends, lane.bars.as_slice()) && begins_at(begins, lane.bars.as_slice())
 }
 
-fn each_changes(ends: u32, begins: u32, lanes: &[Lane]) -> bool
+fn each_changes(ends: u16, begins: u16, lanes: &[Lane]) -> bool
     ensures { result ≡ list_all (changes ends begins) lanes.now }
 {
     lanes.iter().all(|lane| changes(ends, begins, lane))
@@ -39,14 +39,14 @@ fn each_changes(ends: u32, begins: u32, lanes: &[Lane]) -> bool
 
 /// Whether each ring has a phase that ends at one second, and one that begins at another; where
 /// there is no ring nothing changes.
-fn all_change(ends: u32, begins: u32, lanes: &[Lane]) -> bool
+fn all_change(ends: u16, begins: u16, lanes: &[Lane]) -> bool
     ensures { result ≡ all_change ends begins lanes.now }
 {
     0 < lanes.len() && each_changes(ends, begins, lanes)
 }
 
 /// Whether a line stands at a second: at the end of the cycle, and where all rings change phase.
-fn has_line(cycle: u32, lanes: &[Lane], second: u32) -> bool
+fn has_line(cycle: u16, lanes: &[Lane], second: u16) -> bool
     ensures { result ≡ has_line cycle lanes.now second }
 {
     second == cycle || all_change(second, second, lanes)
@@ -54,7 +54,7 @@ fn has_line(cycle: u32, lanes: &[Lane], second: u32) -> bool
 
 /// The second at which the phases behind a line begin: 0 behind the end of the cycle, where the
 /// first ones follow.
-fn behind(cycle: u32, second: u32) -> u32
+fn behind(cycle: u16, second: u16) -> u16
     ensures { result ≡ behind cycle second }
 {
     if second == cycle { 0 } else { second }
@@ -68,14 +68,14 @@ fn list_each_other(set: &TimingSet, p: PhaseNo, q: PhaseNo) -> bool
 }
 
 /// Whether a phase may time together with none of a lane that begins at a second.
-fn conflicts_with_lane(set: &TimingSet, begins: u32, p: PhaseNo, lane: &Lane) -> bool
+fn conflicts_with_lane(set: &TimingSet, begins: u16, p: PhaseNo, lane: &Lane) -> bool
     ensures { result ≡ conflicts_with_lane set.now begins p lane.now }
 {
-    lane.bars.iter().all(|bar| u32::from(bar.from) != begins || !list_each_other(set, p, bar.phase))
+    lane.bars.iter().all(|bar| bar.from != begins || !list_each_other(set, p, bar.phase))
 }
 
 /// Whether a phase may time together with no phase of these lanes that begins at a second.
-fn conflicts_with_all(set: &TimingSet, begins: u32, p: PhaseNo, lanes: &[Lane]) -> bool
+fn conflicts_with_all(set: &TimingSet, begins: u16, p: PhaseNo, lanes: &[Lane]) -> bool
     ensures { result ≡ conflicts_with_all set.now begins p lanes.now }
 {
     lanes
@@ -85,14 +85,13 @@ fn conflicts_with_all(set: &TimingSet, begins: u32, p: PhaseNo, lanes: &[Lane]) 
 
 /// Whether no phase of a lane that ends at a second may time together with one that begins at
 /// another.
-fn lane_conflicts(set: &TimingSet, ends: u32, begins: u32, lanes: &[Lane], lane: &Lane) -> bool
+fn lane_conflicts(set: &TimingSet, ends: u16, begins: u16, lanes: &[Lane], lane: &Lane) -> bool
     ensures { result ≡ lane_conflicts set.now ends begins lanes.now lane.now }
 {
-    lane.bars.iter().all(|bar| u32::from(bar.to) != ends
-        || conflicts_with_all(set, begins, bar.phase, lanes))
+    lane.bars.iter().all(|bar| bar.to != ends || conflicts_with_all(set, begins, bar.phase, lanes))
 }
 
-fn all_conflict(set: &TimingSet, ends: u32, begins: u32, lanes: &[Lane]) -> bool
+fn all_conflict(set: &TimingSet, ends: u16, begins: u16, lanes: &[Lane]) -> bool
     ensures { result ≡ list_all (lane_conflicts set.now ends begins lanes.now) lanes.now }
 {
     lanes
@@ -102,42 +101,41 @@ fn all_conflict(set: &TimingSet, ends: u32, begins: u32, lanes: &[Lane]) -> bool
 
 /// Whether the line at a second is a barrier: all rings change phase there, and no phase before it
 /// may time together with one behind it.
-fn is_barrier(set: &TimingSet, cycle: u32, lanes: &[Lane], second: u32) -> bool
+fn is_barrier(set: &TimingSet, cycle: u16, lanes: &[Lane], second: u16) -> bool
     ensures { result ≡ is_barrier set.now cycle lanes.now second }
 {
     let begins = behind(cycle, second);
     all_change(second, begins, lanes) && all_conflict(set, second, begins, lanes)
 }
 
-/// Adds a line at each second from 1 up to the cycle at which all rings change phase, and at the
-/// end of the cycle, each with whether it is a barrier.
-pub(crate) fn add_lines(
-    shapes: &mut Vec<Shape>,
+/// A line at each second from 1 up to the cycle at which all rings change phase, and at the end of
+/// the cycle, each with whether it is a barrier.
+pub(crate) fn lines_of(
+    alloc: Global,
     set: &TimingSet,
-    cycle: u32,
+    cycle: u16,
     lanes: &[Lane],
-) -> Result<(), AllocError>
+) -> Result<Vec<Shape>, AllocError>
     requires few { length lanes.now ≤ 8 }
     requires small { cycle ≤ 255 }
-    ensures { OnOk result (shapes.new.items
-        ≡ shapes.old.items ++ line_shapes set.now cycle lanes.now) }
+    ensures { IfOk result (λ lines. lines.items ≡ line_shapes set.now cycle lanes.now) }
 {
-    for second in 1..cycle + 1 {
-        if has_line(cycle, lanes, second) {
-            let barrier = is_barrier(set, cycle, lanes, second);
-            shapes.push(Shape::Line(lanes.len() as u32, 10 * second, barrier))?;
-        }
-    }
-    Ok(())
+    let count = lanes.len() as u32;
+    let at = |second: u16| {
+        let barrier = is_barrier(set, cycle, lanes, second);
+        Shape::Line(count, 10 * u32::from(second), barrier)
+    };
+    (1..cycle + 1)
+        .filter(|second| has_line(cycle, lanes, *second))
+        .map(at)
+        .collect(alloc)
 }
 
-/// Adds a scale over so many seconds, with a tick each 10 seconds.
-pub(crate) fn add_scale(shapes: &mut Vec<Shape>, seconds: u16, lanes: u32) -> Result<(), AllocError>
-    ensures { OnOk result (shapes.new.items ≡ shapes.old.items ++ scale_shapes seconds lanes) }
+/// The ticks of a scale over so many seconds, one each 10 seconds.
+pub(crate) fn ticks_of(alloc: Global, seconds: u16, lanes: u32) -> Result<Vec<Shape>, AllocError>
+    ensures { IfOk result (λ ticks. ticks.items ≡ tick_shapes seconds lanes) }
 {
-    shapes.push(Shape::Scale(lanes, 10 * u32::from(seconds)))?;
-    for tens in 0..u32::from(seconds) / 10 + 1 {
-        shapes.push(Shape::Tick(lanes, 100 * tens))?;
-    }
-    Ok(())
+    (0..seconds / 10 + 1)
+        .map(|tens| Shape::Tick(lanes, 100 * u32::from(tens)))
+        .collect(alloc)
 }

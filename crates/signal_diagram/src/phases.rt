@@ -2,7 +2,7 @@
 
 ghost use Rattle.std.specs.Prelude.{◌≡◌, ◌++◌, ◌≤◌, OnOk, length};
 ghost use Rattle.std.specs.Option.{option_copied};
-ghost use Rattle.signal_diagram.specs.Shapes.{calls_walk, tenth_after, tenth_before, yellow_from, green_from, interval, cut, walk_intervals, intervals, phase_shapes, lane_shapes, lanes_shapes};
+ghost use Rattle.signal_diagram.specs.Shapes.{calls_walk, tenth_after, tenth_before, green_from, interval, walk_intervals, intervals, phase_shapes, lane_shapes, lanes_shapes};
 
 use crate::chart::{Bar, Lane};
 use crate::shapes::{Band, Shape};
@@ -15,13 +15,12 @@ use std::alloc::AllocError;
 fn calls_walk(split: Option<Split>) -> bool
     ensures { result ≡ calls_walk split }
 {
-    match split {
-        Some(split) => matches!(
+    split.is_some_and(|split| {
+        matches!(
             split.mode,
             SplitMode::PedestrianRecall | SplitMode::MaximumVehicleAndPedestrianRecall
-        ),
-        None => false,
-    }
+        )
+    })
 }
 
 /// The tenth so many seconds after a phase begins, or a limit, whichever comes first.
@@ -40,13 +39,6 @@ fn tenth_before(bar: &Bar, tenths: u16) -> u32
     let Bar { from, to, .. } = *bar;
     let begin = 10 * u32::from(from);
     begin.max((10 * u32::from(to)).saturating_sub(u32::from(tenths)))
-}
-
-/// The tenth at which the yellow of a phase begins, and its green ends.
-fn yellow_from(bar: &Bar, phase: &Phase) -> u32
-    ensures { result ≡ yellow_from bar.now phase.now }
-{
-    tenth_before(bar, u16::from(phase.yellow) + u16::from(phase.red))
 }
 
 /// The tenth at which the green of a phase begins: after a lead that comes without a button, else
@@ -79,24 +71,6 @@ fn add_interval(
     Ok(())
 }
 
-/// Adds the mark of a walk whose clearance is not over at a limit; none where it is.
-fn add_cut(
-    shapes: &mut Vec<Shape>,
-    lane: u32,
-    bar: &Bar,
-    limit: u32,
-    ped: Ped,
-) -> Result<(), AllocError>
-    ensures { OnOk result (shapes.new.items ≡ shapes.old.items ++ cut lane bar.now limit ped) }
-{
-    let from = bar.from;
-    let over = u32::from(from) + u32::from(ped.walk) + u32::from(ped.clear);
-    if limit < 10 * over {
-        shapes.push(Shape::Cut(lane, limit))?;
-    }
-    Ok(())
-}
-
 /// Adds the lead, the walk and the clearance of a phase that has them, up to a limit, by whether
 /// the split mode calls them, and the mark of a walk that is cut there.
 fn add_walking(
@@ -121,7 +95,11 @@ fn add_walking(
     add_interval(shapes, lane, Band::Lead, comes, begin, lead_to)?;
     add_interval(shapes, lane, Band::Walk, comes, begin, walk_to)?;
     add_interval(shapes, lane, Band::Clearance, comes, walk_to, clear_to)?;
-    add_cut(shapes, lane, bar, limit, ped)
+    let over = u32::from(from) + u32::from(ped.walk) + u32::from(ped.clear);
+    if limit < 10 * over {
+        shapes.push(Shape::Cut(lane, limit))?;
+    }
+    Ok(())
 }
 
 /// Adds the intervals of a phase: its green, lead, walk and clearance, none past its yellow, then
@@ -140,7 +118,7 @@ fn add_intervals(
         return Ok(());
     };
     let to = bar.to;
-    let limit = yellow_from(bar, phase);
+    let limit = tenth_before(bar, u16::from(phase.yellow) + u16::from(phase.red));
     let begin = green_from(bar, limit, comes, phase.ped);
     let red_from = tenth_before(bar, u16::from(phase.red));
     add_interval(shapes, lane, Band::Green, true, begin, limit)?;

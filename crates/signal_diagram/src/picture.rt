@@ -2,17 +2,16 @@
 
 ghost use Rattle.std.specs.Prelude.{◌≡◌, ◌≤◌, ◌↔◌, IfOk, IfSome, IsSome, length};
 ghost use Rattle.signal_rules.specs.Lookup.{pattern_at};
-ghost use Rattle.signal_diagram.specs.Chart.{lanes_of};
 ghost use Rattle.signal_diagram.specs.Shapes.{shapes_of};
 ghost use Rattle.signal_diagram.specs.Picture.{told_below, DrawsChart};
 
 use crate::chart::{Lane, lanes_of, longest};
-use crate::lines::{add_lines, add_scale};
+use crate::lines::{lines_of, ticks_of};
 use crate::phases::add_lanes;
 use crate::shapes::Shape;
 use signal_plans::{Warning, warnings_of_pattern};
 use signal_records::{NoMemory, Pattern, PatternNo, TimingSet};
-use signal_rules::{Explained, Rule, Subject, pattern_at, reasons_at, used_rings};
+use signal_rules::{Explained, Rule, Subject, pattern_at, reasons_at};
 use std::alloc::Global;
 
 /// What a picture is drawn for.
@@ -29,8 +28,7 @@ pub enum Sizing {
 pub struct Picture {
     pub number: PatternNo,
     pub pattern: Pattern,
-    /// Why the pattern breaks V9, V12 or V13, which are of what the picture shows: the first
-    /// reason, if it breaks one.
+    /// The first reason why the pattern breaks V9, V12 or V13, if it breaks one.
     pub broken: Option<Explained>,
     /// How many lanes the picture has room for.
     pub lanes: u32,
@@ -44,12 +42,10 @@ pub struct Picture {
 
 /// The first of some reasons that a picture names.
 fn first_noted(broken: &[Explained]) -> Option<Explained> {
-    for explained in broken {
-        if matches!(explained.violation.rule, Rule::V9 | Rule::V12 | Rule::V13) {
-            return Some(*explained);
-        }
-    }
-    None
+    broken
+        .iter()
+        .find(|explained| matches!(explained.violation.rule, Rule::V9 | Rule::V12 | Rule::V13))
+        .copied()
 }
 
 /// The warnings that the picture of a pattern tells: none in a page, which has them below its rows.
@@ -77,53 +73,24 @@ fn shapes_of(
     requires few { length lanes.now ≤ 8 }
     ensures { IfOk result (λ shapes. shapes.items ≡ shapes_of set.now pattern.now lanes.now) }
 {
-    let cycle = pattern.cycle.get();
+    let cycle = pattern.cycle.get() as u16;
+    let seconds = longest(cycle, lanes);
+    let count = lanes.len() as u32;
     let mut shapes = Vec::new(alloc);
     add_lanes(&mut shapes, set, pattern, lanes)?;
-    add_lines(&mut shapes, set, cycle, lanes)?;
-    add_scale(
-        &mut shapes,
-        longest(cycle as u16, lanes),
-        lanes.len() as u32,
-    )?;
+    shapes.extend_from_slice(&lines_of(alloc, set, cycle, lanes)?)?;
+    shapes.push(Shape::Scale(count, 10 * u32::from(seconds)))?;
+    shapes.extend_from_slice(&ticks_of(alloc, seconds, count)?)?;
     Ok(shapes)
 }
 
-/// The picture of a pattern with this number.
-fn shown_of(
-    alloc: Global,
-    sizing: Sizing,
-    set: &TimingSet,
-    number: PatternNo,
-    pattern: Pattern,
-) -> Result<Picture, NoMemory>
-    ensures shapes { IfOk result (λ shown. shown.shapes.items
-        ≡ shapes_of set.now pattern (lanes_of set.now pattern)) }
-    ensures warnings { IfOk result (λ shown. shown.warnings.items
-        ≡ told_below sizing set.now number) }
-{
-    let broken = first_noted(&reasons_at(alloc, set, Subject::Pattern(number))?);
-    let lanes = lanes_of(alloc, set, &pattern, &used_rings(alloc, set)?)?;
-    let warnings = told_below(alloc, sizing, set, number)?;
-    Ok(Picture {
-        number,
-        pattern,
-        broken,
-        lanes: lanes.len() as u32,
-        seconds: longest(pattern.cycle.get() as u16, &lanes),
-        shapes: shapes_of(alloc, set, &pattern, &lanes)?,
-        warnings,
-    })
-}
-
-/// The picture of the pattern with this number, drawn for a sheet or a page: each ring that is used
-/// has a lane with its phases in the order of the pattern's sequence, each as long as its split
-/// time. A phase has a lead before its green, yellow and red at its end, and below it walk and
-/// clearance. A line stands over all lanes where all rings change phase together, and at the end of
-/// the cycle; a scale has a tick each 10 seconds. Where the pattern breaks V9, V12 or V13, its lanes
-/// end where they end. A sheet has the warnings of the pattern and of the rows of its split plan.
+/// The picture of the pattern with this number: each ring that is used has a lane with its phases
+/// in the order of the pattern's sequence, each as long as its split. A phase has a lead before its
+/// green, yellow and red at its end, and below it walk and clearance. A line stands over all lanes
+/// where all rings change phase, and at the end of the cycle; a scale has a tick each 10 seconds.
+/// Where the pattern breaks V9, V12 or V13, its lanes end where they end. A sheet has its warnings.
 ///
-/// Nothing, where the set has no such pattern. `NoMemory` means that a growth was really refused.
+/// Nothing, where the set has no such pattern. `NoMemory` means that a growth was refused.
 pub fn picture_of(
     alloc: Global,
     sizing: Sizing,
@@ -135,8 +102,20 @@ pub fn picture_of(
     ensures chart { IfOk result (λ shown. IfSome shown
         (λ drawn. DrawsChart sizing set.now number drawn)) }
 {
-    match pattern_at(set, number) {
-        Some(pattern) => Ok(Some(shown_of(alloc, sizing, set, number, pattern)?)),
-        None => Ok(None),
-    }
+    let Some(pattern) = pattern_at(set, number) else {
+        return Ok(None);
+    };
+    let broken = first_noted(&reasons_at(alloc, set, Subject::Pattern(number))?);
+    let lanes = lanes_of(alloc, set, &pattern)?;
+    let warnings = told_below(alloc, sizing, set, number)?;
+    let shapes = shapes_of(alloc, set, &pattern, &lanes)?;
+    Ok(Some(Picture {
+        number,
+        pattern,
+        broken,
+        lanes: lanes.len() as u32,
+        seconds: longest(pattern.cycle.get() as u16, &lanes),
+        shapes,
+        warnings,
+    }))
 }

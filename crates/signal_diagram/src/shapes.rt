@@ -26,8 +26,7 @@ pub enum Shape {
     Cut(u32, u32),
     /// In a lane, the edge of a phase from a tenth to another, by whether it is coordinated.
     Edge(u32, u32, u32, bool),
-    /// In a lane, from a tenth on, the number of a phase and its seconds, by whether it is
-    /// coordinated.
+    /// In a lane, from a tenth on, a phase and its seconds, by whether it is coordinated.
     Label(u32, u32, PhaseNo, u16, bool),
     /// Over so many lanes, a line at a tenth, by whether it is a barrier.
     Line(u32, u32, bool),

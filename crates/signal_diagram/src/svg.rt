@@ -37,7 +37,7 @@ impl Band {
     }
 
     /// The colour of the interval and its edge; yellow is light and red dark, so that they differ
-    /// in black and white too. One that does not come without a button is an edge in dashes.
+    /// in black and white too. One that only a button may call is an edge in dashes.
     pub(crate) fn style(self, comes: bool) -> &'static str {
         if !comes {
             return "fill='none' stroke='black' stroke-width='1' stroke-dasharray='6 4'";
@@ -96,8 +96,7 @@ pub(crate) fn draw_line(
     svg.own("'/>\n")
 }
 
-/// Draws a black wedge, 10 units long and 16 high, whose point is at a tenth and half way down from
-/// `y`.
+/// Draws a black wedge, 10 units long and 16 high, with its point at a tenth and its top at `y`.
 pub(crate) fn draw_wedge(svg: &mut Markup, at: u32, y: u64) -> fmt::Result
     requires { y < 2 ^ 41 }
 {
@@ -166,14 +165,8 @@ fn draw(svg: &mut Markup, shape: Shape) -> fmt::Result {
         Shape::Cut(lane, at) => draw_wedge(svg, at, top_of(lane) + 70),
         Shape::Edge(lane, from, to, coordinated) => {
             let width = to.saturating_sub(from);
-            draw_rect(
-                svg,
-                x_of(from),
-                top_of(lane),
-                width,
-                64,
-                edge_style(coordinated),
-            )
+            let style = edge_style(coordinated);
+            draw_rect(svg, x_of(from), top_of(lane), width, 64, style)
         }
         Shape::Label(lane, from, phase, seconds, coordinated) => {
             open_words(svg, x_of(from) + 8, top_of(lane) + 25)?;
