@@ -3,8 +3,9 @@
 
     tests/documents.py
 
-- docs/layers.svg is what tests/drawing.py draws, and each file of definitions begins with a comment
-  (tests/definitions.py).
+- docs/layers.svg is what tests/drawing.py draws, docs/openapi.json what tests/openapi.py makes, and
+  the manual page, the completions and the synopses of docs/COMMANDS.md what tests/words.py makes of
+  packaging/help.txt; each file of definitions begins with a comment (tests/definitions.py).
 - docs/PROOF.md and docs/ARCHITECTURE.md: each name in the sources' spelling is a word of the
   sources, and each file or definition is where it is said to be.
 - In all documents: each link leads somewhere, each file named by its path is there, no line passes
@@ -14,7 +15,7 @@
   stands it is that of docs/PROOF.md.
 - Each command that a document shows is one of the program, docs/COMMANDS.md has each of them,
   docs/HTTP.md has each route, and docs/OPERATING.md names each fault.
-- What `--version` prints is the newest heading of CHANGELOG.md.
+- The version of the program is the newest one of CHANGELOG.md.
 - The code that docs/CONTRACTS.md and CONTRIBUTING.md show is that of the sources.
 - No line of crates.txt names a crate of this repository that its crate does not use.
 
@@ -26,6 +27,9 @@ import sys
 
 import definitions
 import drawing
+import openapi
+import version
+import words as program_words
 
 TOP = pathlib.Path(__file__).resolve().parent.parent
 DOCUMENTS = [TOP / "README.md", TOP / "CONTRIBUTING.md", TOP / "CHANGELOG.md"]
@@ -93,7 +97,7 @@ def missing_links():
 
 def missing_files():
     """The files of the repository that a document names by their paths."""
-    pattern = re.compile(r"(?<![\w/.])(?:\./)?((?:tests|bench|docs|crates)/[\w./-]*\w)")
+    pattern = re.compile(r"(?<![\w/.])(?:\./)?((?:tests|bench|docs|crates|packaging)/[\w./-]*\w)")
     for document in DOCUMENTS:
         for path in sorted(set(pattern.findall(document.read_text()))):
             if not (TOP / path).exists() and "/out/" not in path:
@@ -141,16 +145,18 @@ def wrong_headlines():
 
 
 def wrong_version():
-    """What `--version` prints, where it is not the newest heading of CHANGELOG.md."""
-    newest = re.search(r"^## (.*)$", (TOP / "CHANGELOG.md").read_text(), re.MULTILINE)[1]
-    source = TOP / "crates/signal_office_line/src/command_line.rt"
-    if f'VERSION: &str = "{newest}"' not in source.read_text():
-        yield f"CHANGELOG.md begins with {newest}, and {source.name} has another version"
+    """The program's version, where it is not the newest one of CHANGELOG.md."""
+    number, (newest, _) = version.number(), version.newest()
+    if number != newest:
+        yield f"CHANGELOG.md has {newest} as its newest version, and the program {number}"
 
 
 def written_by_scripts():
     if not drawing.is_drawn():
         yield "docs/layers.svg is out of date: tests/drawing.py --write"
+    if not openapi.is_made():
+        yield "docs/openapi.json is out of date: tests/openapi.py --write"
+    yield from program_words.out_of_date()
     yield from (f"no comment begins {it}" for it in definitions.without_comment())
 
 

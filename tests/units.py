@@ -1,5 +1,5 @@
 #!/usr/bin/env python3
-"""Has systemd look at the units of docs/: the service, the backup and its timer.
+"""Has systemd look at the units of packaging/: the service, the backup and its timer.
 
     tests/units.py [PROGRAM]
 
@@ -15,13 +15,13 @@ import tempfile
 
 from program import TOP, found
 
-INSTALLED = "/usr/local/bin/signal_office"  # where docs/OPERATING.md puts the program
+INSTALLED = "/usr/bin/signal_office"  # where the package puts the program
 
 
 def copied(folder, program):
     """The paths of the copies."""
-    docs = TOP / "docs"
-    for unit in sorted([*docs.glob("*.service"), *docs.glob("*.timer")]):
+    units = TOP / "packaging"
+    for unit in sorted([*units.glob("*.service"), *units.glob("*.timer")]):
         text = unit.read_text()
         if unit.suffix == ".service" and INSTALLED not in text:
             sys.exit(f"units.py: {unit.name} does not run {INSTALLED}")

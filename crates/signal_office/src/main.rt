@@ -13,6 +13,7 @@ mod memory;
 mod program;
 mod reading;
 mod serving;
+mod version;
 
 use crate::program::run_words;
 use office_http::{FromRead, ToWrite};

@@ -5,7 +5,9 @@ use crate::backup::backup;
 use crate::memory::{open_in_memory, serve_new_office};
 use crate::reading::read_plan;
 use crate::serving::{Serving, serve_port};
+use crate::version::VERSION;
 use arrayvec::ArrayString;
+use clap::error::ErrorKind;
 use office_http::{Sink, Source};
 use signal_office_commands::{compare_files, show_plan};
 use signal_office_faults::{Done, Fault, is_missing, print_done, print_text, report};
@@ -121,6 +123,9 @@ fn refuse<W: Sink, E: Sink>(
     out: &mut W,
     err: &mut E,
 ) -> Result<u8, Fault> {
+    if matches!(error.kind(), ErrorKind::DisplayVersion) {
+        return print_text(VERSION.as_bytes(), 0, out);
+    }
     let text = error.to_string(alloc)?;
     if error.use_stderr() {
         print_text(text.as_str().as_bytes(), WORDS_REFUSED, err)

@@ -8,10 +8,6 @@ use crate::arguments::{Argument, Form, Given, Range, Usage, command_of};
 use clap::Command;
 use std::alloc::{AllocError, Global};
 
-/// The program's version, which is the newest heading of CHANGELOG.md: a day, and the version of
-/// the tables.
-const VERSION: &str = "2026-11-30, tables of version 2";
-
 /// The number of an intersection; also how many are listed at most.
 pub(crate) const IDS: Range = Range(1, 9_999);
 
@@ -204,10 +200,11 @@ pub(crate) fn named_in<'a>(words: &'a [&'a str]) -> Option<(Usage, &'a [&'a str]
 }
 
 /// The program with all its commands and their help, as `clap` takes it; or memory was refused.
+/// What it prints for `--version` is the program's own.
 pub(crate) fn program<'a>(alloc: Global) -> Result<Command<'a>, AllocError> {
     let mut program = Command::new(alloc, "signal_office")
         .about("The office of a city's traffic signals: timing plans, cabinets and stock")
-        .version(VERSION)
+        .version("")
         .subcommand_required(true);
     for usage in commands() {
         program = program.subcommand(command_of(alloc, usage, true)?)?;

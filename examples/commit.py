@@ -1,0 +1,94 @@
+#!/usr/bin/env python3
+"""Commits a plan over HTTP, or says why not: begin, edit-csv, verify, check, commit.
+
+    examples/commit.py OFFICE ID CLERK CSV      OFFICE as http://127.0.0.1:8080
+
+If the answer to a step is missing, the intersection shows whether it was done, and only a step that
+was not done is sent again; `edit-csv` may be sent twice. A draft that breaks rules is dropped.
+"""
+import json
+import pathlib
+import sys
+import time
+import urllib.error
+import urllib.request
+
+AFTER = {"begin": "transaction", "edit-csv": "transaction", "verify": "verify", "check": "done",
+         "commit": "normal", "abandon": "normal"}  # the state after each step
+TRIES = 5
+
+
+class Refused(Exception):
+    """The office refused, or another clerk has the draft."""
+
+
+def ask(url, keys=None):
+    """What the office answers; a refusal is an error, and so is an answer that is missing."""
+    try:
+        body = None if keys is None else json.dumps(keys).encode()
+        with urllib.request.urlopen(url, body, timeout=35) as answer:
+            return json.load(answer)
+    except urllib.error.HTTPError as refusal:
+        if refusal.code == 503:
+            raise ConnectionError("unavailable") from None
+        raise Refused(json.load(refusal)["error"]) from None
+    except urllib.error.URLError as it:
+        raise ConnectionError(it.reason) from None
+
+
+def look(at):
+    """The intersection as it is now."""
+    for _ in range(TRIES):
+        try:
+            return ask(at)
+        except (ConnectionError, TimeoutError):
+            time.sleep(0.5)
+    raise ConnectionError("no answer")
+
+
+def is_answered(url, keys):
+    """Sends a step, and tells whether its answer came."""
+    try:
+        ask(url, keys)
+        return True
+    except (ConnectionError, TimeoutError):
+        return False
+
+
+def step(at, name, clerk, before, **keys):
+    """Takes a step, and returns the intersection after it; `before` is the intersection before."""
+    after = AFTER[name], before["revision"] + (name == "commit")
+    for _ in range(TRIES):
+        came, now = is_answered(f"{at}/{name}", {"clerk": clerk, **keys}), look(at)
+        if now["owner"] not in (None, clerk):
+            raise Refused(f"{now['owner']} has the draft")
+        if (now["state"], now["revision"]) == after and (came or name != "edit-csv"):
+            return now
+        if came:
+            raise Refused("another program took a step")
+    raise ConnectionError("no answer")
+
+
+def commit(at, clerk, csv):
+    """The revision of the committed plan, or the rules that the draft broke, which is dropped."""
+    now = step(at, "begin", clerk, look(at))
+    now = step(at, "edit-csv", clerk, now, csv=csv)
+    for name in ("verify", "check"):
+        now = step(at, name, clerk, now)
+    if now["verify"] == "doneWithError":
+        broken = ask(f"{at}/draft")["violations"]
+        step(at, "abandon", clerk, now)
+        return ", ".join(f"{it['subject']} {it['rule']}" for it in broken)
+    return f"revision {step(at, 'commit', clerk, now)['revision']}"
+
+
+def main():
+    office, id, clerk, name = sys.argv[1:]
+    try:
+        print(commit(f"{office}/intersections/{id}", clerk, pathlib.Path(name).read_text()))
+    except (Refused, ConnectionError) as it:
+        sys.exit(f"not committed: {it}")
+
+
+if __name__ == "__main__":
+    main()
