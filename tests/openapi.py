@@ -270,7 +270,8 @@ def messages(data):
     while at <= len(data) and (head := HTTP.match(data, at)):
         length = LENGTH.search(head[4])
         end = head.end() + int(length[1] if length else 0)
-        yield (*(it and it.decode(errors="replace") for it in head.groups()[:3]), data[head.end():end])
+        first = (it and it.decode(errors="replace") for it in head.groups()[:3])
+        yield (*first, data[head.end():end])
         at = end
 
 
@@ -357,12 +358,12 @@ class Check:
     def keys(self, at):
         """The keys of an operation's body."""
         asked = functools.reduce(lambda it, key: it[key], at, self.made).get("requestBody")
-        return asked["content"]["application/json"]["schema"]["required"] if asked else ()
+        return asked["content"]["application/json"]["schema"]["properties"] if asked else ()
 
     @staticmethod
     def can_tell(body, key):
         """Whether a schema can tell that a value is none: not of 1.0, nor of bytes."""
-        value = json.loads(body)[key]
+        value = json.loads(body).get(key)
         return not isinstance(value, float) and not (isinstance(value, str) and not value.isascii())
 
     def missing(self):

@@ -165,8 +165,9 @@ def shown(root):
     if root.is_there("/usr/bin/man"):
         page = root.run("man", "--warnings", "/usr/share/man/man1/signal_office.1.gz")
         expect("a manual page", "SIGNAL_OFFICE(1)" in page, True)
-    script = "source /usr/share/bash-completion/completions/signal_office; complete -p signal_office"
-    expect("a completion", "_signal_office" in root.run("bash", "-c", script), True)
+    script = "source /usr/share/bash-completion/completions/$0; complete -p $0"
+    told = root.run("bash", "-c", script, "signal_office")
+    expect("a completion", "_signal_office" in told, True)
     documents, count = root.at("/usr/share/doc/cayunchis"), 0
     expect("the version in PROVED", version.number() in (documents / "PROVED").read_text(), True)
     for document in documents.rglob("*.md"):

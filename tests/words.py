@@ -9,7 +9,7 @@ What the program says is packaging/help.txt, so that tests/documents.py can comp
 program. The check tries the completions in bash, and in zsh and fish where these are there, and has
 `man` read the page. It prints what is wrong, and ends with status 1 then; it takes two seconds.
 """
-import pathlib
+import os
 import re
 import shutil
 import subprocess
@@ -287,8 +287,8 @@ def fish_text(text):
 def fish(words):
     """The completion of fish."""
     first = f"complete -c {PROGRAM} -n __fish_use_subcommand"
-    lines = [f"# Completion of {PROGRAM} in fish, made by tests/words.py of what it says by --help.",
-             f"complete -c {PROGRAM} -f",
+    lines = [f"# Completion of {PROGRAM} in fish, made by tests/words.py of what it says by "
+             "--help.", f"complete -c {PROGRAM} -f",
              f"{first} -l help -d 'Print help'", f"{first} -l version -d 'Print version'"]
     lines += [f"{first} -a {it.name} -d {fish_text(it.about)}" for it in words.commands]
     takes = {"files": "-r -F", "folders": "-x -a '(__fish_complete_directories)'", None: "-x"}
@@ -296,7 +296,8 @@ def fish(words):
         here = f"complete -c {PROGRAM} -n '__fish_seen_subcommand_from {it.name}'"
         for one in it.options():
             value = f"{takes[PATHS.get(one.value)]} " if one.value else ""
-            lines.append(f"{here} -l {one.name.removeprefix('--')} {value}-d {fish_text(one.about)}")
+            name = one.name.removeprefix("--")
+            lines.append(f"{here} -l {name} {value}-d {fish_text(one.about)}")
         others = {PATHS.get(one.name) for one in it.others()} - {None}
         lines += [f"{here} -F"] if "files" in others else []
         lines += [f"{here} -a '(__fish_complete_directories)'"] if "folders" in others else []
@@ -374,9 +375,9 @@ def wrong_page():
     """What `man` finds wrong with the page."""
     ran = subprocess.run(
         ["man", "--warnings", "--local-file", PACKAGING / f"{PROGRAM}.1"], text=True,
-        stdin=subprocess.DEVNULL, capture_output=True, env={"LC_ALL": "C.UTF-8", "PATH": "/usr/bin:/bin"})
-    return [f"man: {it}" for it in ran.stderr.splitlines()] or [
-        "man shows nothing"] * (len(ran.stdout.splitlines()) < 100)
+        stdin=subprocess.DEVNULL, capture_output=True, env={**os.environ, "LC_ALL": "C.UTF-8"})
+    is_short = len(ran.stdout.splitlines()) < 100
+    return [f"man: {it}" for it in ran.stderr.splitlines()] or ["man shows nothing"] * is_short
 
 
 def main():
@@ -394,7 +395,8 @@ def main():
     for shell in shells:
         wrong += wrong_completions(shell, Words.read(text))
     if shutil.which("zsh"):
-        ran = subprocess.run(["zsh", "-n", PACKAGING / f"_{PROGRAM}"], capture_output=True, text=True)
+        script = PACKAGING / f"_{PROGRAM}"
+        ran = subprocess.run(["zsh", "-n", script], capture_output=True, text=True)
         wrong += ran.stderr.splitlines()
     wrong += wrong_page() if shutil.which("man") else []
     if wrong:
