@@ -7,25 +7,33 @@ The newest version of CHANGELOG.md has this number and a day.
 """
 import pathlib
 import re
-import sys
 
 TOP = pathlib.Path(__file__).resolve().parent.parent
 SOURCE = TOP / "crates" / "signal_office" / "src" / "version.rt"
 CHANGES = TOP / "CHANGELOG.md"
-NEWEST = re.compile(r"^## (\d+\.\d+\.\d+), (\d{4}-\d{2}-\d{2})$", re.MULTILINE)
+HEADING = re.compile(r"^## (\d+\.\d+\.\d+), (\d{4}-\d{2}-\d{2})$", re.MULTILINE)
 SHOWN = re.compile(r"signal_office (\d+\.\d+\.\d+) \(tables of version (\d+), state (\w+)\)")
+
+
+def text():
+    """What the program prints for `--version`, where its state is unknown."""
+    return SHOWN.search(SOURCE.read_text())[0]
 
 
 def number():
     """The version, as 1.2.3."""
-    found = SHOWN.search(SOURCE.read_text())
-    return found[1] if found else sys.exit(f"{SOURCE.name} has no version")
+    return SHOWN.search(text())[1]
+
+
+def changes():
+    """The versions of CHANGELOG.md, newest first: each with its day, and what it says of it."""
+    parts = HEADING.split(CHANGES.read_text())[1:]
+    return [*zip(parts[::3], parts[1::3], parts[2::3])]
 
 
 def newest():
     """The newest version of CHANGELOG.md, and its day."""
-    found = NEWEST.search(CHANGES.read_text())
-    return found.groups() if found else sys.exit(f"{CHANGES.name} has no version")
+    return changes()[0][:2]
 
 
 if __name__ == "__main__":

@@ -70,7 +70,8 @@ class Command(typing.NamedTuple):
 
 def asked(program, words):
     """The help of the program, or of a command."""
-    ran = subprocess.run([program, *words, "--help"], capture_output=True, text=True, check=True)
+    ran = subprocess.run([PROGRAM, *words, "--help"], executable=program, capture_output=True,
+                         text=True, check=True)
     return f"{ASKED}{' '.join([*words, '--help'])}\n{ran.stdout}"
 
 
@@ -380,6 +381,14 @@ def wrong_page():
     return [f"man: {it}" for it in ran.stderr.splitlines()] or ["man shows nothing"] * is_short
 
 
+def wrong_version(program):
+    """What the program prints for `--version`, where that is another version."""
+    ran = subprocess.run([program, "--version"], capture_output=True, text=True)
+    wanted = version.text().removesuffix("unknown)")
+    if not re.fullmatch(rf"{re.escape(wanted)}([0-9a-f]{{12}}|unknown)\)\n", ran.stdout):
+        yield f"--version prints {ran.stdout!r}"
+
+
 def main():
     words = sys.argv[1:]
     writes = words[:1] == ["--write"]
@@ -390,7 +399,7 @@ def main():
         for path, made_text in made(text).items():
             path.write_text(made_text)
     wrong = [] if HELP.read_text() == text else ["packaging/help.txt is out of date"]
-    wrong += out_of_date()
+    wrong += [*out_of_date(), *wrong_version(program)]
     shells = [it for it in ("bash", "fish") if shutil.which(it)]
     for shell in shells:
         wrong += wrong_completions(shell, Words.read(text))

@@ -1,0 +1,253 @@
+#!/usr/bin/env python3
+"""Boots a Debian with systemd as its first process, and does there what docs/OPERATING.md says.
+
+    tests/booted.py ROOT [PROGRAM]
+
+ROOT is a folder with a Debian that has systemd and curl, as this makes it:
+
+    debootstrap --include=systemd-sysv,curl bookworm ROOT
+
+It stays as it is: the system runs over an overlay, in name spaces of its own, without a network.
+The commands of `Install the package` are run there as they stand in the document; then the server
+is killed, gets another port, is backed up, also where no copy can be made, upgraded, restored from
+a copy, removed and purged. Needs root, and `./office-package`. It prints what it tried, and ends
+with status 1 if something was otherwise; it takes a minute. ./office-tests does not run it.
+"""
+import contextlib
+import os
+import pathlib
+import re
+import shutil
+import signal
+import subprocess
+import sys
+import tempfile
+import time
+
+import version
+from package import COPIES, OFFICE, OLDER, PLAN, Off, expect, packed, ran
+from program import TOP, found
+from tour import blocks
+
+PATIENCE = 60  # seconds in which something has to become so
+PACKAGES = "/root"
+STOCK = '{"hand":[]}'
+FIRST = """
+mount --make-rprivate /
+mount -t tmpfs tmpfs {over}
+mkdir {over}/upper {over}/work {over}/root
+mount -t overlay overlay -o lowerdir={root},upperdir={over}/upper,workdir={over}/work {over}/root
+cp {packages}/*.deb {packages}/SHA256SUMS {over}/root/root/
+cd {over}/root
+mount -t proc proc proc
+mount --bind proc/sys proc/sys
+mount -o remount,ro,bind proc/sys
+mount -t sysfs -o ro sysfs sys
+mount -t cgroup2 cgroup2 sys/fs/cgroup
+mount -t tmpfs -o mode=755 tmpfs dev
+for it in null:3 zero:5 full:7 random:8 urandom:9; do mknod -m 666 dev/${{it%:*}} c 1 ${{it#*:}}; done
+mkdir dev/pts dev/shm old
+mount -t devpts -o newinstance,ptmxmode=0666 devpts dev/pts
+ln -s pts/ptmx dev/ptmx
+mount -t tmpfs tmpfs dev/shm
+mount -t tmpfs -o mode=755 tmpfs run
+mount -t tmpfs tmpfs tmp
+pivot_root . old
+umount -l /old
+exec env -i container=other PATH=/usr/sbin:/usr/bin:/sbin:/bin /lib/systemd/systemd
+"""
+
+
+@contextlib.contextmanager
+def group():
+    """A control group of this machine for the system, in which nothing else is."""
+    places = (pathlib.Path("/sys/fs/cgroup", it) for it in ("unified", ""))
+    place = next(it for it in places if (it / "cgroup.procs").exists()) / "cayunchis-test"
+    place.mkdir(exist_ok=True)
+    try:
+        yield place
+    finally:
+        for folder in sorted(place.rglob("*"), reverse=True):
+            if folder.is_dir():
+                folder.rmdir()
+        place.rmdir()
+
+
+class System:
+    """A system that runs."""
+
+    def __init__(self, process):
+        children = pathlib.Path(f"/proc/{process}/task/{process}/children")
+        self.first = self.until("a first process", lambda: children.read_text().split())[0]
+        self.until("a system that runs", lambda: "running" in self.shell(
+            "systemctl is-system-running || true") or "degraded" in self.told)
+
+    def until(self, what, is_so):
+        """Waits until something is so."""
+        ends = time.monotonic() + PATIENCE
+        while time.monotonic() < ends:
+            with contextlib.suppress(Off):
+                if came := is_so():
+                    return came
+            time.sleep(0.3)
+        raise Off(f"there is no {what} after {PATIENCE} s")
+
+    def shell(self, line, status=0):
+        """What a line prints in the system's shell."""
+        enter = ("nsenter", "--target", self.first, "--all", "env", "-i", "HOME=/root",
+                 "DEBIAN_FRONTEND=noninteractive", "PATH=/usr/sbin:/usr/bin:/sbin:/bin")
+        self.told = ran(*enter, "bash", "-c", f"cd {PACKAGES} && {{ {line}\n}}", status=status)
+        return self.told
+
+    def asked(self, port="8080"):
+        """The stock that the server shows, once it listens."""
+        line = f"curl -fsS --max-time 40 http://127.0.0.1:{port}/stock"
+        return self.until("server", lambda: self.shell(line))
+
+    def is_active(self, unit="cayunchis"):
+        return self.shell(f"systemctl is-active {unit} || true") == "active"
+
+
+@contextlib.contextmanager
+def booted(root, packages):
+    """A system over a root, with the packages."""
+    with tempfile.TemporaryDirectory() as over, group() as place:
+        script = FIRST.format(over=over, root=root, packages=packages)
+        kinds = ("mount", "pid", "uts", "ipc", "cgroup", "net")
+        words = ["unshare", *(f"--{it}" for it in kinds), "--fork", "--kill-child",
+                 "bash", "-ec", script]
+        enter = lambda: (place / "cgroup.procs").write_text("0")
+        process = subprocess.Popen(words, stdin=subprocess.DEVNULL, stdout=subprocess.DEVNULL,
+                                   stderr=subprocess.DEVNULL, preexec_fn=enter)
+        try:
+            yield System(process.pid)
+        finally:
+            process.send_signal(signal.SIGKILL)
+            process.wait()
+            time.sleep(1)
+
+
+# ---- the trials
+
+def part(title):
+    """The blocks of a part of docs/OPERATING.md."""
+    text = (TOP / "docs/OPERATING.md").read_text().partition(f"\n## {title}\n")[2]
+    found_blocks = blocks(text.partition("\n## ")[0])
+    return [lines for it in found_blocks if (lines := [line for line in it if line.strip()])]
+
+
+def installed(system):
+    """The first block of the document, line by line."""
+    told = {}
+    for line in part("Install the package")[0]:
+        if line.startswith("curl"):
+            system.asked()
+        told[line.split()[0]] = system.shell(line.replace(version.number(), OLDER))
+    expect("the stock", told["curl"].splitlines()[-1], STOCK)
+    expect("a copy", bool(re.fullmatch(r"city-[\d-]+\.db", told["ls"])), True)
+    for unit in ("cayunchis.service", "cayunchis-backup.timer"):
+        expect(unit, system.shell(f"systemctl is-enabled {unit}"), "enabled")
+        expect(unit, system.is_active(unit), True)
+    shown = system.shell("systemctl show -P NextElapseUSecRealtime cayunchis-backup.timer")
+    expect("the next copy", "02:30" in shown, True)
+    return f"the next copy on {shown}"
+
+
+def killed(system):
+    """A server that was killed is started again; the office is as it was."""
+    line = ("curl -fsS -d '{\"id\":12,\"interval\":365,\"name\":\"Main St\"}' "
+            "http://127.0.0.1:8080/intersections")
+    expect("an intersection", system.shell(line), '{"result":"added"}')
+    system.shell("systemctl kill --signal=KILL cayunchis")
+    time.sleep(1)
+    expect("the stock", system.asked(), STOCK)
+    expect("how often it was started again",
+           system.shell("systemctl show -P NRestarts cayunchis"), "1")
+    return system.shell("curl -fsS http://127.0.0.1:8080/intersections/12")
+
+
+def ported(system):
+    """The server gets another port, and the first one again."""
+    lines = "\\n".join(part("Install the package")[1])
+    folder = "/etc/systemd/system/cayunchis.service.d"
+    system.shell(f"mkdir -p {folder}; printf '{lines}\\n' > {folder}/override.conf; "
+                 "systemctl daemon-reload; systemctl restart cayunchis")
+    expect("the stock on another port", system.asked("8090"), STOCK)
+    system.shell(f"rm -r {folder}; systemctl daemon-reload; systemctl restart cayunchis")
+    expect("the stock on the first port", system.asked(), STOCK)
+    return lines.replace("\\n", " ")
+
+
+def saved(system):
+    """A copy is made, and where none can be made the server is started all the same."""
+    system.shell("systemctl start cayunchis-backup")
+    expect("the stock after a copy", system.asked(), STOCK)
+    system.shell(f"mount -t tmpfs -o size=4k tmpfs {COPIES} && systemctl start cayunchis-backup",
+                 status=1)
+    expect("the stock after a copy that failed", system.asked(), STOCK)
+    system.shell(f"umount {COPIES} && systemctl reset-failed")
+    return system.shell(f"ls {COPIES}").replace("\n", " ")
+
+
+def upgraded(system):
+    """A newer version comes over an office that is served."""
+    system.shell("systemctl stop cayunchis && runuser -u cayunchis -- signal_office edit --db "
+                 f"{OFFICE} --clerk Ana --commit 12 {PLAN} && systemctl start cayunchis")
+    before = system.shell("curl -fsS http://127.0.0.1:8080/intersections/12")
+    told = system.shell(f"apt install ./cayunchis_{version.number()}_amd64.deb")
+    expect("the migration", "migrated 0 rows" in told, True)
+    expect("the stock after the upgrade", system.asked(), STOCK)
+    expect("the intersection after the upgrade",
+           system.shell("curl -fsS http://127.0.0.1:8080/intersections/12"), before)
+    expect("the timer after the upgrade", system.is_active("cayunchis-backup.timer"), True)
+    return system.shell(f"ls {COPIES} | grep before-upgrade")
+
+
+def restored(system):
+    """An older copy is restored by the commands of the document: the plan is gone again."""
+    name = system.shell(f"ls {COPIES} | grep city- | tail -1")
+    lines = "\n".join(part("Restore")[0])
+    system.shell("set -e\n" + re.sub(r"city-\d[\d-]*\.db", name, lines))
+    expect("the stock of the copy", system.asked(), STOCK)
+    told = system.shell("curl -fsS http://127.0.0.1:8080/intersections/12")
+    expect("the revision of the copy", '"revision":0' in told, True)
+    return name
+
+
+def removed(system):
+    """Removed and purged, the server is gone, and the office stays."""
+    system.shell("apt remove -y cayunchis")
+    expect("the server after a removal", system.is_active(), False)
+    system.shell("apt purge -y cayunchis")
+    expect("the enabled units after a purge", system.shell(
+        "find /etc/systemd/system /var/lib/systemd -name 'cayunchis*'").splitlines(), [
+            "/var/lib/systemd/timers/stamp-cayunchis-backup.timer"])
+    return system.shell(f"ls {OFFICE}")
+
+
+TRIALS = (installed, killed, ported, saved, upgraded, restored, removed)
+
+
+def main():
+    if not sys.argv[1:] or sys.argv[1].startswith("-"):
+        sys.exit(__doc__)
+    root, program = pathlib.Path(sys.argv[1]).resolve(), found(sys.argv[2:3])
+    if os.geteuid() or not (root / "lib/systemd/systemd").exists() or not shutil.which("nsenter"):
+        print("booted.py: it needs root, a root with systemd, and nsenter")
+        sys.exit(77)
+    with tempfile.TemporaryDirectory() as room:
+        packages = pathlib.Path(room)
+        packed(packages, program, OLDER)
+        sums = (packages / "SHA256SUMS").read_text()
+        packed(packages, program, version.number())
+        (packages / "SHA256SUMS").write_text(sums)
+        try:
+            with booted(root, packages) as system:
+                for trial in TRIALS:
+                    print(f"{trial.__name__}: {trial(system)}", flush=True)
+        except Off as it:
+            sys.exit(f"FAILED: {it}")
+
+
+if __name__ == "__main__":
+    main()
