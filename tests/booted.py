@@ -193,6 +193,7 @@ def upgraded(system):
     """A newer version comes over an office that is served."""
     system.shell("systemctl stop cayunchis && runuser -u cayunchis -- signal_office edit --db "
                  f"{OFFICE} --clerk Ana --commit 12 {PLAN} && systemctl start cayunchis")
+    system.asked()
     before = system.shell("curl -fsS http://127.0.0.1:8080/intersections/12")
     told = system.shell(f"apt install ./cayunchis_{version.number()}_amd64.deb")
     expect("the migration", "migrated 0 rows" in told, True)
@@ -219,9 +220,8 @@ def removed(system):
     system.shell("apt remove -y cayunchis")
     expect("the server after a removal", system.is_active(), False)
     system.shell("apt purge -y cayunchis")
-    expect("the enabled units after a purge", system.shell(
-        "find /etc/systemd/system /var/lib/systemd -name 'cayunchis*'").splitlines(), [
-            "/var/lib/systemd/timers/stamp-cayunchis-backup.timer"])
+    expect("what is enabled after a purge",
+           system.shell("find /etc/systemd /var/lib/systemd -name '*cayunchis*.*'"), "")
     return system.shell(f"ls {OFFICE}")
 
 

@@ -116,6 +116,7 @@ class Root:
         ran("mount", "-t", "proc", "proc", self.path / "proc")
         ran("mount", "--bind", "/dev", self.path / "dev")
         ran("mount", "-t", "tmpfs", "tmpfs", self.path / "run")
+        self.at("/var/lib/man-db/auto-update").unlink(missing_ok=True)  # else each step takes long
 
     def at(self, path):
         return self.path / str(path).lstrip("/")
