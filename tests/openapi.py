@@ -32,6 +32,8 @@ HTTP = re.compile(
     rb"(?:([A-Z]+) (\S+) HTTP/1\.1|HTTP/1\.1 (\d+) [^\r]*)\r\n((?:[^\r\n]+\r\n)*)\r\n")
 LENGTH = re.compile(rb"(?i)^content-length:\s*(\d+)\s*$", re.MULTILINE)
 SKIPPED = 77
+JSON = ("content", "application/json", "schema")  # where the schema of a body stands
+NO_ROUTE, NO_METHOD = (("components", "responses", it) for it in ("NoRoute", "Method"))
 
 # ---- the schemas
 
@@ -40,6 +42,11 @@ MORE_STATUSES = {"503 Service Unavailable": {90}, "500 Internal Server Error": {
 ALL_NAMES = {**NAMES, **MORE_NAMES}
 ALL_STATUSES = {**STATUSES, **MORE_STATUSES}
 FRAMING = (1, 2, 3, 4, 5)
+ALONE = {  # the refusals that often are the only one of their status
+    4: "The body is longer than 262144 bytes", 5: "There is a Transfer-Encoding",
+    6: "No route has this path", 7: "The route has another method",
+    10: "There is no such intersection", 90: "Memory or the database refused",
+    91: "A stored row that was read is damaged"}
 ROW_FAULTS = ("Count", "Day", "Kind", "List", "Mode", "Number", "Range", "Text")
 CONTROL = "^[^\\u0000-\\u001f\\u007f]*$"
 FORMS = {fields.CLERK: "", fields.NAME: "", fields.NOTE: "", fields.PART: "^[A-Z0-9-]*$"}
@@ -191,12 +198,19 @@ def answered(about, names):
     return {"description": about, "content": {"application/json": {"schema": schema}}}
 
 
+def refusal(names):
+    """The response that is one of these refusals."""
+    if len(names) == 1 and names[0] in {ALL_NAMES[it] for it in ALONE}:
+        return {"$ref": f"#/components/responses/{names[0]}"}
+    return answered(", ".join(names), names)
+
+
 def responses(name, numbers):
     """The responses of an operation: its answer, and its refusals by their status."""
     by_status = {}
     for number in sorted(numbers):
         by_status.setdefault(status_of(number), []).append(ALL_NAMES[number])
-    refused = {it: answered(", ".join(names), names) for it, names in sorted(by_status.items())}
+    refused = {it: refusal(names) for it, names in sorted(by_status.items())}
     return {"200": answered(f"{name}: done, or shown", [name]), **refused}
 
 
@@ -246,8 +260,7 @@ def description():
         "servers": [{"url": "http://127.0.0.1:8080", "description": "signal_office serve"}],
         "paths": paths(),
         "components": {"schemas": schemas, "responses": {
-            "NoRoute": answered("No route has this path", [NAMES[6]]),
-            "Method": answered("The route has another method", [NAMES[7]])}},
+            ALL_NAMES[it]: answered(about, [ALL_NAMES[it]]) for it, about in ALONE.items()}},
     }
 
 
@@ -300,65 +313,63 @@ class Check:
     def __init__(self, made, schema):
         self.made, self.schema, self.wrong, self.count, self.came = made, schema, [], 0, set()
 
+    def there(self, at):
+        """What stands there in the description, where it may be named and stand elsewhere."""
+        found = self.made
+        for key in at:
+            found = found.get(key, {})
+            if "$ref" in found:
+                found = self.there(found["$ref"].split("/")[1:])
+        return found
+
     @functools.lru_cache(maxsize=None)
     def validator(self, *at):
         """The validator of the schema that stands there."""
-        part = functools.reduce(lambda tree, key: tree[key], at, self.made)
+        part = self.there(at)
         whole = {**part, "components": self.made["components"]}
         self.schema.Draft202012Validator.check_schema(whole)
         return self.schema.Draft202012Validator(
             whole, format_checker=self.schema.FormatChecker())
 
-    def is_valid(self, value, *at):
-        return self.validator(*at).is_valid(value)
+    def has(self, value, *at):
+        """Whether a value is what the description says there."""
+        return bool(self.there(at)) and self.validator(*at, *JSON).is_valid(value)
 
     def operation(self, method, target):
-        """Where the operation of a request stands, and the parts of its path."""
+        """Where the operation of a request stands, or how it is answered that there is none."""
         path = target.partition("?")[0]
-        for route in self.made["paths"]:
-            parts = matches(route, path)
-            if parts is not None:
-                there = method.lower() in self.made["paths"][route]
-                return ("paths", route, method.lower()) if there else None, parts
-        return None, {}
+        for route, operations in self.made["paths"].items():
+            if matches(route, path) is not None:
+                there = method.lower() in operations
+                return ("paths", route, method.lower()) if there else NO_METHOD
+        return NO_ROUTE
 
     def takes(self, at, body):
-        """Whether the description takes a body."""
-        try:
-            tree = json.loads(body)
-        except ValueError:
-            return False
-        return self.is_valid(tree, *at, "requestBody", "content", "application/json", "schema")
+        """Whether the description takes a body, which is JSON."""
+        return self.has(json.loads(body), *at, "requestBody")
 
     def add(self, name, method, target, body, status, told):
         """Checks a request and its answer."""
-        at, _ = self.operation(method, target)
-        tree, shown = json.loads(told), f"{name}: {method} {target} {body[:200]!r}"
-        number = tree.get("number", 0) if "error" in tree else 0
-        self.count += 1
-        if number in FRAMING:
-            at = at or ("paths", "/stock", "get")
-        elif at is None:
-            where = ("components", "responses", NAMES.get(number, ""))
-            if number not in (6, 7) or not self.is_valid(
-                    tree, *where, "content", "application/json", "schema"):
-                self.wrong.append(f"{shown}: no operation, and {told}")
-            return
-        where = (*at, "responses", status)
-        there = status in functools.reduce(lambda it, key: it[key], where[:-1], self.made)
-        if not there or not self.is_valid(tree, *where, "content", "application/json", "schema"):
-            self.wrong.append(f"{shown}: {status} {told[:200]} is not described")
+        at, tree = self.operation(method, target), json.loads(told)
+        number = tree["number"] if "error" in tree else 0
+        at = ("paths", "/stock", "get") if number in FRAMING else at
+        is_route = at[0] == "paths"
+        wrong, self.count = [], self.count + 1
+        if not self.has(tree, *at, *(("responses", status) if is_route else ())):
+            wrong.append("the answer is not described")
+        if is_route and method == "POST" and number not in (*FRAMING, 8):
+            is_taken, field = self.takes(at, body), tree.get("field")
+            if number != 9 and not is_taken:
+                wrong.append("the body is not described")
+            if number == 9 and is_taken and field in self.keys(at) and self.can_tell(body, field):
+                wrong.append("the body is described")
         self.came.add((*at[1:], number or 200))
-        if method == "POST" and number not in (*FRAMING, 8, 9) and not self.takes(at, body):
-            self.wrong.append(f"{shown}: the body is not described, and answered {told[:200]}")
-        key = tree.get("field") if number == 9 else None
-        if key in self.keys(at) and self.takes(at, body) and self.can_tell(body, key):
-            self.wrong.append(f"{shown}: the body is described, and answered {told[:200]}")
+        self.wrong += [f"{name}: {method} {target} {body[:200]!r}: {status} {told[:200]}: {it}"
+                       for it in wrong]
 
     def keys(self, at):
         """The keys of an operation's body."""
-        asked = functools.reduce(lambda it, key: it[key], at, self.made).get("requestBody")
-        return asked["content"]["application/json"]["schema"]["properties"] if asked else ()
+        return self.there((*at, "requestBody", *JSON)).get("properties", ())
 
     @staticmethod
     def can_tell(body, key):
@@ -367,10 +378,9 @@ class Check:
         return not isinstance(value, float) and not (isinstance(value, str) and not value.isascii())
 
     def missing(self):
-        """The answers and refusals of operations that neither a row nor a drawn request has: but
-        for those of the framing, of memory and of damage, and for the last revision."""
+        """The answers and refusals of the office that neither a row nor a drawn request has."""
         for method, path, _, _ in ROUTES:
-            name, *own = BY_ROUTE[f"{method} {path}".replace("/intersections/{id}/", "../")]
+            _, *own = BY_ROUTE[f"{method} {path}".replace("/intersections/{id}/", "../")]
             for number in [200, *own]:
                 if (path, method.lower(), number) not in self.came:
                     yield f"no request has {number} of {method} {path}"
