@@ -36,11 +36,11 @@ def ask(url, keys=None):
         raise ConnectionError(it.reason) from None
 
 
-def look(at):
-    """The intersection as it is now."""
+def look(url):
+    """What the office shows, asked for again while no answer comes."""
     for _ in range(TRIES):
         try:
-            return ask(at)
+            return ask(url)
         except (ConnectionError, TimeoutError):
             time.sleep(0.5)
     raise ConnectionError("no answer")
@@ -70,22 +70,23 @@ def step(at, name, clerk, before, **keys):
 
 
 def commit(at, clerk, csv):
-    """The revision of the committed plan, or the rules that the draft broke, which is dropped."""
+    """The revision of the committed plan. A draft that breaks rules is dropped and refused."""
     now = step(at, "begin", clerk, look(at))
     now = step(at, "edit-csv", clerk, now, csv=csv)
     for name in ("verify", "check"):
         now = step(at, name, clerk, now)
     if now["verify"] == "doneWithError":
-        broken = ask(f"{at}/draft")["violations"]
+        broken = look(f"{at}/draft")["violations"]
         step(at, "abandon", clerk, now)
-        return ", ".join(f"{it['subject']} {it['rule']}" for it in broken)
-    return f"revision {step(at, 'commit', clerk, now)['revision']}"
+        raise Refused(", ".join(f"{it['subject']} {it['rule']}" for it in broken))
+    return step(at, "commit", clerk, now)["revision"]
 
 
 def main():
     office, id, clerk, name = sys.argv[1:]
     try:
-        print(commit(f"{office}/intersections/{id}", clerk, pathlib.Path(name).read_text()))
+        csv = pathlib.Path(name).read_text()
+        print("committed revision", commit(f"{office}/intersections/{id}", clerk, csv))
     except (Refused, ConnectionError) as it:
         sys.exit(f"not committed: {it}")
 

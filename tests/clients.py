@@ -26,6 +26,8 @@ Each part has a server of its own on 127.0.0.1, over tables in memory, and ends 
 - `idle`: a connection stays open while nobody waits (three seconds), and ends when another comes.
 - `late`: a request that comes after its connection gave way sees an end, no reset, and is not done.
 - `examples`: those of docs/HTTP.md in Python print what they show, beside an idle connection.
+- `lost`: examples/commit.py commits a plan, and drops one that breaks a rule, although of five
+  requests one is lost, and the answer of another.
 
 Where Python's `requests` is not installed, its cases are not tried. Prints what it tries, and ends
 with status 1 if a part failed. Takes less than a minute.
@@ -34,6 +36,8 @@ import collections
 import concurrent.futures
 import contextlib
 import http.client
+import http.server
+import itertools
 import json
 import multiprocessing
 import os
@@ -371,7 +375,49 @@ def examples(port):
     return f"{len(tried)} examples"
 
 
-PARTS = (processes, sessions, turns, half, most, pipelined, silent, idle, late, examples)
+def losing(port):
+    """What passes requests on to a server; of five it loses one, and the answer of another."""
+    class Handler(http.server.BaseHTTPRequestHandler):
+        turns = itertools.count()
+
+        def do_GET(self):
+            body = self.rfile.read(int(self.headers.get("Content-Length", 0)))
+            turn = next(self.turns) % 5
+            if turn == 1:
+                return
+            wire = http.client.HTTPConnection("127.0.0.1", int(port), timeout=PATIENCE)
+            wire.request(self.command, self.path, body)
+            with contextlib.closing(wire), wire.getresponse() as answer:
+                if turn != 3:
+                    self.send_response_only(answer.status)
+                    self.end_headers()
+                    self.wfile.write(answer.read())
+
+        do_POST = do_GET
+
+    return Handler
+
+
+def lost(port):
+    add = {"id": 12, "interval": 365, "name": "Main St"}
+    plan = (TOP / "bench" / "plan.csv").read_text()
+    tries = ((plan, "committed revision 1\n", ""),
+             (plan.replace("split,1,2,35", "split,1,2,34"), "", "not committed: pattern 1 V12\n"),
+             (plan.replace("pattern,1,60,0", "pattern,1,60,5"), "committed revision 2\n", ""))
+    with Wire(port) as wire:
+        expect("an intersection", wire.ask(spelled("/intersections", add)), b'{"result":"added"}')
+    with http.server.HTTPServer(("127.0.0.1", 0), losing(port)) as proxy:
+        threading.Thread(target=proxy.serve_forever, daemon=True).start()
+        office = f"http://127.0.0.1:{proxy.server_port}"
+        for csv, *wanted in tries:
+            words = [TOP / "examples" / "commit.py", office, "12", "Ana", "/dev/stdin"]
+            ran = subprocess.run(words, input=csv, capture_output=True, text=True, timeout=60)
+            expect("a plan", [ran.stdout, ran.stderr], wanted)
+        proxy.shutdown()
+    return f"{len(tries)} plans"
+
+
+PARTS = (processes, sessions, turns, half, most, pipelined, silent, idle, late, examples, lost)
 
 
 def comes_of(program, part):

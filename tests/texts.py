@@ -21,7 +21,6 @@ import re
 import subprocess
 import sys
 
-import version
 from model import hints, plan, refusal
 from program import found
 
@@ -58,7 +57,7 @@ ELSEWHERE = {
         " names no file for SQLite; write ./": "in_use.py", "the system refuses ": "in_use.py",
     },
     "what a server says": {"listening on 127.0.0.1:": "server.sh"},
-    "the version": {version.text(): "words.py"},
+    "the version": {" (tables of version ": "words.py"},
     "a reason that can't be given: a phase stands once in a list, and in another row that is told":
         {" stands twice": "plans.py"},
 }

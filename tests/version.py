@@ -12,17 +12,12 @@ TOP = pathlib.Path(__file__).resolve().parent.parent
 SOURCE = TOP / "crates" / "signal_office" / "src" / "version.rt"
 CHANGES = TOP / "CHANGELOG.md"
 HEADING = re.compile(r"^## (\d+\.\d+\.\d+), (\d{4}-\d{2}-\d{2})$", re.MULTILINE)
-SHOWN = re.compile(r"signal_office (\d+\.\d+\.\d+) \(tables of version (\d+), state (\w+)\)")
-
-
-def text():
-    """What the program prints for `--version`, where its state is unknown."""
-    return SHOWN.search(SOURCE.read_text())[0]
+NUMBER = re.compile(r"signal_office (\d+\.\d+\.\d+) ")
 
 
 def number():
     """The version, as 1.2.3."""
-    return SHOWN.search(text())[1]
+    return NUMBER.search(SOURCE.read_text())[1]
 
 
 def changes():

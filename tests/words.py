@@ -25,6 +25,7 @@ PROGRAM = "signal_office"
 ASKED = "$ signal_office "  # how the help of a command begins in help.txt
 PATHS = {"FILE": "files", "CSV": "files", "TO": "files", "PLAN": "files", "OTHER": "files",
          "DIR": "folders"}
+STATE = re.compile("[0-9a-f]{12}|unknown")  # by ./office, or by something else
 HINTS = ("--help", "--version")
 LINE = re.compile(r"^  +(?:(-\w), |    )?(--[\w-]+|<\w+>|\[\w+\])(?: <(\w+)>)?(?:  +(.*))?$")
 
@@ -384,8 +385,9 @@ def wrong_page():
 def wrong_version(program):
     """What the program prints for `--version`, where that is another version."""
     ran = subprocess.run([program, "--version"], capture_output=True, text=True)
-    wanted = version.text().removesuffix("unknown)")
-    if not re.fullmatch(rf"{re.escape(wanted)}([0-9a-f]{{12}}|unknown)\)\n", ran.stdout):
+    told = ran.stdout.replace("\n", "", 1)
+    begun, _, state = told.removesuffix(")").partition(" (tables of version 2, state ")
+    if begun != f"{PROGRAM} {version.number()}" or not STATE.fullmatch(state):
         yield f"--version prints {ran.stdout!r}"
 
 
