@@ -10,7 +10,7 @@ ROOT is a folder with a Debian that has systemd and curl, as this makes it:
 It stays as it is: the system runs over an overlay, in name spaces of its own, without a network.
 The commands of `Install the package` are run there as they stand in the document; then the server
 is killed, gets another port, is backed up, also where no copy can be made, upgraded, restored from
-a copy, removed and purged. Needs root, and `./office-package`. It prints what it tried, and ends
+a copy, given another office, removed and purged. Needs root, and `./office-package`. It prints what it tried, and ends
 with status 1 if something was otherwise; it takes a minute. ./office-tests does not run it.
 """
 import contextlib
@@ -25,9 +25,8 @@ import tempfile
 import time
 
 import version
-from package import COPIES, OFFICE, OLDER, PLAN, Off, expect, packed, ran
-from program import TOP, found
-from tour import blocks
+from package import COPIES, OFFICE, OLDER, PLAN, Off, expect, packed, part, ran
+from program import found
 
 PATIENCE = 60  # seconds in which something has to become so
 PACKAGES = "/root"
@@ -133,13 +132,6 @@ def booted(root, packages):
 
 # ---- the trials
 
-def part(title):
-    """The blocks of a part of docs/OPERATING.md."""
-    text = (TOP / "docs/OPERATING.md").read_text().partition(f"\n## {title}\n")[2]
-    found_blocks = blocks(text.partition("\n## ")[0])
-    return [lines for it in found_blocks if (lines := [line for line in it if line.strip()])]
-
-
 def installed(system):
     """The first block of the document, line by line."""
     told = {}
@@ -219,6 +211,15 @@ def restored(system):
     return name
 
 
+def brought(system):
+    """Another office is put in place of the one that is there."""
+    system.shell("signal_office add --db city.db 7 30 Elm")
+    told = system.shell("set -e\n" + "\n".join(part("Install the package")[2]))
+    expect("the migration", told, "migrated 0 rows")
+    system.asked()
+    return system.shell("curl -fsS http://127.0.0.1:8080/overdue/2199-12-31")
+
+
 def removed(system):
     """Removed and purged, the server is gone, and the office stays."""
     system.shell("apt remove -y cayunchis")
@@ -229,7 +230,7 @@ def removed(system):
     return system.shell(f"ls {OFFICE}")
 
 
-TRIALS = (installed, killed, ported, saved, upgraded, restored, removed)
+TRIALS = (installed, killed, ported, saved, upgraded, restored, brought, removed)
 
 
 def main():

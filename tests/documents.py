@@ -145,10 +145,14 @@ def wrong_headlines():
 
 
 def wrong_version():
-    """The program's version, where it is not the newest one of CHANGELOG.md."""
+    """The program's version, where it is not the newest one of CHANGELOG.md, or OPERATING.md
+    installs another."""
     number, (newest, _) = version.number(), version.newest()
     if number != newest:
         yield f"CHANGELOG.md has {newest} as its newest version, and the program {number}"
+    for name in (f"cayunchis_{number}_amd64.deb", f"cayunchis-{number}-amd64.tar.xz"):
+        if name not in (TOP / "docs/OPERATING.md").read_text():
+            yield f"OPERATING.md does not install {name}"
 
 
 def written_by_scripts():

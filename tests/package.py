@@ -29,6 +29,7 @@ import time
 
 import version
 from program import TOP, found
+from tour import blocks
 
 SKIPPED, INSIDE = 77, "--inside"
 TOOLS = ("dpkg", "dpkg-deb", "adduser", "unshare", "chroot", "runuser", "mount")
@@ -40,6 +41,13 @@ PATIENCE = 10  # seconds
 PORT = "8080"  # of the unit
 PLAN = "/usr/share/doc/cayunchis/bench/plan.csv"
 LINK = re.compile(r"\]\(([^)#:]+)(?:#[^)]*)?\)")
+
+
+def part(title):
+    """The blocks of a part of docs/OPERATING.md, as their lines."""
+    text = (TOP / "docs" / "OPERATING.md").read_text().partition(f"\n## {title}\n")[2]
+    found_blocks = blocks(text.partition("\n## ")[0])
+    return [lines for it in found_blocks if (lines := [line for line in it if line.strip()])]
 
 
 class Off(Exception):
@@ -148,14 +156,20 @@ class Root:
             yield shlex.split(line.replace("$$", "$").replace("%%", "%"))
 
 
+def there(root):
+    """The version, the user with its home and shell, and whose the folders are; and how they have
+    to be."""
+    name, _, _, _, _, home, shell = root.run("getent", "passwd", "cayunchis").split(":")
+    folders = root.run("stat", "-c", "%U %G %a", STATE, COPIES).splitlines()
+    came = root.run("signal_office", "--version").split()[1], name, home, shell, *folders
+    wanted = version.number(), "cayunchis", STATE, "/usr/sbin/nologin"
+    return came, (*wanted, *["cayunchis cayunchis 700"] * 2)
+
+
 def installed(root, deb):
     """The package is installed: the program, its user, its folders, and whatever shows it."""
     root.dpkg("--install", deb)
-    expect("the version", root.run("signal_office", "--version").split()[1], version.number())
-    name, _, _, _, _, home, shell = root.run("getent", "passwd", "cayunchis").split(":")
-    expect("the user", (name, home, shell), ("cayunchis", STATE, "/usr/sbin/nologin"))
-    for folder in (STATE, COPIES):
-        expect(folder, root.run("stat", "-c", "%U %G %a", folder), "cayunchis cayunchis 700")
+    expect("what stands there", *there(root))
     expect("an office", root.is_there(OFFICE), False)
     return "the program, its user and folders"
 
@@ -270,6 +284,16 @@ def removed(root, deb):
     return before[0]
 
 
+def unpacked(root, tar):
+    """The archive by the commands of the document, but for those of systemd."""
+    root.run("userdel", "cayunchis")
+    shutil.copy2(tar, root.at("/keep"))
+    lines = [it for it in part("Install the package")[-1] if not it.startswith("systemctl")]
+    root.run("sh", "-ec", "\n".join(["cd /keep", *lines]))
+    expect("what stands there", *there(root))
+    return f"{len(lines)} commands"
+
+
 def tried(program, room):
     """Each trial with what it says."""
     folder = room / "packages"
@@ -287,6 +311,7 @@ def tried(program, room):
     yield "used", used(root)
     yield "upgraded", upgraded(root, older, newer)
     yield "removed", removed(root, newer)
+    yield "unpacked", unpacked(root, folder / f"cayunchis-{version.number()}-amd64.tar.xz")
 
 
 def inside(program, room):
