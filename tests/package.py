@@ -264,6 +264,23 @@ def upgraded(root, older, newer):
     return more[0]
 
 
+def reverted(root, older, newer):
+    """The older version comes again while the office is away, which is then put back."""
+    before, away = kept(root)[0], root.at(STATE) / "away"
+    files = [*root.at(STATE).glob("city.db*")]
+    away.mkdir()
+    for path in files:
+        path.rename(away / path.name)
+    root.dpkg("--install", older)
+    for path in files:
+        (away / path.name).rename(path)
+    away.rmdir()
+    expect("the list of the older version", kept(root)[0], before)
+    root.dpkg("--install", newer)
+    expect("the list of the newer version again", kept(root)[0], before)
+    return " ".join(sorted(it.name for it in files))
+
+
 def removed(root, deb):
     """Removed, installed again and purged: the office and its copies stay. Without them nothing
     stays but the user."""
@@ -310,6 +327,7 @@ def tried(program, room):
     yield "served", served(root)
     yield "used", used(root)
     yield "upgraded", upgraded(root, older, newer)
+    yield "reverted", reverted(root, older, newer)
     yield "removed", removed(root, newer)
     yield "unpacked", unpacked(root, folder / f"cayunchis-{version.number()}-amd64.tar.xz")
 
