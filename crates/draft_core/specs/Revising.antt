@@ -1,9 +1,11 @@
 -- A clerk revises a plan: the steps of the transaction that take a draft up, edit it, and commit it where that is asked for and it breaks no rule.
-use Rattle.std.specs.Prelude.{◌≡◌, ◌≤◌, ℕ, Bool, true, false, List, [], ◌∷◌, ◌++◌, length, Option, Some, None, Result, Ok, Err, IfOk}
+use Rattle.std.specs.Prelude.{◌≡◌, ◌≤◌, ℕ, Bool, true, List, [], ◌∷◌, ◌++◌, length, Option, Some, None, Result, Ok, Err, IfOk, if◌then◌else◌}
+use Rattle.std.specs.Str.{bytes_eq}
 use Rattle.signal_records.specs.TimingSet.{Rows, after_changes}
 use Rattle.signal_records.specs.declared.record.Change.{Change}
+use Rattle.signal_records.specs.declared.state.Holder.{Holder}
 use Rattle.signal_records.specs.declared.state.Holding.{Holding}
-use Rattle.signal_records.specs.declared.state.Holding.TheVariants.{Dropped}
+use Rattle.signal_records.specs.declared.state.Holding.TheVariants.{Begun, Kept, Dropped}
 use Rattle.signal_records.specs.declared.state.Stage.{Stage}
 use Rattle.signal_records.specs.declared.state.Stage.TheVariants.{Transaction, Verify, Done}
 use Rattle.signal_rules.specs.Violations.{violations_of}
@@ -15,6 +17,7 @@ use Rattle.draft_core.specs.News.{AreInOrder, AreNew}
 use Rattle.draft_core.specs.Transaction.{Draft, TimingSide, table_line}
 use Rattle.draft_core.specs.Writes.{abandon_rows}
 use Rattle.draft_core.specs.declared.refusal.DraftRefusal.{DraftRefusal}
+use Rattle.draft_core.specs.declared.refusal.DraftRefusal.TheVariants.{NotOwner}
 use Rattle.draft_core.specs.declared.step.Step.{Step}
 use Rattle.draft_core.specs.declared.step.Step.TheVariants as step
 use Rattle.draft_core.specs.declared.timing.Move.{Move}
@@ -63,6 +66,13 @@ and_then (Err why) more = Err why
 abbrev pub lines_of : List ℕ → List Step → TimingSide → Result TimingSide DraftRefusal
 lines_of clerk [] side = Ok side
 lines_of clerk (step ∷ steps) side = and_then (table_line step clerk side) (lines_of clerk steps)
+
+-- what becomes of who holds the draft where a clerk takes it up: one begins where nobody owns one, and the clerk's own is
+-- open; for another clerk's the refusal is NotOwner
+abbrev pub take_up : Option Holder → List ℕ → Result Holding DraftRefusal
+take_up None clerk = Ok Begun
+take_up (Some holder) clerk =
+    if bytes_eq holder.owner clerk then Ok (Kept Transaction) else Err NotOwner
 
 -- ---- what it writes
 

@@ -3,7 +3,12 @@
 
 ghost use Rattle.draft_core.specs.Revising.{Revises};
 
+use crate::decide::{commit_settled, moves_to};
+use crate::drafting::draft_changes;
+use crate::holding::take_up;
+use crate::overlaying::violations_after;
 use crate::refusal::DraftRefusal;
+use crate::state::Verdict;
 use crate::timing::{Move, Timing};
 use signal_records::{Change, Words};
 use std::alloc::Global;
@@ -17,14 +22,19 @@ use std::alloc::Global;
 /// `NotOwner` where another clerk holds the draft, `RevisionFull` for a commit at the last revision,
 /// and `NoMemory` where a growth was refused.
 pub fn revise(
-    _alloc: Global,
-    _timing: &Timing,
-    _clerk: &Words<40>,
-    _edits: &[Change],
-    _settled: &[Change],
-    _commit: bool,
+    alloc: Global,
+    timing: &Timing,
+    clerk: &Words<40>,
+    edits: &[Change],
+    settled: &[Change],
+    commit: bool,
 ) -> Result<Move, DraftRefusal>
-    ensures { Revises _timing.now _clerk.now _edits.now _settled.now _commit result }
+    ensures { Revises timing.now clerk.now edits.now settled.now commit result }
 {
-    Err(DraftRefusal::NoMemory)
+    let holder = take_up(&timing.holder, clerk)?;
+    if commit && violations_after(alloc, &timing.committed, settled)?.is_empty() {
+        return commit_settled(alloc, timing, settled);
+    }
+    let rows = draft_changes(alloc, timing, edits)?;
+    Ok(moves_to(timing.revision, holder, Verdict::NotDone, rows))
 }
