@@ -119,21 +119,21 @@ idle_writes {step} {timing} {move} is = record {
 -- ---- what a commit writes
 
 module _ (timing : Timing) (settled : List Change) where
-  abbrev pub Settles : Move → Type 0
-  Settles move = move.changes ≡ commit_rows timing.committed timing.delta settled
+  abbrev pub WritesSettled : Move → Type 0
+  WritesSettled move = move.changes ≡ commit_rows timing.committed timing.delta settled
 
-  news : (move : Move) → Settles move → AreInOrder settled
+  news : (move : Move) → WritesSettled move → AreInOrder settled
       → AreNew timing.committed timing.delta move.changes
   news move made order key =
       subst (λ list. AreNewAt list key (get timing.committed key) (row_at timing.delta key))
       (sym made)
       (commit_rows_new timing.committed timing.delta settled order key (row_at timing.delta key))
 
-  drafts_none : (move : Move) → Settles move → drafted_in move.changes ≡ []
+  drafts_none : (move : Move) → WritesSettled move → drafted_in move.changes ≡ []
   drafts_none move made =
       ap drafted_in made ∙ drafted_in-commit_rows timing.committed timing.delta settled
 
-  writes : (move : Move) → Settles move → (timing_writes move.changes ≡ length settled)
+  writes : (move : Move) → WritesSettled move → (timing_writes move.changes ≡ length settled)
       × (draft_writes move.changes ≡ length (abandon_rows timing.delta))
   writes move made = subst (λ list. (timing_writes list ≡ length settled)
       × (draft_writes list ≡ length (abandon_rows timing.delta))) (sym made)
@@ -141,7 +141,7 @@ module _ (timing : Timing) (settled : List Change) where
 
   -- as the step commit, of the draft rows
   pub step_settles : settled ≡ timing.delta → (result : Result Move DraftRefusal)
-      → IfOk result Settles → IfOk result (StepWrites Commit timing)
+      → IfOk result WritesSettled → IfOk result (StepWrites Commit timing)
   step_settles same (Err why) made = tt
   step_settles same (Ok move) made =
       let few = abandon_rows_writes timing.delta in
@@ -154,7 +154,7 @@ module _ (timing : Timing) (settled : List Change) where
 
   -- and as a revision
   pub revision_settles : (edits : List Change) (result : Result Move DraftRefusal)
-      → IfOk result (λ move. move.holder ≡ Dropped) → IfOk result Settles
+      → IfOk result (λ move. move.holder ≡ Dropped) → IfOk result WritesSettled
       → IfOk result (RevisionWrites timing edits settled)
   revision_settles edits (Err why) dropped made = tt
   revision_settles edits (Ok move) dropped made = record {

@@ -3,7 +3,7 @@ use Rattle.std.proofs.Common.{◌≡◌, ◌≤◌, ℕ, ◌==◌, Bool, cond, n
 use Rattle.std.proofs.lemmas.Slice.Eq.{bytes_eq-Decides}
 use Rattle.std.specs.{Option.option_map, Str.bytes_eq}
 use Rattle.signal_rules.specs.{Violations.violations_of, declared.violation.Violation.Violation}
-use Rattle.signal_records.specs.{TimingSet.Rows, TimingSet.after_changes, declared.record.Change.Change, declared.state.Holder.Holder}
+use Rattle.signal_records.specs.{TimingSet.Rows, TimingSet.after_changes, declared.record.Change.Change}
 use Rattle.signal_records.specs.declared.state.DbState.TheVariants.{Normal, Transaction as InTransaction}
 use Rattle.signal_records.specs.declared.state.Holding.{Holding}
 use Rattle.signal_records.specs.declared.state.Holding.TheVariants.{Begun, Kept, Dropped}
@@ -34,10 +34,6 @@ module _ (revision : ℕ) (committed : Rows) (owner clerk : List ℕ) where
     draft = Some (record { stage = stage; owner = owner; set = set });
   }
 
-  -- the steps up to the edit, and more
-  abbrev edit_steps : Stage → List Change → List Step → List Step
-  edit_steps stage edits more = reopening stage ++ step.Edit edits ∷ more
-
   -- the test of the owner, and then more steps
   abbrev test_owner : Bool → Result TimingSide DraftRefusal → List Step
       → Result TimingSide DraftRefusal
@@ -51,7 +47,7 @@ module _ (revision : ℕ) (committed : Rows) (owner clerk : List ℕ) where
 
     -- in whichever stage the clerk's draft is, the edit is made to it
     edit_lines : (stage : Stage) (set : Rows) (edits : List Change) (more : List Step)
-        → lines_of clerk (edit_steps stage edits more) (with_set stage set)
+        → lines_of clerk (reopening stage ++ step.Edit edits ∷ more) (with_set stage set)
         ≡ lines_of clerk more (with_set Transaction (after_changes set edits))
     edit_lines Transaction set edits more =
         passes (Ok (with_set Transaction (after_changes set edits))) more
@@ -74,17 +70,6 @@ module _ (revision : ℕ) (committed : Rows) (owner clerk : List ℕ) where
         ∙ passes (committed_with (with_set Done set) draft (violations_of set)) []
         ∙ and_then-end clerk _
         ∙ ap (committed_with (with_set Done set) draft) sound
-
-  -- another clerk's is refused at once
-  other_lines : bytes_eq owner clerk ≡ false → (stage : Stage) (set : Rows)
-      (edits : List Change) (more : List Step)
-      → lines_of clerk (edit_steps stage edits more) (with_set stage set) ≡ Err NotOwner
-  other_lines other Transaction set edits more =
-      ap (λ b. test_owner b (Ok (with_set Transaction (after_changes set edits))) more) other
-  other_lines other Done set edits more =
-      ap (λ b. test_owner b (Ok (with_set Transaction set)) (step.Edit edits ∷ more)) other
-  other_lines other Verify set edits more =
-      ap (λ b. test_owner b (Ok (with_set Done set)) (step.Reopen ∷ step.Edit edits ∷ more)) other
 
 -- ---- the draft is taken up
 
@@ -132,43 +117,6 @@ taken revision committed (Some draft) clerk holding e =
 pub takes_up : (side : TimingSide) (clerk : List ℕ) (holding : Holding)
     → take_up (option_map holder_of side.draft) clerk ≡ Ok holding → TakesUp side clerk holding
 takes_up side clerk holding e = taken side.revision side.committed side.draft clerk holding e
-
--- the draft is open then
-pub take_up_opens : (holder : Option Holder) (clerk : List ℕ) (holding : Holding)
-    → take_up holder clerk ≡ Ok holding → state_after holding ≡ InTransaction
-take_up_opens None clerk holding e = let same : Begun ≡ holding = cc in ap state_after (sym same)
-take_up_opens (Some holder) clerk holding e =
-    elim (bytes_eq holder.owner clerk) as (λ b. cond b (Ok (Kept Transaction)) (Err NotOwner)
-    ≡ Ok holding → state_after holding ≡ InTransaction) [
-      | true ↦ λ f. let same : Kept Transaction ≡ holding = cc in ap state_after (sym same)
-      | false ↦ λ f. absurd (let g : Err NotOwner ≡ Ok holding = f in cc)
-    ] e
-
--- a refusal is that of the first step
-untaken : (revision : ℕ) (committed : Rows) (held : Option Draft) (clerk : List ℕ)
-    (why : DraftRefusal) → take_up (option_map holder_of held) clerk ≡ Err why
-    → (edits : List Change) (more : List Step)
-    → lines_of clerk (taking_up held ++ step.Edit edits ∷ more) (side_of revision committed held)
-    ≡ Err why
-untaken revision committed None clerk why e edits more =
-    absurd (let f : Ok Begun ≡ Err why = e in cc)
-untaken revision committed (Some draft) clerk why e edits more =
-    elim (bytes_eq draft.owner clerk) as (λ b. bytes_eq draft.owner clerk ≡ b
-    → cond b (Ok (Kept Transaction)) (Err NotOwner) ≡ Err why
-    → lines_of clerk (taking_up (Some draft) ++ step.Edit edits ∷ more)
-    (side_of revision committed (Some draft)) ≡ Err why) [
-      | true ↦ λ owns f. absurd (let g : Ok (Kept Transaction) ≡ Err why = f in cc)
-      | false ↦ λ other f. let same : NotOwner ≡ why = cc in
-          other_lines revision committed draft.owner clerk other draft.stage draft.set edits more
-          ∙ ap (λ (r : DraftRefusal). Err r) same
-    ] refl e
-
-pub take_up_refuses : (side : TimingSide) (clerk : List ℕ) (why : DraftRefusal)
-    → take_up (option_map holder_of side.draft) clerk ≡ Err why
-    → (edits : List Change) (more : List Step)
-    → lines_of clerk (taking_up side.draft ++ step.Edit edits ∷ more) side ≡ Err why
-take_up_refuses side clerk why e =
-    untaken side.revision side.committed side.draft clerk why e
 
 -- ---- the whole of the lines
 

@@ -151,8 +151,8 @@ fn commit_draft(alloc: Global, timing: &Timing) -> Result<Move, DraftRefusal>
     commit_settled(alloc, timing, timing.delta.as_slice())
 }
 
-/// Commits what these changes make of the committed set, which breaks no rule, at the next revision,
-/// and drops the draft rows. It is refused at the last revision, and for want of memory.
+/// Makes these changes in the committed set, at the next revision, and drops the draft rows. That
+/// they break no rule was tested before. It is refused at the last revision, and for want of memory.
 pub(crate) fn commit_settled(
     alloc: Global,
     timing: &Timing,

@@ -71,7 +71,8 @@ pub(crate) fn refused_by(
 /// one, and the clerk's own is open to edits, whatever its stage. Another clerk's is refused with
 /// `NotOwner`.
 pub(crate) fn take_up(holder: &Option<Holder>, clerk: &Words<40>) -> Result<Holding, DraftRefusal>
-    ensures { result ≡ revising.take_up holder.now clerk.now }
+    ensures takes { result ≡ revising.take_up holder.now clerk.now }
+    ensures opens { IfOk result (λ holding. moves.state_after holding ≡ DbState.Transaction) }
 {
     match holder {
         None => Ok(Holding::Begun),

@@ -4,7 +4,7 @@ use Rattle.signal_records.specs.{TimingSet.after_changes, declared.state.Stage.T
 use Rattle.draft_core.specs.Moves.{Follows}
 use Rattle.draft_core.specs.Revising.{RevisionWrites, base_of, committing, take_up}
 use Rattle.draft_core.proofs.{Lines.none_found, Makes.edit_makes, News.revision_settles}
-use Rattle.draft_core.proofs.Revisions.{breaks_stay, found_after, open_lines, open_writes, settled_lines, take_up_opens, takes_up}
+use Rattle.draft_core.proofs.Revisions.{breaks_stay, found_after, open_lines, open_writes, settled_lines, takes_up}
 use Rattle.draft_core.proofs.revising.revise.Goals.{else-commit-via-then-commit+in_ok-violations_after+else-is_empty, else-commit-via-else-commit}
 use Rattle.draft_core.proofs.revising.revise.Goals as goal
 
@@ -19,7 +19,7 @@ returns-then-is_empty c =
     record {
       line = λ rows side stands sound same.
           let takes = takes_up side clerk c.in_ok-holder.holder
-          (ap (λ h. take_up h clerk) (sym stands.same_holder) ∙ sym c.in_ok-holder.ensures) in
+          (ap (λ h. take_up h clerk) (sym stands.same_holder) ∙ sym c.in_ok-holder.ensures.takes) in
           let after = after_changes (base_of side) edits in
           subst (Follows rows side clerk c.commit_settled.result)
           (sym (settled_lines takes edits c.args.commit c.if-commit.true
@@ -40,11 +40,11 @@ returns c =
     let settled = c.args.settled.now in
     let holder = c.in_ok-holder.holder in
     let did = c.in_ok-rows.ensures in
-    let opens = take_up_opens timing.holder clerk holder (sym c.in_ok-holder.ensures) in
+    let opens = c.in_ok-holder.ensures.opens in
     record {
       line = λ rows side stands sound same.
           let takes = takes_up side clerk holder
-          (ap (λ h. take_up h clerk) (sym stands.same_holder) ∙ sym c.in_ok-holder.ensures) in
+          (ap (λ h. take_up h clerk) (sym stands.same_holder) ∙ sym c.in_ok-holder.ensures.takes) in
           let after = after_changes (base_of side) edits in
           let stays : committing c.args.commit (violations_of after) ≡ [] =
           elim c.else-commit.branch [
