@@ -6,3 +6,4 @@ pub mod News
 pub mod Lines
 pub mod Makes
 pub mod Sound
+pub mod Revisions

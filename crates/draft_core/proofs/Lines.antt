@@ -1,9 +1,10 @@
 -- What leads from the tests of a decision to its line of the table.
 use Rattle.std.proofs.Common.{◌≡◌, ℕ, ◌+◌, ◌==◌, Bool, cond, not, true, false, List, [], ◌∷◌, length, Option, Some, None, Result, Ok, Err, is_some, refl, ap, sym, subst, ◌∙◌, inr}
+use Rattle.std.proofs.lemmas.{Bool.Decides.Decides-eqb, List.nil_from_length}
 use Rattle.std.specs.{Option.option_map, Result.IsErrAnd, Result.result_err, Str.bytes_eq}
 use Rattle.signal_rules.specs.declared.violation.Violation.{Violation}
 use Rattle.signal_records.specs.{declared.revision.TheConstants.LAST_REVISION, declared.state.Stage.Stage, declared.state.Holder.Holder}
-use Rattle.draft_core.specs.{declared.timing.Timing.Timing, declared.timing.Reach.Reach, declared.timing.Move.Move, declared.refusal.DraftRefusal.DraftRefusal, Refusal.next_revision, DraftRows.RowsByKey, DraftRows.Stands, Moves.Makes, Moves.Follows}
+use Rattle.draft_core.specs.{declared.timing.Timing.Timing, declared.timing.Reach.Reach, declared.timing.Move.Move, declared.refusal.DraftRefusal.DraftRefusal, DraftRows.RowsByKey, DraftRows.Stands, Moves.Makes, Moves.Follows}
 use Rattle.draft_core.specs.declared.refusal.DraftRefusal.TheVariants.{NotOwner, RevisionFull, VerifyFailed}
 use Rattle.draft_core.specs.Transaction.{TimingSide, Draft, holder_of, is_stage, owned, refused_by, committed_with}
 
@@ -76,23 +77,16 @@ nobody (Some holder) e = absurd (let f : true ≡ false = e in cc)
 
 -- a commit at the next revision follows its line
 pub commit_follows : (rows : RowsByKey) (side : TimingSide) (draft : Draft) (clerk : List ℕ)
-    (move : Move) (revision : ℕ) (violations : List Violation)
-    → Ok revision ≡ next_revision side.revision violations
-    → Makes rows side clerk move (record {
-      revision = revision;
-      committed = draft.set;
-      draft =
-          None;
-    })
-    → Follows rows side clerk (Ok move) (committed_with side draft violations)
-commit_follows rows side draft clerk move revision (v ∷ vs) e makes =
-    absurd (let f : Ok revision ≡ next_revision side.revision (v ∷ vs) = e in cc)
-commit_follows rows side draft clerk move revision [] e makes =
-    elim (side.revision == LAST_REVISION) as (λ b. Ok revision
-    ≡ cond b (Err RevisionFull) (Ok (side.revision + 1))
-    → Follows rows side clerk (Ok move) (cond b (Err RevisionFull)
+    (move : Move) (revision : ℕ)
+    → cond (side.revision == LAST_REVISION) None (Some (side.revision + 1)) ≡ Some revision
+    → Makes rows side clerk move
+    (record { revision = revision; committed = draft.set; draft = None })
+    → Follows rows side clerk (Ok move) (committed_with side draft [])
+commit_follows rows side draft clerk move revision e makes =
+    elim (side.revision == LAST_REVISION) as (λ b. cond b None (Some (side.revision + 1))
+    ≡ Some revision → Follows rows side clerk (Ok move) (cond b (Err RevisionFull)
     (Ok (record { revision = side.revision + 1; committed = draft.set; draft = None })))) [
-      | true ↦ λ f. absurd (let g : Ok revision ≡ Err RevisionFull = f in cc)
+      | true ↦ λ f. absurd (let g : None ≡ Some revision = f in cc)
       | false ↦ λ f. let same : revision ≡ side.revision + 1 = cc in
           subst (λ n. Makes rows side clerk move (record {
             revision = n;
@@ -101,18 +95,16 @@ commit_follows rows side draft clerk move revision [] e makes =
           })) same makes
     ] e
 
--- where there is no next revision, the line refuses for the same reason
-pub commit_refuses : (side : TimingSide) (draft : Draft) (refusal : DraftRefusal) (violations : List Violation)
-    → Err refusal ≡ next_revision side.revision violations → committed_with side draft violations ≡ Err refusal
-commit_refuses side draft refusal (v ∷ vs) e =
-    let same : refusal ≡ VerifyFailed (length (v ∷ vs)) = cc in
-    ap (λ (r : DraftRefusal). Err r) (sym same)
-commit_refuses side draft refusal [] e =
-    let next : TimingSide = record { revision = side.revision + 1; committed = draft.set; draft = None } in
-    elim (side.revision == LAST_REVISION) as (λ b. Err refusal ≡ cond b (Err RevisionFull) (Ok (side.revision + 1)) → cond b (Err RevisionFull) (Ok next) ≡ Err refusal) [
-      | true ↦ λ f. let same : refusal ≡ RevisionFull = cc in ap (λ (r : DraftRefusal). Err r) (sym same)
-      | false ↦ λ f. absurd (let g : Err refusal ≡ Ok (side.revision + 1) = f in cc)
-    ] e
+-- where the draft breaks rules, the line refuses
+pub commit_breaks : (side : TimingSide) (draft : Draft) (violations : List Violation)
+    → (length violations == 0) ≡ false
+    → committed_with side draft violations ≡ Err (VerifyFailed (length violations))
+commit_breaks side draft [] e = absurd (let f : true ≡ false = e in cc)
+commit_breaks side draft (violation ∷ violations) e = refl
+
+pub none_found : (violations : List Violation) → (length violations == 0) ≡ true
+    → violations ≡ []
+none_found violations e = nil_from_length violations ((Decides-eqb (length violations) 0).0 e)
 
 -- a refusal that the line has follows it
 pub refusal_follows : (rows : RowsByKey) (side : TimingSide) (clerk : List ℕ)

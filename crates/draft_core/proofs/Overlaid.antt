@@ -1,5 +1,5 @@
 -- What changes leave of a set, key by key, and the draft as the committed set with its rows over it.
-use Rattle.std.proofs.Common.{◌≡◌, ◌+◌, Bool, true, false, cond, List, [], ◌∷◌, map, Option, Some, refl, ap, sym, subst, ◌∙◌, arith, add-one}
+use Rattle.std.proofs.Common.{◌≡◌, ◌+◌, Bool, true, false, cond, List, [], ◌∷◌, map, Option, Some, None, refl, ap, sym, ◌∙◌, arith, add-one}
 use Rattle.std.specs.declared.cmp.Ordering.TheVariants.{Less, Equal, Greater}
 use Rattle.std.specs.{List.Contains, Ordering.is_eq, FinMap.get, FinMap.get-insert, FinMap.get-remove, FinMap.same_map}
 use Rattle.signal_records.specs.declared.{key.Key.Key, record.Row.Row, record.Change.Change}
@@ -9,6 +9,7 @@ use Rattle.signal_records.specs.TimingSet.{Rows, after_change, after_changes}
 use Rattle.signal_rules.specs.{declared.violation.Violation.Violation, Difference.DiffersAtMost, Violations.violations_of}
 use Rattle.draft_core.specs.{declared.timing.Timing.Timing, declared.timing.Reach.Reach, Transaction.TimingSide, Transaction.Draft}
 use Rattle.draft_core.specs.DraftRows.{Said, silent, leaves, removes, RowsByKey, RowStands, Stands, said_by, said_at, later_of, row_at, overlaid_row}
+use Rattle.draft_core.specs.Revising.{base_from, base_of}
 use Rattle.draft_core.specs.declared.timing.Reach.TheVariants as reach
 use Rattle.signal_records.specs.ChangedRows.{changed_key}
 
@@ -36,24 +37,41 @@ get-after_changes (change ∷ changes) set key =
     ∙ ap (λ o. overlaid_row o (row_at changes key)) (get-after_change set change key)
     ∙ overlaid_row-overlaid_row (get set key) (row_at changes key) (said_at change key)
 
--- the draft's row at a key
-pub draft_row : {reach : Reach} {timing : Timing} {rows : RowsByKey} {side : TimingSide}
-    → Stands reach timing rows side
-    → (draft : Draft) → side.draft ≡ Some draft → (key : Key)
-    → get draft.set key ≡ overlaid_row (get side.committed key) (rows key)
-draft_row {rows = rows} {side = side} stands draft held key =
-    subst (λ d. RowStands (get side.committed key) (rows key) d key) held (stands.draft key)
+module _ {reach : Reach} {timing : Timing} {rows : RowsByKey} {side : TimingSide}
+    (stands : Stands reach timing rows side) where
+  -- the draft's row at a key, or the committed one where there is no draft
+  pub base_row : (key : Key)
+      → get (base_of side) key ≡ overlaid_row (get side.committed key) (rows key)
+  base_row key =
+      elim side.draft as (λ d. RowStands (get side.committed key) (rows key) d key
+      → get (base_from side.committed d) key
+      ≡ overlaid_row (get side.committed key) (rows key)) [
+        | None ↦ λ quiet. sym (ap (overlaid_row (get side.committed key)) quiet)
+        | Some draft ↦ λ row. row
+      ] (stands.draft key)
+
+  -- the draft's row at a key
+  pub draft_row : (draft : Draft) → side.draft ≡ Some draft → (key : Key)
+      → get draft.set key ≡ overlaid_row (get side.committed key) (rows key)
+  draft_row draft held key =
+      ap (λ d. get (base_from side.committed d) key) (sym held) ∙ base_row key
+
+-- the committed set with the draft rows over it is the draft, or the committed set where there is none
+pub base_is : {timing : Timing} {rows : RowsByKey} {side : TimingSide}
+    → Stands reach.Plan timing rows side
+    → after_changes timing.committed timing.delta ≡ base_of side
+base_is {timing = timing} {side = side} stands = same_map key_total key_exact _ _ (λ key.
+    get-after_changes timing.delta timing.committed key
+    ∙ ap (λ set. overlaid_row (get set key) (row_at timing.delta key)) stands.read.1
+    ∙ ap (overlaid_row (get side.committed key)) (stands.read.0 key)
+    ∙ sym (base_row stands key))
 
 module _ {timing : Timing} {rows : RowsByKey} {side : TimingSide}
     (stands : Stands reach.Plan timing rows side) (draft : Draft)
     (held : side.draft ≡ Some draft) where
   -- the draft is the committed set with the draft rows over it
   pub draft_is : after_changes timing.committed timing.delta ≡ draft.set
-  draft_is = same_map key_total key_exact _ _ (λ key.
-      get-after_changes timing.delta timing.committed key
-      ∙ ap (λ set. overlaid_row (get set key) (row_at timing.delta key)) stands.read.1
-      ∙ ap (overlaid_row (get side.committed key)) (stands.read.0 key)
-      ∙ sym (draft_row stands draft held key))
+  draft_is = base_is stands ∙ ap (base_from side.committed) held
 
   -- what is found in the committed set with the draft rows is the draft's, where the committed set
   -- has no violation

@@ -9,7 +9,7 @@ use Rattle.draft_core.specs.{Moves.draft_write, Moves.draft_writes, News.AddsNon
 use Rattle.draft_core.specs.declared.timing.TimingChange.TheVariants.{CommittedNew, Committed}
 use Rattle.draft_core.proofs.Overlaid.{overlaid_row-overlaid_row}
 
--- ---- a draft row as a change of the committed set
+-- ---- a change as one of the committed set
 
 -- it is the change itself, or adds the row that the change puts, where none is committed
 pub settled_either : (P : TimingChange → Type 0) (set : Rows) (change : Change)
@@ -47,7 +47,7 @@ settled_drafts set change rest =
     settled_either (λ one. drafted_in (one ∷ rest) ≡ drafted_in rest) set change refl
     (λ row is none. refl)
 
--- ---- a commit makes the draft rows changes of the committed ones, and none is left
+-- ---- a commit makes the changes in the committed set, and no draft row is left
 
 abbrev pub committing : Rows → List Change → List TimingChange
 committing set = map (settled_by set)
@@ -69,21 +69,23 @@ row_after-committing set (change ∷ changes) key said =
     row_after-committing set changes key (said_after (settled_by set change) key said)
     ∙ settled_says set change key said
 
-pub committed_after-commit_rows : (set : Rows) (changes : List Change) (key : Key)
+pub committed_after-commit_rows : (set : Rows) (delta changes : List Change) (key : Key)
     (committed : Option Row)
-    → committed_after (commit_rows set changes) key committed
+    → committed_after (commit_rows set delta changes) key committed
     ≡ overlaid_row committed (row_at changes key)
-committed_after-commit_rows set [] key committed = refl
-committed_after-commit_rows set (change ∷ changes) key committed =
-    committed_after-committing set (change ∷ changes) key committed
+committed_after-commit_rows set [] changes key committed =
+    committed_after-committing set changes key committed
+committed_after-commit_rows set (row ∷ delta) changes key committed =
+    committed_after-committing set changes key committed
 
--- none is left, where none stands but those that the changes tell of
-pub row_after-commit_rows : (set : Rows) (changes : List Change) (key : Key) (said : Said)
-    → (row_at changes key ≡ silent → said ≡ silent)
-    → row_after (commit_rows set changes) key said ≡ silent
-row_after-commit_rows set [] key said h = h refl
-row_after-commit_rows set (change ∷ changes) key said h =
-    row_after-committing set (change ∷ changes) key silent
+-- none is left, where none stands but those that are dropped
+pub row_after-commit_rows : (set : Rows) (delta changes : List Change) (key : Key) (said : Said)
+    → (row_at delta key ≡ silent → said ≡ silent)
+    → row_after (commit_rows set delta changes) key said ≡ silent
+row_after-commit_rows set [] changes key said h =
+    row_after-committing set changes key said ∙ h refl
+row_after-commit_rows set (row ∷ delta) changes key said h =
+    row_after-committing set changes key silent
 
 -- ---- an abandoned draft leaves the committed rows, and no draft row
 
@@ -109,10 +111,10 @@ drafted_in-committing set [] = refl
 drafted_in-committing set (change ∷ changes) =
     settled_drafts set change (committing set changes) ∙ drafted_in-committing set changes
 
-pub drafted_in-commit_rows : (set : Rows) (changes : List Change)
-    → drafted_in (commit_rows set changes) ≡ []
-drafted_in-commit_rows set [] = refl
-drafted_in-commit_rows set (change ∷ changes) = drafted_in-committing set (change ∷ changes)
+pub drafted_in-commit_rows : (set : Rows) (delta changes : List Change)
+    → drafted_in (commit_rows set delta changes) ≡ []
+drafted_in-commit_rows set [] changes = drafted_in-committing set changes
+drafted_in-commit_rows set (row ∷ delta) changes = drafted_in-committing set changes
 
 pub drafted_in-abandon_rows : (changes : List Change) → drafted_in (abandon_rows changes) ≡ []
 drafted_in-abandon_rows [] = refl
@@ -127,14 +129,15 @@ committing_writes set (change ∷ changes) =
     let one = settled_writes set change in
     (omega (arith, rest.0, one.0), omega (arith, rest.1, one.1))
 
-pub commit_rows_writes : (set : Rows) (changes : List Change)
-    → (timing_writes (commit_rows set changes) ≤ length changes)
-    × (draft_writes (commit_rows set changes) ≤ length changes)
-commit_rows_writes set [] = (omega arith, omega arith)
-commit_rows_writes set (change ∷ changes) =
-    let all = committing_writes set (change ∷ changes) in
-    (omega (arith, all.0), omega (arith, all.1))
+pub commit_rows_writes : (set : Rows) (delta changes : List Change)
+    → (timing_writes (commit_rows set delta changes) ≡ length changes)
+    × (draft_writes (commit_rows set delta changes) ≡ length (abandon_rows delta))
+commit_rows_writes set [] changes = committing_writes set changes
+commit_rows_writes set (row ∷ delta) changes =
+    let all = committing_writes set changes in (omega (arith, all.0), omega (arith, all.1))
 
-pub abandon_rows_writes : (changes : List Change) → (timing_writes (abandon_rows changes) ≤ 0) × (draft_writes (abandon_rows changes) ≤ length changes)
-abandon_rows_writes [] = (omega arith, omega arith)
-abandon_rows_writes (change ∷ changes) = (omega arith, omega arith)
+pub abandon_rows_writes : (delta : List Change) → (timing_writes (abandon_rows delta) ≤ 0)
+    × (draft_writes (abandon_rows delta) ≤ length delta)
+    × (length (abandon_rows delta) ≤ length delta)
+abandon_rows_writes [] = (omega arith, omega arith, omega arith)
+abandon_rows_writes (row ∷ delta) = (omega arith, omega arith, omega arith)

@@ -9,3 +9,4 @@ pub mod Writes
 pub mod Sound
 pub mod Refusal
 pub mod Touching
+pub mod Revising

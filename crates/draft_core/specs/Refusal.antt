@@ -1,7 +1,5 @@
--- The transaction's refusals: their numbers and names, and when a commit is refused for its rules or its revision.
-use Rattle.std.specs.Prelude.{ℕ, ◌+◌, ◌==◌, if◌then◌else◌, List, [], ◌∷◌, length, codes, Result, Ok, Err}
-use Rattle.signal_records.specs.declared.revision.TheConstants.{LAST_REVISION}
-use Rattle.signal_rules.specs.declared.violation.Violation.{Violation}
+-- The transaction's refusals: their numbers and names.
+use Rattle.std.specs.Prelude.{ℕ, List, codes}
 use Rattle.draft_core.specs.declared.refusal.DraftRefusal.{DraftRefusal}
 use Rattle.draft_core.specs.declared.refusal.DraftRefusal.TheVariants.{NotNormal, NotTransaction, NotOwner, NotVerify, NotDone, VerifyFailed, RevisionFull, NoMemory}
 
@@ -15,8 +13,3 @@ line_of NotDone = (16, codes "NotDone")
 line_of (VerifyFailed count) = (17, codes "VerifyFailed")
 line_of RevisionFull = (18, codes "RevisionFull")
 line_of NoMemory = (90, codes "Unavailable")
-
--- the next revision, or why a draft with these violations is not committed: it has some, else the revision is the last
-abbrev pub next_revision : ℕ → List Violation → Result ℕ DraftRefusal
-next_revision revision [] = if revision == LAST_REVISION then Err RevisionFull else Ok (revision + 1)
-next_revision revision (violation ∷ violations) = Err (VerifyFailed (length (violation ∷ violations)))

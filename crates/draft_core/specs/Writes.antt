@@ -1,4 +1,4 @@
--- The rows that commit and abandon write for the draft rows that they are given.
+-- The rows that are written to abandon a draft, and to commit changes.
 use Rattle.std.specs.Prelude.{List, [], ◌∷◌, ◌++◌, map, Option, Some, None}
 use Rattle.std.specs.FinMap.{get}
 use Rattle.signal_records.specs.Row.{key_of}
@@ -19,12 +19,12 @@ abbrev pub put_over : Option Row → Row → TimingChange
 put_over None row = CommittedNew row
 put_over (Some stands) row = Committed (Put row)
 
--- a draft row as a change of the committed set
+-- a change as one of the committed set
 abbrev pub settled_by : Rows → Change → TimingChange
 settled_by committed (Put row) = put_over (get committed (key_of row)) row
 settled_by committed (Remove key) = Committed (Remove key)
 
--- what a commit writes: the draft rows go, where there are any, and then each is made, in order, a change
--- of the committed set
-abbrev pub commit_rows : Rows → List Change → List TimingChange
-commit_rows committed changes = abandon_rows changes ++ map (settled_by committed) changes
+-- what a commit of changes writes: the draft rows go, where there are any, and then each change is made, in
+-- order, in the committed set
+abbrev pub commit_rows : Rows → (delta changes : List Change) → List TimingChange
+commit_rows committed delta changes = abandon_rows delta ++ map (settled_by committed) changes

@@ -1,14 +1,15 @@
 //! The transaction table as decisions: what each command changes, or why it is refused.
 
 ghost use Rattle.std.specs.Prelude.{◌≡◌, [], Some, IfErr, IfOk, List, ℕ};
+ghost use Rattle.signal_records.specs.TimingSet.{after_changes};
 ghost use Rattle.signal_rules.specs.Violations.{violations_of};
 ghost use Rattle.draft_core.specs.Transaction.{TimingSide, Draft, committed_with};
 ghost use Rattle.draft_core.specs.Drafting.{KeepsOnlyChanges};
-ghost use Rattle.draft_core.specs.Refusal.{next_revision};
 ghost use Rattle.draft_core.specs.DraftRows.{RowsByKey, Stands};
 ghost use Rattle.draft_core.specs.Moves as moves;
 ghost use Rattle.draft_core.specs.Moves.{Follows};
 ghost use Rattle.draft_core.specs.Steps.{IsUnsettled, StepWrites, Takes};
+ghost use Rattle.draft_core.specs.Writes.{commit_rows};
 
 use crate::drafting::draft_changes;
 use crate::holding::{refused_by, state_after};
@@ -21,11 +22,15 @@ use crate::step::Step;
 use crate::timing::{Move, Reach, Timing, TimingChanges};
 use crate::writes::{abandon_rows, commit_rows};
 use signal_records::{Change, Words};
-use signal_rules::Violation;
 use std::alloc::Global;
 
 /// A move to the state that follows from who holds the draft.
-fn moves_to(revision: Revision, holder: Holding, verdict: Verdict, changes: TimingChanges) -> Move
+pub(crate) fn moves_to(
+    revision: Revision,
+    holder: Holding,
+    verdict: Verdict,
+    changes: TimingChanges,
+) -> Move
     ensures { result ≡ moves.move_to revision holder verdict changes }
 {
     Move {
@@ -129,17 +134,6 @@ pub fn commit(alloc: Global, timing: &Timing, clerk: &Words<40>) -> Result<Move,
     commit_draft(alloc, timing)
 }
 
-/// The next revision, or why a draft with these violations is not committed: the violations come
-/// before the last revision.
-fn next_revision(revision: Revision, found: &[Violation]) -> Result<Revision, DraftRefusal>
-    ensures { result ≡ next_revision revision found.now }
-{
-    if !found.is_empty() {
-        return Err(DraftRefusal::VerifyFailed(found.len()));
-    }
-    revision.next().ok_or(DraftRefusal::RevisionFull)
-}
-
 /// Commits a checked draft, once its state and its owner were tested. It is refused where it breaks
 /// rules, at the last revision, and for want of memory.
 fn commit_draft(alloc: Global, timing: &Timing) -> Result<Move, DraftRefusal>
@@ -151,8 +145,32 @@ fn commit_draft(alloc: Global, timing: &Timing) -> Result<Move, DraftRefusal>
     ensures writes { IfOk result (StepWrites Step.Commit timing.now) }
 {
     let found = violations_after(alloc, &timing.committed, timing.delta.as_slice())?;
-    let revision = next_revision(timing.revision, found.as_slice())?;
-    let changes = commit_rows(alloc, &timing.committed, timing.delta.as_slice())?;
+    if !found.is_empty() {
+        return Err(DraftRefusal::VerifyFailed(found.len()));
+    }
+    commit_settled(alloc, timing, timing.delta.as_slice())
+}
+
+/// Makes these changes in the committed set, at the next revision, and drops the draft rows. That
+/// they break no rule was tested before. It is refused at the last revision, and for want of memory.
+pub(crate) fn commit_settled(
+    alloc: Global,
+    timing: &Timing,
+    settled: &[Change],
+) -> Result<Move, DraftRefusal>
+    ensures line { (rows : RowsByKey) (side : TimingSide) (draft : Draft) (clerk : List ℕ) →
+        Stands Reach.Plan timing.now rows side →
+        after_changes timing.now.committed settled.now ≡ draft.set →
+        Follows rows side clerk result (committed_with side draft []) }
+    ensures refuses { IfErr result IsUnsettled }
+    ensures holder { IfOk result (λ move. move.holder ≡ Holding.Dropped) }
+    ensures writes { IfOk result (λ move.
+        move.changes ≡ commit_rows timing.now.committed timing.now.delta settled.now) }
+{
+    let Some(revision) = timing.revision.next() else {
+        return Err(DraftRefusal::RevisionFull);
+    };
+    let changes = commit_rows(alloc, &timing.committed, timing.delta.as_slice(), settled)?;
     Ok(moves_to(revision, Holding::Dropped, Verdict::NotDone, changes))
 }
 

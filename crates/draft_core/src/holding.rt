@@ -4,6 +4,7 @@ ghost use Rattle.std.specs.Prelude.{◌≡◌, IfOk, OnErr};
 ghost use Rattle.std.specs.Option.{option_map, option_copied};
 ghost use Rattle.draft_core.specs.Transaction as table;
 ghost use Rattle.draft_core.specs.Moves as moves;
+ghost use Rattle.draft_core.specs.Revising as revising;
 
 use crate::refusal::DraftRefusal;
 use crate::state::{DbState, Holder, Holding, Stage};
@@ -63,6 +64,20 @@ pub(crate) fn refused_by(
         None
     } else {
         Some(DraftRefusal::NotOwner)
+    }
+}
+
+/// What becomes of who holds the draft where a clerk takes it up: a draft begins where nobody holds
+/// one, and the clerk's own is open to edits, whatever its stage. Another clerk's is refused with
+/// `NotOwner`.
+pub(crate) fn take_up(holder: &Option<Holder>, clerk: &Words<40>) -> Result<Holding, DraftRefusal>
+    ensures takes { result ≡ revising.take_up holder.now clerk.now }
+    ensures opens { IfOk result (λ holding. moves.state_after holding ≡ DbState.Transaction) }
+{
+    match holder {
+        None => Ok(Holding::Begun),
+        Some(holder) if holder.owner == *clerk => Ok(Holding::Kept(Stage::Transaction)),
+        Some(_) => Err(DraftRefusal::NotOwner),
     }
 }
 

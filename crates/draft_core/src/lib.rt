@@ -8,6 +8,7 @@ mod holding;
 mod judging;
 mod overlaying;
 pub mod refusal;
+mod revising;
 pub mod step;
 pub mod timing;
 mod writes;
@@ -18,6 +19,7 @@ pub use holding::next_holder;
 pub use judging::verdict;
 pub use overlaying::{copy_change, overlay};
 pub use refusal::DraftRefusal;
+pub use revising::revise;
 pub use signal_records::{
     DbState, Holder, Holding, LAST_REVISION, Revision, Stage, Verdict, revision, state,
 };

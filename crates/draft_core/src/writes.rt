@@ -1,4 +1,4 @@
-//! The changes of rows by which the steps commit and abandon end a draft.
+//! The changes of rows by which a draft is abandoned, and a set committed.
 
 ghost use Rattle.std.specs.Prelude.{◌≡◌, IfOk};
 ghost use Rattle.draft_core.specs.Writes as writes;
@@ -25,8 +25,8 @@ pub(crate) fn abandon_rows(alloc: Global, changes: &[Change]) -> Result<TimingCh
     Ok(TimingChanges::new(drop_rows(alloc, changes)?))
 }
 
-/// A draft row as a change of the committed set. A row that it puts is new where none is committed
-/// under its key.
+/// A change as one of the committed set. A row that it puts is new where none is committed under
+/// its key.
 fn settled_by(committed: &TimingSet, change: &Change) -> Result<TimingChange, NoMemory>
     ensures { IfOk result (λ settled. settled ≡ writes.settled_by committed.now change.now) }
 {
@@ -39,16 +39,18 @@ fn settled_by(committed: &TimingSet, change: &Change) -> Result<TimingChange, No
     }
 }
 
-/// What commit writes: a change that drops the draft rows, if there are any, and then each of
-/// them, in order, as a change of the committed set.
+/// What a commit of changes writes over these draft rows: a change that drops them, if there are
+/// any, and then each of the changes, in order, as one of the committed set.
 pub(crate) fn commit_rows(
     alloc: Global,
     committed: &TimingSet,
+    delta: &[Change],
     changes: &[Change],
 ) -> Result<TimingChanges, NoMemory>
-    ensures { IfOk result (λ made. made ≡ writes.commit_rows committed.now changes.now) }
+    ensures { IfOk result (λ made.
+        made ≡ writes.commit_rows committed.now delta.now changes.now) }
 {
-    let mut made = drop_rows(alloc, changes)?;
+    let mut made = drop_rows(alloc, delta)?;
     for change in changes {
         made.push(settled_by(committed, change)?)?;
     }

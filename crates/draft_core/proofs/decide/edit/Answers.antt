@@ -1,4 +1,7 @@
-use Rattle.std.proofs.Common.{arith, sym, rules}
+use Rattle.std.proofs.Common.{ap, arith, refl, sym, rules}
+use Rattle.std.specs.Option.{option_map}
+use Rattle.signal_records.specs.{declared.state.Holding.TheVariants.Kept, declared.state.Stage.TheVariants.Transaction}
+use Rattle.draft_core.specs.{Moves.next_holder, Revising.base_from, Transaction.holder_of}
 use Rattle.draft_core.proofs.{Lines.owned_moves, Makes.edit_makes}
 use Rattle.draft_core.proofs.decide.edit.Goals as goal
 
@@ -8,8 +11,10 @@ returns c =
     record {
       takes = record {
         line = λ rows side stands relies. owned_moves stands _ _ _ _ _ (sym c.in_default.ensures)
-            (λ draft held. edit_makes stands draft c.args.clerk.now _ c.args.changes.now
-            c.in_ok-changes.changes held did c.moves_to.ensures);
+            (λ draft held. edit_makes stands draft.set draft.owner (Kept Transaction) c.args.clerk.now
+            _ c.args.changes.now c.in_ok-changes.changes (ap (base_from side.committed) held) refl
+            (ap (λ d. next_holder (Kept Transaction) c.args.clerk.now (option_map holder_of d)) held)
+            did c.moves_to.ensures);
         refuses = search rules;
         writes = record {
           news = rw c.moves_to.ensures (λ order. did.news);

@@ -6,4 +6,4 @@ use Rattle.draft_core.proofs.writes.commit_rows.Given as goal
 abbrev pub invariant-loop-change : goal.invariant-loop-change
 invariant-loop-change l = l.made.items
     ++ map (writes.settled_by l.committed) (drop l.change-index l.changes)
-    ≡ writes.commit_rows l.committed l.changes
+    ≡ writes.commit_rows l.committed l.delta l.changes
