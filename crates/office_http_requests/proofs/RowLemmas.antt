@@ -1,20 +1,10 @@
 -- A walk that takes the value of each element of a list in turn.
-use Rattle.std.proofs.Common.{◌≡◌, ℕ, ◌+◌, ◌<◌, Bool, true, ◌&&◌, is_some, List, [], ◌∷◌, ◌++◌, length, drop, get_or, suc, Option, Some, None, Result, Ok, Err, option_map, option_and_then, add-one, drop-cons, append_assoc, map, ap, sym, ◌∙◌, refl}
-use Rattle.std.specs.List.{list_all}
+use Rattle.std.proofs.Common.{◌≡◌, ℕ, ◌+◌, ◌<◌, List, [], ◌∷◌, ◌++◌, length, drop, get_or, suc, Option, Some, None, option_map, option_and_then, add-one, drop-cons, append_assoc, map, ap, sym, ◌∙◌, refl}
 use Rattle.serde_json.specs.{Data.Data, Find.get, Find.as_array, Find.as_str, View.view, View.items_of, View.items_view}
 use Rattle.serde_json.specs.declared.value.Value.{Value}
 use Rattle.std.proofs.{Math.Seq.drop-length, lemmas.List.get_or-map, lemmas.List.length-map, lemmas.List.append-nil}
-use Rattle.std.specs.Prelude.{Any, IsOkAnd}
-use Rattle.signal_records.specs.Reading.{change_at, PutsList, WantsOnlyFor}
-use Rattle.signal_records.specs.{Within.current_limits, declared.fault.RowFault.RowFault, declared.record.Change.Change}
-use Rattle.signal_records.specs.declared.fault.RowFault.TheVariants as row
-use Rattle.office_http_requests.specs.{AskFault.ask_fault, declared.fault.AskFault.AskFault, declared.fault.AskFault.TheVariants.NoMemory, Fields.field_name}
-use Rattle.office_http_requests.specs.declared.field.Field.TheVariants.{Rows as FieldRows}
-use Rattle.office_files.specs.CsvFault.{bad_row as bad_record, told_at}
-use Rattle.office_files.specs.{CsvRow.csv_rows, declared.fault.CsvFault.CsvFault}
-use Rattle.office_files.specs.declared.fault.CsvFault.TheVariants as file
-use Rattle.office_http_requests.specs.FaultsInOrder.{◌>>=◌, or_bad_row, or_field, MayWant, WantsMemoryOnlyIf}
-use Rattle.office_http_requests.specs.Rows.{list_of, list_in, each, texts_in, rows_in, changes_spelled, changes_in}
+use Rattle.office_http_requests.specs.{Fields.field_name, declared.field.Field.TheVariants.Rows as FieldRows}
+use Rattle.office_http_requests.specs.Rows.{list_of, list_in, each, texts_in, rows_in}
 
 -- what is done, before what the rest gives
 abbrev pub onto : {B : Type 0} → List B → Option (List B) → Option (List B)
@@ -85,49 +75,3 @@ rows_in-other body h = by_found (get (field_name FieldRows) body) h
     by_found : (found : Option Data) → option_and_then as_array found ≡ None → option_and_then (each texts_in) (option_and_then list_in found) ≡ None
     by_found None e = refl
     by_found (Some d) e = rw e
-
--- ---- each element has a value exactly where all of them pass
-
-one_is_some : {B : Type 0} (y : Option B) (rest : Option (List B)) (b : Bool) → is_some rest ≡ b → is_some (option_and_then (λ v. option_map (λ ys. v ∷ ys) rest) y) ≡ is_some y && b
-one_is_some None rest b e = refl
-one_is_some (Some v) None b e = e
-one_is_some (Some v) (Some ys) b e = e
-
-pub each_passes : {A B C : Type 0} (f : B → Option C) (shown : A → B) (xs : List A) → list_all (λ x. is_some (f (shown x))) xs ≡ is_some (each f (map shown xs))
-each_passes f shown [] = refl
-each_passes f shown (x ∷ xs) = sym (one_is_some (f (shown x)) (each f (map shown xs)) (list_all (λ y. is_some (f (shown y))) xs) (sym (each_passes f shown xs)))
-
--- ---- what may be told of rows and of CSV texts
-
--- a text or rows give what they spell, or a bad row
-spelled_want : {A : Type 0} (read : Result A CsvFault) → MayWant (or_bad_row read)
-spelled_want (Err file.NoMemory) = tt
-spelled_want _ = tt
-
--- rows that are such give changes, or a bad row
-pub changes_want : (body : Data) → is_some (rows_in body) ≡ true → MayWant (changes_in body)
-unfolding changes_in
-changes_want body found = by_rows (rows_in body) found
-  where
-    by_rows : (rows : Option (List (List (List ℕ)))) → is_some rows ≡ true
-        → MayWant (or_field FieldRows rows >>= (λ rows. changes_spelled rows))
-    by_rows None found = cc
-    by_rows (Some rows) found = spelled_want (csv_rows (change_at current_limits) rows)
-
--- out of memory is told of a row only where its reader told it
-pub told_memory : (at : ℕ) (read wanted : Result Change RowFault) (told : CsvFault) → WantsOnlyFor PutsList read wanted → Err told ≡ told_at at read → ask_fault told ≡ NoMemory → IsOkAnd wanted PutsList
-told_memory at (Ok change) wanted told wants is memory = absurd cc
-told_memory at (Err row.NoMemory) wanted told wants is memory = wants refl
-told_memory at (Err fault) wanted told wants is memory =
-    let bad : told ≡ file.Row (bad_record at fault) = cc in
-    let other = rw bad at memory in
-    absurd cc
-
--- what holds of a row holds of some row
-pub any_row : {R : Type 0} (P : List (List ℕ) → Type 0) (shown : R → List (List ℕ)) (rows : List R) (i : ℕ) (row : R) → i < length rows → row ≡ get_or rows i row → P (shown row) → Any P (map shown rows)
-any_row P shown rows i row within is holds =
-    (i, shown row, rw length-map within, get_or-map shown rows i row (shown row) within ∙ ap shown (sym is), holds)
-
-pub only_if : {A : Type 0} {P : Type 0} (r : Result A AskFault) → P → WantsMemoryOnlyIf r P
-only_if (Ok x) p = tt
-only_if (Err fault) p = λ _. p

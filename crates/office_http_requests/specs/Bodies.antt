@@ -1,17 +1,14 @@
 -- The body of a request: one JSON object, and the values under its keys.
-use Rattle.std.specs.Prelude.{◌≡◌, ◌⊎◌, ℕ, List, [], ◌∷◌, Bool, false, ◌==◌, IsTrue, IsUtf8, Option, Some, None, is_some, Result, Ok, Err, option_and_then, if◌then◌else◌}
+use Rattle.std.specs.Prelude.{ℕ, List, Option, Some, None, Result, Ok, Err, option_and_then, if◌then◌else◌}
 use Rattle.std.specs.Str.{is_utf8}
-use Rattle.json.specs.Word.{is_space}
 use Rattle.serde_json.specs.Data.{Data, object}
 use Rattle.serde_json.specs.Read.{read}
-use Rattle.serde_json.specs.Errors.{IsMemory}
-use Rattle.serde_json.specs.Find.{get, as_number, as_object, as_str, as_u64}
+use Rattle.serde_json.specs.Find.{get, as_number, as_str, as_u64}
 use Rattle.serde_json.specs.View.{view}
-use Rattle.serde_json.specs.declared.error.Error.{Error}
 use Rattle.serde_json.specs.declared.value.Value.{Value}
 use Rattle.office_files.specs.RecordReading.{day_of, part_of, words_of}
 use Rattle.office_http_requests.specs.declared.fault.AskFault.{AskFault}
-use Rattle.office_http_requests.specs.declared.fault.AskFault.TheVariants.{Json, NoMemory}
+use Rattle.office_http_requests.specs.declared.fault.AskFault.TheVariants.{Json}
 use Rattle.office_http_requests.specs.declared.field.Field.{Field}
 use Rattle.office_http_requests.specs.declared.field.Field.TheVariants.{Day, Id, Interval, Part}
 use Rattle.office_http_requests.specs.FaultsInOrder.{or_fault, or_field}
@@ -22,15 +19,6 @@ use Rattle.signal_records.specs.Reading.{within}
 abbrev pub json_of : List ℕ → Option Data
 json_of bytes = if is_utf8 bytes then read bytes else None
 
--- the first byte that is no space opens an object
-abbrev pub opens_object : List ℕ → Bool
-opens_object [] = false
-opens_object (b ∷ bytes) = if is_space b then opens_object bytes else b == 123
-
--- the bytes may be a JSON object: they are UTF-8, and the first that is no space opens one
-abbrev pub MayBeObject : List ℕ → Type 0
-MayBeObject bytes = IsUtf8 bytes × IsTrue (opens_object bytes)
-
 -- a value in JSON, if it is an object
 abbrev pub object_in : Data → Option Data
 object_in (object members) = Some (object members)
@@ -39,13 +27,6 @@ object_in _ = None
 -- the JSON object that a body is, or the fault Json
 unfoldable pub body_of : List ℕ → Result Data AskFault
 body_of bytes = or_fault Json (option_and_then object_in (json_of bytes))
-
--- What is answered of a body, by what the reader of JSON answered for its bytes: an object; want of memory exactly where the
--- reader reported it, of bytes that open an object; else that it is no JSON object, however long it is.
-abbrev pub IsBodyTold : Result Value Error → Bool → Result Value AskFault → Type 0
-IsBodyTold (Ok value) opens told = told ≡ (if is_some (as_object (view value)) then Ok value else Err Json)
-IsBodyTold (Err fault) opens told =
-    ((told ≡ Err NoMemory) × IsMemory fault × IsTrue opens) ⊎ ((told ≡ Err Json) × ¬ (IsMemory fault × IsTrue opens))
 
 -- a body that was read, as data, or its fault
 abbrev pub data_of : Result Value AskFault → Result Data AskFault

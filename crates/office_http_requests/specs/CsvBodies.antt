@@ -1,6 +1,5 @@
 -- The CSV text of a body, and what its records spell.
-use Rattle.std.specs.Prelude.{◌≡◌, ◌≢◌, ℕ, List, Vec, Result, Ok, Err}
-use Rattle.std.specs.declared.alloc.Global.{Global}
+use Rattle.std.specs.Prelude.{ℕ, List, Result}
 use Rattle.serde_json.specs.Data.{Data}
 use Rattle.cabinet_core.specs.declared.command.RecordCommand.{RecordCommand}
 use Rattle.signal_records.specs.declared.record.Change.{Change}
@@ -9,7 +8,6 @@ use Rattle.office_files.specs.Records.{commands_of}
 use Rattle.office_http_requests.specs.FaultsInOrder.{◌>>=◌, or_bad_row, or_field}
 use Rattle.office_http_requests.specs.Bodies.{text_in}
 use Rattle.office_http_requests.specs.declared.fault.AskFault.{AskFault}
-use Rattle.office_http_requests.specs.declared.fault.AskFault.TheVariants.{NoMemory}
 use Rattle.office_http_requests.specs.declared.field.Field.TheVariants.{Csv}
 
 -- the text under the key `csv`, or that field's fault
@@ -29,8 +27,3 @@ unfoldable pub csv_records_in : Data → Result (List RecordCommand) AskFault
 csv_records_in body = do
   csv ← csv_in body
   or_bad_row (commands_of csv)
-
--- the result has the items of the wanted list, or says that there was no memory
-abbrev pub GivesList : {A : Type 0} → Result (Vec A Global) AskFault → Result (List A) AskFault → Type 0
-GivesList (Ok found) wanted = wanted ≡ Ok found.items
-GivesList (Err fault) wanted = fault ≢ NoMemory → wanted ≡ Err fault

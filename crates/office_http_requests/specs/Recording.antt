@@ -11,7 +11,7 @@ use Rattle.cabinet_core.specs.declared.record.UsedLine.{UsedLine}
 use Rattle.office_http_requests.specs.declared.fault.AskFault.{AskFault}
 use Rattle.office_http_requests.specs.declared.field.Field.TheVariants.{Clerk, Count, Line, Number, Text}
 use Rattle.office_http_requests.specs.FaultsInOrder.{◌>>=◌}
-use Rattle.office_http_requests.specs.Bodies.{day_in, part_in, ranged_in, words_in}
+use Rattle.office_http_requests.specs.Bodies.{body_of, day_in, part_in, ranged_in, words_in}
 use Rattle.office_http_requests.specs.Paths.{id_at, order_at}
 use Rattle.office_http_requests.specs.declared.kind.RecordKind.{RecordKind}
 use Rattle.office_http_requests.specs.declared.kind.RecordKind.TheVariants.{Inspect, OpenOrder, UsePart, CloseOrder, Receive}
@@ -59,34 +59,34 @@ delivery_in body = do
   Ok (record { part = part; number = number; day = day; count = count })
 
 -- the command Receive, by the body alone, since its path has no fields, or the first fault
-unfoldable pub received_in : Result Data AskFault → Result RecordCommand AskFault
-received_in read = do
-  body ← read
+unfoldable pub received_in : List ℕ → Result RecordCommand AskFault
+received_in bytes = do
+  body ← body_of bytes
   delivery ← delivery_in body
   Ok (command.Receive delivery)
 
--- the command of a kind, by a path and a body as that was read, or the first fault
-unfoldable pub record_asked : RecordKind → List ℕ → Result Data AskFault → Result RecordCommand AskFault
-record_asked Inspect path read = do
+-- the command of a kind, by a path and the bytes of a body, or the first fault
+unfoldable pub record_asked : RecordKind → List ℕ → List ℕ → Result RecordCommand AskFault
+record_asked Inspect path bytes = do
   id ← id_at path
-  body ← read
+  body ← body_of bytes
   inspection ← inspection_in body
   Ok (command.Inspect id inspection)
-record_asked OpenOrder path read = do
+record_asked OpenOrder path bytes = do
   id ← id_at path
-  body ← read
+  body ← body_of bytes
   opening ← opening_in body
   Ok (command.OpenOrder id opening)
-record_asked UsePart path read = do
+record_asked UsePart path bytes = do
   id ← id_at path
   order ← order_at path
-  body ← read
+  body ← body_of bytes
   line ← used_in order body
   Ok (command.UsePart id line)
-record_asked CloseOrder path read = do
+record_asked CloseOrder path bytes = do
   id ← id_at path
   order ← order_at path
-  body ← read
+  body ← body_of bytes
   closing ← closing_in body
   Ok (command.CloseOrder id order closing)
-record_asked Receive path read = received_in read
+record_asked Receive path bytes = received_in bytes

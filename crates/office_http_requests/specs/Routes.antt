@@ -1,5 +1,5 @@
 -- The table of routes, and the endpoint that `matchit` finds for a path.
-use Rattle.std.specs.Prelude.{ℕ, Bool, List, [], ◌∷◌, Option, None, Result, Ok, Err, option_map, bytes_eq, codes, if◌then◌else◌}
+use Rattle.std.specs.Prelude.{ℕ, List, [], ◌∷◌, Option, None, Result, Ok, Err, option_map, codes, if◌then◌else◌}
 use Rattle.std.specs.Str.{is_utf8}
 use Rattle.matchit.specs.Rows.{RowsOf}
 use Rattle.matchit.specs.Route.{Scan, parse_route}
@@ -65,10 +65,6 @@ method_of CabinetCsv = codes "GET"
 method_of OpenOrders = codes "GET"
 method_of Stock = codes "GET"
 method_of Overdue = codes "GET"
-
--- whether an endpoint's requests have a body that is read: those of a GET have none
-abbrev pub takes_body : Endpoint → Bool
-takes_body endpoint = bytes_eq (codes "POST") (method_of endpoint)
 
 -- all endpoints, in the order of the table of routes
 abbrev pub endpoints : List Endpoint

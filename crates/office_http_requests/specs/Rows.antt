@@ -1,10 +1,10 @@
 -- The rows of a body, and the changes that they spell.
-use Rattle.std.specs.Prelude.{◌≡◌, ℕ, List, [], ◌∷◌, map, Vec, Option, Some, None, option_map, option_and_then, Result, IsOkAnd}
+use Rattle.std.specs.Prelude.{◌≡◌, ℕ, List, [], ◌∷◌, map, Vec, Option, Some, None, option_map, option_and_then, Result}
 use Rattle.std.specs.Borrow.{Bor}
 use Rattle.std.specs.declared.alloc.Global.{Global}
 use Rattle.serde_json.specs.Data.{Data, Items, no_items, item}
 use Rattle.serde_json.specs.Find.{get, as_array, as_str}
-use Rattle.signal_records.specs.Reading.{change_at, texts, PutsList}
+use Rattle.signal_records.specs.Reading.{change_at, texts}
 use Rattle.signal_records.specs.Within.{current_limits}
 use Rattle.signal_records.specs.declared.record.Change.{Change}
 use Rattle.office_files.specs.CsvRow.{csv_rows}
@@ -34,10 +34,6 @@ texts_in d = option_and_then (each as_str) (list_in d)
 -- the rows under the key `rows`, where they are an array of arrays of texts
 unfoldable pub rows_in : Data → Option (List (List (List ℕ)))
 rows_in body = option_and_then (each texts_in) (option_and_then list_in (get (field_name Rows) body))
-
--- the row spells a change with a list of phases: to read any other change takes no memory
-abbrev pub PutsListAt : List (List ℕ) → Type 0
-PutsListAt fields = IsOkAnd (change_at current_limits fields) PutsList
 
 -- the changes that rows spell, or the first bad row, as the records of a CSV file are read
 abbrev pub changes_spelled : List (List (List ℕ)) → Result (List Change) AskFault

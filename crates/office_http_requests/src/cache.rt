@@ -1,7 +1,7 @@
 //! A table of routes that is kept from one request to the next.
 ghost use Rattle.std.specs.Prelude.{◌≡◌, None, OnOk, IsSome};
-ghost use Rattle.office_http_requests.specs.FaultsInOrder.{Gives, WantsMemoryOnlyIf};
-ghost use Rattle.office_http_requests.specs.Commands.{MayWantFor, command_at};
+ghost use Rattle.office_http_requests.specs.FaultsInOrder.{Gives};
+ghost use Rattle.office_http_requests.specs.Commands.{command_at};
 
 use crate::command::Asked;
 use crate::fault::AskFault;
@@ -24,14 +24,10 @@ impl RouteCache {
     }
 
     /// What a request asks, or its first fault, by the table that is kept. Where none is kept yet,
-    /// it is made first, and `NoMemory` may mean that it was refused.
+    /// it is made first.
     pub fn command_of(&mut self, alloc: Global, request: &Request) -> Result<Asked, AskFault>
         ensures gives { Gives result
             (command_at request.now.method.now request.now.path.now request.now.body.now) }
-        // Once there is a table, want of memory is told of no fault of the route, the method or the
-        // path, and of no body that can't be an object.
-        ensures memory { IsSome self.old.routes → WantsMemoryOnlyIf result
-            (MayWantFor request.now.method.now request.now.path.now request.now.body.now) }
         ensures made { OnOk result (IsSome self.new.routes) }
         ensures kept { IsSome self.old.routes → self.new ≡ self.old }
     {

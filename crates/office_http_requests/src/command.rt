@@ -1,21 +1,15 @@
 //! From a request to a command: the order in which its faults are found.
-ghost use Rattle.std.specs.Prelude.{◌≡◌, Err, codes, false};
-ghost use Rattle.serde_json.specs.View.{view};
-ghost use Rattle.office_http_requests.specs.FaultsInOrder.{Gives, MayWant, WantsMemoryOnlyIf};
-ghost use Rattle.office_http_requests.specs.Bodies.{data_of, MayBeObject};
-ghost use Rattle.office_http_requests.specs.Routes.{method_of, takes_body};
-ghost use Rattle.office_http_requests.specs.Commands.{MayWantFor, added_intersection, asked_at, body_for, clerk_and_csv_in, clerk_and_rows_in, asked_in_csv, asked_in_json, command_at, edited_by_csv, edited_in, id_and_clerk_in, imported_in};
+ghost use Rattle.std.specs.Prelude.{◌≡◌};
+ghost use Rattle.office_http_requests.specs.FaultsInOrder.{Gives};
+ghost use Rattle.office_http_requests.specs.Commands.{added_intersection, asked_at, asked_in_csv, asked_in_json, command_at, edited_by_csv, edited_in, id_and_clerk_in, imported_in};
 
 use crate::fault::AskFault;
 use crate::field::Field;
 use crate::form::Form;
 use crate::route::{Endpoint, Routes};
 use crate::{body, csv_body, path, recording, rows};
-use draft_core::changes::Changes;
 use office_http_framing::front::Request;
 use office_machine::command::Command;
-use office_machine::records::Records;
-use serde_json::Value;
 use signal_records::{InterId, Words};
 use std::alloc::Global;
 
@@ -29,40 +23,21 @@ pub struct Asked {
 impl Routes {
     /// What a request asks, or the first fault: no route, another method, a path field from the
     /// left, no JSON object, a key of the body by name, a row or a record of a CSV text that spells
-    /// nothing.
-    #[tactic(auto, unfolding(crate::specs::Commands::command_with, crate::specs::Commands::command_at))]
+    /// nothing. `NoMemory` may stand for any of these.
+    #[tactic(auto, unfolding(crate::specs::Commands::command_at))]
     pub fn command_of(&self, alloc: Global, request: &Request) -> Result<Asked, AskFault>
-        ensures gives { Gives result
+        ensures { Gives result
             (command_at request.now.method.now request.now.path.now request.now.body.now) }
-        // A fault of the route, the method or the path is told, and so is a body that can't be an
-        // object, however long it is: want of memory is reported of none of them, and of no GET.
-        ensures memory { WantsMemoryOnlyIf result
-            (MayWantFor request.now.method.now request.now.path.now request.now.body.now) }
     {
         let endpoint = self.endpoint_at(request.path)?;
         if !endpoint.allows(request.method) {
             return Err(AskFault::Method);
         }
-        let body = told_of_body(alloc, endpoint, request.body);
-        ask_at_endpoint(alloc, endpoint, request.path, body)
+        ask_at_endpoint(alloc, endpoint, request.path, request.body)
     }
-}
-
-// What is reported of the body of a request whose route and method are known. The body of a GET is
-// not looked at: it is `Json`, whatever its bytes are.
-fn told_of_body(alloc: Global, endpoint: Endpoint, bytes: &[u8]) -> Result<Value, AskFault>
-    ensures gives { Gives (data_of result) (body_for endpoint bytes.now) }
-    ensures memory { WantsMemoryOnlyIf result (MayBeObject bytes.now) }
-    ensures unread { takes_body endpoint ≡ false → result ≡ Err AskFault.Json }
-{
-    if !endpoint.takes_body() {
-        return Err(AskFault::Json);
-    }
-    body::read_object(alloc, bytes)
 }
 
 /// What a request asks, or its first fault, by a table of routes that is made for this call alone.
-/// `NoMemory` may mean that the table was refused.
 pub fn command_of(alloc: Global, request: &Request) -> Result<Asked, AskFault>
     ensures { Gives result
         (command_at request.now.method.now request.now.path.now request.now.body.now) }
@@ -71,20 +46,16 @@ pub fn command_of(alloc: Global, request: &Request) -> Result<Asked, AskFault>
     routes.command_of(alloc, request)
 }
 
-// What a request to an endpoint asks, by its path and what was reported of its body, or the first
-// fault.
+// What a request to an endpoint asks, by its path and its body, or the first fault. The body of a
+// GET is not looked at.
 #[tactic(auto, unfolding(crate::specs::Commands::asked_at))]
 fn ask_at_endpoint(
     alloc: Global,
     endpoint: Endpoint,
     path: &[u8],
-    body: Result<Value, AskFault>,
+    body: &[u8],
 ) -> Result<Asked, AskFault>
-    ensures gives { Gives result (asked_at endpoint path.now (data_of body)) }
-    // Want of memory is told in place of no fault of a key: only where it was told of the body, or
-    // where a command, or a bad row, takes memory.
-    ensures memory { WantsMemoryOnlyIf result (
-        (method_of endpoint ≡ codes "POST") × MayWant (asked_at endpoint path.now (data_of body))) }
+    ensures { Gives result (asked_at endpoint path.now body.now) }
 {
     match endpoint {
         Endpoint::AddIntersection => add_intersection(alloc, body),
@@ -152,11 +123,10 @@ fn in_csv(command: Command) -> Asked
 }
 
 #[tactic(auto, unfolding(crate::specs::Commands::added_intersection))]
-fn add_intersection(alloc: Global, body: Result<Value, AskFault>) -> Result<Asked, AskFault>
-    ensures gives { Gives result (added_intersection (data_of body)) }
-    ensures memory { WantsMemoryOnlyIf result (MayWant (added_intersection (data_of body))) }
+fn add_intersection(alloc: Global, body: &[u8]) -> Result<Asked, AskFault>
+    ensures { Gives result (added_intersection body.now) }
 {
-    let body = body?;
+    let body = body::read_object(alloc, body)?;
     let id = body::number(&body, Field::Id)?;
     let interval = body::number(&body, Field::Interval)?;
     let name = body::words(alloc, &body, Field::Name)?;
@@ -165,70 +135,42 @@ fn add_intersection(alloc: Global, body: Result<Value, AskFault>) -> Result<Aske
 
 // The intersection of the path and the clerk of the body, or the first fault of these.
 #[tactic(auto, unfolding(crate::specs::Commands::id_and_clerk_in))]
-fn id_and_clerk(
-    alloc: Global,
-    path: &[u8],
-    body: Result<Value, AskFault>,
-) -> Result<(InterId, Words<40>), AskFault>
-    ensures gives { Gives result (id_and_clerk_in path.now (data_of body)) }
-    ensures memory { WantsMemoryOnlyIf result (MayWant (id_and_clerk_in path.now (data_of body))) }
+fn id_and_clerk(alloc: Global, path: &[u8], body: &[u8]) -> Result<(InterId, Words<40>), AskFault>
+    ensures { Gives result (id_and_clerk_in path.now body.now) }
 {
     let id = path::id(path)?;
-    let body = body?;
+    let body = body::read_object(alloc, body)?;
     let clerk = body::words(alloc, &body, Field::Clerk)?;
     Ok((id, clerk))
 }
 
 #[tactic(auto, unfolding(crate::specs::Commands::edited_in))]
-fn edit(alloc: Global, path: &[u8], body: Result<Value, AskFault>) -> Result<Asked, AskFault>
-    ensures gives { Gives result (edited_in path.now (data_of body)) }
-    ensures memory { WantsMemoryOnlyIf result (MayWant (edited_in path.now (data_of body))) }
+fn edit(alloc: Global, path: &[u8], body: &[u8]) -> Result<Asked, AskFault>
+    ensures { Gives result (edited_in path.now body.now) }
 {
     let id = path::id(path)?;
-    let body = body?;
-    let (clerk, changes) = clerk_and_rows(alloc, &body)?;
+    let body = body::read_object(alloc, body)?;
+    let clerk = body::words(alloc, &body, Field::Clerk)?;
+    let changes = rows::of_body(alloc, &body)?;
     Ok(in_json(Command::Edit { id, clerk, changes }))
-}
-
-// The clerk of a body and the changes of its rows. Every key is judged before memory is taken.
-#[tactic(auto, unfolding(crate::specs::Commands::clerk_and_rows_in))]
-fn clerk_and_rows(alloc: Global, body: &Value) -> Result<(Words<40>, Changes), AskFault>
-    ensures gives { Gives result (clerk_and_rows_in (view body.now)) }
-    ensures memory { WantsMemoryOnlyIf result (MayWant (clerk_and_rows_in (view body.now))) }
-{
-    let clerk = body::words_text::<40>(body, Field::Clerk)?;
-    let changes = rows::of_body(alloc, body)?;
-    Ok((Words::from_parsed(alloc, clerk)?, changes))
 }
 
 #[tactic(auto, unfolding(crate::specs::Commands::edited_by_csv))]
-fn edit_csv(alloc: Global, path: &[u8], body: Result<Value, AskFault>) -> Result<Asked, AskFault>
-    ensures gives { Gives result (edited_by_csv path.now (data_of body)) }
-    ensures memory { WantsMemoryOnlyIf result (MayWant (edited_by_csv path.now (data_of body))) }
+fn edit_csv(alloc: Global, path: &[u8], body: &[u8]) -> Result<Asked, AskFault>
+    ensures { Gives result (edited_by_csv path.now body.now) }
 {
     let id = path::id(path)?;
-    let body = body?;
-    let (clerk, changes) = clerk_and_csv(alloc, &body)?;
+    let body = body::read_object(alloc, body)?;
+    let clerk = body::words(alloc, &body, Field::Clerk)?;
+    let changes = csv_body::changes(alloc, &body)?;
     Ok(in_json(Command::Edit { id, clerk, changes }))
 }
 
-// The clerk of a body and the changes of its CSV text. Every key is judged before memory is taken.
-#[tactic(auto, unfolding(crate::specs::Commands::clerk_and_csv_in))]
-fn clerk_and_csv(alloc: Global, body: &Value) -> Result<(Words<40>, Changes), AskFault>
-    ensures gives { Gives result (clerk_and_csv_in (view body.now)) }
-    ensures memory { WantsMemoryOnlyIf result (MayWant (clerk_and_csv_in (view body.now))) }
-{
-    let clerk = body::words_text::<40>(body, Field::Clerk)?;
-    let changes = Changes::new(csv_body::changes(alloc, body)?);
-    Ok((Words::from_parsed(alloc, clerk)?, changes))
-}
-
 #[tactic(auto, unfolding(crate::specs::Commands::imported_in))]
-fn import(alloc: Global, body: Result<Value, AskFault>) -> Result<Asked, AskFault>
-    ensures gives { Gives result (imported_in (data_of body)) }
-    ensures memory { WantsMemoryOnlyIf result (MayWant (imported_in (data_of body))) }
+fn import(alloc: Global, body: &[u8]) -> Result<Asked, AskFault>
+    ensures { Gives result (imported_in body.now) }
 {
-    let body = body?;
-    let records = Records::new(csv_body::records(alloc, &body)?);
+    let body = body::read_object(alloc, body)?;
+    let records = csv_body::records(alloc, &body)?;
     Ok(in_json(Command::Import { records }))
 }

@@ -1,5 +1,5 @@
 //! The segments of a path, and the fields that they spell.
-ghost use Rattle.std.specs.Prelude.{◌≡◌, ◌≤◌, length, position, IfErr};
+ghost use Rattle.std.specs.Prelude.{◌≡◌, ◌≤◌, length, position};
 ghost use Rattle.std.specs.List.{position_or_len, after_first};
 ghost use Rattle.office_http_requests.specs.Paths.{is_slash, segment as segment_of, id_at, order_at, day_at};
 
@@ -51,8 +51,7 @@ pub(crate) fn segment(path: &[u8], index: usize) -> &[u8]
 /// field `id`.
 #[tactic(auto, unfolding(crate::specs::Paths::id_at))]
 pub(crate) fn id(path: &[u8]) -> Result<InterId, AskFault>
-    ensures id { result ≡ id_at path.now }
-    ensures fault { IfErr result (λ fault. fault ≡ AskFault.Field Field.Id) }
+    ensures { result ≡ id_at path.now }
 {
     InterId::parse(segment(path, 2)).ok_or(AskFault::Field(Field::Id))
 }
@@ -61,8 +60,7 @@ pub(crate) fn id(path: &[u8]) -> Result<InterId, AskFault>
 /// `order`.
 #[tactic(auto, unfolding(crate::specs::Paths::order_at))]
 pub(crate) fn order(path: &[u8]) -> Result<RecordNo, AskFault>
-    ensures order { result ≡ order_at path.now }
-    ensures fault { IfErr result (λ fault. fault ≡ AskFault.Field Field.Order) }
+    ensures { result ≡ order_at path.now }
 {
     RecordNo::parse(segment(path, 4)).ok_or(AskFault::Field(Field::Order))
 }
@@ -70,8 +68,7 @@ pub(crate) fn order(path: &[u8]) -> Result<RecordNo, AskFault>
 /// The day, `YYYY-MM-DD`, in the third segment of a path, or the fault of the field `day`.
 #[tactic(auto, unfolding(crate::specs::Paths::day_at))]
 pub(crate) fn day(path: &[u8]) -> Result<Day, AskFault>
-    ensures day { result ≡ day_at path.now }
-    ensures fault { IfErr result (λ fault. fault ≡ AskFault.Field Field.Day) }
+    ensures { result ≡ day_at path.now }
 {
     day_spelled(segment(path, 2)).ok_or(AskFault::Field(Field::Day))
 }

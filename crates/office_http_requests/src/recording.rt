@@ -1,29 +1,24 @@
 //! From a request to a command of the register.
-ghost use Rattle.office_http_requests.specs.FaultsInOrder.{Gives, MayWant, WantsMemoryOnlyIf};
-ghost use Rattle.office_http_requests.specs.Bodies.{data_of};
+ghost use Rattle.office_http_requests.specs.FaultsInOrder.{Gives};
 ghost use Rattle.office_http_requests.specs.Recording.{received_in, record_asked};
 ghost use Rattle.office_http_requests.specs.declared.kind.RecordKind.TheVariants as kind;
 
 use crate::fault::AskFault;
 use crate::kind::RecordKind;
-use crate::{path, record};
+use crate::{body, path, record};
 use cabinet_core::RecordCommand;
-use serde_json::Value;
 use std::alloc::Global;
 
-/// The command of a kind, by the path and the body as that was read, or the first fault: a field of
-/// the path from the left, the fault of the body, a key of the body by name.
+/// The command of a kind, by the path and the body, or the first fault: a field of the path from the
+/// left, the fault of the body, a key of the body by name.
 #[tactic(auto, unfolding(crate::specs::Recording::record_asked))]
 pub(crate) fn command_of(
     alloc: Global,
     kind: RecordKind,
     path: &[u8],
-    body: Result<Value, AskFault>,
+    body: &[u8],
 ) -> Result<RecordCommand, AskFault>
-    ensures gives { Gives result (record_asked kind path.now (data_of body)) }
-    // Want of memory is reported in place of no fault of the path, the body or a key.
-    ensures memory { WantsMemoryOnlyIf result
-        (MayWant (record_asked kind path.now (data_of body))) }
+    ensures { Gives result (record_asked kind path.now body.now) }
 {
     match kind {
         RecordKind::Inspect => inspect(alloc, path, body),
@@ -35,77 +30,52 @@ pub(crate) fn command_of(
 }
 
 #[tactic(auto, unfolding(crate::specs::Recording::record_asked))]
-fn inspect(
-    alloc: Global,
-    path: &[u8],
-    body: Result<Value, AskFault>,
-) -> Result<RecordCommand, AskFault>
-    ensures gives { Gives result (record_asked kind.Inspect path.now (data_of body)) }
-    ensures memory { WantsMemoryOnlyIf result
-        (MayWant (record_asked kind.Inspect path.now (data_of body))) }
+fn inspect(alloc: Global, path: &[u8], body: &[u8]) -> Result<RecordCommand, AskFault>
+    ensures { Gives result (record_asked kind.Inspect path.now body.now) }
 {
     let id = path::id(path)?;
-    let body = body?;
+    let body = body::read_object(alloc, body)?;
     let inspection = record::inspection(alloc, &body)?;
     Ok(RecordCommand::Inspect { id, inspection })
 }
 
 #[tactic(auto, unfolding(crate::specs::Recording::record_asked))]
-fn open_order(
-    alloc: Global,
-    path: &[u8],
-    body: Result<Value, AskFault>,
-) -> Result<RecordCommand, AskFault>
-    ensures gives { Gives result (record_asked kind.OpenOrder path.now (data_of body)) }
-    ensures memory { WantsMemoryOnlyIf result
-        (MayWant (record_asked kind.OpenOrder path.now (data_of body))) }
+fn open_order(alloc: Global, path: &[u8], body: &[u8]) -> Result<RecordCommand, AskFault>
+    ensures { Gives result (record_asked kind.OpenOrder path.now body.now) }
 {
     let id = path::id(path)?;
-    let body = body?;
+    let body = body::read_object(alloc, body)?;
     let opening = record::opening(alloc, &body)?;
     Ok(RecordCommand::OpenOrder { id, opening })
 }
 
 #[tactic(auto, unfolding(crate::specs::Recording::record_asked))]
-fn use_part(
-    alloc: Global,
-    path: &[u8],
-    body: Result<Value, AskFault>,
-) -> Result<RecordCommand, AskFault>
-    ensures gives { Gives result (record_asked kind.UsePart path.now (data_of body)) }
-    ensures memory { WantsMemoryOnlyIf result
-        (MayWant (record_asked kind.UsePart path.now (data_of body))) }
+fn use_part(alloc: Global, path: &[u8], body: &[u8]) -> Result<RecordCommand, AskFault>
+    ensures { Gives result (record_asked kind.UsePart path.now body.now) }
 {
     let id = path::id(path)?;
     let order = path::order(path)?;
-    let body = body?;
+    let body = body::read_object(alloc, body)?;
     let line = record::used_part(alloc, order, &body)?;
     Ok(RecordCommand::UsePart { id, line })
 }
 
 #[tactic(auto, unfolding(crate::specs::Recording::record_asked))]
-fn close_order(
-    alloc: Global,
-    path: &[u8],
-    body: Result<Value, AskFault>,
-) -> Result<RecordCommand, AskFault>
-    ensures gives { Gives result (record_asked kind.CloseOrder path.now (data_of body)) }
-    ensures memory { WantsMemoryOnlyIf result
-        (MayWant (record_asked kind.CloseOrder path.now (data_of body))) }
+fn close_order(alloc: Global, path: &[u8], body: &[u8]) -> Result<RecordCommand, AskFault>
+    ensures { Gives result (record_asked kind.CloseOrder path.now body.now) }
 {
     let id = path::id(path)?;
     let order = path::order(path)?;
-    let body = body?;
+    let body = body::read_object(alloc, body)?;
     let closing = record::order_closing(alloc, &body)?;
     Ok(RecordCommand::CloseOrder { id, order, closing })
 }
 
 #[tactic(auto, unfolding(crate::specs::Recording::received_in))]
-fn receive(alloc: Global, body: Result<Value, AskFault>) -> Result<RecordCommand, AskFault>
-    ensures gives { Gives result (received_in (data_of body)) }
-    ensures memory { WantsMemoryOnlyIf result (MayWant (received_in (data_of body))) }
+fn receive(alloc: Global, body: &[u8]) -> Result<RecordCommand, AskFault>
+    ensures { Gives result (received_in body.now) }
 {
-    let body = body?;
+    let body = body::read_object(alloc, body)?;
     let delivery = record::delivery(alloc, &body)?;
     Ok(RecordCommand::Receive { delivery })
 }

@@ -2,7 +2,7 @@
 ghost use Rattle.std.specs.Prelude.{◌≡◌, bytes_eq, IfOk, IfErr};
 ghost use Rattle.matchit.specs.declared.error.InsertError.TheVariants.{OutOfMemory};
 ghost use Rattle.office_http_requests.specs.FaultsInOrder.{or_no_route};
-ghost use Rattle.office_http_requests.specs.Routes.{route_rows, route_text, record_route_text, method_of, takes_body, endpoint_of};
+ghost use Rattle.office_http_requests.specs.Routes.{route_rows, route_text, record_route_text, method_of, endpoint_of};
 
 use crate::fault::AskFault;
 use crate::kind::RecordKind;
@@ -102,13 +102,6 @@ impl Endpoint {
         method == self.method().as_str().as_bytes()
     }
 
-    /// Whether the body of a request is looked at here: that of a GET is not.
-    pub(crate) fn takes_body(self) -> bool
-        ensures { result ≡ takes_body self }
-    {
-        self.allows(b"POST")
-    }
-
     /// The route that leads here, as `matchit` spells it.
     pub fn route(self) -> &'static str
         ensures { result.now ≡ route_text self }
@@ -193,8 +186,7 @@ impl Routes {
     /// The endpoint of a path, or `NoRoute` where no route has it, as none has bytes that are not
     /// UTF-8. It takes no memory.
     pub fn endpoint_at(&self, path: &[u8]) -> Result<Endpoint, AskFault>
-        ensures endpoint { result ≡ or_no_route (endpoint_of path.now) }
-        ensures fault { IfErr result (λ fault. fault ≡ AskFault.NoRoute) }
+        ensures { result ≡ or_no_route (endpoint_of path.now) }
     {
         let Ok(path) = str::from_utf8(path) else {
             return Err(AskFault::NoRoute);

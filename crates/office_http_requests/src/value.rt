@@ -1,12 +1,11 @@
 //! The values that fields spell.
-ghost use Rattle.std.specs.Prelude.{◌≡◌, IfSome, option_map};
-ghost use Rattle.cabinet_core.specs.Part.{IsPartCode};
+ghost use Rattle.std.specs.Prelude.{◌≡◌, IfOk};
 ghost use Rattle.office_files.specs.RecordReading.{day_of, part_of, words_of};
 ghost use Rattle.signal_records.specs.Reading.{within};
-ghost use Rattle.signal_values.specs.Words.{AreWords};
 
 use cabinet_core::{Day, PartCode, read_day};
-use signal_records::{Number, Words};
+use signal_records::{NoMemory, Number, Words};
+use std::alloc::Global;
 
 /// This number, where it is `LOW` to `HIGH`.
 pub(crate) fn number_within<Of, const LOW: u32, const HIGH: u32>(
@@ -18,12 +17,14 @@ pub(crate) fn number_within<Of, const LOW: u32, const HIGH: u32>(
     Number::new(n)
 }
 
-/// The text, where it is words of at most `MAX` bytes. It takes no memory.
-pub(crate) fn words_parsed<const MAX: usize>(text: &[u8]) -> Option<&str>
-    ensures parsed { option_map (λ words. words.now) result ≡ words_of MAX text.now }
-    ensures words { IfSome result (λ words. AreWords MAX words.now) }
+/// The words of at most `MAX` bytes that a text is, if it is such.
+pub(crate) fn read_words<const MAX: usize>(
+    alloc: Global,
+    text: &[u8],
+) -> Result<Option<Words<MAX>>, NoMemory>
+    ensures { IfOk result (λ words. words ≡ words_of MAX text.now) }
 {
-    Words::<MAX>::parse(text)
+    Words::new(alloc, text)
 }
 
 /// The day that a text spells as `YYYY-MM-DD`, if it spells one.
@@ -33,10 +34,9 @@ pub(crate) fn day_spelled(text: &[u8]) -> Option<Day>
     read_day(text)
 }
 
-/// The code of a part that a text is, where it is one. It takes no memory.
-pub(crate) fn part_parsed(text: &[u8]) -> Option<&str>
-    ensures parsed { option_map (λ code. code.now) result ≡ part_of text.now }
-    ensures code { IfSome result (λ code. IsPartCode code.now) }
+/// The code of a part that a text is, if it is one.
+pub(crate) fn read_part(alloc: Global, text: &[u8]) -> Result<Option<PartCode>, NoMemory>
+    ensures { IfOk result (λ part. part ≡ part_of text.now) }
 {
-    PartCode::parse(text)
+    PartCode::new(alloc, text)
 }
