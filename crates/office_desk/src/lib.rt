@@ -4,7 +4,6 @@
 mod checking;
 mod deciding;
 mod editing;
-pub mod editing;
 mod found;
 mod importing;
 pub mod office;
