@@ -3,6 +3,7 @@
 
 mod checking;
 mod deciding;
+mod editing;
 mod found;
 mod importing;
 pub mod office;
@@ -14,6 +15,7 @@ mod there;
 
 pub use cabinet_core::RecordCommand;
 pub use checking::Checked;
+pub use office_desk_timing::PlanEdit;
 pub use office_machine::command::Command;
 pub use office_machine::refusal::Refusal;
 pub use office_machine::reply::Reply;

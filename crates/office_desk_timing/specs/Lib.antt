@@ -3,3 +3,5 @@ pub mod Reading
 pub mod Moving
 pub mod Decisions
 pub mod Listing
+pub mod Revising
+pub mod Planning

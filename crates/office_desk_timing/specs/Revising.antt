@@ -1,0 +1,136 @@
+-- How a clerk's edit of a plan is answered: as a run of the steps of a revision by the office machine, all of them or none.
+use Rattle.std.specs.Prelude.{◌≡◌, ◌≢◌, ◌⊎◌, ◌≤◌, ℕ, min, List, [], ◌∷◌, length, map, if◌then◌else◌, Option, Some, None, Result, Ok, Err}
+use Rattle.std.specs.FinMap.{empty, get}
+use Rattle.draft_core.specs.Revising.{base_of, revising}
+use Rattle.draft_core.specs.Transaction.{TimingSide}
+use Rattle.draft_core.specs.Within.{AreChangesWithin}
+use Rattle.draft_core.specs.declared.step.Step.{Step}
+use Rattle.draft_core.specs.declared.timing.Reach.TheVariants as reach
+use Rattle.office_desk_timing.specs.declared.revising.PlanEdit.{PlanEdit}
+use Rattle.office_machine.specs.Office.{Intersection, Office}
+use Rattle.office_machine.specs.Step.{answered}
+use Rattle.office_machine.specs.declared.command.Command.{Command}
+use Rattle.office_machine.specs.declared.refusal.Refusal.TheVariants.{Damaged, Unavailable, UnknownIntersection}
+use Rattle.office_machine.specs.declared.reply.Reply.{Reply}
+use Rattle.office_machine.specs.declared.reply.Reply.TheVariants.{Moved, Refused, Same}
+use Rattle.office_tables_decisions.specs.Asking.{asking_command}
+use Rattle.office_tables_decisions.specs.Changes.{IsRefused}
+use Rattle.office_tables_decisions.specs.Damage.{HasDamageIn}
+use Rattle.office_tables_decisions.specs.StandFor.{StandForSound}
+use Rattle.office_tables_decisions.specs.declared.decided.Decided.{Decided}
+use Rattle.office_tables_shelf.specs.Change.{AddNew, changed_by}
+use Rattle.office_tables_shelf.specs.Content.{Content}
+use Rattle.office_tables_shelf.specs.Counts.{writes_in}
+use Rattle.office_tables_shelf.specs.Shelf.{rows_of}
+use Rattle.office_tables_shelf.specs.declared.rows.RowChange.{RowChange}
+use Rattle.office_tables_shelf.specs.declared.rows.Table.TheVariants as table
+use Rattle.office_tables_shelf.specs.declared.shelf.ShelfFault.{ShelfFault}
+use Rattle.office_tables_shelf.specs.declared.shelf.ShelfFault.TheVariants as fault
+use Rattle.signal_plans.specs.Difference.{AreTold}
+use Rattle.signal_plans.specs.declared.difference.Difference.{Difference}
+use Rattle.signal_records.specs.TimingSet.{Rows, after_changes}
+use Rattle.signal_records.specs.declared.record.Change.{Change}
+use Rattle.signal_records.specs.declared.state.DbState.TheVariants.{Normal}
+
+-- ---- commands, all of them or none
+
+-- a refusal ends a run of commands; any other reply goes on
+abbrev pub unless_refused : Reply → Office → (Office → Reply → Reply × Office) → Reply × Office
+unless_refused (Refused why) next more = (Refused why, next)
+unless_refused reply next more = more next reply
+
+-- commands in turn, each answered by the office that the one before it left, up to the first that is refused: the last reply, and the office then
+abbrev pub in_turn : Office → (last : Reply) → List Command → Reply × Office
+in_turn office last [] = (last, office)
+in_turn office last (asked ∷ more) = unless_refused (answered office asked).0 (answered office asked).1 (λ next reply. in_turn next reply more)
+
+-- a run that ended with a refusal leaves the office as it was
+abbrev pub ended_from : Office → Reply × Office → Reply × Office
+ended_from office ended = unless_refused ended.0 office (λ before reply. (reply, ended.1))
+
+-- ALL OR NONE: the last reply and the office after these commands; or the first refusal, and the office as it was; Same where there is none to run
+abbrev pub all_or_none : Office → List Command → Reply × Office
+all_or_none office commands = ended_from office (in_turn office Same commands)
+
+-- ---- what an edit asks for
+
+-- the plan that an edit makes of these rows: what its changes make of none, where they are the whole plan; else of the rows
+abbrev pub plan_from : PlanEdit → Rows → Rows
+plan_from edit rows = after_changes (if edit.replaces then empty else rows) edit.changes
+
+-- the plan that an edit asks for, of the rows that a revision goes on with
+abbrev pub plan_asked : PlanEdit → TimingSide → Rows
+plan_asked edit side = plan_from edit (base_of side)
+
+-- these edits make that plan
+pub record AreEdits (edit : PlanEdit) (side : TimingSide) (edits : List Change) : Type 0 where
+  pub within : AreChangesWithin edits
+  pub make : after_changes (base_of side) edits ≡ plan_asked edit side
+
+-- nothing is to be done: the plan is the committed set, and nobody owns a draft
+pub record IsIdle (edit : PlanEdit) (side : TimingSide) : Type 0 where
+  pub free : side.draft ≡ None
+  pub same : plan_asked edit side ≡ side.committed
+
+-- THE STEPS OF AN EDIT: none where nothing is to be done, else those of a revision by edits that make the plan
+abbrev pub AreStepsOf : PlanEdit → TimingSide → List Step → Type 0
+AreStepsOf edit side steps =
+    (IsIdle edit side × (steps ≡ []))
+    ⊎ ((IsIdle edit side → ⊥) × (edits : List Change) × AreEdits edit side edits × (steps ≡ revising side edits edit.commits))
+
+-- AN EDIT, of an intersection that is there or not: the reply and the next office are those of its steps, as commands of the clerk, all or none
+abbrev pub EditsOffice : Office → ℕ → (clerk : List ℕ) → PlanEdit → Option Intersection → Reply → Office → Type 0
+EditsOffice office id clerk edit None reply next = (reply ≡ Refused UnknownIntersection) × (next ≡ office)
+EditsOffice office id clerk edit (Some i) reply next =
+    (steps : List Step) × AreStepsOf edit i.timing steps
+    × (all_or_none office (map (asking_command id clerk) steps) ≡ (reply, next))
+
+-- ---- over tables
+
+-- From an office, the reply is that of an edit, or Unavailable, and the tables stand for a sound office after it.
+pub record AnswersEdit (office : Office) (id : ℕ) (clerk : List ℕ) (edit : PlanEdit) (reply : Reply) (tables : Content) : Type 0 where
+  pub next : Office
+  pub step : ((reply ≡ Refused Unavailable) × (next ≡ office)) ⊎ EditsOffice office id clerk edit (get office.intersections id) reply next
+  pub stand : StandForSound tables next
+
+-- Whichever sound office the old tables stand for, the reply and the new tables are those of one edit of it.
+abbrev pub AnswersAnyEdit : Content → ℕ → (clerk : List ℕ) → PlanEdit → Reply → Content → Type 0
+AnswersAnyEdit old id clerk edit reply new = (office : Office) → StandForSound old office → AnswersEdit office id clerk edit reply new
+
+-- How many rows an edit writes that was answered so. A commit writes a timing row for each key at which the plan differs from the committed set, and one change
+-- drops the draft rows, if there are any; a draft that stays open has at most one write for each key at which the plan differs from it; either writes the
+-- intersection's row once. Any other answer writes none.
+abbrev pub EditWrites : Content → ℕ → PlanEdit → TimingSide → Reply → List RowChange → Type 0
+EditWrites tables id edit side (Moved revision Normal verdict) changes =
+    (found : List Difference) × AreTold side.committed (plan_asked edit side) found
+    × (writes_in table.Intersection changes ≡ 1) × (writes_in table.Timing changes ≡ length found)
+    × (writes_in table.Draft changes ≡ min 1 (length (rows_of id tables.draft)))
+EditWrites tables id edit side (Moved revision state verdict) changes =
+    (found : List Difference) × AreTold (base_of side) (plan_asked edit side) found
+    × (writes_in table.Intersection changes ≡ 1) × (writes_in table.Timing changes ≡ 0) × (writes_in table.Draft changes ≤ length found)
+EditWrites tables id edit side reply changes = changes ≡ []
+
+-- in each sound office that the tables stand for, an edit of an intersection that is there writes so many rows
+abbrev pub WritesForEdit : Content → ℕ → PlanEdit → Reply → List RowChange → Type 0
+WritesForEdit tables id edit reply changes =
+    (office : Office) (i : Intersection) → StandForSound tables office → get office.intersections id ≡ Some i → EditWrites tables id edit i.timing reply changes
+
+-- the reply says that the transaction went on
+abbrev pub IsMoved : Reply → Type 0
+IsMoved (Moved revision state verdict) = Unit {0}
+IsMoved reply = ⊥
+
+-- The reply and what the rows make of the tables are one edit; where a row is added, none stands under its key; some are written where the transaction went on,
+-- and none where the edit is refused; and a row that is no record is reported as a fault, never as a reply.
+pub record IsEditDecision (is_honest : Type 0) (tables : Content) (id : ℕ) (clerk : List ℕ) (edit : PlanEdit) (decided : Decided) : Type 0 where
+  pub step : is_honest → AnswersAnyEdit tables id clerk edit decided.reply (changed_by tables decided.changes.items)
+  pub writes : is_honest → WritesForEdit tables id edit decided.reply decided.changes.items
+  pub news : is_honest → AddNew tables decided.changes.items
+  pub made : IsMoved decided.reply → decided.changes.items ≢ []
+  pub refused : IsRefused decided.reply → decided.changes.items ≡ []
+  pub undamaged : decided.reply ≢ Refused Damaged
+
+-- The edit is decided, or a fault is reported: Damaged only where the intersection's row or a row of its plan is no record.
+abbrev pub DecidesEdit : Type 0 → Content → ℕ → (clerk : List ℕ) → PlanEdit → Result Decided ShelfFault → Type 0
+DecidesEdit is_honest tables id clerk edit (Ok decided) = IsEditDecision is_honest tables id clerk edit decided
+DecidesEdit is_honest tables id clerk edit (Err why) = why ≡ fault.Damaged → is_honest → HasDamageIn reach.Plan tables id
