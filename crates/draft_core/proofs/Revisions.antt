@@ -14,7 +14,7 @@ use Rattle.draft_core.specs.Moves.{draft_writes, next_holder, state_after, timin
 use Rattle.draft_core.specs.declared.timing.Reach.TheVariants as reach
 use Rattle.draft_core.specs.declared.step.Step.TheVariants as step
 use Rattle.draft_core.specs.declared.refusal.DraftRefusal.TheVariants.{NotOwner}
-use Rattle.draft_core.specs.Revising.{WritesRows, and_then, base_of, committing, lines_of, reopening, revising, take_up, taking_up}
+use Rattle.draft_core.specs.Revising.{WritesRows, and_then, base_of, committing, lines_of, reopening, revision_steps, take_up, taking_up}
 use Rattle.draft_core.specs.Transaction.{TimingSide, Draft, committed_with, holder_of}
 
 -- nothing comes after the last step
@@ -128,7 +128,7 @@ module _ {side : TimingSide} {clerk : List ℕ} {holding : Holding}
 
   -- a draft that stays open
   pub open_lines : committing commit (violations_of after) ≡ []
-      → lines_of clerk (revising side edits commit) side
+      → lines_of clerk (revision_steps side edits commit) side
       ≡ Ok (with_set side.revision side.committed takes.owner clerk Transaction after)
   open_lines none = takes.lines edits (committing commit (violations_of after))
       ∙ ap (λ steps. lines_of clerk steps
@@ -136,7 +136,7 @@ module _ {side : TimingSide} {clerk : List ℕ} {holding : Holding}
 
   -- and one that is committed
   pub settled_lines : commit ≡ true → violations_of after ≡ []
-      → lines_of clerk (revising side edits commit) side
+      → lines_of clerk (revision_steps side edits commit) side
       ≡ committed_with side (record { stage = Done; owner = takes.owner; set = after }) []
   settled_lines asked sound = takes.lines edits (committing commit (violations_of after))
       ∙ ap (λ (b : Bool). lines_of clerk (committing b (violations_of after))

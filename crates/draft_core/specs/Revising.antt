@@ -53,8 +53,8 @@ committing true [] = step.Verify ∷ step.Check ∷ step.Commit ∷ []
 committing commit violations = []
 
 -- THE STEPS OF A REVISION: the draft is taken up, these edits are made to it, and it is committed where that is asked for and it breaks no rule
-abbrev pub revising : TimingSide → (edits : List Change) → (commit : Bool) → List Step
-revising side edits commit =
+abbrev pub revision_steps : TimingSide → (edits : List Change) → (commit : Bool) → List Step
+revision_steps side edits commit =
     taking_up side.draft ++ step.Edit edits ∷ committing commit (violations_of (after_changes (base_of side) edits))
 
 -- what comes of a timing side by a line of the table, and then by more; or the refusal
@@ -94,5 +94,5 @@ pub record Revises (timing : Timing) (clerk : List ℕ) (edits settled : List Ch
   pub line : (rows : RowsByKey) (side : TimingSide) → Stands reach.Plan timing rows side
       → violations_of side.committed ≡ []
       → after_changes (base_of side) edits ≡ after_changes side.committed settled
-      → Follows rows side clerk result (lines_of clerk (revising side edits commit) side)
+      → Follows rows side clerk result (lines_of clerk (revision_steps side edits commit) side)
   pub writes : IfOk result (RevisionWrites timing edits settled)

@@ -12,7 +12,7 @@ use Rattle.signal_records.specs.declared.state.DbState.TheVariants as state
 use Rattle.signal_rules.specs.Violations.{violations_of}
 use Rattle.signal_values.specs.Words.{AreWords}
 use Rattle.draft_core.specs.Moves.{Follows, Makes, draft_writes, drafted_in, next_holder, timing_writes}
-use Rattle.draft_core.specs.Revising.{RevisionWrites, Revises, WritesRows, base_from, base_of, committing, lines_of, revising, taking_up}
+use Rattle.draft_core.specs.Revising.{RevisionWrites, Revises, WritesRows, base_from, base_of, committing, lines_of, revision_steps, taking_up}
 use Rattle.draft_core.specs.Transaction.{Draft, TimingSide, holder_of, in_stage, state_of}
 use Rattle.draft_core.specs.{DraftRows.RowsByKey, DraftRows.Stands, Within.AreChangesWithin, Writes.abandon_rows}
 use Rattle.draft_core.specs.declared.refusal.DraftRefusal.{DraftRefusal}
@@ -88,7 +88,7 @@ module _ (tables : Content) (id : ℕ) (clerk : List ℕ) (edit : PlanEdit) (fou
     (planned : PlanChanges) (rows : RowsByKey) (side next : TimingSide) (move : Move)
     (lists : ListsFound reach.Plan tables id found) (stands : Stands reach.Plan found.timing rows side)
     (plans : PlansChanges found.timing edit planned) (busy : asks_nothing found.timing planned ≡ false)
-    (line : lines_of clerk (revising side planned.edits edit.commits) side ≡ Ok next)
+    (line : lines_of clerk (revision_steps side planned.edits edit.commits) side ≡ Ok next)
     (makes : Makes rows side clerk move next)
     (writes : WritesRows move.holder found.timing.delta planned.edits planned.settled.items move.changes)
   where
@@ -194,12 +194,12 @@ module _ (tables : Content) (office : Office) (id : ℕ) (clerk : List ℕ) (edi
   module _ (busy : asks_nothing found.timing planned ≡ false) where
     -- the steps were taken
     taken : (l : Result TimingSide DraftRefusal) (reply : Reply) (next : Office)
-        → lines_of clerk (revising i.timing planned.edits edit.commits) i.timing ≡ l
+        → lines_of clerk (revision_steps i.timing planned.edits edit.commits) i.timing ≡ l
         → moved office id i l ≡ (reply, next)
         → EditsOffice office id clerk edit (get office.intersections id) reply next
     taken l reply next line is =
         subst (λ o. EditsOffice office id clerk edit o reply next) (sym there) (
-          revising i.timing planned.edits edit.commits,
+          revision_steps i.timing planned.edits edit.commits,
           inr (
             λ idle. true≢false (sym (idle_asks_nothing here.timing_stands plans idle) ∙ busy),
             planned.edits,
@@ -213,7 +213,7 @@ module _ (tables : Content) (office : Office) (id : ℕ) (clerk : List ℕ) (edi
 
     pub refuses : (why : DraftRefusal) → why ≢ draft.NoMemory
         → Follows (drafts_at stands.stand id) i.timing clerk (Err why)
-        (lines_of clerk (revising i.timing planned.edits edit.commits) i.timing)
+        (lines_of clerk (revision_steps i.timing planned.edits edit.commits) i.timing)
         → AnswersEdit office id clerk edit (Refused (refusal_of_draft why)) tables
     refuses why ne (inl memory) = absurd (ne memory)
     refuses why ne (inr line) = record {
@@ -225,7 +225,7 @@ module _ (tables : Content) (office : Office) (id : ℕ) (clerk : List ℕ) (edi
     module _ (words : AreWords 40 clerk) (move : Move)
         (drafts : AreChangesWithin (drafted_in move.changes)) where
       goes : (next : TimingSide)
-          → lines_of clerk (revising i.timing planned.edits edit.commits) i.timing ≡ Ok next
+          → lines_of clerk (revision_steps i.timing planned.edits edit.commits) i.timing ≡ Ok next
           → Makes (drafts_at stands.stand id) i.timing clerk move next
           → AnswersEdit office id clerk edit (Moved move.revision move.state move.verdict)
           (changed_by tables (rows_of_move id clerk found move))
@@ -247,7 +247,7 @@ module _ (tables : Content) (office : Office) (id : ℕ) (clerk : List ℕ) (edi
           }
 
       pub moves : (l : Result TimingSide DraftRefusal)
-          → lines_of clerk (revising i.timing planned.edits edit.commits) i.timing ≡ l
+          → lines_of clerk (revision_steps i.timing planned.edits edit.commits) i.timing ≡ l
           → Follows (drafts_at stands.stand id) i.timing clerk (Ok move) l
           → AnswersEdit office id clerk edit (Moved move.revision move.state move.verdict)
           (changed_by tables (rows_of_move id clerk found move))
@@ -257,7 +257,7 @@ module _ (tables : Content) (office : Office) (id : ℕ) (clerk : List ℕ) (edi
       pub counts : ListsFound reach.Plan tables id found
           → WritesRows move.holder found.timing.delta planned.edits planned.settled.items move.changes
           → (l : Result TimingSide DraftRefusal)
-          → lines_of clerk (revising i.timing planned.edits edit.commits) i.timing ≡ l
+          → lines_of clerk (revision_steps i.timing planned.edits edit.commits) i.timing ≡ l
           → Follows (drafts_at stands.stand id) i.timing clerk (Ok move) l
           → EditWrites tables id edit i.timing (Moved move.revision move.state move.verdict)
           (rows_of_move id clerk found move)
@@ -341,7 +341,7 @@ module _ (is_honest : Type 0) (tables : Content) (id : ℕ) (clerk : List ℕ) (
           → get office.intersections id ≡ Some i
           → FoundStands reach.Plan (drafts_at stands.stand id) i found
           → Follows (drafts_at stands.stand id) i.timing clerk decision
-          (lines_of clerk (revising i.timing planned.edits edit.commits) i.timing)
+          (lines_of clerk (revision_steps i.timing planned.edits edit.commits) i.timing)
       follows office stands i there here =
           revises.line (drafts_at stands.stand id) i.timing here.timing_stands
           (sound_there tables office id i stands there).no_violations

@@ -8,7 +8,7 @@ use Rattle.signal_records.specs.declared.state.Stage.TheVariants.{Transaction, V
 use Rattle.signal_rules.specs.declared.violation.Violation.{Violation}
 use Rattle.signal_rules.specs.Violations.{violations_of}
 use Rattle.signal_values.specs.Words.{AreWords}
-use Rattle.draft_core.specs.Revising.{and_then, base_from, base_of, committing, lines_of, reopening, revising, taking_up}
+use Rattle.draft_core.specs.Revising.{and_then, base_from, base_of, committing, lines_of, reopening, revision_steps, taking_up}
 use Rattle.draft_core.specs.{Steps.asked_changes, Transaction.Draft, Transaction.TimingSide, Transaction.begun_from, Transaction.holder_of, Transaction.owned, Transaction.table_line, Transaction.with_draft, Within.AreChangesWithin}
 use Rattle.draft_core.specs.declared.{refusal.DraftRefusal.DraftRefusal, step.Step.Step}
 use Rattle.draft_core.specs.declared.refusal.DraftRefusal.TheVariants.{NotNormal}
@@ -166,16 +166,16 @@ module _ (P : Step → Type 0) (check : P step.Check) (reopen : P step.Reopen) w
 
     -- what is true of each step but an abandon, and of these edits, is true of each step of a revision
     revising_all : (side : TimingSide) (edits : List Change) (commits : Bool) → P (step.Edit edits)
-        → AllByRecursion P (revising side edits commits)
+        → AllByRecursion P (revision_steps side edits commits)
     revising_all side edits commits edit =
         let committing = committing_all commits (violations_of (after_changes (base_of side) edits)) in
         taking_all side.draft _ (edit, committing)
 
 pub revising_keeps : (side : TimingSide) (edits : List Change) (commits : Bool) (clerk : List ℕ)
     (last : TimingSide) → AreWords 40 clerk → AreChangesWithin edits → IsSoundSide side
-    → lines_of clerk (revising side edits commits) side ≡ Ok last → IsSoundSide last
+    → lines_of clerk (revision_steps side edits commits) side ≡ Ok last → IsSoundSide last
 revising_keeps side edits commits clerk last words within =
-    lines_keep (revising side edits commits) clerk side last words
+    lines_keep (revision_steps side edits commits) clerk side last words
     (revising_all AsksWithin tt tt tt tt tt side edits commits within)
 
 -- ---- the rows that a revision goes on with
@@ -244,10 +244,10 @@ committed_rows _ violations rows = refl
 
 -- a revision makes its edits of them
 pub revising_makes : (side : TimingSide) (edits : List Change) (commits : Bool) (clerk : List ℕ)
-    (last : TimingSide) → lines_of clerk (revising side edits commits) side ≡ Ok last
+    (last : TimingSide) → lines_of clerk (revision_steps side edits commits) side ≡ Ok last
     → base_of last ≡ after_changes (base_of side) edits
 revising_makes side edits commits clerk last is =
-    lines_base (revising side edits commits) clerk side last
+    lines_base (revision_steps side edits commits) clerk side last
     (revising_all IsKept tt tt tt tt tt side edits commits tt) is
     ∙ taken_rows side.draft _ (base_of side)
     ∙ committed_rows commits (violations_of (after_changes (base_of side) edits)) _

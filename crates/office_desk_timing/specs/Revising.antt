@@ -1,7 +1,7 @@
 -- How a clerk's edit of a plan is answered: as a run of the steps of a revision by the office machine, all of them or none.
 use Rattle.std.specs.Prelude.{◌≡◌, ◌≢◌, ◌⊎◌, ◌≤◌, ℕ, min, List, [], ◌∷◌, length, map, if◌then◌else◌, Option, Some, None, Result, Ok, Err}
 use Rattle.std.specs.FinMap.{empty, get}
-use Rattle.draft_core.specs.Revising.{base_of, revising}
+use Rattle.draft_core.specs.Revising.{base_of, revision_steps}
 use Rattle.draft_core.specs.Transaction.{TimingSide}
 use Rattle.draft_core.specs.Within.{AreChangesWithin}
 use Rattle.draft_core.specs.declared.step.Step.{Step}
@@ -76,7 +76,7 @@ pub record IsIdle (edit : PlanEdit) (side : TimingSide) : Type 0 where
 abbrev pub AreStepsOf : PlanEdit → TimingSide → List Step → Type 0
 AreStepsOf edit side steps =
     (IsIdle edit side × (steps ≡ []))
-    ⊎ ((IsIdle edit side → ⊥) × (edits : List Change) × AreEdits edit side edits × (steps ≡ revising side edits edit.commits))
+    ⊎ ((IsIdle edit side → ⊥) × (edits : List Change) × AreEdits edit side edits × (steps ≡ revision_steps side edits edit.commits))
 
 -- AN EDIT, of an intersection that is there or not: the reply and the next office are those of its steps, as commands of the clerk, all or none
 abbrev pub EditsOffice : Office → ℕ → (clerk : List ℕ) → PlanEdit → Option Intersection → Reply → Office → Type 0
