@@ -42,8 +42,9 @@ HEAD = ["work", "office", "C", "Python", "Python checks"]
 
 @dataclasses.dataclass
 class Work:
-    """Some work: its name, the words of both programs, the requests before it and its own. A work
-    of several runs takes these plans in turn in place of the word PLAN."""
+    """Some work: its name, the words of both programs, the requests before it and its own, and the
+    words of a run without the work. A work of several runs takes these plans in turn in place of
+    the word PLAN."""
     name: str
     words: tuple = ("batch",)
     theirs: tuple = ("serve",)
@@ -54,6 +55,7 @@ class Work:
     made: str = ""
     runs: int = 1
     plans: tuple = ("",)
+    idle: tuple = ()
 
     def arguments(self, words):
         return [self.made if it == "FILE" else it for it in words]
@@ -116,7 +118,8 @@ def edits(program, folder, many):
     words = ("edit", "--db", "FILE", "--clerk", "Ana", "--commit", "12", "PLAN")
     for runs in (1, many):
         name = f"edit --commit, 60 rows, 100 intersections, {runs} times"
-        yield Work(name, words, (), file=file, made=file + ".copy", runs=runs, plans=tuple(plans))
+        yield Work(name, words, (), file=file, made=file + ".copy", runs=runs, plans=tuple(plans),
+                   idle=("batch", "--db", "FILE"))
 
 
 def held_by(process):
@@ -172,15 +175,19 @@ def once(words, it, requests, folder):
 
 def cost(words, it, folder, counts):
     """What the work costs a program, in seconds or instructions, the MiB, and its answers."""
-    def least(requests):
+    def least(words, requests):
         if counts:
             _, _, told, answers = once([*VALGRIND, *words], it, requests, folder)
             return sum(map(int, re.findall(r"Collected : (\d+)", told))), 0, answers
         runs = [once(words, it, requests, folder) for _ in range(RUNS)]
         return min(run[0] for run in runs), max(run[1] for run in runs), runs[0][3]
 
-    value, held, answers = least(it.requests)
-    return value - (least(it.before)[0] if it.requests else 0), held, answers
+    value, held, answers = least(words, it.requests)
+    if it.requests:
+        value -= least(words, it.before)[0]
+    if it.idle:
+        value -= least([words[0], *it.arguments(it.idle)], b"")[0]
+    return value, held, answers
 
 
 def talk(server, port, requests, at_once):

@@ -21,6 +21,7 @@ use Rattle.signal_office_commands.specs.declared.editing.Revised.TheVariants.{Sa
 use Rattle.signal_office_faults.specs.declared.fault.Fault.{Fault}
 use Rattle.signal_office_faults.specs.declared.fault.Fault.TheVariants as fault
 use Rattle.signal_office_line.specs.declared.job.Edit.{Edit}
+use Rattle.signal_records.specs.declared.state.DbState.{DbState}
 use Rattle.signal_records.specs.declared.state.DbState.TheVariants.{Normal}
 
 -- the edit of the plan that a file asks for: the changes that it spells
@@ -44,14 +45,19 @@ abbrev pub open_draft : Result OpenDraft Refusal → Result Revised Fault
 open_draft (Ok draft) = Ok (Open draft)
 open_draft (Err why) = Err (fault_of why)
 
--- WHAT IS TOLD OF AN EDIT that was answered so: that the plan was committed exactly where it is in state Normal now; that the draft is open, as the office shows it,
--- or why it is not shown, where the transaction stands anywhere else; that nothing changed, exactly where the office says so; and of a refusal its fault
+-- what is told of a transaction that went on to this state: in state Normal, and there alone, that the plan was committed; else that the draft is open, as the office
+-- shows it, or why it does not
+abbrev pub TellsMove : (id : ℕ) → DbState → Content → Result Revised Fault → Type 0
+TellsMove id Normal tables result =
+    (running : Option RunningTiming) × (result ≡ Ok (Committed running)) × ShowsRunning tables id running
+TellsMove id state tables result =
+    (read : Result OpenDraft Refusal) × IsReply tables (command.Draft id) (reply_to (λ it. reply.Draft it) read) × (result ≡ open_draft read)
+
+-- WHAT IS TOLD OF AN EDIT that was answered so: what became of the plan, where the transaction went on; that nothing changed, exactly where the office says so; and of a
+-- refusal its fault
 abbrev pub TellsEdit : (id : ℕ) → Reply → Content → Result Revised Fault → Type 0
 TellsEdit id reply.Same tables result = result ≡ Ok Same
-TellsEdit id (reply.Moved revision Normal verdict) tables result =
-    (running : Option RunningTiming) × (result ≡ Ok (Committed running)) × ShowsRunning tables id running
-TellsEdit id (reply.Moved revision state verdict) tables result =
-    (read : Result OpenDraft Refusal) × IsReply tables (command.Draft id) (reply_to (λ it. reply.Draft it) read) × (result ≡ open_draft read)
+TellsEdit id (reply.Moved revision state verdict) tables result = TellsMove id state tables result
 TellsEdit id (reply.Refused why) tables result = result ≡ Err (fault_of why)
 TellsEdit id other tables result = result ≡ Err fault.Store
 

@@ -4,7 +4,7 @@ ghost use Rattle.std.specs.Prelude.{◌≡◌, IfErr, IfOk};
 ghost use Rattle.office_desk.specs.Asks.{OnlyLooks};
 ghost use Rattle.office_files.specs.Changes.{changes_of};
 ghost use Rattle.signal_office_commands.specs.Changing.{ChangesShelf};
-ghost use Rattle.signal_office_commands.specs.Editing.{AfterEditing, AsksFor, Edits, RevisesPlan, ShowsRunning, TellsEdit, open_draft};
+ghost use Rattle.signal_office_commands.specs.Editing.{AfterEditing, AsksFor, Edits, RevisesPlan, ShowsRunning, TellsEdit, TellsMove, open_draft};
 ghost use Rattle.signal_office_commands.specs.Refused.{IsUnread};
 
 use crate::explained::refused_edit;
@@ -74,6 +74,25 @@ fn open_draft(read: Result<OpenDraft, Refusal>) -> Result<Revised, Fault>
     }
 }
 
+/// What became of a plan whose transaction went on to this state; or the fault of the read of a
+/// draft that was left open.
+fn read_moved<S: Shelf>(
+    alloc: Global,
+    office: &mut Office<S>,
+    edit: &Edit<'_>,
+    state: DbState,
+) -> Result<Revised, Fault>
+    ensures { OnlyLooks S.Shelf office.old office.new
+        (λ tables. TellsMove edit.now.id state tables result) }
+{
+    match state {
+        DbState::Normal => Ok(Revised::Committed(read_running(alloc, office, edit))),
+        DbState::Transaction | DbState::Verify | DbState::Done => {
+            open_draft(office.draft(alloc, edit.id))
+        }
+    }
+}
+
 /// What became of a plan, by the reply to its edit; or the fault of a refusal, or of the read of a
 /// draft that was left open.
 fn revised_by<S: Shelf>(
@@ -87,11 +106,7 @@ fn revised_by<S: Shelf>(
 {
     match *reply {
         Reply::Same => Ok(Revised::Same),
-        Reply::Moved {
-            state: DbState::Normal,
-            ..
-        } => Ok(Revised::Committed(read_running(alloc, office, edit))),
-        Reply::Moved { .. } => open_draft(office.draft(alloc, edit.id)),
+        Reply::Moved { state, .. } => read_moved(alloc, office, edit, state),
         Reply::Refused(why) => Err(fault_of(why)),
         _ => Err(Fault::Store),
     }
