@@ -7,7 +7,7 @@ The program is the one at that path, or the one that `./office` built. A figure 
 seconds of the least of three runs, less those of a run without the work; memory is the most that
 the program held. The answers of all programs are compared. The C program is built if there is a
 compiler `cc` and SQLite's header (Debian's `libsqlite3-dev`), and does the streams of requests
-alone. With --instructions, which needs valgrind, a twentieth of each stream is done once, and
+alone; edits are done by the program alone. With --instructions, which needs valgrind, a twentieth of each stream is done once, and
 instructions are counted: seconds swing by a third on many machines, and these do not. With --clock
 the streams over a file are measured by the clock, in the folder for temporary files. With --times
 each stream is so many times as long. With --write the table is put into docs/MEASUREMENTS.md.
@@ -42,7 +42,9 @@ HEAD = ["work", "office", "C", "Python", "Python checks"]
 
 @dataclasses.dataclass
 class Work:
-    """Some work: its name, the words of both programs, the requests before it and its own."""
+    """Some work: its name, the words of both programs, the requests before it and its own, and the
+    words of a run without the work. A work of several runs takes these plans in turn in place of
+    the word PLAN."""
     name: str
     words: tuple = ("batch",)
     theirs: tuple = ("serve",)
@@ -51,6 +53,9 @@ class Work:
     checked: bool = False
     file: str = ""
     made: str = ""
+    runs: int = 1
+    plans: tuple = ("",)
+    idle: tuple = ()
 
     def arguments(self, words):
         return [self.made if it == "FILE" else it for it in words]
@@ -103,6 +108,20 @@ def on_files(program, folder):
         yield Work(name, words, theirs, file=path, made=path + ".copy")
 
 
+def edits(program, folder, many):
+    """Edits of a plan, each a run of the program: every other one makes all rows others."""
+    file, plans = os.path.join(folder, "edits.db"), []
+    work.filled(program, file, 100, work.with_plans)
+    for every in (1, 0):
+        plans.append(os.path.join(folder, f"plan{every}.csv"))
+        pathlib.Path(plans[-1]).write_text("".join(f"{','.join(it)}\n" for it in work.plan(every, 0)))
+    words = ("edit", "--db", "FILE", "--clerk", "Ana", "--commit", "12", "PLAN")
+    for runs in (1, many):
+        name = f"edit --commit, 60 rows, 100 intersections, {runs} times"
+        yield Work(name, words, (), file=file, made=file + ".copy", runs=runs, plans=tuple(plans),
+                   idle=("batch", "--db", "FILE"))
+
+
 def held_by(process):
     """The most MiB that a process held until now; 0 once it has ended."""
     try:
@@ -148,20 +167,27 @@ def once(words, it, requests, folder):
         pathlib.Path(it.made + end).unlink(missing_ok=True)
     if it.file:
         shutil.copyfile(it.file, it.made)
-    return ran(words, requests, folder)
+    runs = [ran([it.plans[at % len(it.plans)] if word == "PLAN" else word for word in words],
+                requests, folder) for at in range(it.runs)]
+    seconds, held, told, answers = zip(*runs)
+    return sum(seconds), max(held), "".join(told), b"".join(answers)
 
 
 def cost(words, it, folder, counts):
     """What the work costs a program, in seconds or instructions, the MiB, and its answers."""
-    def least(requests):
+    def least(words, requests):
         if counts:
             _, _, told, answers = once([*VALGRIND, *words], it, requests, folder)
-            return int(re.search(r"Collected : (\d+)", told)[1]), 0, answers
+            return sum(map(int, re.findall(r"Collected : (\d+)", told))), 0, answers
         runs = [once(words, it, requests, folder) for _ in range(RUNS)]
         return min(run[0] for run in runs), max(run[1] for run in runs), runs[0][3]
 
-    value, held, answers = least(it.requests)
-    return value - (least(it.before)[0] if it.requests else 0), held, answers
+    value, held, answers = least(words, it.requests)
+    if it.requests:
+        value -= least(words, it.before)[0]
+    if it.idle:
+        value -= least([words[0], *it.arguments(it.idle)], b"")[0]
+    return value, held, answers
 
 
 def talk(server, port, requests, at_once):
@@ -202,6 +228,8 @@ def built(folder):
 def peers(it, c):
     """The programs that do the work too, each as its words, or none."""
     own = it.arguments(it.theirs)
+    if not own:
+        return
     yield [*c, *own[1:]] if c and own[0] == "serve" else []
     yield [*PYTHON, *own]
     yield [*PYTHON, *own, "--checking"] if it.checked else []
@@ -214,7 +242,7 @@ def shown(value, counts):
 def row(program, it, folder, counts, c):
     ours, held, answers = cost([program, *it.arguments(it.words)], it, folder, counts)
     cells = [it.name, shown(ours, counts)]
-    for words in peers(it, c):
+    for words in [*peers(it, c)] or [[]] * 3:
         if not words:
             cells.append("")
             continue
@@ -229,7 +257,9 @@ def rows(program, only, times, counts):
     with tempfile.TemporaryDirectory() as folder:
         long = times / 20 if counts else times
         works = [*over_files(long, folder)]
-        works = works if by_clock else [*streams(long), *works, *on_files(program, folder)]
+        if not by_clock:
+            works = [*streams(long), *works, *on_files(program, folder),
+                     *edits(program, folder, max(2, round(300 * long)))]
         c = built(folder)
         for it in works:
             if only in it.name:

@@ -101,14 +101,14 @@ def draw_edit(dice, office, id, path):
         rows = [*rows, requests.spoil_row(dice, dice.choice(rows))]
     there = office.intersections.get(id)
     clerk = there and there.owner or dice.choice(requests.CLERKS)
-    csv, commits, advises = (
-        requests.spell_csv(dice, rows), dice.random() < 0.7, dice.random() < 0.3)
+    csv = requests.spell_csv(dice, rows)
+    commits, replaces, advises = (dice.random() < it for it in (0.7, 0.3, 0.3))
     path.write_bytes(csv.encode())
-    flags = [*["--commit"] * commits, *["--advise"] * advises]
+    flags = [*["--commit"] * commits, *["--replace"] * replaces, *["--advise"] * advises]
     words = ["--clerk", clerk, *flags, str(id), str(path)]
     return Command("edit", words, functools.partial(
         commands.edit, id=id, clerk=clerk, records=fields.read_csv(csv), commits=commits,
-        advises=advises))
+        replaces=replaces, advises=advises))
 
 
 def takes(office, row):

@@ -238,7 +238,7 @@ def model_files(runs):
     (runs.folder / "records.csv").write_text("inspection,12,1,2026-03-01,Ana,Fan cleaned\n")
     edit = ["edit", "--db", "office.db", "--clerk", "Ana"]
     for words in (["add", "--db", "office.db", "12", "365", "Main St"],
-                  [*edit, "--commit", "12", PLAN], [*edit, "12", PLAN]):
+                  [*edit, "--commit", "12", PLAN], [*edit, "12", "changed.csv"]):
         status, _, lines = runs.run(words)
         if status:
             sys.exit(f"memory.py: {words}: {lines}")

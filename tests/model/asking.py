@@ -3,7 +3,8 @@ Names and texts have markup, quotes, marks of spreadsheets and other scripts in 
 import csv
 import io
 
-from .plan import KINDS
+from . import comparing
+from .plan import KINDS, rows
 from .planning import BASE, CHANGES, draw_changes, draw_plan
 from .register import FORMS
 from .requests import CLERKS, add, draw_record, spoil_row
@@ -171,6 +172,15 @@ def an_id(dice, office):
     return str(dice.choice((*office.intersections, *office.intersections, 1, 2, 9_999)))
 
 
+def edit_rows(dice, there, replaces):
+    """Rows of a plan or of a change of one; now and then those that make what is committed of it."""
+    if not there or dice.random() < 0.75:
+        return plan_rows(dice)
+    if replaces:
+        return rows(there.committed)
+    return comparing.changes(there.stands(), there.committed)
+
+
 def draw_edit(dice, office):
     """A draft is changed, mostly by its owner, and perhaps committed as it is."""
     id = an_id(dice, office)
@@ -181,7 +191,7 @@ def draw_edit(dice, office):
     if {"--commit"} <= {*options} and not {"--replace", "--padded"} & {*options}:
         if dice.random() < 0.3:
             return words, {}
-    name, texts = file_of(dice, plan_rows(dice), options)
+    name, texts = file_of(dice, edit_rows(dice, there, "--replace" in options), options)
     return [*words, name], texts
 
 

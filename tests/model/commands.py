@@ -2,7 +2,7 @@
 
 A command is a function of an office and of its values. It yields after each change that it makes,
 since a stop may leave those before it, and gives the status and the text that it prints."""
-from . import comparing, fields, listings, reasons, rules, warnings
+from . import fields, listings, reasons, rules, warnings
 from .fields import write_csv
 from .plan import apply, read_change
 from .refusal import NAMES, Refused
@@ -53,46 +53,22 @@ def take(office, csv):
     return 0, f"added {told['added']}, same {told['same']}\n"
 
 
-def replacing(before, after):
-    """The changes that turn one plan into another."""
-    return [(key, after.get(key)) for key in comparing.differing(before, after)]
-
-
 def edit(office, id, clerk, records, commits, replaces=False, explains=False, advises=False):
-    """Changes the draft, in a transaction that it begins or in the clerk's own, whose draft is
-    opened again where it was handed over or checked; where that is asked, into the plan of the
-    records alone. Commits it where that is asked, no rule is broken and it is not the committed
-    plan; for one that would be that plan nothing is begun. Where that is asked, what it breaks has
-    reasons, and the warnings of the draft are told behind that."""
+    """Makes the plan of an intersection what the records make of the draft, or of the committed
+    plan where there is none; where that is asked, what they make of none. Commits it where that is
+    asked and no rule is broken; else it is the clerk's draft, which stays open. Where that is asked,
+    what it breaks has reasons, and the plan's warnings are told behind that."""
     changes = read_each(read_change, records)
     it = office.find(id)
-    stands = it.committed if it.state == "normal" else it.draft
-    changes = replacing(stands, apply({}, changes)) if replaces else changes
-    is_same = commits and apply(stands, changes) == it.committed
-    if is_same and it.state == "normal":
+    plan = apply({} if replaces else it.stands(), changes)
+    if not office.revise(id, clerk, plan, commits):
         return 0, "no changes\n"
-    if it.state == "normal":
-        office.begin(id, clerk)
-        yield
-    for name, state in (("check", "verify"), ("reopen", "done")):
-        if office.find(id).state == state:
-            office.step(name, id, clerk)
-            yield
-    office.edit(id, clerk, changes)
     yield
-    if is_same:
-        return 0, "no changes\n"
-    draft = office.find(id).draft
-    broken, advice = violation_lines(draft, explains), warning_lines(draft) if advises else ""
+    broken, advice = violation_lines(plan, explains), warning_lines(plan) if advises else ""
     if not commits:
         return 0, f"{broken}{advice}the draft of {clerk} {STAYS_OPEN}"
-    if broken != "no violations\n":
+    if rules.violations(plan):
         return BREAKS_A_RULE, broken + advice + NOT_COMMITTED
-    for name in ("verify", "check"):
-        office.step(name, id, clerk)
-        yield
-    office.commit(id, clerk)
-    yield
     return 0, broken + advice + "committed\n"
 
 

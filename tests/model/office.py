@@ -43,6 +43,10 @@ class Intersection:
         """Where the transaction is."""
         return {"revision": self.revision, "state": self.state, "verify": self.verdict()}
 
+    def stands(self):
+        """The plan that an edit goes on with: the draft, or what is committed where there is none."""
+        return self.committed if self.draft is None else self.draft
+
     def enter(self, state, owner, draft):
         """Another state, with who holds which draft."""
         self.state, self.owner, self.draft = state, owner, draft
@@ -143,6 +147,25 @@ class Office:
         it.committed, it.revision = it.draft, it.revision + 1
         it.enter(after, None, None)
         return it.moved()
+
+    def revise(self, id, clerk, plan, commits):
+        """A clerk makes this the plan, in one step: it is committed where that is asked and it
+        breaks no rule, else it is the clerk's draft. Another clerk's draft is refused with 14, and
+        a commit of the last revision with 18. Tells whether anything was to be done: nothing, where
+        it is what is committed and there is no draft."""
+        it = self.find(id)
+        if it.owner not in (None, clerk):
+            raise Refused(14)
+        if it.draft is None and plan == it.committed:
+            return False
+        if not commits or violations(plan):
+            it.enter("transaction", clerk, plan)
+            return True
+        if it.revision == LAST_REVISION:
+            raise Refused(18)
+        it.committed, it.revision = plan, it.revision + 1
+        it.enter("normal", None, None)
+        return True
 
     def abandon(self, id, clerk):
         """Any clerk drops the draft, in each state that has one."""

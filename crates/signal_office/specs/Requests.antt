@@ -7,8 +7,8 @@ use Rattle.office_tables_shelf.specs.Content.{Content}
 use Rattle.signal_office.specs.declared.asking.Outcome.{Outcome}
 use Rattle.signal_office.specs.declared.asking.Outcome.TheVariants as outcome
 use Rattle.signal_office_commands.specs.Changing.{AfterImporting, AfterStep, Changes, Imports}
-use Rattle.signal_office_commands.specs.Revising.{AfterRevising, Edits}
-use Rattle.signal_office_commands.specs.declared.revising.Revised.{Revised}
+use Rattle.signal_office_commands.specs.Editing.{AfterEditing, Edits}
+use Rattle.signal_office_commands.specs.declared.editing.Revised.{Revised}
 use Rattle.signal_office_faults.specs.declared.fault.Fault.{Fault}
 use Rattle.signal_office_file.specs.Task.{Effect}
 use Rattle.signal_office_file.specs.Stopping.{SameOr}
@@ -47,5 +47,5 @@ effect_of (request.Fill dir folder) text = look_effect
 effect_of (request.Add id interval name) text = command_effect (command.AddIntersection id interval name)
 effect_of (request.Import csv until true) text = look_effect
 effect_of (request.Import csv until false) text = change_effect IsReplied (Imports text) (AfterImporting text)
-effect_of (request.Edit edit) text = change_effect IsRevised (Edits text edit) (AfterRevising text edit)
+effect_of (request.Edit edit) text = change_effect IsRevised (Edits text edit) (AfterEditing text edit)
 effect_of (request.Abandon id clerk) text = command_effect (command.Abandon id clerk)

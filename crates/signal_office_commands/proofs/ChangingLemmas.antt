@@ -1,10 +1,9 @@
--- Changes of an office, one after another, and beside calls that only ask it.
-use Rattle.std.proofs.Common.{◌≡◌, ◌⊎◌, ◌∙◌, inl, inr, Result, subst}
-use Rattle.office_desk.proofs.Looks.{still_held}
-use Rattle.office_desk.specs.Asks.{OnlyLooks}
+-- Changes of an office, and calls after them that only ask it.
+use Rattle.std.proofs.Common.{◌≡◌, ◌∙◌, inl, inr, Result, subst}
+use Rattle.office_desk.specs.{Answers.StandsAfterStep, Asks.OnlyLooks, Running.IsRun}
 use Rattle.office_machine.specs.declared.{command.Command.Command, reply.Reply.Reply}
 use Rattle.office_tables_shelf.specs.{Content.Content, declared.shelf.Shelf.Ghosts}
-use Rattle.signal_office_commands.specs.Changing.{AfterStep, Changes, ChangesShelf, RunsCommand}
+use Rattle.signal_office_commands.specs.Changing.{AfterStep, Changes, ChangesShelf, RunsCommand, accept_reply}
 use Rattle.signal_office_faults.specs.declared.fault.Fault.{Fault}
 
 module _ {S : Type 0} {g : Ghosts S} where
@@ -27,40 +26,6 @@ module _ {S : Type 0} {g : Ghosts S} where
     stop = λ clean tables held found may. elim (it.stop clean tables held found may) [ inl was ↦ inl was | inr after ↦ inr (later tables found after) ];
   }
 
-  -- one change after another
-  pub changes_then : {old mid new : S} {First Early Then Late : Content → Content → Type 0} → ChangesShelf g old mid First Early → ChangesShelf g mid new Then Late
-      → ChangesShelf g old new (λ tables made. (middle : Content) × First tables middle × Then middle made)
-      (λ tables found. Early tables found ⊎ ((middle : Content) × First tables middle × Late middle found))
-  changes_then first rest = record {
-    clean = λ clean. first.clean (rest.clean clean);
-    honest = λ honest. first.honest (rest.honest honest);
-    makes = λ clean tables held.
-        let middle = first.makes (rest.clean clean) tables held in
-        let made = rest.makes clean middle.0 middle.2 in
-        (made.0, (middle.0, middle.1, made.1), made.2);
-    stop = λ clean tables held found may.
-        let middle = first.makes (rest.clean clean) tables held in
-        elim (rest.stop clean middle.0 middle.2 found may) [
-          | inl then ↦ elim (first.stop (rest.clean clean) tables held found then) [ inl was ↦ inl was | inr after ↦ inr (inl after) ]
-          | inr after ↦ inr (inr (middle.0, middle.1, after))
-        ];
-  }
-
-  -- the office was asked first
-  pub asks_before : {old mid new : S} {Says : Content → Type 0} {Made After : Content → Content → Type 0} → OnlyLooks g old mid Says → ChangesShelf g mid new Made After
-      → ChangesShelf g old new (λ tables made. Says tables × Made tables made) (λ tables found. Says tables × After tables found)
-  asks_before {old} {mid} first rest = record {
-    clean = λ clean. first.clean (rest.clean clean);
-    honest = λ honest. first.kept.honest_before (rest.honest honest);
-    makes = λ clean tables held.
-        let made = rest.makes clean tables (still_held g old mid tables first.kept held) in
-        (made.0, (first.tells (rest.clean clean) tables held, made.1), made.2);
-    stop = λ clean tables held found may. elim (rest.stop clean tables (still_held g old mid tables first.kept held) found may) [
-      | inl was ↦ inl (first.kept.same_outcomes found was)
-      | inr after ↦ inr (first.tells (rest.clean clean) tables held, after)
-    ];
-  }
-
   -- the office was asked after it
   pub asks_after : {old mid new : S} {Made After : Content → Content → Type 0} {Says : Content → Type 0} → ChangesShelf g old mid Made After → OnlyLooks g mid new Says
       → ChangesShelf g old new (λ tables made. Made tables made × Says made) After
@@ -71,6 +36,21 @@ module _ {S : Type 0} {g : Ghosts S} where
         let made = first.makes (rest.clean clean) tables held in
         (made.0, (made.1, rest.tells clean made.0 made.2), λ honest. rest.kept.same_content honest ∙ made.2 (rest.kept.honest_before honest));
     stop = λ clean tables held found may. first.stop (rest.clean clean) tables held found (rest.kept.same_outcomes found may);
+  }
+
+  -- a command was run, and its reply is taken so
+  pub runs_command : {old new : S} (asked : Command) (given : Reply) (result : Result Reply Fault) → result ≡ accept_reply given → IsRun g asked given old new
+      → ChangesShelf g old new (λ tables made. RunsCommand asked tables made result) (AfterStep asked)
+  runs_command asked given result is ran = record {
+    clean = ran.clean;
+    honest = ran.honest;
+    makes = λ clean tables held.
+        let ends = ran.step.ends clean tables held in
+        (ends.0, (given, record { step = ends.1; damaged = λ told. ran.step.damaged told clean tables held }, is), ends.2);
+    stop = λ clean tables held found may. elim (ran.stop.crash found may) [
+      | inl was ↦ inl was
+      | inr step ↦ inr (subst (λ (t : Content). StandsAfterStep t asked found) (held step.0) step.1)
+    ];
   }
 
   -- a command that was run is a change, of whatever it is seen as

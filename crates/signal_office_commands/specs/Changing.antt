@@ -1,17 +1,18 @@
 -- Commands that change an office: what they make of its tables, and what a stop leaves.
-use Rattle.std.specs.Prelude.{◌≡◌, ◌⊎◌, ℕ, List, [], ◌∷◌, Result, Ok, Err}
+use Rattle.std.specs.Prelude.{◌≡◌, ◌⊎◌, ℕ, List, Result, Ok, Err}
 use Rattle.cabinet_core.specs.declared.command.RecordCommand.{RecordCommand}
 use Rattle.office_desk.specs.Answers.{AnswersAny, StandsAfterStep}
+use Rattle.office_desk.specs.Damage.{MeetsDamage}
 use Rattle.office_desk.specs.Running.{MakesTables, TellsTables}
 use Rattle.office_files.specs.Records.{commands_of}
 use Rattle.office_machine.specs.declared.command.Command.{Command}
 use Rattle.office_machine.specs.declared.command.Command.TheVariants as command
+use Rattle.office_machine.specs.declared.refusal.Refusal.TheVariants.{Damaged}
 use Rattle.office_machine.specs.declared.reply.Reply.{Reply}
 use Rattle.office_machine.specs.declared.reply.Reply.TheVariants as reply
 use Rattle.office_tables_shelf.specs.Content.{Content}
 use Rattle.office_tables_shelf.specs.declared.shelf.Shelf.{Ghosts}
-use Rattle.signal_office_commands.specs.InTurn.{RunsInTurn}
-use Rattle.signal_office_commands.specs.Refused.{IsUnread}
+use Rattle.signal_office_commands.specs.Refused.{IsUnread, fault_of}
 use Rattle.signal_office_faults.specs.declared.fault.Fault.{Fault}
 use Rattle.signal_office_faults.specs.declared.fault.Fault.TheVariants as told
 
@@ -28,22 +29,25 @@ pub record ChangesShelf {S : Type 0} (g : Ghosts S) (old new : S) (Made After : 
   pub makes : MakesTables g old new Made
   pub stop : StopLeaves g old new After
 
--- tables after the own step of one of the commands, whether or not it was answered; the commands before that one were answered in turn
-abbrev pub AfterOneOf : List Command → Content → Content → Type 0
-AfterOneOf [] old found = ⊥
-AfterOneOf (asked ∷ more) old found =
-    StandsAfterStep old asked found
-    ⊎ ((given : Reply) × (middle : Content) × AnswersAny old asked given middle × AfterOneOf more middle found)
-
 -- tables after the own step of a command, whether or not it was answered
 abbrev pub AfterStep : Command → Content → Content → Type 0
 AfterStep asked old found = StandsAfterStep old asked found
 
 -- ---- one command
 
+-- The office answered a command, whichever sound office the tables stood for. Damaged is replied only where a row that the command reads is no record.
+pub record Answered (old : Content) (asked : Command) (given : Reply) (new : Content) : Type 0 where
+  pub step : AnswersAny old asked given new
+  pub damaged : given ≡ reply.Refused Damaged → MeetsDamage old asked
+
+-- a reply that is taken as it is, or the fault of a refusal
+abbrev pub accept_reply : Reply → Result Reply Fault
+accept_reply (reply.Refused why) = Err (fault_of why)
+accept_reply other = Ok other
+
 -- A command was run, and this is its reply, or the fault for which it was refused.
 abbrev pub RunsCommand : Command → Content → Content → Result Reply Fault → Type 0
-RunsCommand asked old new result = RunsInTurn reply.Same (asked ∷ []) old new result
+RunsCommand asked old new result = (given : Reply) × Answered old asked given new × (result ≡ accept_reply given)
 
 -- A CHANGE of one command: it was run; or memory was refused before it, and nothing was changed.
 abbrev pub Changes : Command → Content → Content → Result Reply Fault → Type 0

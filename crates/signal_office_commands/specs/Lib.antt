@@ -1,7 +1,4 @@
 pub mod Refused
-pub mod InTurn
 pub mod Changing
-pub mod Standing
-pub mod Revising
-pub mod Replacing
+pub mod Editing
 pub mod Days

@@ -1,10 +1,11 @@
 //! Commands that change an office: an intersection is added, records are imported, a draft is
 //! dropped. Each gives what the office replied, or the fault of a refusal.
 
-ghost use Rattle.signal_office_commands.specs.Changing.{AfterImporting, AfterStep, Changes, ChangesShelf, Imports, RunsCommand};
+ghost use Rattle.std.specs.Prelude.{◌≡◌};
+ghost use Rattle.signal_office_commands.specs.Changing.{AfterImporting, AfterStep, Changes, ChangesShelf, Imports, RunsCommand, accept_reply};
 
-use crate::in_turn::run_in_turn;
 use crate::reading::records_in;
+use crate::refused::fault_of;
 use office_desk::office::Office;
 use office_machine::command::Command;
 use office_machine::records::Records;
@@ -15,12 +16,23 @@ use signal_office_line::Name;
 use signal_records::{InterId, Interval};
 use std::alloc::Global;
 
+/// Takes a reply as it is, but of a refusal the fault.
+fn accept_reply(reply: Reply) -> Result<Reply, Fault>
+    ensures { result ≡ accept_reply reply }
+{
+    match reply {
+        Reply::Refused(why) => Err(fault_of(why)),
+        reply => Ok(reply),
+    }
+}
+
 /// Runs a command, and gives its reply, or the fault for which it is refused.
 fn change<S: Shelf>(alloc: Global, office: &mut Office<S>, command: Command) -> Result<Reply, Fault>
     ensures { ChangesShelf S.Shelf office.old office.new
         (λ old new. RunsCommand command old new result) (AfterStep command) }
 {
-    run_in_turn(alloc, office, &[command], Reply::Same)
+    let reply = office.run(alloc, &command);
+    accept_reply(reply)
 }
 
 /// Adds an intersection. One that is there stays: if its name and interval are these the reply is

@@ -1,19 +1,137 @@
 //! An edit of a plan by a CSV file.
 
+ghost use Rattle.std.specs.Prelude.{◌≡◌, IfErr, IfOk};
+ghost use Rattle.office_desk.specs.Asks.{OnlyLooks};
+ghost use Rattle.office_files.specs.Changes.{changes_of};
 ghost use Rattle.signal_office_commands.specs.Changing.{ChangesShelf};
-ghost use Rattle.signal_office_commands.specs.Revising.{AfterRevising, Edits};
+ghost use Rattle.signal_office_commands.specs.Editing.{AfterEditing, AsksFor, Edits, RevisesPlan, ShowsRunning, TellsEdit, TellsMove, open_draft};
+ghost use Rattle.signal_office_commands.specs.Refused.{IsUnread};
 
 use crate::explained::refused_edit;
-use crate::revising::{Revised, revise_plan};
+use crate::reading::changes_in;
+use crate::refused::fault_of;
+use draft_core::changes::Changes;
+use draft_core::state::DbState;
+use office_desk::PlanEdit;
 use office_desk::office::Office;
+use office_machine::refusal::Refusal;
+use office_machine::reply::{OpenDraft, Reply, RunningTiming};
 use office_tables_shelf::shelf::Shelf;
 use signal_office_faults::Fault;
 use signal_office_line::Edit;
 use std::alloc::Global;
 
-/// Edits the draft of an intersection by a plan's CSV file, whose records begin on these lines, and
-/// commits it if that is asked for and it breaks no rule; gives what became of the draft, or why
-/// the edit is refused.
+/// What became of a plan that was edited.
+#[derive(Drop)]
+pub enum Revised {
+    /// The plan is the committed set, and nobody holds a draft: nothing was changed.
+    Same,
+    /// The draft stays open: no commit was asked for, or it breaks a rule.
+    Open(OpenDraft),
+    /// The plan was committed. With `advise` the set that runs now; without, or where that read was
+    /// refused, none.
+    Committed(Option<RunningTiming>),
+}
+
+/// The edit that a plan's CSV file asks for.
+fn plan_edit(alloc: Global, edit: &Edit<'_>, csv: &[u8]) -> Result<PlanEdit, Fault>
+    ensures asked { IfOk result (AsksFor csv.now edit.now) }
+    ensures unread { IfErr result (IsUnread (changes_of csv.now)) }
+{
+    let changes = Changes::new(changes_in(alloc, csv)?);
+    Ok(PlanEdit {
+        changes,
+        replaces: edit.replace,
+        commits: edit.commit,
+    })
+}
+
+/// The set that runs after a commit, if its warnings are asked for; none where the read is refused.
+fn read_running<S: Shelf>(
+    alloc: Global,
+    office: &mut Office<S>,
+    edit: &Edit<'_>,
+) -> Option<RunningTiming>
+    ensures { OnlyLooks S.Shelf office.old office.new
+        (λ tables. ShowsRunning tables edit.now.id result) }
+{
+    if !edit.advise {
+        return None;
+    }
+    match office.timing(alloc, edit.id) {
+        Ok(timing) => Some(timing),
+        Err(_) => None,
+    }
+}
+
+/// The draft that was left open, or the fault of its read.
+fn open_draft(read: Result<OpenDraft, Refusal>) -> Result<Revised, Fault>
+    ensures { result ≡ open_draft read }
+{
+    match read {
+        Ok(draft) => Ok(Revised::Open(draft)),
+        Err(why) => Err(fault_of(why)),
+    }
+}
+
+/// What became of a plan whose transaction went on to this state; or the fault of the read of a
+/// draft that was left open.
+fn read_moved<S: Shelf>(
+    alloc: Global,
+    office: &mut Office<S>,
+    edit: &Edit<'_>,
+    state: DbState,
+) -> Result<Revised, Fault>
+    ensures { OnlyLooks S.Shelf office.old office.new
+        (λ tables. TellsMove edit.now.id state tables result) }
+{
+    match state {
+        DbState::Normal => Ok(Revised::Committed(read_running(alloc, office, edit))),
+        DbState::Transaction | DbState::Verify | DbState::Done => {
+            open_draft(office.draft(alloc, edit.id))
+        }
+    }
+}
+
+/// What became of a plan, by the reply to its edit; or the fault of a refusal, or of the read of a
+/// draft that was left open.
+fn revised_by<S: Shelf>(
+    alloc: Global,
+    office: &mut Office<S>,
+    edit: &Edit<'_>,
+    reply: &Reply,
+) -> Result<Revised, Fault>
+    ensures { OnlyLooks S.Shelf office.old office.new
+        (λ tables. TellsEdit edit.now.id reply.now tables result) }
+{
+    match *reply {
+        Reply::Same => Ok(Revised::Same),
+        Reply::Moved { state, .. } => read_moved(alloc, office, edit, state),
+        Reply::Refused(why) => Err(fault_of(why)),
+        _ => Err(Fault::Store),
+    }
+}
+
+/// Revises a plan as its CSV file asks, and tells what became of it, or the fault.
+fn revise_plan<S: Shelf>(
+    alloc: Global,
+    office: &mut Office<S>,
+    edit: &Edit<'_>,
+    csv: &[u8],
+) -> Result<Revised, Fault>
+    ensures { ChangesShelf S.Shelf office.old office.new
+        (λ old new. RevisesPlan csv.now edit.now old new result) (AfterEditing csv.now edit.now) }
+{
+    let asked = plan_edit(alloc, edit, csv)?;
+    let clerk = edit.clerk.to_words(alloc)?;
+    let reply = office.revise(alloc, edit.id, &clerk, &asked);
+    revised_by(alloc, office, edit, &reply)
+}
+
+/// Edits an intersection's plan by a CSV file, whose records begin on these lines, in one step of
+/// the office: the draft of the clerk is begun or opened again, and changed, and committed where
+/// that is asked for and it breaks no rule. A fault tells why the edit is refused, and then nothing
+/// was changed; but where the draft that was left open can't be read, it is the fault of that.
 pub fn edit<S: Shelf>(
     alloc: Global,
     office: &mut Office<S>,
@@ -22,7 +140,7 @@ pub fn edit<S: Shelf>(
     lines: &[usize],
 ) -> Result<Revised, Fault>
     ensures { ChangesShelf S.Shelf office.old office.new
-        (λ old new. Edits csv.now edit.now old new result) (AfterRevising csv.now edit.now) }
+        (λ old new. Edits csv.now edit.now old new result) (AfterEditing csv.now edit.now) }
 {
     match revise_plan(alloc, office, edit, csv) {
         Ok(revised) => Ok(revised),

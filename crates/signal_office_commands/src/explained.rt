@@ -2,6 +2,7 @@
 //! draft that another clerk owns also that clerk.
 #![tactic(auto, using(office_desk::proofs::Looks::keeps, office_desk::proofs::Looks::keeps_none))]
 
+ghost use Rattle.std.specs.Prelude.{◌≡◌, false};
 ghost use Rattle.office_desk.specs.Asks.{KeepsOffice};
 
 use crate::refused::fault_of;
@@ -72,7 +73,8 @@ pub(crate) fn refused_edit<S: Shelf>(
     lines: &[usize],
     why: Fault,
 ) -> Fault
-    ensures { KeepsOffice S.Shelf office.old office.new }
+    ensures looks { KeepsOffice S.Shelf office.old office.new }
+    ensures plain { edit.now.explain ≡ false → result ≡ why }
 {
     if !edit.explain {
         return why;

@@ -4,12 +4,12 @@
 ghost use Rattle.office_desk.specs.Asks.{KeepsOffice};
 
 use crate::refused::fault_of;
-use crate::standing::held_rows;
+use draft_core::refusal::DraftRefusal;
 use draft_core::state::DbState;
 use office_desk::office::Office;
 use office_machine::intersections::ListedIntersection;
 use office_machine::refusal::Refusal;
-use office_machine::reply::IntersectionState;
+use office_machine::reply::{IntersectionState, OpenDraft};
 use office_tables_shelf::shelf::Shelf;
 use signal_office_faults::Fault;
 use signal_records::TimingSet;
@@ -31,6 +31,16 @@ pub(crate) fn read_intersections<S: Shelf>(
     ensures { KeepsOffice S.Shelf office.old office.new }
 {
     or_fault(office.intersections(alloc))
+}
+
+/// The rows of a draft that was read; `None` where nobody holds one; or the fault of a refused
+/// read.
+fn held_rows(read: Result<OpenDraft, Refusal>) -> Result<Option<TimingSet>, Fault> {
+    match read {
+        Ok(draft) => Ok(Some(draft.rows)),
+        Err(Refusal::Draft(DraftRefusal::NotTransaction)) => Ok(None),
+        Err(why) => Err(fault_of(why)),
+    }
 }
 
 /// The rows of the draft of an intersection, where a clerk holds one. No draft is read where the

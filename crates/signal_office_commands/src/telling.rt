@@ -1,9 +1,9 @@
 //! What is printed of a change, once it was made.
 
+use crate::editing::Revised;
 use crate::remarks::{advice_text, checked_status, remarks_text};
-use crate::revising::Revised;
 use arrayvec::ArrayString;
-use office_machine::reply::{OpenDraft, Reply};
+use office_machine::reply::{OpenDraft, Reply, RunningTiming};
 use signal_office_faults::{Done, Fault, LINE_ROOM};
 use signal_office_line::Edit;
 use signal_records::{NoMemory, TimingSet};
@@ -67,23 +67,24 @@ fn committed_text(alloc: Global, plan: &TimingSet) -> Result<Vec<u8>, NoMemory> 
     Ok(text)
 }
 
-/// Tells that a draft was committed, with its warnings if those are asked for; or, if memory for
-/// these is refused, that they could not be read.
-fn tell_committed(alloc: Global, plan: &TimingSet, advise: bool) -> Done {
-    if !advise {
-        return Done::telling("no violations\ncommitted\n");
-    }
-    match committed_text(alloc, plan) {
+/// Tells of a commit whose warnings are asked for: with them; or, if the set that runs could not be
+/// read, or memory for them is refused, that they could not be read.
+fn tell_advised(alloc: Global, running: &Option<RunningTiming>) -> Done {
+    let Some(timing) = running else {
+        return Done::telling(UNREAD_WARNINGS);
+    };
+    match committed_text(alloc, &timing.rows) {
         Ok(text) => Done::with(text),
         Err(_) => Done::telling(UNREAD_WARNINGS),
     }
 }
 
-/// Tells what became of a draft. Only of one that stays open may it fail, for want of memory.
+/// Tells what became of a plan. Only of a draft that stays open may it fail, for want of memory.
 pub fn tell_revised(alloc: Global, edit: &Edit<'_>, revised: &Revised) -> Result<Done, Fault> {
     match revised {
         Revised::Same => Ok(Done::telling("no changes\n")),
         Revised::Open(draft) => tell_open(alloc, edit, draft),
-        Revised::Committed(draft) => Ok(tell_committed(alloc, &draft.rows, edit.advise)),
+        Revised::Committed(running) if edit.advise => Ok(tell_advised(alloc, running)),
+        Revised::Committed(_) => Ok(Done::telling("no violations\ncommitted\n")),
     }
 }

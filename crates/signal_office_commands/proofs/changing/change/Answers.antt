@@ -1,6 +1,5 @@
-use Rattle.std.proofs.Common.{inl, inr}
-use Rattle.signal_office_commands.proofs.ChangingLemmas.{changes_weaker}
+use Rattle.signal_office_commands.proofs.ChangingLemmas.{runs_command}
 use Rattle.signal_office_commands.proofs.changing.change.Goals as goal
 
 pub returns : goal.returns
-returns g c = changes_weaker c.run_in_turn.ensures (λ tables made runs. runs) (λ tables found after. elim after [ inl step ↦ step | inr later ↦ absurd later.3 ])
+returns g c = runs_command c.args.command _ _ c.accept_reply.ensures c.run-reply.ensures.ran
