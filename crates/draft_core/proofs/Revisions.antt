@@ -14,7 +14,7 @@ use Rattle.draft_core.specs.Moves.{draft_writes, next_holder, state_after, timin
 use Rattle.draft_core.specs.declared.timing.Reach.TheVariants as reach
 use Rattle.draft_core.specs.declared.step.Step.TheVariants as step
 use Rattle.draft_core.specs.declared.refusal.DraftRefusal.TheVariants.{NotOwner}
-use Rattle.draft_core.specs.Revising.{WritesRows, and_then, base_of, committing, lines_of, reopening, revision_steps, take_up, taking_up}
+use Rattle.draft_core.specs.Revising.{WritesRows, and_then, base_of, committing, lines_of, opening_steps, revision_steps, take_up, taking_up}
 use Rattle.draft_core.specs.Transaction.{TimingSide, Draft, committed_with, holder_of}
 
 -- nothing comes after the last step
@@ -47,7 +47,7 @@ module _ (revision : ℕ) (committed : Rows) (owner clerk : List ℕ) where
 
     -- in whichever stage the clerk's draft is, the edit is made to it
     edit_lines : (stage : Stage) (set : Rows) (edits : List Change) (more : List Step)
-        → lines_of clerk (reopening stage ++ step.Edit edits ∷ more) (with_set stage set)
+        → lines_of clerk (opening_steps stage ++ step.Edit edits ∷ more) (with_set stage set)
         ≡ lines_of clerk more (with_set Transaction (after_changes set edits))
     edit_lines Transaction set edits more =
         passes (Ok (with_set Transaction (after_changes set edits))) more

@@ -37,15 +37,15 @@ abbrev pub base_of : TimingSide → Rows
 base_of side = base_from side.committed side.draft
 
 -- a draft that was handed over is checked, and one that was checked is opened again
-abbrev pub reopening : Stage → List Step
-reopening Transaction = []
-reopening Verify = step.Check ∷ step.Reopen ∷ []
-reopening Done = step.Reopen ∷ []
+abbrev pub opening_steps : Stage → List Step
+opening_steps Transaction = []
+opening_steps Verify = step.Check ∷ step.Reopen ∷ []
+opening_steps Done = step.Reopen ∷ []
 
 -- a draft is begun where nobody owns one, else the one that is there is opened
 abbrev pub taking_up : Option Draft → List Step
 taking_up None = step.Begin ∷ []
-taking_up (Some draft) = reopening draft.stage
+taking_up (Some draft) = opening_steps draft.stage
 
 -- a draft is handed over, checked and committed, where that is asked for and it breaks no rule
 abbrev pub committing : (commit : Bool) → List Violation → List Step

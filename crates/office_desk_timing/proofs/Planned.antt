@@ -18,7 +18,7 @@ use Rattle.draft_core.specs.declared.timing.Reach.TheVariants as reach
 use Rattle.draft_core.specs.declared.timing.Timing.{Timing}
 use Rattle.draft_core.proofs.Overlaid.{draft_is, get-after_changes}
 use Rattle.office_desk_timing.specs.Planning.{AreChangesTo, PlansChanges, asks_nothing, base_read}
-use Rattle.office_desk_timing.specs.Revising.{IsIdle, plan_asked, plan_from}
+use Rattle.office_desk_timing.specs.Revising.{IsCommittedAlready, plan_asked, plan_from}
 use Rattle.office_desk_timing.specs.declared.revising.PlanChanges.{PlanChanges}
 use Rattle.office_desk_timing.specs.declared.revising.PlanEdit.{PlanEdit}
 
@@ -126,13 +126,13 @@ module _ {timing : Timing} {rows : RowsByKey} {side : TimingSide}
     settled_told = subst₂ (λ first second. AreTold first second plans.settled.found)
         stands.read.1 plan_is plans.settled.told
 
-    pub idle_asks_nothing : IsIdle edit side → asks_nothing timing planned ≡ true
+    pub idle_asks_nothing : IsCommittedAlready edit side → asks_nothing timing planned ≡ true
     idle_asks_nothing idle = nothing_asked timing.holder planned.settled.items
         (stands.same_holder ∙ ap (option_map holder_of) idle.free)
         (plans.settled.are ∙ ap difference_changes
         (none_told side.committed (plan_asked edit side) plans.settled.found settled_told idle.same))
 
-    pub nothing_is_idle : asks_nothing timing planned ≡ true → IsIdle edit side
+    pub nothing_is_idle : asks_nothing timing planned ≡ true → IsCommittedAlready edit side
     nothing_is_idle nothing =
         let none = is_nothing timing.holder planned.settled.items nothing in
         record {

@@ -36,7 +36,7 @@ use Rattle.office_tables_shelf.specs.declared.shelf.ShelfFault.TheVariants as fa
 use Rattle.office_desk_timing.specs.{Moving.WritesDecision, declared.reading.Found.Found, declared.revising.PlanChanges.PlanChanges, declared.revising.PlanEdit.PlanEdit}
 use Rattle.office_desk_timing.specs.Planning.{PlansChanges, WritesRevision, asks_nothing}
 use Rattle.office_desk_timing.specs.Reading.{Finds, FindsAny, FoundStands, ListsFound, drafts_at}
-use Rattle.office_desk_timing.specs.Revising.{AnswersAnyEdit, AnswersEdit, DecidesEdit, EditWrites, EditsOffice, IsEditDecision, IsIdle, IsMoved, WritesForEdit, plan_asked}
+use Rattle.office_desk_timing.specs.Revising.{AnswersAnyEdit, AnswersEdit, DecidesEdit, EditWrites, EditsOffice, IsEditDecision, IsCommittedAlready, IsMoved, WritesForEdit, plan_asked}
 use Rattle.office_desk_timing.proofs.{AddedRows.move_news, Keeps.side_sound, Keeps.sound_intersection, Stands.sound_with, Moved.move_stands, Moved.with_timing_side, Shown.found_none, Shown.sound_there}
 use Rattle.office_desk_timing.proofs.Planned.{changes_counted, changes_in_order, edits_make, edits_told, idle_asks_nothing, nothing_is_idle, settled_make, settled_told}
 use Rattle.office_desk_timing.proofs.Transactions.{draft_written, listed_many, none_written, not_damaged, rows_of_move, timing_written}
@@ -122,7 +122,7 @@ module _ (tables : Content) (id : ℕ) (clerk : List ℕ) (edit : PlanEdit) (fou
         let made : next.committed ≡ plan_asked edit side =
         ap (base_from next.committed) (sym left)
         ∙ revising_makes side planned.edits edit.commits clerk next line ∙ edits_make stands plans in
-        let idle : IsIdle edit side = record { free = free; same = sym made ∙ still } in
+        let idle : IsCommittedAlready edit side = record { free = free; same = sym made ∙ still } in
         true≢false (sym (idle_asks_nothing stands plans idle) ∙ busy)
 
     settles_there : next.draft ≡ None → WritesIn state.Normal

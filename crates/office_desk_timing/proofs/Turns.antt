@@ -8,7 +8,7 @@ use Rattle.signal_records.specs.declared.state.Stage.TheVariants.{Transaction, V
 use Rattle.signal_rules.specs.declared.violation.Violation.{Violation}
 use Rattle.signal_rules.specs.Violations.{violations_of}
 use Rattle.signal_values.specs.Words.{AreWords}
-use Rattle.draft_core.specs.Revising.{and_then, base_from, base_of, committing, lines_of, reopening, revision_steps, taking_up}
+use Rattle.draft_core.specs.Revising.{and_then, base_from, base_of, committing, lines_of, opening_steps, revision_steps, taking_up}
 use Rattle.draft_core.specs.{Steps.asked_changes, Transaction.Draft, Transaction.TimingSide, Transaction.begun_from, Transaction.holder_of, Transaction.owned, Transaction.table_line, Transaction.with_draft, Within.AreChangesWithin}
 use Rattle.draft_core.specs.declared.{refusal.DraftRefusal.DraftRefusal, step.Step.Step}
 use Rattle.draft_core.specs.declared.refusal.DraftRefusal.TheVariants.{NotNormal}
@@ -148,7 +148,7 @@ lines_keep (step ∷ steps) clerk side last words within sound is =
 
 module _ (P : Step → Type 0) (check : P step.Check) (reopen : P step.Reopen) where
   reopening_all : (stage : Stage) (steps : List Step) → AllByRecursion P steps
-      → AllByRecursion P (reopening stage ++ steps)
+      → AllByRecursion P (opening_steps stage ++ steps)
   reopening_all Transaction steps all = all
   reopening_all Verify steps all = (check, (reopen, all))
   reopening_all Done steps all = (reopen, all)
@@ -227,7 +227,7 @@ lines_base (step ∷ steps) clerk side last kept is =
     ∙ ap (rows_after steps) (line_base step clerk side first.next kept.0 first.line)
 
 reopened_rows : (stage : Stage) (steps : List Step) (rows : Rows)
-    → rows_after (reopening stage ++ steps) rows ≡ rows_after steps rows
+    → rows_after (opening_steps stage ++ steps) rows ≡ rows_after steps rows
 reopened_rows Transaction steps rows = refl
 reopened_rows Verify steps rows = refl
 reopened_rows Done steps rows = refl

@@ -68,15 +68,15 @@ pub record AreEdits (edit : PlanEdit) (side : TimingSide) (edits : List Change) 
   pub make : after_changes (base_of side) edits ≡ plan_asked edit side
 
 -- nothing is to be done: the plan is the committed set, and nobody owns a draft
-pub record IsIdle (edit : PlanEdit) (side : TimingSide) : Type 0 where
+pub record IsCommittedAlready (edit : PlanEdit) (side : TimingSide) : Type 0 where
   pub free : side.draft ≡ None
   pub same : plan_asked edit side ≡ side.committed
 
 -- THE STEPS OF AN EDIT: none where nothing is to be done, else those of a revision by edits that make the plan
 abbrev pub AreStepsOf : PlanEdit → TimingSide → List Step → Type 0
 AreStepsOf edit side steps =
-    (IsIdle edit side × (steps ≡ []))
-    ⊎ ((IsIdle edit side → ⊥) × (edits : List Change) × AreEdits edit side edits × (steps ≡ revision_steps side edits edit.commits))
+    (IsCommittedAlready edit side × (steps ≡ []))
+    ⊎ ((IsCommittedAlready edit side → ⊥) × (edits : List Change) × AreEdits edit side edits × (steps ≡ revision_steps side edits edit.commits))
 
 -- AN EDIT, of an intersection that is there or not: the reply and the next office are those of its steps, as commands of the clerk, all or none
 abbrev pub EditsOffice : Office → ℕ → (clerk : List ℕ) → PlanEdit → Option Intersection → Reply → Office → Type 0
