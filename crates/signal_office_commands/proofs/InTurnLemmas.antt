@@ -31,7 +31,7 @@ module _ {S : Type 0} {g : Ghosts S} where
       makes = λ clean tables held.
           let ends = ran.step.ends clean tables held in (
             ends.0,
-            record { step = ends.1; damaged = λ told. ran.step.damaged told clean tables held; turned_away = ran.step.turned_away clean tables held },
+            record { step = ends.1; damaged = λ told. ran.step.damaged told clean tables held },
             ends.2,
           );
       stop = λ clean tables held found may. elim (ran.stop.crash found may) [

@@ -2,7 +2,7 @@
 use Rattle.std.specs.Prelude.{◌≡◌, Bool, true, false, if◌then◌else◌, List, [], ◌∷◌, MatchResult, Result, Ok, Err}
 use Rattle.draft_core.specs.declared.refusal.DraftRefusal.TheVariants.{NotNormal, NotVerify, NotDone}
 use Rattle.office_desk.specs.Answers.{AnswersAny}
-use Rattle.office_desk.specs.Damage.{IsTurnedAway, MeetsDamage}
+use Rattle.office_desk.specs.Damage.{MeetsDamage}
 use Rattle.office_machine.specs.declared.command.Command.{Command}
 use Rattle.office_machine.specs.declared.command.Command.TheVariants as command
 use Rattle.office_machine.specs.declared.refusal.Refusal.{Refusal}
@@ -13,12 +13,10 @@ use Rattle.office_tables_shelf.specs.Content.{Content}
 use Rattle.signal_office_faults.specs.declared.fault.Fault.{Fault}
 use Rattle.signal_office_commands.specs.Refused.{fault_of}
 
--- The office answered one command, whichever sound office the tables stood for. Damaged is replied only where a row that the command reads is no record, and where one
--- is, the command is refused.
+-- The office answered one command, whichever sound office the tables stood for. Damaged is replied only where a row that the command reads is no record.
 pub record Answered (old : Content) (asked : Command) (given : Reply) (new : Content) : Type 0 where
   pub step : AnswersAny old asked given new
   pub damaged : given ≡ reply.Refused refusal.Damaged → MeetsDamage old asked
-  pub turned_away : MeetsDamage old asked → IsTurnedAway asked given
 
 infixl 10 ◌>>=◌
 -- what comes next, where a step gave a value; else its fault
