@@ -1,24 +1,23 @@
 -- The records of an import, one after the other.
-use Rattle.std.proofs.Common.{◌≡◌, ◌+◌, ◌++◌, ◌≤◌, ◌<◌, ◌≢◌, ℕ, Bool, true, false, List, [], ◌∷◌, Option, Some, None, Result, length, drop, take, get_or, zero, suc, refl, ap, sym, subst, ◌∙◌, inl, inr, arith}
-use Rattle.std.proofs.{Math.Seq.drop-cons, lemmas.List.drop_all, lemmas.List.take_all, lemmas.List.take_more}
+use Rattle.std.proofs.Common.{◌≡◌, ◌+◌, ◌≤◌, ◌<◌, ◌≢◌, ℕ, Bool, true, false, List, [], ◌∷◌, Option, Some, None, Result, length, drop, get_or, zero, suc, refl, ap, sym, subst, ◌∙◌, inl, inr, arith}
+use Rattle.std.proofs.{Math.Seq.drop-cons, lemmas.List.drop_all}
 use Rattle.std.specs.Prelude.{◌⊎◌}
 use Rattle.cabinet_core.specs.{Cabinet.Line, Cabinet.added as added_line, Cabinet.same as same_line, Cabinet.refused as refused_line, Register.Register, Step.line_at, Step.with_record, declared.command.RecordCommand.RecordCommand}
 use Rattle.office_tables_shelf.specs.{Change.AddNew, Change.changed_by, Content.Content, Counts.writes_in, Shelf.IsTold}
 use Rattle.office_tables_shelf.proofs.KeptLemmas.{kept_on}
 use Rattle.office_tables_decisions.proofs.ReadLemmas.{HasRead}
 use Rattle.office_tables_shelf.specs.declared.{shelf.Shelf.Ghosts, shelf.ShelfFault.ShelfFault, rows.RowChange.RowChange, rows.Table.Table}
-use Rattle.office_tables_decisions.specs.{Reads.OnlyReads, RegisterDamage.KeepsDamage, RegisterDamage.MeetsRecordDamage, RecordBounds.most_record_writes, declared.decided.Decided.Decided}
-use Rattle.office_desk_cabinet.proofs.{KeptDamage.kept_after, KeptDamage.meets_still, KeptDamage.nothing_kept, News.news_after, News.tells_new}
-use Rattle.office_desk.specs.Importing.{ImportsAny, LeavesAnyTiming, TakesInTurn, TakesLine, TakesWhole, goes_on, register_with, taken_by}
-use Rattle.office_desk.specs.{Answers.AnswersAny, Changes.most_import_writes, Damage.MeetsCabinetDamage, Damage.MeetsImportDamage, Deciding.IsDecision, Recording.TellsAbout, StandFor.StandForSound, Named.number_of, Blaming.AreTaken, Blaming.IsFirstRefused, Blaming.IsTakenAfter, declared.importing.Taken.Taken}
+use Rattle.office_tables_decisions.specs.{Reads.OnlyReads, RecordBounds.most_record_writes, declared.decided.Decided.Decided}
+use Rattle.office_desk.specs.Importing.{ImportsAny, LeavesAnyTiming, TakesInTurn, goes_on, register_with, taken_by}
+use Rattle.office_desk.specs.{Answers.AnswersAny, Changes.most_import_writes, Damage.MeetsCabinetDamage, Damage.MeetsImportDamage, Deciding.IsDecision, StandFor.StandForSound, declared.importing.Taken.Taken}
 use Rattle.office_machine.specs.Step.{answered, cabinet_of, import_by, import_from, import_step, is_known}
 use Rattle.office_machine.specs.{Office.Office, Refusal.line_of}
 use Rattle.office_machine.specs.declared.{refusal.Refusal.Refusal, refusal.Refusal.TheVariants.ImportRow}
 use Rattle.office_machine.specs.declared.reply.Reply.TheVariants.{Imported, Refused}
 use Rattle.office_machine.specs.declared.command.Command.TheVariants as command
 use Rattle.office_desk.specs.declared.importing.Taken.TheVariants as taken
-use Rattle.office_desk.proofs.{Recorded.gone_whole, Recorded.record_whole, Recorded.register_of, Recorded.stands_after, Blames.WentOn, Blames.none_met, Blames.taken_next, Writes.import_writes}
-use Rattle.office_tables_decisions.proofs.Decisions.{accepted_decides, idle_decides, refuses_so}
+use Rattle.office_desk.proofs.{Recorded.register_of, Recorded.stands_after, Writes.import_writes}
+use Rattle.office_tables_decisions.proofs.Decisions.{accepted_decides, refuses_so, told_decides}
 
 -- ---- the records that are left
 
@@ -26,13 +25,11 @@ use Rattle.office_tables_decisions.proofs.Decisions.{accepted_decides, idle_deci
 pub record IsNext (all : List RecordCommand) (index : ℕ) (c : RecordCommand) : Type 0 where
   pub low : index < length all
   pub left : drop index all ≡ c ∷ drop (index + 1) all
-  pub further : take (index + 1) all ≡ take index all ++ c ∷ []
 
 pub is_next : {list all : List RecordCommand} (index : ℕ) (c : RecordCommand) → list ≡ all → index < length list → c ≡ get_or list index c → IsNext all index c
 is_next {list = list} index c same low at = subst (λ (all : List RecordCommand). IsNext all index c) same (record {
   low = low;
   left = let next : suc index ≡ index + 1 = omega arith in drop-cons list index c low ∙ (λ k. sym at k ∷ drop (next k) list);
-  further = take_more list index c low ∙ ap (λ (x : RecordCommand). take index list ++ x ∷ []) (sym at);
 })
 
 -- damage that one of the last records meets
@@ -67,6 +64,12 @@ known_same : (office : Office) (r : Register) (about : Option ℕ) → is_known 
 known_same office r None = refl
 known_same office r (Some id) = refl
 
+-- how a record was taken, with the counts before it and after it
+abbrev pub WentOn : Taken → (added same added_now same_now : ℕ) → Type 0
+WentOn t added same added_now same_now =
+    ((t ≡ taken.Added) × (added_now ≡ added + 1) × (same_now ≡ same))
+    ⊎ ((t ≡ taken.Same) × (added_now ≡ added) × (same_now ≡ same + 1))
+
 -- how an import goes on after the next record: where that is new, and where it is there
 module _ (all : List RecordCommand) (index added same : ℕ) (c : RecordCommand) (office : Office) (r : Register) where
   abbrev if_new : Result (ℕ × ℕ × Office) Refusal
@@ -100,16 +103,6 @@ pub counted_on : (added same index added_now same_now : ℕ) (t : Taken) → add
     → WentOn t added same added_now same_now → added_now + same_now ≡ index + 1
 counted_on added same index added_now same_now t is (inl new) = let a = new.1 in let b = new.2 in omega (arith, is, a, b)
 counted_on added same index added_now same_now t is (inr old) = let a = old.1 in let b = old.2 in omega (arith, is, a, b)
-
--- ---- damaged rows
-
--- of the rows that it reads as they are stored, too, none is damaged
-pub never_met : (stored : Content) (before : List RowChange) (c : RecordCommand) (after : List RowChange) → KeepsDamage stored (changed_by stored before) → TakesWhole stored before c after → ¬ MeetsCabinetDamage stored c (cabinet_of c)
-never_met stored before c after spared takes = go takes.whole
-  where
-    go : TellsAbout stored (cabinet_of c) false ⊎ (¬ MeetsRecordDamage (changed_by stored before) c) → ¬ MeetsCabinetDamage stored c (cabinet_of c)
-    go (inl gone) = gone_whole stored c (cabinet_of c) gone takes.about
-    go (inr whole) = record_whole stored c (cabinet_of c) takes.about (λ met. whole (meets_still stored (changed_by stored before) c spared met))
 
 -- ---- the ends of the loop
 
@@ -155,16 +148,12 @@ some_read (c ∷ cs) n high some = λ e. let never : ⊥ = omega (arith, high, e
 -- what is known before the next record: those before it were taken, and their rows are pending
 pub record SoFar (stored : Content) (all : List RecordCommand) (index added same : ℕ) (pending : List RowChange) : Type 0 where
   pub imports : ImportsAny stored all (drop index all) (index + 1) added same pending
-  pub spares : KeepsDamage stored (changed_by stored pending)
-  pub whole : ¬ MeetsImportDamage stored (take index all)
-  pub taken : AreTaken stored [] (take index all) pending
+  pub news : AddNew stored pending
 
 pub nothing_yet : (stored : Content) (all : List RecordCommand) → SoFar stored all 0 0 0 []
 nothing_yet stored all = record {
   imports = λ office stands. record { register = office.register; stand = register_of stored office stands; goes = refl };
-  spares = nothing_kept stored;
-  whole = λ damaged. damaged;
-  taken = refl;
+  news = tt;
 }
 
 -- how a record is taken, on tables that are as they were stored
@@ -173,9 +162,6 @@ takes_so {before = before} {after = after} {c = c} {t = t} same takes = subst (�
 
 module _ (stored : Content) (all : List RecordCommand) (index added same : ℕ) (before after : List RowChange) (c : RecordCommand) (t : Taken)
     (so_far : SoFar stored all index added same before) (next : IsNext all index c) (takes : TakesInTurn stored before c t after) where
-  unmet : ¬ MeetsImportDamage stored (take index all ++ c ∷ [])
-  unmet = none_met stored (take index all) c so_far.whole (never_met stored before c after so_far.spares takes.whole)
-
   -- the import of all goes on as this record is taken
   goes_as : (office : Office) (stands : StandForSound stored office) → let r = (so_far.imports office stands).register in
       import_from 1 0 0 office all ≡ goes_on (index + 1) t (if_new all index added same c office r) (if_old all index added same c office r)
@@ -198,22 +184,10 @@ module _ (stored : Content) (all : List RecordCommand) (index added same : ℕ) 
           stand = (takes.step office stands made.register made.stand).stand;
           goes = goes_as office stands ∙ goes_further all index added same c office made.register t added_now same_now went;
         };
-    spares = kept_after stored (changed_by stored before) (changed_by stored after) so_far.spares takes.whole.spares;
-    whole = subst (λ (list : List RecordCommand). ¬ MeetsImportDamage stored list) (sym next.further) unmet;
-    taken = subst (λ (list : List RecordCommand). AreTaken stored [] list after) (sym next.further)
-        (taken_next stored before c t after (take index all) added_now added same_now same went takes.line so_far.taken);
+    news = takes.news so_far.news;
   }
 
-  -- it is the first that is refused
-  pub first_refused : (why : Refusal) → t ≡ taken.Refused why → IsFirstRefused stored (take index all) c (number_of why)
-  first_refused why is = record {
-    pending = before;
-    taken = so_far.taken;
-    refused = subst (λ (t : Taken). TakesLine stored before c t after) is takes.line;
-    whole = unmet;
-  }
-
-  -- and refuses them all
+  -- or is refused, and refuses them all
   pub refused_all : (why : Refusal) (cause : ℕ) (office : Office) → t ≡ taken.Refused why → cause ≡ (line_of why).number → StandForSound stored office
       → answered office (command.Import all) ≡ (Refused (ImportRow (index + 1) cause), office)
   refused_all why cause office is number stands =
@@ -223,19 +197,6 @@ module _ (stored : Content) (all : List RecordCommand) (index added same : ℕ) 
 
 -- ---- the decision
 
--- the rows of the records that were taken are new
-pub taken_new : (stored : Content) (pending : List RowChange) (records : List RecordCommand)
-    (after : List RowChange) → AreTaken stored pending records after → AddNew stored pending
-    → AddNew stored after
-taken_new stored pending [] after is news = subst (AddNew stored) (sym is) news
-taken_new stored pending (c ∷ cs) after is news =
-    taken_new stored (pending ++ is.0) cs after is.2
-    (news_after stored pending is.0 news (told is.1))
-  where
-    told : IsTakenAfter stored pending c is.0 → AddNew (changed_by stored pending) is.0
-    told (inl follows) = tells_new (changed_by stored pending) c added_line is.0 follows.1
-    told (inr follows) = tells_new (changed_by stored pending) c same_line is.0 follows.1
-
 -- every record was taken
 pub import_decides : (is_honest : Type 0) (stored : Content) (all : List RecordCommand) (index added same : ℕ) (pending : List RowChange) (decided : Decided) → length all ≤ index
     → (is_honest → SoFar stored all index added same pending) → LeavesAnyTiming pending → ((table : Table) → writes_in table pending ≤ most_import_writes all table)
@@ -244,13 +205,12 @@ import_decides is_honest stored all index added same pending decided high so_far
     accepted_decides is_honest stored (command.Import all) (Imported added same) pending decided told rows (λ refused. refused) (λ query. query)
     (λ honest. import_done stored all (drop index all) (index + 1) added same pending (drop_all index all high) (so_far honest).imports leaves)
     (λ honest. import_writes stored all pending few)
-    (λ honest. taken_new stored [] (take index all) pending (so_far honest).taken tt)
-    (λ honest. subst (λ (list : List RecordCommand). ¬ MeetsImportDamage stored list) (take_all index all high) (so_far honest).whole)
+    (λ honest. (so_far honest).news)
 
 -- a record was refused
 pub refused_decides : (is_honest : Type 0) (stored : Content) (all : List RecordCommand) (at cause : ℕ) (decided : Decided)
     → (is_honest → (office : Office) → StandForSound stored office → answered office (command.Import all) ≡ (Refused (ImportRow at cause), office))
     → decided.reply ≡ Refused (ImportRow at cause) → decided.changes.items ≡ [] → IsDecision is_honest stored (command.Import all) decided
 refused_decides is_honest stored all at cause decided answers told none =
-    idle_decides is_honest stored (command.Import all) (Refused (ImportRow at cause)) decided told (λ e. cc) (refuses_so (30 ∷ []) (ImportRow at cause) (inl refl)) none
-    (λ honest damaged. (tt, tt)) answers
+    told_decides is_honest stored (command.Import all) (Refused (ImportRow at cause)) decided told (λ e. cc) (refuses_so (30 ∷ []) (ImportRow at cause) (inl refl)) none
+    answers

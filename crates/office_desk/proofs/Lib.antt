@@ -3,7 +3,6 @@ pub use Rattle.office_desk_timing.proofs.IntersectionTable
 pub use Rattle.office_desk_timing.proofs.ListedIntersections
 pub mod Imports
 mod Taking
-pub mod Blames
 pub mod Walks
 pub mod TimingLaw
 pub mod ShownRegister

@@ -1,5 +1,5 @@
 -- What a read of one query gives, from the decision on it; and reads one after another.
-use Rattle.std.proofs.Common.{◌≡◌, ◌⊎◌, ◌∙◌, inl, inr, refl}
+use Rattle.std.proofs.Common.{◌≡◌, ◌⊎◌, ◌∙◌, inl, refl}
 use Rattle.office_desk.specs.{Asks.IsReply, Asks.KeepsOffice, Asks.OnlyLooks, Asks.ReadsOffice, Changes.IsQueryCommand, Deciding.DecidesIdly, Deciding.IsAnswered, Running.HoldsTables}
 use Rattle.office_desk.proofs.Runs.{idle_answers, unavailable_named, unwritten_run, unwritten_step}
 use Rattle.office_machine.specs.declared.command.Command.{Command}
@@ -18,7 +18,6 @@ unavailable_reply tables query = record {
   step = idle_answers tables query (Refused Unavailable) (inl refl);
   named = unavailable_named query;
   damaged = λ told. absurd (let f : Refused Unavailable ≡ Refused Damaged = told in cc);
-  turned_away = λ damage. inl (inr refl);
 }
 
 pub unavailable_read : {S : Type 0} {g : Ghosts S} {old new : S} {query : Command} {reply : Reply} → ReadsOffice g old new query reply → ReadsOffice g old new query (Refused Unavailable)
@@ -38,7 +37,6 @@ decided_read g law query decided old new kept is clean shut asks =
         step = unwritten_step g law query decided old new kept is clean shut none now tables held;
         named = is.named;
         damaged = λ said. run.step.damaged said now tables held;
-        turned_away = run.step.turned_away now tables held;
       };
     }
 

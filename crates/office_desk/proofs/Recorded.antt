@@ -8,12 +8,12 @@ use Rattle.office_tables_shelf.specs.{Cells.Cell, Cells.TableRows, Change.AddNew
 use Rattle.office_tables_shelf.specs.declared.{rows.IntersectionRow.IntersectionRow, rows.RowChange.RowChange}
 use Rattle.office_tables_shelf.specs.RegisterStands.{RegisterStandsSound}
 use Rattle.office_tables_decisions.specs.RecordBounds.{IsNamed, IsOneOf, most_record_writes, refusals_of}
-use Rattle.office_tables_decisions.specs.{RegisterDamage.MeetsRecordDamage, declared.decided.Decided.Decided}
+use Rattle.office_tables_decisions.specs.{Damage.MeetsRecordDamage, declared.decided.Decided.Decided}
 use Rattle.office_desk_cabinet.specs.Registers.{LeavesTiming, RegistersFrom, ShowsCabinet, line_told, rows_told}
 use Rattle.office_desk_cabinet.specs.{Decides.DecidesRecord, declared.registered.Registered.Registered}
 use Rattle.office_desk_cabinet.specs.declared.registered.Registered.TheVariants.{Added, Same, Refused}
 use Rattle.office_desk.specs.Named.{RefusesBy, number_of, numbers_about, numbers_of}
-use Rattle.office_desk.specs.{Answers.Answers, Changes.IsRefused, Damage.MeetsAfter, Damage.MeetsCabinetDamage, Deciding.IsDecision, Recording.HasDamagedAbout, Recording.IsKnownIn, Recording.TellsAbout, Recording.TellsIntersection, StandFor.StandForSound, StandFor.row_of}
+use Rattle.office_desk.specs.{Answers.Answers, Changes.IsRefused, Damage.MeetsCabinetDamage, Deciding.IsDecision, Recording.IsKnownIn, Recording.TellsAbout, Recording.TellsIntersection, StandFor.StandForSound, StandFor.row_of}
 use Rattle.office_machine.specs.Step.{answered, cabinet_of, cabinet_shown, is_known, step_if_known, record_step, recorded_at, refusal_of_record, shown, reply_of}
 use Rattle.office_machine.specs.Office.{Office, Intersection}
 use Rattle.office_machine.specs.declared.{reply.CabinetShown.CabinetShown, refusal.Refusal.Refusal, reply.Reply.Reply}
@@ -104,24 +104,6 @@ pub meets_record : (tables : Content) (c : RecordCommand) (about : Option ℕ) �
 meets_record tables c None there damage = damage
 meets_record tables c (Some id) there damage = inr (sym there, damage)
 
--- of an intersection that is not there nothing more is read
-pub gone_after : (tables : Content) (id : ℕ) (Later : Type 0) → TellsAbout tables (Some id) false
-    → ¬ HasDamagedAbout tables (Some id) → ¬ MeetsAfter tables id Later
-gone_after tables id Later gone row (inl damage) = row damage
-gone_after tables id Later gone row (inr later) =
-    absurd (let f : false ≡ true = gone ∙ later.0 in cc)
-
--- no row that the command reads is no record: the intersection's, and where that is there, those of the register
-pub gone_whole : (tables : Content) (c : RecordCommand) (about : Option ℕ) → TellsAbout tables about false → ¬ HasDamagedAbout tables about → ¬ MeetsCabinetDamage tables c about
-gone_whole tables c None gone row damage = absurd (let f : false ≡ true = gone in cc)
-gone_whole tables c (Some id) gone row damage =
-    gone_after tables id (MeetsRecordDamage tables c) gone row damage
-
-pub record_whole : (tables : Content) (c : RecordCommand) (about : Option ℕ) → ¬ HasDamagedAbout tables about → ¬ MeetsRecordDamage tables c → ¬ MeetsCabinetDamage tables c about
-record_whole tables c None row register damage = register damage
-record_whole tables c (Some id) row register (inl damage) = row damage
-record_whole tables c (Some id) row register (inr later) = register later.1
-
 -- ---- the decision
 
 never_damaged : (why : CabinetRefusal) → reply.Refused (refusal_of_record why) ≢ reply.Refused refusal.Damaged
@@ -168,13 +150,10 @@ pub decides_stored : {honest : Type 0} {seen stored : Content} {pending before :
     → (honest → seen ≡ stored) → pending ≡ before → DecidesRecord honest seen pending c (Ok done) → DecidesRecord honest stored before c (Ok done)
 decides_stored {honest = honest} {stored = stored} {before = before} {c = c} {done = done} same rows decides = record {
   step = λ h. (now h).step h;
-  whole = λ h. (now h).whole h;
-  spares = λ h. (now h).spares h;
   news = λ h. (now h).news h;
   leaves = decides.leaves;
   writes = decides.writes;
   named = decides.named;
-  line = λ h. (now h).line h;
 }
   where
     now : honest → DecidesRecord honest stored before c (Ok done)
@@ -192,7 +171,6 @@ record_decides is_honest tables c done decided decides about is rows = record {
   query = λ query. absurd query;
   named = λ why e. told_named c done decides.named why (sym is ∙ e);
   undamaged = λ e. told_undamaged done (sym is ∙ e);
-  whole = λ honest damaged. absurd (record_whole tables c (cabinet_of c) (about honest).whole (decides.whole honest) damaged);
 }
 
 -- ---- queries

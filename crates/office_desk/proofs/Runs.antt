@@ -10,8 +10,8 @@ use Rattle.office_tables_shelf.specs.declared.shelf.ShelfFault.TheVariants.{Dama
 use Rattle.office_tables_shelf.specs.RegisterStands.{RegisterStandsSound}
 use Rattle.office_desk.specs.Answers.{AnswersAny, Answers, StandsAfterStep}
 use Rattle.office_desk.specs.Deciding.{AddsNothing, DecidesIdly, IsAnswered, IsDecision, IsIdle}
-use Rattle.office_desk.specs.Damage.{HasDamageIn, IsTurnedAway, MeetsAfter, MeetsCabinetDamage, MeetsImportDamage, MeetsDamage}
-use Rattle.office_desk.specs.{Blaming.BlamesRightly, Changes.IsRefused, Changes.most_writes, Running.AreRun, Running.HoldsTables, Running.IsRun, Running.MakesTables, Running.RunsAny, Running.RunsTo, Running.TellsTables, Named.IsNamedFor, Named.RefusesBy, Named.numbers_of, StandFor.StandForSound}
+use Rattle.office_desk.specs.Damage.{HasDamageIn, MeetsAfter, MeetsCabinetDamage, MeetsImportDamage, MeetsDamage}
+use Rattle.office_desk.specs.{Changes.IsRefused, Changes.most_writes, Running.AreRun, Running.HoldsTables, Running.IsRun, Running.MakesTables, Running.RunsAny, Running.RunsTo, Running.TellsTables, Named.IsNamedFor, Named.RefusesBy, Named.numbers_of, StandFor.StandForSound}
 use Rattle.office_desk_timing.specs.Decisions.{refusal_of}
 use Rattle.office_tables_decisions.specs.declared.decided.Decided.{Decided}
 use Rattle.cabinet_core.specs.declared.command.RecordCommand.{RecordCommand}
@@ -22,7 +22,7 @@ use Rattle.office_machine.specs.declared.{command.Command.Command, command.Comma
 use Rattle.office_machine.specs.declared.command.Command.TheVariants as command
 use Rattle.office_machine.specs.declared.refusal.Refusal.TheVariants as refusal
 use Rattle.office_desk_timing.proofs.{IntersectionTable.no_damaged_intersection, Stands.no_damage, Stands.no_damaged_timing}
-use Rattle.office_desk.proofs.{Recorded.register_of, Blames.blames_later, Blames.fault_blames, Blames.unavailable_blames, RegisterLaws.runs_register, Repeats.runs_repeat, Street.keeps_the_street, TimingLaw.runs_timing, Writes.no_rise, Writes.rise_at_most}
+use Rattle.office_desk.proofs.{Recorded.register_of, RegisterLaws.runs_register, Repeats.runs_repeat, Street.keeps_the_street, TimingLaw.runs_timing, Writes.no_rise, Writes.rise_at_most}
 
 -- ---- a decision
 
@@ -51,9 +51,9 @@ module _ (tables : Content) (office : Office) (stands : StandForSound tables off
   no_after id later (inr after) = later after.1
 
   record_refuted : (c : RecordCommand) (about : Option ℕ) → MeetsCabinetDamage tables c about → ⊥
-  record_refuted c None damage = undamaged_record tables office.register c registered damage
+  record_refuted c None damage = undamaged_record tables office.register registered c damage
   record_refuted c (Some id) damage =
-      no_after id (undamaged_record tables office.register c registered) damage
+      no_after id (undamaged_record tables office.register registered c) damage
 
   import_refuted : (records : List RecordCommand) → MeetsImportDamage tables records → ⊥
   import_refuted [] damage = damage
@@ -95,11 +95,6 @@ fault_damaged : (fault : ShelfFault) → Refused (refusal_of fault) ≡ Refused 
 fault_damaged Damaged told = refl
 fault_damaged _ told = absurd (let f : Refused Unavailable ≡ Refused refusal.Damaged = told in cc)
 
--- it refuses the command, and so a row that it could not read
-turned_away : (fault : ShelfFault) (reply : Reply) → reply ≡ Refused (refusal_of fault) → (reply ≡ Refused refusal.Damaged) ⊎ (reply ≡ Refused Unavailable)
-turned_away Damaged reply e = inl e
-turned_away _ reply e = inr e
-
 refused_as : (told why : Refusal) → Refused told ≡ Refused why → why ≡ told
 refused_as told why e = cc
 
@@ -122,17 +117,15 @@ none_or_some [] = inl refl
 none_or_some (x ∷ xs) = inr (λ e. cc)
 
 -- a command that was decided is answered so
-pub decided_answers : (is_honest : Type 0) (tables : Content) (command : Command) (decided : Decided) → IsDecision is_honest tables command decided → BlamesRightly is_honest tables command decided.reply → IsAnswered is_honest tables command decided
-decided_answers is_honest tables command decided is blames = record {
+pub decided_answers : (is_honest : Type 0) (tables : Content) (command : Command) (decided : Decided) → IsDecision is_honest tables command decided → IsAnswered is_honest tables command decided
+decided_answers is_honest tables command decided is = record {
   step = is.step;
   writes = is.writes;
   news = is.news;
   refused = is.refused;
   query = is.query;
   named = named_more command decided.reply is.named;
-  blames = blames;
   damaged = λ told. absurd (is.undamaged told);
-  turned_away = λ honest damaged. inr (is.whole honest damaged);
 }
 
 -- and a fault as its refusal
@@ -145,9 +138,7 @@ fault_is_answered is_honest tables command fault decided meets told none = recor
   refused = λ _. none;
   query = λ _. none;
   named = fault_named command fault decided.reply told;
-  blames = fault_blames is_honest tables command fault decided.reply told;
   damaged = λ said. meets (fault_damaged fault (sym told ∙ said));
-  turned_away = λ honest damaged. inl (turned_away fault decided.reply told);
 }
 
 -- ---- on a clean disk alone
@@ -165,11 +156,6 @@ idle_answers tables command reply idle office stands = record { next = office; s
 idle_says : (command : Command) (reply : Reply) → IsIdle command reply → (why : Refusal) → why ≢ Unavailable → reply ≢ Refused why
 idle_says command reply (inl unavailable) why other said = other (refused_as Unavailable why (sym unavailable ∙ said))
 idle_says command reply (inr nothing) why other said = let f : Imported 0 0 ≡ Refused why = sym nothing.1 ∙ said in cc
-
--- it meets no damaged row: an import of no records reads none
-idle_turned_away : (tables : Content) (command : Command) (reply : Reply) → IsIdle command reply → MeetsDamage tables command → IsTurnedAway command reply
-idle_turned_away tables command reply (inl unavailable) damage = inl (inr unavailable)
-idle_turned_away tables command reply (inr nothing) damage = absurd (subst (MeetsDamage tables) nothing.0 damage)
 
 -- either an import of no records is asked for, or not
 asks_nothing : (command : Command) → (command ≡ Import []) ⊎ (command ≢ Import [])
@@ -208,14 +194,8 @@ answered_clean is_clean is_honest tables command decided shut is = record {
   refused = is.refused;
   query = is.query;
   named = is.named;
-  blames = λ records at cause asked refused.
-      blames_later is_clean is_honest tables command decided.reply (λ clean. ⊎_elim (λ honest. honest)
-      (λ (idle : DecidesIdly command decided). absurd (idle_says command decided.reply idle.idle (refusal.ImportRow at cause) (λ e. cc) refused)) (shut clean))
-      is.blames records at cause asked refused;
   damaged = λ told clean. ⊎_elim (is.damaged told)
       (λ (idle : DecidesIdly command decided). absurd (idle_says command decided.reply idle.idle refusal.Damaged (λ e. cc) told)) (shut clean);
-  turned_away = λ clean damage. ⊎_elim (λ honest. is.turned_away honest damage)
-      (λ (idle : DecidesIdly command decided). idle_turned_away tables command decided.reply idle.idle damage) (shut clean);
 }
 
 -- ---- one command
@@ -255,13 +235,9 @@ module _ {S : Type 0} (g : Ghosts S) (law : (s : S) → g.is_honest s → g.is_c
       shut = λ clean. ⊎_elim inl (λ (idle : DecidesIdly command decided). inr (idle.idle, kept.same_content)) (shut clean);
       refused = λ refused. kept.same_content;
       named = is.named;
-      blames = is.blames;
       damaged = λ said clean tables held. ⊎_elim
           (λ honest. subst (λ t. MeetsDamage t command) (held (kept.honest_before honest)) (is.damaged said clean))
           (λ (idle : DecidesIdly command decided). absurd (idle_says command decided.reply idle.idle refusal.Damaged (λ e. cc) said)) (shut clean);
-      turned_away = λ clean tables held damage. ⊎_elim
-          (λ honest. is.turned_away clean (subst (λ t. MeetsDamage t command) (sym (held (kept.honest_before honest))) damage))
-          (λ (idle : DecidesIdly command decided). idle_turned_away tables command decided.reply idle.idle damage) (shut clean);
     };
     rows = record {
       most = λ clean. no_rise (g.content old) command _ _ kept.same_counts;
@@ -298,9 +274,7 @@ module _ {S : Type 0} (g : Ghosts S) (law : (s : S) → g.is_honest s → g.is_c
         shut = λ now. inl (still_open now);
         refused = λ refused. absurd (some (is.refused refused));
         named = is.named;
-        blames = blames_later _ _ _ _ _ clean is.blames;
         damaged = λ said now tables held. subst (λ t. MeetsDamage t command) (same_held now tables held) (is.damaged said (clean now));
-        turned_away = λ now tables held damage. is.turned_away (clean now) (subst (λ t. MeetsDamage t command) (sym (same_held now tables held)) damage);
       };
       rows = record {
         most = λ now. rise_at_most (g.content old) command decided.changes.items (g.written old) (g.written new) (is.writes (clean now)) (counted ∙ ap (λ counts. counts_after counts decided.changes.items) kept.same_counts);
@@ -326,9 +300,7 @@ module _ {S : Type 0} (g : Ghosts S) (law : (s : S) → g.is_honest s → g.is_c
         shut = λ now. inr (inl refl, stays);
         refused = λ refused. stays;
         named = unavailable_named command;
-        blames = unavailable_blames _ _ command _ refl;
         damaged = λ told. absurd (let f : Refused Unavailable ≡ Refused refusal.Damaged = told in cc);
-        turned_away = λ now tables held damage. inl (inr refl);
       };
       rows = record {
         most = λ now. no_rise (g.content old) command _ _ (uncounted ∙ kept.same_counts);

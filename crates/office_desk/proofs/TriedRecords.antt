@@ -11,7 +11,7 @@ use Rattle.office_tables_shelf.specs.Places as place
 use Rattle.office_tables_decisions.specs.Reads.{Reports}
 use Rattle.office_tables_shelf.specs.Places.{DamagedAt, Place}
 use Rattle.office_desk_cabinet.proofs.Found.{standing_at, stands_at}
-use Rattle.office_tables_decisions.specs.RegisterDamage.{MeetsRecordDamage}
+use Rattle.office_tables_decisions.specs.Damage.{MeetsRecordDamage}
 use Rattle.office_desk.specs.Checking.{ChecksRecord, MeetsCheckDamage, ReadsThere, TellsThere, checked_by, checked_from, held_in, office_with, place_told, taken_in, there_in, told_there}
 use Rattle.office_desk.specs.{Damage.MeetsCabinetDamage, Importing.register_with, Importing.taken_by, Recording.HasDamagedAbout, StandFor.StandForSound}
 use Rattle.office_desk.specs.declared.{checking.Checked.Checked, importing.Taken.Taken, there.There.There}
@@ -36,7 +36,7 @@ held_at r (place.Delivery code n) = refl
 pub there_read : (stored : Content) (pending : List RowChange) (at : Place) (it : There) (r : Register) → ReadsThere stored pending at it
     → RegisterStandsSound (changed_by stored pending) r → it ≡ told_there at (held_in r at)
 there_read stored pending at it r read stands =
-    read.2 ∙ ap (told_there at) (stands_at (changed_by stored pending) r stands at read.0 read.1.reads ∙ held_at r at)
+    read.2 ∙ ap (told_there at) (stands_at (changed_by stored pending) r stands at read.0 read.1 ∙ held_at r at)
 
 -- a damaged row there is one that the record reads
 damage_there : (tables : Content) (c : RecordCommand) (why : CabinetRefusal) → DamagedAt tables (place_told c why) → MeetsRecordDamage tables c

@@ -1,7 +1,7 @@
 -- What a call that only asks an office promises.
 use Rattle.std.specs.Prelude.{◌≡◌, Result, Ok, Err, ⊤}
 use Rattle.office_desk.specs.Answers.{AnswersAny}
-use Rattle.office_desk.specs.Damage.{IsTurnedAway, MeetsDamage}
+use Rattle.office_desk.specs.Damage.{MeetsDamage}
 use Rattle.office_desk.specs.Named.{IsNamedFor}
 use Rattle.office_desk.specs.Running.{TellsTables}
 use Rattle.office_machine.specs.declared.command.Command.{Command}
@@ -29,13 +29,12 @@ abbrev pub reply_to : {A : Type 0} → (show : A → Reply) → Result A Refusal
 reply_to show (Ok it) = show it
 reply_to show (Err why) = Refused why
 
--- A query was answered, whichever sound office the tables stand for. Damaged is replied only where a row that it reads is no record, and where one is, the query
--- is refused; and a refusal is one that is named for the query, Unavailable or Damaged.
+-- A query was answered, whichever sound office the tables stand for. Damaged is replied only where a row that it reads is no record; and a refusal is one that
+-- is named for the query, Unavailable or Damaged.
 pub record IsReply (tables : Content) (query : Command) (reply : Reply) : Type 0 where
   pub step : AnswersAny tables query reply tables
   pub named : IsNamedFor query reply
   pub damaged : reply ≡ Refused Damaged → MeetsDamage tables query
-  pub turned_away : MeetsDamage tables query → IsTurnedAway query reply
 
 -- an office was only asked this query, and replied so
 abbrev pub ReadsOffice : {S : Type 0} → Ghosts S → (old new : S) → Command → Reply → Type 0

@@ -18,8 +18,7 @@ use Rattle.office_desk.specs.declared.importing.Taken.TheVariants as taken
 use Rattle.office_desk.specs.declared.there.There.{There}
 use Rattle.office_desk.specs.declared.there.There.TheVariants as there
 use Rattle.office_desk.specs.StandFor.{StandForSound}
-use Rattle.office_desk_cabinet.specs.Puts.{StandsAt}
-use Rattle.office_tables_decisions.specs.RegisterDamage.{MeetsRecordDamage}
+use Rattle.office_desk.specs.Damage.{MeetsRecordDamage}
 use Rattle.office_machine.specs.Office.{Office}
 use Rattle.office_machine.specs.Step.{cabinet_of, is_known}
 use Rattle.office_machine.specs.declared.refusal.Refusal.{Refusal}
@@ -27,7 +26,7 @@ use Rattle.office_machine.specs.declared.refusal.Refusal.TheVariants.{Cabinet as
 use Rattle.office_tables_shelf.specs.Change.{changed_by}
 use Rattle.office_tables_shelf.specs.Content.{Content}
 use Rattle.office_tables_shelf.specs.Places as place
-use Rattle.office_tables_shelf.specs.Places.{Place, RecordAt}
+use Rattle.office_tables_shelf.specs.Places.{Place, ReadsAt, RecordAt}
 use Rattle.office_tables_shelf.specs.RegisterStands.{RegisterStandsSound}
 use Rattle.office_tables_shelf.specs.declared.rows.RowChange.{RowChange}
 
@@ -71,9 +70,9 @@ abbrev pub there_in : Register → RecordCommand → Refusal → There
 there_in r c (OfRegister why) = told_there (place_told c why) (held_in r (place_told c why))
 there_in r c why = there.Nothing
 
--- what is told of a place is read from the stored rows once the pending ones are written, and no damaged row stands there
+-- what is told of a place is read from the stored rows once the pending ones are written
 abbrev pub ReadsThere : Content → List RowChange → (at : Place) → There → Type 0
-ReadsThere stored pending at it = (found : Option (RecordAt at)) × StandsAt (changed_by stored pending) at found × (it ≡ told_there at found)
+ReadsThere stored pending at it = (found : Option (RecordAt at)) × ReadsAt (changed_by stored pending) at found × (it ≡ told_there at found)
 
 -- what is told with a refused record is what the register holds, whichever sound one the stored tables stand for once the pending rows are written
 abbrev pub TellsThere : Content → List RowChange → RecordCommand → Refusal → There → Type 0

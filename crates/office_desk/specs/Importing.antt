@@ -1,7 +1,7 @@
 -- What comes of a record of an import, after those before it.
-use Rattle.std.specs.Prelude.{◌≡◌, ◌⊎◌, ◌≤◌, ◌+◌, ℕ, Bool, true, false, List, [], ◌++◌, Option, None, Some, IsSome, Result, Ok, Err}
+use Rattle.std.specs.Prelude.{◌≡◌, ◌≤◌, ◌+◌, ℕ, Bool, true, false, List, [], Option, None, Some, IsSome, Result, Ok, Err}
 use Rattle.cabinet_core.specs.declared.command.RecordCommand.{RecordCommand}
-use Rattle.office_tables_shelf.specs.Change.{changed_by}
+use Rattle.office_tables_shelf.specs.Change.{AddNew, changed_by}
 use Rattle.office_tables_shelf.specs.Content.{Content}
 use Rattle.office_tables_shelf.specs.declared.rows.RowChange.{RowChange}
 use Rattle.cabinet_core.specs.Register.{Register}
@@ -9,21 +9,17 @@ use Rattle.cabinet_core.specs.Step.{line_at, with_record}
 use Rattle.cabinet_core.specs.Cabinet.{Line, added as added_line, same as same_line, refused as refused_line}
 use Rattle.office_tables_shelf.specs.Counts.{writes_in}
 use Rattle.office_tables_shelf.specs.declared.rows.Table.{Table}
-use Rattle.office_tables_decisions.specs.RecordBounds.{IsOneOf, most_record_writes}
+use Rattle.office_tables_decisions.specs.RecordBounds.{most_record_writes}
 use Rattle.office_desk_cabinet.specs.Decides.{DecidesRecord}
 use Rattle.office_desk_cabinet.specs.Registers.{LeavesTiming, rows_told}
 use Rattle.office_desk_cabinet.specs.declared.registered.Registered.{Registered}
 use Rattle.office_desk_cabinet.specs.declared.registered.Registered.TheVariants as registered
 use Rattle.office_tables_shelf.specs.RegisterStands.{RegisterStandsSound}
 use Rattle.office_machine.specs.Office.{Office}
-use Rattle.office_tables_decisions.specs.RegisterDamage.{KeepsDamage, MeetsRecordDamage}
-use Rattle.office_desk.specs.Blaming.{FollowsRegisterLine, IsRefusedAfter}
-use Rattle.office_desk.specs.Named.{number_of, numbers_of}
-use Rattle.office_desk.specs.Recording.{HasDamagedAbout, TellsAbout, TellsIntersection}
+use Rattle.office_desk.specs.Recording.{TellsIntersection}
 use Rattle.office_machine.specs.Refusal.{line_of}
 use Rattle.office_desk.specs.StandFor.{StandForSound}
 use Rattle.office_machine.specs.Step.{cabinet_of, import_from, is_known, refusal_of_record}
-use Rattle.office_machine.specs.declared.command.Command.TheVariants as command
 use Rattle.office_desk.specs.declared.importing.Taken.{Taken}
 use Rattle.office_desk.specs.declared.importing.Taken.TheVariants.{Added, Same, Refused}
 use Rattle.office_machine.specs.declared.refusal.Refusal.{Refusal}
@@ -38,11 +34,6 @@ abbrev pub goes_on : (at : ℕ) → Taken → (added same : Result (ℕ × ℕ �
 goes_on at Added added same = added
 goes_on at Same added same = same
 goes_on at (Refused why) added same = Err (ImportRow at (line_of why).number)
-
--- the record is taken, or the number of its refusal is one that the machine may give to a command with this record
-abbrev pub IsNamedTaken : RecordCommand → Taken → Type 0
-IsNamedTaken c (Refused why) = IsOneOf (numbers_of (command.Record c)) (number_of why)
-IsNamedTaken c _ = Unit {0}
 
 -- what comes of a record, by whether its intersection is there (or it is of none) and by what the register decides of it: without the intersection it is refused
 abbrev pub taken_by : (is_there : Bool) → Line → Taken
@@ -67,31 +58,15 @@ pub record TakesFrom (stored : Content) (c : RecordCommand) (taken : Taken) (pen
 abbrev pub TakesRecord : Content → List RowChange → RecordCommand → Taken → List RowChange → Type 0
 TakesRecord stored before c taken pending = (office : Office) → StandForSound stored office → (r : Register) → RegisterStandsSound (changed_by stored before) r → TakesFrom stored c taken pending office r
 
--- A record met no damaged row: its intersection's row is not damaged, and either no row of that intersection stands there or, after the rows that were pending,
--- no row of the register that the record reads is damaged. Its own rows overwrite no damaged row.
-pub record TakesWhole (stored : Content) (before : List RowChange) (c : RecordCommand) (after : List RowChange) : Type 0 where
-  pub about : ¬ HasDamagedAbout stored (cabinet_of c)
-  pub whole : TellsAbout stored (cabinet_of c) false ⊎ (¬ MeetsRecordDamage (changed_by stored before) c)
-  pub spares : KeepsDamage (changed_by stored before) (changed_by stored after)
-
--- a record is taken as the register decides of it by the rows that are stored under its keys, whatever else is stored; only a new one adds rows behind the
--- pending ones (of a refused one this says nothing of rows)
-abbrev pub TakesLine : (stored : Content) (before : List RowChange) → RecordCommand → Taken → (after : List RowChange) → Type 0
-TakesLine stored before c Added after = (rows : List RowChange) × FollowsRegisterLine stored before c added_line rows × (after ≡ before ++ rows)
-TakesLine stored before c Same after = (rows : List RowChange) × FollowsRegisterLine stored before c same_line rows × (after ≡ before ++ rows)
-TakesLine stored before c (Refused why) after = IsRefusedAfter stored before c (number_of why)
-
--- how a record is taken after those whose rows are pending: as the machine takes it, without meeting a damaged row, and by those rows alone that stand
--- under its keys
+-- how a record is taken after those whose rows are pending: as the machine takes it; and where each pending row that is added was new, each of those after
+-- it is
 pub record TakesInTurn (stored : Content) (before : List RowChange) (c : RecordCommand) (taken : Taken) (after : List RowChange) : Type 0 where
   pub step : TakesRecord stored before c taken after
-  pub whole : TakesWhole stored before c after
-  pub line : TakesLine stored before c taken after
+  pub news : AddNew stored before → AddNew stored after
 
--- whatever is stored: a refusal is one that the machine may give to a command with this record; where the rows pending before it are of the register alone, so are those after it; and
--- the record adds to each table at most as many rows as it may write
-pub record TakesWithin (before : List RowChange) (c : RecordCommand) (taken : Taken) (after : List RowChange) : Type 0 where
-  pub named : IsNamedTaken c taken
+-- whatever is stored: where the rows pending before the record are of the register alone, so are those after it; and the record adds to each table at most
+-- as many rows as it may write
+pub record TakesWithin (before : List RowChange) (c : RecordCommand) (after : List RowChange) : Type 0 where
   pub leaves : LeavesAnyTiming before → LeavesAnyTiming after
   pub writes : (table : Table) → writes_in table after ≤ writes_in table before + most_record_writes c table
 

@@ -4,7 +4,6 @@ pub use Rattle.office_tables_decisions.specs.Changes
 pub use Rattle.office_tables_decisions.specs.Recording
 pub use Rattle.office_tables_decisions.specs.Damage
 pub use Rattle.office_tables_decisions.specs.Named
-pub use Rattle.office_tables_decisions.specs.Blaming
 pub use Rattle.office_tables_decisions.specs.Deciding
 pub mod Running
 pub mod Asks

@@ -4,10 +4,9 @@ use Rattle.office_tables_shelf.specs.Content.{Content}
 use Rattle.office_tables_shelf.specs.declared.shelf.Shelf.{Ghosts}
 use Rattle.office_desk.specs.Answers.{AnswersAny, EndsIn, StandsAfterStep}
 use Rattle.office_desk.specs.Changes.{IsRefused, RiseAtMost}
-use Rattle.office_desk.specs.Damage.{IsTurnedAway, MeetsDamage}
+use Rattle.office_desk.specs.Damage.{MeetsDamage}
 use Rattle.office_desk.specs.Deciding.{IsIdle}
 use Rattle.office_desk.specs.Named.{IsNamedFor}
-use Rattle.office_desk.specs.Blaming.{BlamesRightly}
 use Rattle.office_machine.specs.Office.{Office, IsSound, side_at}
 use Rattle.office_machine.specs.Step.{AreSound, Run}
 use Rattle.office_machine.specs.Timing.{running_plan}
@@ -44,16 +43,13 @@ abbrev pub WasIdle : Type 0 → (old new : Content) → Command → Reply → Ty
 WasIdle is_honest old new command reply = IsIdle command reply × (is_honest → new ≡ old)
 
 -- The reply and the tables are one step of the office, and a refusal leaves the tables. A refusal is one that is named for the command, Unavailable or Damaged;
--- the record that an import is refused for is blamed rightly; a row that is no record is reported and not passed, and Damaged reports nothing else. Where a
--- failure has shut the database, nothing was done, and the reply is still that of a step.
+-- and Damaged reports only a row that is no record. Where a failure has shut the database, nothing was done, and the reply is still that of a step.
 pub record IsStepped {S : Type 0} (g : Ghosts S) (command : Command) (reply : Reply) (old new : S) : Type 0 where
   pub ends : MakesTables g old new (λ tables. AnswersAny tables command reply)
   pub shut : g.is_clean new → g.is_honest new ⊎ WasIdle (g.is_honest new) (g.content old) (g.content new) command reply
   pub refused : IsRefused reply → g.is_honest new → g.content new ≡ g.content old
   pub named : IsNamedFor command reply
-  pub blames : BlamesRightly (g.is_clean new) (g.content old) command reply
   pub damaged : reply ≡ Refused Damaged → TellsTables g old new (λ tables. MeetsDamage tables command)
-  pub turned_away : TellsTables g old new (λ tables. MeetsDamage tables command → IsTurnedAway command reply)
 
 -- The rows written are at most those that the command may write, and none where it is refused; where some were, and the reply is not Unavailable, the
 -- database is still open.

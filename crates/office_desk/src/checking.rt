@@ -4,7 +4,7 @@ ghost use Rattle.std.specs.Prelude.{◌≡◌, ◌≢◌, ◌⊎◌, ◌++◌, [
 ghost use Rattle.office_tables_decisions.specs.Reads.{OnlyReads, Reports};
 ghost use Rattle.office_desk.specs.Checking.{Checks, ChecksRecord, MeetsCheckDamage, TellsThere};
 ghost use Rattle.office_desk.specs.Recording.{AreFound, HasDamagedAbout};
-ghost use Rattle.office_tables_decisions.specs.RegisterDamage.{MeetsRecordDamage};
+ghost use Rattle.office_desk.specs.Damage.{MeetsRecordDamage};
 ghost use Rattle.office_machine.specs.Step.{cabinet_of as about_of};
 
 use crate::importing::{Taken, take_record};

@@ -1,7 +1,6 @@
 //! A command of any kind is decided over a shelf.
-ghost use Rattle.std.specs.Prelude.{◌≡◌, IfOk, ◌≢◌, [], IsOkAnd};
+ghost use Rattle.std.specs.Prelude.{◌≡◌, ◌≢◌, [], IsOkAnd};
 ghost use Rattle.office_tables_decisions.specs.Reads.{OnlyReads};
-ghost use Rattle.office_desk.specs.Blaming.{BlamesRightly};
 ghost use Rattle.office_desk.specs.Deciding.{AddsNothing, Decides};
 ghost use Rattle.office_desk_timing.specs.Decisions.{refusal_of};
 
@@ -35,8 +34,6 @@ pub(crate) fn try_decide<S: Shelf>(
     command: &Command,
 ) -> Result<Decided, ShelfFault>
     ensures decides { Decides (S.is_honest shelf.new) (S.content shelf.old) command.now result }
-    ensures blames { IfOk result (λ decided. BlamesRightly (S.is_honest shelf.new)
-        (S.content shelf.old) command.now decided.reply) }
     ensures reads { OnlyReads S.Shelf (command.now ≢ Command.Import []) result shelf.old shelf.new }
     ensures nothing { command.now ≡ Command.Import [] → IsOkAnd result AddsNothing }
 {

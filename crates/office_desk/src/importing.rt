@@ -1,7 +1,6 @@
 //! Imports: records of the register are decided in turn, each after those before it.
 ghost use Rattle.std.specs.Prelude.{◌≡◌, ◌++◌, IfOk, ◌≢◌, [], IsOkAnd};
 ghost use Rattle.office_tables_decisions.specs.Reads.{OnlyReads, Reports};
-ghost use Rattle.office_desk.specs.Blaming.{BlamesRightly};
 ghost use Rattle.office_desk.specs.Deciding.{AddsNothing, Decides};
 ghost use Rattle.office_desk.specs.Damage.{MeetsCabinetDamage};
 ghost use Rattle.office_desk.specs.Importing.{DecidesAfter, TakesInTurn, TakesWithin, rows_decided, taken_as};
@@ -92,7 +91,7 @@ pub(crate) fn take_record<S: Shelf>(
     ensures takes { Reports (S.is_honest shelf.new) result
         (λ taken. TakesInTurn (S.content shelf.old) pending command.now taken.0 taken.1)
         (MeetsCabinetDamage (S.content shelf.old) command.now (about_of command.now)) }
-    ensures within { IfOk result (λ taken. TakesWithin pending command.now taken.0 taken.1) }
+    ensures within { IfOk result (λ taken. TakesWithin pending command.now taken.1) }
     ensures reads { OnlyReads S.Shelf (pending ≡ []) result shelf.old shelf.new }
 {
     let decided = decide_after(shelf, alloc, found, &pending, command)?;
@@ -109,8 +108,6 @@ pub(crate) fn decide_import<S: Shelf>(
 ) -> Result<Decided, ShelfFault>
     ensures decides { Decides (S.is_honest shelf.new) (S.content shelf.old)
         (Command.Import records.now) result }
-    ensures blames { IfOk result (λ decided. BlamesRightly (S.is_honest shelf.new)
-        (S.content shelf.old) (Command.Import records.now) decided.reply) }
     ensures reads { OnlyReads S.Shelf (records.now ≢ []) result shelf.old shelf.new }
     ensures nothing { records.now ≡ [] → IsOkAnd result AddsNothing }
 {

@@ -200,8 +200,6 @@ impl<S: Shelf> Office<S> {
         ensures rows { IfOk result (λ found. S.is_honest self.new → (office : OfficeState) →
             StandForSound (S.content self.old) office →
             map listed_of found.items ≡ take most (overdue_on office day)) }
-        ensures whole { IfOk result (λ found. S.is_honest self.new → vec_len found < most →
-            ¬ MeetsDamage (S.content self.old) (Command.Overdue day)) }
         ensures refused { RefusesRead result }
         ensures damaged { result ≡ Err Refusal.Damaged → S.is_honest self.new →
             MeetsDamage (S.content self.old) (Command.Overdue day) }
@@ -226,8 +224,6 @@ impl<S: Shelf> Office<S> {
         // no office.
         ensures lists { IfOk result (λ found. S.is_honest self.new →
             ListsEachIntersection (S.content self.old) found.items) }
-        ensures whole { IfOk result (λ _. S.is_honest self.new →
-            ¬ HasAnyDamagedIntersection (S.content self.old)) }
         ensures refused { RefusesRead result }
         ensures damaged { result ≡ Err Refusal.Damaged → S.is_honest self.new →
             HasAnyDamagedIntersection (S.content self.old) }
@@ -249,8 +245,6 @@ impl<S: Shelf> Office<S> {
         ensures orders { IfOk result (λ found. S.is_honest self.new → (office : OfficeState) →
             StandForSound (S.content self.old) office → (id : ℕ) →
             orders_in found.entries id ≡ filter is_open (records_at id office.register.orders)) }
-        ensures whole { IfOk result (λ _. S.is_honest self.new →
-            ¬ HasAnyDamagedOrder (S.content self.old)) }
         ensures refused { RefusesRead result }
         ensures damaged { result ≡ Err Refusal.Damaged → S.is_honest self.new →
             HasAnyDamagedOrder (S.content self.old) }

@@ -7,14 +7,14 @@ use Rattle.cabinet_core.specs.declared.{command.RecordCommand.RecordCommand, dec
 use Rattle.cabinet_core.specs.declared.command.RecordCommand.TheVariants as asks
 use Rattle.cabinet_core.specs.declared.refusal.CabinetRefusal.TheVariants as refusal
 use Rattle.cabinet_core.proofs.Made.{changes_on, place_or}
-use Rattle.office_tables_shelf.specs.{Change.changed_by, Content.Content, Counts.writes_in}
+use Rattle.office_tables_shelf.specs.{Change.AddNew, Change.changed_by, Content.Content, Counts.writes_in}
 use Rattle.office_tables_shelf.specs.declared.{rows.RowChange.RowChange, rows.Table.Table, shelf.ShelfFault.ShelfFault}
 use Rattle.office_tables_shelf.specs.declared.shelf.ShelfFault.TheVariants.{NoMemory}
 use Rattle.office_tables_shelf.specs.declared.rows.Table.TheVariants as table
-use Rattle.office_desk_cabinet.specs.Registers.{IsNamed, IsOneOf, most_record_writes, refusals_of, rows_told}
-use Rattle.office_desk_cabinet.specs.{Decides.DecidesRecord, Lines.ReadsKeys, Lines.rows_added, Lines.rows_for, RegisterDamage.KeepsDamage, RegisterDamage.MeetsRecordDamage, Telling.Tells, Telling.row_changes_of, declared.registered.Registered.Registered}
+use Rattle.office_desk_cabinet.specs.Registers.{IsNamed, IsOneOf, most_record_writes, refusals_of}
+use Rattle.office_desk_cabinet.specs.{Decides.DecidesRecord, Telling.Tells, Telling.row_changes_of, declared.registered.Registered.Registered}
 use Rattle.office_desk_cabinet.proofs.Told.{registers_from, rows_few, tells_leaves, told_by}
-use Rattle.office_desk_cabinet.proofs.{Found.keys_stand, KeptDamage.command_kept, KeptDamage.rows_kept, News.tells_new}
+use Rattle.office_desk_cabinet.proofs.{Found.keys_stand, Lines.ReadsKeys, Lines.rows_added, Lines.rows_for, News.adds_new}
 
 -- ---- the refusals of a command's line
 
@@ -94,16 +94,10 @@ rows_are any (asks.Receive asked) (there, hand) = refl
 
 -- ---- every decision
 
--- rows that are records were read under the command's keys
-pub record WasRead (tables : Content) (command : RecordCommand) (there : Standing command)
-    : Type 0 where
-  pub reads : ReadsKeys tables command there
-  pub whole : ¬ MeetsRecordDamage tables command
-
 pub decided : (any : ℕ) (honest : Type 0) (stored : Content) (pending : List RowChange)
     (command : RecordCommand) (there : Standing command)
     (decision : Result Recorded CabinetRefusal) (result : Result Registered ShelfFault)
-    → (honest → WasRead (changed_by stored pending) command there)
+    → (honest → ReadsKeys (changed_by stored pending) command there)
     → Records decision (line_on command there) (changes_on command there)
     → Makes (place_or any command) command there decision
     → IfOk result (λ told. Tells (place_or any command) decision told)
@@ -118,26 +112,17 @@ decided any honest stored pending command there decision (Ok told) read says mak
     let written = is.same_rows ∙ ap (rows_for line) (rows_are any command there) in
     record {
       step = λ h r stands.
-          let same = keys_stand tables r stands command there (read h).reads in
+          let same = keys_stand tables r stands command there (read h) in
           registers_from tables r command id decision told stands (makes r stands.sound same) tells;
-      whole = λ h. (read h).whole;
-      spares = λ h. subst (λ put. KeepsDamage tables (changed_by tables put)) (sym written)
-          (rows_kept tables line rows (command_kept tables command there (read h).reads (read h).whole));
-      news = λ h. tells_new tables command line (rows_told told) (there, (read h).reads, refl, written);
+      news = λ h. subst (AddNew tables) (sym written) (adds_new tables command there (read h));
       leaves = λ (before : Content). tells_leaves before id decision told tells;
       writes = λ other.
           let most = most_record_writes command other in
           subst (λ put. writes_in other put ≤ most) (sym written)
           (rows_few other line rows most (few_written command there other));
       named = subst (IsNamed command) (sym is.same_line) (line_named command there);
-      line = λ h. (
-        there,
-        (read h).reads,
-        is.same_line,
-        written ∙ ap (λ (l : Line). rows_for l rows) (sym is.same_line),
-      );
     }
 decided any honest stored pending command there decision (Err NoMemory) read says makes tells is =
-    record { step = λ h. tt; whole = tt; spares = tt; news = tt; leaves = tt; writes = tt; named = tt; line = tt }
+    record { step = λ h. tt; news = tt; leaves = tt; writes = tt; named = tt }
 decided any honest stored pending command there decision (Err why) read says makes tells fault =
     absurd cc

@@ -14,7 +14,7 @@ use Rattle.office_tables_shelf.proofs.{CabinetLemmas.part_order, KeyCells.record
 use Rattle.office_tables_shelf.proofs.StoredMaps.{get_stored}
 use Rattle.office_desk_cabinet.specs.RegisterStands.{inspection_cells, order_cells, line_cells, delivery_cells, RegisterStands, RegisterStandsSound}
 use Rattle.office_tables_shelf.specs.Places.{Place, Inspection, Order, Line, Part, Delivery, RecordAt, WithinAt, ReadsAt, key_cells, own_key, columns_at}
-use Rattle.office_desk_cabinet.specs.Lines.{ReadsKeys}
+use Rattle.office_desk_cabinet.proofs.Lines.{ReadsKeys}
 use Rattle.office_desk_cabinet.proofs.Places.{cells_at, reads_tell}
 
 -- ---- what the tables have

@@ -7,7 +7,7 @@ pub mod PendingLemmas
 pub mod Stocked
 pub mod Undamaged
 pub mod Places
-pub mod KeptDamage
+pub mod Lines
 pub mod ListedRecords
 pub mod InOrder
 pub mod ShowingLemmas

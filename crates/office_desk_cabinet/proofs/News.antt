@@ -1,5 +1,5 @@
 -- What a command of the register adds is new, on what was read under its keys.
-use Rattle.std.proofs.Common.{Bool, true, false, List, [], ◌∷◌, ◌++◌, Some, None, sym, ap, subst, ◌∙◌}
+use Rattle.std.proofs.Common.{Bool, true, false, List, [], ◌∷◌, ◌++◌, Some, None}
 use Rattle.std.specs.Prelude.{if◌then◌else◌}
 use Rattle.cabinet_core.specs.Cabinet.{Line, added, same, refused, is_opened_so, is_same_inspection, is_same_line, is_same_delivery}
 use Rattle.cabinet_core.specs.Step.{Standing, line_on}
@@ -7,7 +7,7 @@ use Rattle.cabinet_core.specs.declared.{command.RecordCommand.RecordCommand, ref
 use Rattle.cabinet_core.specs.declared.command.RecordCommand.TheVariants as asks
 use Rattle.cabinet_core.specs.declared.refusal.CabinetRefusal.TheVariants as refusal
 use Rattle.office_tables_shelf.specs.{Change.AddNew, Change.changed, Change.changed_by, Content.Content, declared.rows.RowChange.RowChange}
-use Rattle.office_desk_cabinet.specs.Lines.{ReadsKeys, TellsLine, rows_added, rows_for}
+use Rattle.office_desk_cabinet.proofs.Lines.{ReadsKeys, rows_added, rows_for}
 
 -- what a line writes is new, where the rows are
 line_news : (tables : Content) (line : Line) (rows : List RowChange) → AddNew tables rows
@@ -22,7 +22,7 @@ none_added tables true why rows = tt
 none_added tables false why rows = tt
 
 -- where it adds a row, none stands under its key
-adds_new : (tables : Content) (command : RecordCommand) (there : Standing command)
+pub adds_new : (tables : Content) (command : RecordCommand) (there : Standing command)
     → ReadsKeys tables command there
     → AddNew tables (rows_for (line_on command there) (rows_added command there))
 adds_new tables (asks.Inspect id asked) None reads = (reads.stored, tt)
@@ -44,14 +44,7 @@ adds_new tables (asks.Receive asked) (Some there, hand) reads =
 adds_new tables (asks.Receive asked) (None, hand) reads =
     line_news tables (line_on (asks.Receive asked) (None, hand)) _ (tt, (reads.0.stored, tt))
 
--- so it is of rows that are told so
-pub tells_new : (tables : Content) (command : RecordCommand) (line : Line) (rows : List RowChange)
-    → TellsLine tables command line rows → AddNew tables rows
-tells_new tables command line rows (there, reads, is, rows_are) =
-    subst (AddNew tables) (sym (rows_are ∙ ap (λ l. rows_for l (rows_added command there)) is))
-    (adds_new tables command there reads)
-
--- and of rows after rows
+-- rows after rows
 pub news_after : (tables : Content) (first later : List RowChange) → AddNew tables first
     → AddNew (changed_by tables first) later → AddNew tables (first ++ later)
 news_after tables [] later one two = two

@@ -8,9 +8,9 @@ use Rattle.office_tables_shelf.specs.declared.rows.RowChange.TheVariants.{AddIns
 use Rattle.office_tables_shelf.specs.declared.rows.RowChange.{RowChange}
 use Rattle.office_tables_shelf.specs.declared.register.RegisterRecord.{RegisterRecord}
 use Rattle.office_tables_shelf.specs.declared.register.RegisterRecord.TheVariants as kind
-use Rattle.office_tables_shelf.specs.Places.{Place, Inspection, Order, Line, Part, Delivery, RecordAt, IsOfPlace, WithinAt, ReadsAt, columns_at, found_at}
-use Rattle.office_desk_cabinet.specs.Puts.{Puts, StandsAt}
-use Rattle.office_desk_cabinet.proofs.Places.{cells_at, whole_at}
+use Rattle.office_tables_shelf.specs.Places.{Place, Inspection, Order, Line, Part, Delivery, RecordAt, IsOfPlace, ReadsAt, columns_at, found_at}
+use Rattle.office_desk_cabinet.specs.Puts.{Puts}
+use Rattle.office_desk_cabinet.proofs.Places.{cells_at}
 use Rattle.office_desk_cabinet.proofs.KeyTies.{numbered_ties, used_ties, delivery_ties, part_ties}
 
 -- ---- places
@@ -119,14 +119,13 @@ put_seen place put {changes = changes} viewed made reads = put_at changes place 
 record FoundSome (place : Place) (it : RegisterRecord) : Type 0 where
   pub found : RecordAt place
   pub same : found_at place (Some it) ≡ Some found
-  pub within : WithinAt place found
 
 found_some : (place : Place) (it : RegisterRecord) → IsOfPlace place it → FoundSome place it
-found_some (Inspection id n) (kind.Inspection it) within = record { found = it; same = refl; within = within }
-found_some (Order id n) (kind.Order it) within = record { found = it; same = refl; within = within }
-found_some (Line id order line) (kind.Line it) within = record { found = it; same = refl; within = within }
-found_some (Part code) (kind.Part it) within = record { found = it; same = refl; within = within }
-found_some (Delivery code n) (kind.Delivery it) within = record { found = it; same = refl; within = within }
+found_some (Inspection id n) (kind.Inspection it) within = record { found = it; same = refl }
+found_some (Order id n) (kind.Order it) within = record { found = it; same = refl }
+found_some (Line id order line) (kind.Line it) within = record { found = it; same = refl }
+found_some (Part code) (kind.Part it) within = record { found = it; same = refl }
+found_some (Delivery code n) (kind.Delivery it) within = record { found = it; same = refl }
 found_some _ _ within = absurd within
 
 found_none : (place : Place) → found_at place None ≡ None
@@ -136,24 +135,16 @@ found_none (Line id order line) = refl
 found_none (Part code) = refl
 found_none (Delivery code n) = refl
 
-found_within : (place : Place) (found : Option RegisterRecord) → IfSome found (IsOfPlace place)
-    → IfSome (found_at place found) (WithinAt place)
-found_within place None within = subst (λ o. IfSome o (WithinAt place)) (sym (found_none place)) tt
-found_within place (Some it) within =
-    let one = found_some place it within in
-    subst (λ o. IfSome o (WithinAt place)) (sym one.same) one.within
-
 -- ---- what stands at a place once rows are written
 
 module _ (place : Place) (changes : List RowChange) (put : Option RegisterRecord) (puts : Puts place changes (found_at place put)) where
   -- what they put, over whatever tables; and there are some
   pub put_stands : (it : RegisterRecord) → put ≡ Some it → IfSome put (IsOfPlace place)
-      → (tables : Content) → StandsAt (changed_by tables changes) place (found_at place (Some it))
+      → (tables : Content) → ReadsAt (changed_by tables changes) place (found_at place (Some it))
   put_stands it is within tables =
       let one = found_some place it (subst (λ o. IfSome o (IsOfPlace place)) is within) in
-      let reads = subst (Puts place changes) (ap (found_at place) is ∙ one.same) puts tables in
-      subst (StandsAt (changed_by tables changes) place) (sym one.same)
-      (record { reads = reads; whole = whole_at _ place (Some one.found) reads one.within })
+      subst (ReadsAt (changed_by tables changes) place) (sym one.same)
+      (subst (Puts place changes) (ap (found_at place) is ∙ one.same) puts tables)
 
   pub some_put : (it : RegisterRecord) → put ≡ Some it → IfSome put (IsOfPlace place) → changes ≢ []
   some_put it is within none =
@@ -164,13 +155,12 @@ module _ (place : Place) (changes : List RowChange) (put : Option RegisterRecord
 
   -- or what stood there
   pub still_stands : put ≡ None → (tables : Content) (before : Option RegisterRecord)
-      → ReadsAt tables place (found_at place before) → IfSome before (IsOfPlace place)
-      → StandsAt (changed_by tables changes) place (found_at place before)
-  still_stands is tables before there within =
-      let reads = subst (Puts place changes) (ap (found_at place) is ∙ found_none place) puts tables (found_at place before) there in
-      record { reads = reads; whole = whole_at _ place (found_at place before) reads (found_within place before within) }
+      → ReadsAt tables place (found_at place before)
+      → ReadsAt (changed_by tables changes) place (found_at place before)
+  still_stands is tables before =
+      subst (Puts place changes) (ap (found_at place) is ∙ found_none place) puts tables (found_at place before)
 
--- what stands at a place is the record that was taken from what was found
-pub taken_stands : (tables : Content) (place : Place) (found there : Option (RecordAt place)) → there ≡ found
-    → StandsAt tables place found → StandsAt tables place there
-taken_stands tables place found there is = subst (StandsAt tables place) (sym is)
+-- what is read at a place is the record that was taken from what was found
+pub taken_reads : (tables : Content) (place : Place) (found there : Option (RecordAt place)) → there ≡ found
+    → ReadsAt tables place found → ReadsAt tables place there
+taken_reads tables place found there is = subst (ReadsAt tables place) (sym is)

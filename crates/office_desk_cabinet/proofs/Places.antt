@@ -1,11 +1,8 @@
 -- What is read at a place of the register: one record, or none, where no damaged one stands.
-use Rattle.std.proofs.Common.{◌≡◌, Option, None, Some, IfSome, option_map, List, inl, inr, refl, sym, ap, ◌∙◌}
+use Rattle.std.proofs.Common.{◌≡◌, Option, None, Some, IfSome, option_map, List, refl, sym, ap, ◌∙◌}
 use Rattle.std.specs.FinMap.{get}
-use Rattle.cabinet_core.specs.declared.command.RecordCommand.TheVariants.{Inspect, OpenOrder, UsePart, CloseOrder, Receive}
-use Rattle.cabinet_core.specs.declared.command.RecordCommand.{RecordCommand}
 use Rattle.office_tables_shelf.specs.{Cells.Cell, Content.Content, Content.rows_at}
 use Rattle.office_tables_shelf.specs.Places.{Place, Inspection, Order, Line, Part, Delivery, RecordAt, WithinAt, ReadsAt, DamagedAt, table_at, key_cells, own_key, columns_at}
-use Rattle.office_desk_cabinet.specs.RegisterDamage.{MeetsRecordDamage}
 use Rattle.office_desk_cabinet.proofs.Tells.{inspections_tell, orders_tell, lines_tell, deliveries_tell}
 
 -- the cells that stand at a place
@@ -49,19 +46,3 @@ whole_at tables place (Some x) reads within damaged =
     sym damaged.stored ∙ reads.stored in
     damaged.no_row x within (sym reads.keyed)
     (let same : damaged.columns ≡ columns_at place x = cc in same)
-
--- a row that a command meets, at its place: the command meets whatever stands there
-pub record MetAt (tables : Content) (command : RecordCommand) : Type 0 where
-  pub place : Place
-  pub damaged : DamagedAt tables place
-  pub meets : (after : Content) → DamagedAt after place → MeetsRecordDamage after command
-
-pub met_at : (tables : Content) (command : RecordCommand) → MeetsRecordDamage tables command → MetAt tables command
-met_at tables (Inspect id asked) d = record { place = Inspection id asked.number; damaged = d; meets = λ after it. it }
-met_at tables (OpenOrder id asked) d = record { place = Order id asked.number; damaged = d; meets = λ after it. it }
-met_at tables (UsePart id asked) (inl d) = record { place = Line id asked.order asked.line; damaged = d; meets = λ after it. inl it }
-met_at tables (UsePart id asked) (inr (inl d)) = record { place = Order id asked.order; damaged = d; meets = λ after it. inr (inl it) }
-met_at tables (UsePart id asked) (inr (inr d)) = record { place = Part asked.part; damaged = d; meets = λ after it. inr (inr it) }
-met_at tables (CloseOrder id number asked) d = record { place = Order id number; damaged = d; meets = λ after it. it }
-met_at tables (Receive asked) (inl d) = record { place = Delivery asked.part asked.number; damaged = d; meets = λ after it. inl it }
-met_at tables (Receive asked) (inr d) = record { place = Part asked.part; damaged = d; meets = λ after it. inr it }

@@ -9,7 +9,7 @@ use Rattle.cabinet_core.specs.declared.decide.Recorded.TheVariants as recorded
 use Rattle.cabinet_core.specs.declared.refusal.CabinetRefusal.TheVariants as refusal
 use Rattle.office_tables_shelf.specs.{Change.changed, Change.changed_by, Content.Content, Counts.writes_in, declared.rows.RowChange.RowChange, declared.rows.Table.Table}
 use Rattle.office_desk_cabinet.specs.{RegisterStands.RegisterStandsSound, Registers.line_told, Registers.rows_told, Registers.RegistersFrom, Registers.LeavesTiming, Telling.order_row_of, Telling.row_change_of, Telling.row_changes_of, Telling.Tells, declared.registered.Registered.Registered}
-pub use Rattle.office_desk_cabinet.specs.Lines.{rows_for}
+use Rattle.office_desk_cabinet.proofs.Lines.{rows_for}
 use Rattle.office_desk_cabinet.proofs.Changed.{stand_changed}
 
 -- what is told is the line, with the rows of its changes

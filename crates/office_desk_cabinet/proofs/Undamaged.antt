@@ -1,5 +1,5 @@
 -- In tables that stand for a sound register every row is a record.
-use Rattle.std.proofs.Common.{◌≡◌, ℕ, true, [], ◌∷◌, Option, Some, pos, sym, ap, subst, ◌∙◌}
+use Rattle.std.proofs.Common.{◌≡◌, ℕ, true, [], ◌∷◌, Option, Some, pos, sym, ap, subst, ◌∙◌, ⊎_elim}
 use Rattle.std.proofs.lemmas.{Cmp.nat_list_cmp_total, Option.IfSome_then}
 use Rattle.std.specs.{FinMap.get, Option.IfSome}
 use Rattle.cabinet_core.specs.Sound.{IsInspectionAt, IsOrderAt, IsLineAt}
@@ -13,9 +13,10 @@ use Rattle.office_tables_shelf.specs.CabinetRows.{inspection_key, inspection_col
 use Rattle.office_tables_shelf.specs.{Cells.TableRows, Cells.number, Content.Content, Shelf.is_of}
 use Rattle.office_tables_decisions.proofs.RowsTell.{of_tells}
 use Rattle.office_desk_cabinet.specs.RegisterStands.{inspection_cells, order_cells, line_cells, RegisterStandsSound}
-use Rattle.office_desk_cabinet.specs.RegisterDamage.{MeetsRecordDamage}
-use Rattle.office_tables_shelf.specs.Places.{DamagedAt, Place}
-use Rattle.office_desk_cabinet.proofs.Places.{met_at, whole_at}
+use Rattle.cabinet_core.specs.declared.command.RecordCommand.TheVariants.{Inspect, OpenOrder, UsePart, CloseOrder, Receive}
+use Rattle.office_tables_decisions.specs.Damage.{MeetsRecordDamage}
+use Rattle.office_tables_shelf.specs.Places.{DamagedAt, Place, Inspection, Order, Line, Part, Delivery}
+use Rattle.office_desk_cabinet.proofs.Places.{whole_at}
 use Rattle.office_desk_cabinet.proofs.Found.{hand_within, register_reads, sound_at, standing_at}
 
 -- ---- rows of an intersection
@@ -51,12 +52,20 @@ no_damaged_part tables r stands damaged =
 
 -- ---- rows under their own keys
 
-no_damaged_at : (tables : Content) (r : Register) → RegisterStandsSound tables r → (place : Place)
-    → DamagedAt tables place → ⊥
-no_damaged_at tables r stands place = whole_at tables place (standing_at r place)
-    (register_reads tables r stands place)
-    (IfSome_then (standing_at r place) (sound_at r stands.sound place) (λ x at. at.1))
+module _ (tables : Content) (r : Register) (stands : RegisterStandsSound tables r) where
+  no_damaged_at : (place : Place) → DamagedAt tables place → ⊥
+  no_damaged_at place = whole_at tables place (standing_at r place)
+      (register_reads tables r stands place)
+      (IfSome_then (standing_at r place) (sound_at r stands.sound place) (λ x at. at.1))
 
--- no row that a command reads keeps it from being answered
-pub undamaged_record : (tables : Content) (r : Register) (command : RecordCommand) → RegisterStandsSound tables r → MeetsRecordDamage tables command → ⊥
-undamaged_record tables r command stands met = let it = met_at tables command met in no_damaged_at tables r stands it.place it.damaged
+  -- no row that a command reads keeps it from being answered
+  pub undamaged_record : (command : RecordCommand) → MeetsRecordDamage tables command → ⊥
+  undamaged_record (Inspect id asked) damage = no_damaged_at (Inspection id asked.number) damage
+  undamaged_record (OpenOrder id asked) damage = no_damaged_at (Order id asked.number) damage
+  undamaged_record (UsePart id asked) damage =
+      ⊎_elim (no_damaged_at (Line id asked.order asked.line))
+      (⊎_elim (no_damaged_at (Order id asked.order)) (no_damaged_at (Part asked.part))) damage
+  undamaged_record (CloseOrder id n asked) damage = no_damaged_at (Order id n) damage
+  undamaged_record (Receive asked) damage =
+      ⊎_elim (no_damaged_at (Delivery asked.part asked.number)) (no_damaged_at (Part asked.part))
+      damage

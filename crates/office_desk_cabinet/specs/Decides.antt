@@ -8,8 +8,6 @@ use Rattle.office_tables_shelf.specs.Counts.{writes_in}
 use Rattle.office_tables_shelf.specs.declared.rows.RowChange.{RowChange}
 use Rattle.office_tables_shelf.specs.declared.rows.Table.{Table}
 use Rattle.office_tables_shelf.specs.declared.shelf.ShelfFault.{ShelfFault}
-use Rattle.office_desk_cabinet.specs.Lines.{TellsLine}
-use Rattle.office_desk_cabinet.specs.RegisterDamage.{IsWhole, SparesDamage}
 use Rattle.office_desk_cabinet.specs.Registers.{IsNamed, LeavesTiming, Registers, line_told, most_record_writes, rows_told}
 use Rattle.office_desk_cabinet.specs.declared.registered.Registered.{Registered}
 
@@ -19,18 +17,11 @@ pub record DecidesRecord (honest : Type 0) (stored : Content) (pending : List Ro
     (command : RecordCommand) (result : Result Registered ShelfFault) : Type 0 where
   -- the decision is the step of the register that the tables stand for
   pub step : honest → Registers stored pending command result
-  -- a command is answered only where each row that it reads is a record, and no row that is no
-  -- record is overwritten
-  pub whole : IfOk result (λ _. honest → IsWhole stored pending command)
-  pub spares : IfOk result (λ told. honest → SparesDamage stored pending (rows_told told))
   -- where the decision adds a row, none stands under that row's key
   pub news : IfOk result (λ told. honest → AddNew (changed_by stored pending) (rows_told told))
   -- the decision writes rows of the register alone, and of each table no more than the command may
   pub leaves : IfOk result (λ told. (tables : Content) → LeavesTiming tables (rows_told told))
   pub writes : IfOk result (λ told. (table : Table)
       → writes_in table (rows_told told) ≤ most_record_writes command table)
-  -- a refusal is one that the register's table of decisions has for the command; and line and rows
-  -- are those of that table, by the records under the command's keys
+  -- a refusal is one that the register's table of decisions has for the command
   pub named : IfOk result (λ told. IsNamed command (line_told told))
-  pub line : IfOk result (λ told. honest
-      → TellsLine (changed_by stored pending) command (line_told told) (rows_told told))

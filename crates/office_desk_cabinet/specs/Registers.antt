@@ -11,7 +11,7 @@ use Rattle.office_tables_shelf.specs.declared.rows.RowChange.{RowChange}
 use Rattle.office_tables_shelf.specs.declared.shelf.ShelfFault.{ShelfFault}
 use Rattle.office_tables_shelf.specs.declared.shelf.ShelfFault.TheVariants.{NoMemory, Store, Damaged}
 pub use Rattle.office_tables_decisions.specs.RecordBounds.{IsNamed, IsOneOf, most_record_writes, refusals_of}
-use Rattle.office_desk_cabinet.specs.RegisterDamage.{MeetsRecordDamage}
+use Rattle.office_tables_decisions.specs.Damage.{MeetsRecordDamage}
 use Rattle.office_desk_cabinet.specs.RegisterStands.{RegisterStandsSound}
 use Rattle.office_desk_cabinet.specs.declared.registered.Registered.{Registered}
 use Rattle.office_desk_cabinet.specs.declared.registered.Registered.TheVariants.{Added, Same, Refused}

@@ -1,14 +1,36 @@
 -- How a decision of the register is told, with its changes as rows of an intersection.
-use Rattle.std.specs.Prelude.{◌≡◌, ◌≢◌, ℕ, Result, Ok, Err}
+use Rattle.std.specs.Prelude.{◌≡◌, ◌≢◌, ℕ, List, map, Option, Some, None, Result, Ok, Err}
 use Rattle.cabinet_core.specs.Cabinet.{added}
+use Rattle.cabinet_core.specs.declared.decide.CabinetChange.{CabinetChange}
+use Rattle.cabinet_core.specs.declared.decide.CabinetChange.TheVariants as change
 use Rattle.cabinet_core.specs.declared.decide.Recorded.{Recorded}
 use Rattle.cabinet_core.specs.declared.decide.Recorded.TheVariants as recorded
+use Rattle.cabinet_core.specs.declared.record.Closing.{Closing}
+use Rattle.cabinet_core.specs.declared.record.Order.{Order}
 use Rattle.cabinet_core.specs.declared.refusal.CabinetRefusal.{CabinetRefusal}
 use Rattle.cabinet_core.specs.declared.refusal.CabinetRefusal.TheVariants.{NoMemory}
-pub use Rattle.office_tables_decisions.specs.RegisterRows.{order_row_of, row_change_of, row_changes_of}
+use Rattle.office_tables_shelf.specs.declared.rows.RowChange.{RowChange}
+use Rattle.office_tables_shelf.specs.declared.rows.RowChange.TheVariants.{AddInspection, AddOrder, PutOrder, AddLine, PutPart, AddDelivery}
 use Rattle.office_desk_cabinet.specs.declared.registered.Registered.{Registered}
 use Rattle.office_desk_cabinet.specs.declared.registered.Registered.TheVariants.{Same, Refused}
 use Rattle.office_desk_cabinet.specs.Registers.{line_told, rows_told}
+
+-- an order as a row: where it is open it is new, and where it is closed it was there open
+abbrev pub order_row_of : ℕ → Order → Option Closing → RowChange
+order_row_of id order None = AddOrder id order
+order_row_of id order (Some closing) = PutOrder id order
+
+-- a change of the register as a row; parts and deliveries are of no intersection
+abbrev pub row_change_of : ℕ → CabinetChange → RowChange
+row_change_of id (change.PutInspection inspection) = AddInspection id inspection
+row_change_of id (change.PutOrder order) = order_row_of id order order.closing
+row_change_of id (change.PutLine line) = AddLine id line
+row_change_of id (change.PutPart code hand) = PutPart code hand
+row_change_of id (change.PutDelivery delivery) = AddDelivery delivery
+
+-- changes of the register as rows of an intersection, in their order
+abbrev pub row_changes_of : ℕ → List CabinetChange → List RowChange
+row_changes_of id = map (row_change_of id)
 
 -- what is told of this decision may be refused memory: it adds records, or was itself refused memory
 abbrev pub WantsMemory : Result Recorded CabinetRefusal → Type 0

@@ -4,8 +4,8 @@ ghost use Rattle.cabinet_core.specs.Orders.{is_open, open_at};
 ghost use Rattle.cabinet_core.specs.Register.{Register};
 ghost use Rattle.cabinet_core.specs.declared.record.Order.{Order};
 ghost use Rattle.office_tables_shelf.specs.CabinetReads.{HasDamagedOrder};
-ghost use Rattle.office_tables_decisions.specs.Reads.{OnlyReads, ReportsWhole};
-ghost use Rattle.office_desk_cabinet.specs.RegisterDamage.{HasDamagedCabinet};
+ghost use Rattle.office_tables_decisions.specs.Reads.{OnlyReads, Reports};
+ghost use Rattle.office_tables_decisions.specs.Damage.{HasDamagedCabinet};
 ghost use Rattle.office_desk_cabinet.specs.RegisterStands.{RegisterStandsSound};
 ghost use Rattle.office_desk_cabinet.specs.Registers.{ShowsCabinet};
 
@@ -22,7 +22,7 @@ pub fn cabinet_view<S: Shelf>(
     alloc: Global,
     id: InterId,
 ) -> Result<CabinetView, ShelfFault>
-    ensures shows { ReportsWhole (S.is_honest shelf.new) result
+    ensures shows { Reports (S.is_honest shelf.new) result
         (λ view. (r : Register) →
         RegisterStandsSound (S.content shelf.old) r → ShowsCabinet r id view)
         (HasDamagedCabinet (S.content shelf.old) id) }
@@ -60,7 +60,7 @@ pub fn open_orders<S: Shelf>(
     alloc: Global,
     id: InterId,
 ) -> Result<Vec<RecordNo>, ShelfFault>
-    ensures shows { ReportsWhole (S.is_honest shelf.new) result
+    ensures shows { Reports (S.is_honest shelf.new) result
         (λ numbers. (r : Register) →
         RegisterStandsSound (S.content shelf.old) r → numbers.items ≡ open_at r id)
         (HasDamagedOrder (S.content shelf.old) id) }

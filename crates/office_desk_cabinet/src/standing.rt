@@ -1,9 +1,8 @@
 //! The record that stands under a key of the register once the pending rows are written.
 ghost use Rattle.std.specs.Prelude.{◌≡◌, IfOk, IfSome, []};
 ghost use Rattle.office_tables_shelf.specs.Change.{changed_by};
-ghost use Rattle.office_tables_shelf.specs.Places.{DamagedAt, IsOfPlace, found_at, place_of};
+ghost use Rattle.office_tables_shelf.specs.Places.{DamagedAt, IsOfPlace, ReadsAt, found_at, place_of};
 ghost use Rattle.office_tables_decisions.specs.Reads.{OnlyReads, Reports};
-ghost use Rattle.office_desk_cabinet.specs.Puts.{StandsAt};
 
 use crate::pending::Pending;
 use office_tables_shelf::register::{RegisterKey, RegisterRecord};
@@ -19,8 +18,8 @@ pub fn record_at<S: Shelf>(
     pending: &Pending,
     key: &RegisterKey<'_>,
 ) -> Result<Option<RegisterRecord>, ShelfFault>
-    ensures stands { Reports (S.is_honest shelf.new) result
-        (λ there. StandsAt (changed_by (S.content shelf.old) pending.now) (place_of key.now)
+    ensures row { Reports (S.is_honest shelf.new) result
+        (λ there. ReadsAt (changed_by (S.content shelf.old) pending.now) (place_of key.now)
         (found_at (place_of key.now) there))
         (DamagedAt (S.content shelf.old) (place_of key.now)) }
     ensures within { IfOk result (λ there. IfSome there (IsOfPlace (place_of key.now))) }

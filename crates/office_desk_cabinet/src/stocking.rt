@@ -4,7 +4,7 @@ ghost use Rattle.cabinet_core.specs.Register.{Register};
 ghost use Rattle.cabinet_core.specs.Stock.{stock_of};
 ghost use Rattle.cabinet_core.specs.declared.command.RecordCommand.{RecordCommand};
 ghost use Rattle.office_tables_shelf.specs.CabinetReads.{HasDamagedPart};
-ghost use Rattle.office_tables_decisions.specs.Reads.{OnlyReads, ReportsWhole};
+ghost use Rattle.office_tables_decisions.specs.Reads.{OnlyReads, Reports};
 ghost use Rattle.office_desk_cabinet.specs.RegisterStands.{RegisterStandsSound};
 ghost use Rattle.office_desk_cabinet.specs.Decides.{DecidesRecord};
 ghost use Rattle.office_desk_cabinet.specs.Stocking.{TellsStock, stock_row_of, stock_rows_of};
@@ -116,7 +116,7 @@ pub(crate) fn decide_receive<S: Shelf>(
 /// codes. The fault is `Damaged` where a row of a part is no record, `Store` where the database
 /// refused, and `NoMemory` where a growth was refused.
 pub fn stock<S: Shelf>(shelf: &mut S, alloc: Global) -> Result<Vec<(PartCode, Hand)>, ShelfFault>
-    ensures shows { ReportsWhole (S.is_honest shelf.new) result
+    ensures shows { Reports (S.is_honest shelf.new) result
         (λ parts. (r : Register) →
         RegisterStandsSound (S.content shelf.old) r → parts.items ≡ stock_of r)
         (HasDamagedPart (S.content shelf.old)) }

@@ -1,5 +1,4 @@
 pub mod Rows
-pub mod WholeRows
 pub mod EmptySet
 pub mod KeptRegister
 pub mod Stands

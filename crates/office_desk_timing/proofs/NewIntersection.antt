@@ -2,7 +2,7 @@
 use Rattle.std.proofs.Common.{◌≡◌, ◌≢◌, ℕ, ◌≤◌, Bool, true, false, List, [], ◌∷◌, Option, Some, None, refl, ap, sym, subst, ◌∙◌, inl, inr, lit≤, arith, if◌then◌else◌, ◌==◌, ◌&&◌, bytes_eq, option_map}
 use Rattle.std.specs.FinMap.{get}
 use Rattle.draft_core.specs.{DraftRows.RowStands, Transaction.TimingSide}
-use Rattle.office_tables_shelf.specs.{Change.changed, Content.Content, Counts.writes_in, Damage.HasDamagedIntersection, Rows.timing_columns, Shelf.ReadsIntersection, declared.rows.Table.Table}
+use Rattle.office_tables_shelf.specs.{Change.changed, Content.Content, Counts.writes_in, Rows.timing_columns, Shelf.ReadsIntersection, declared.rows.Table.Table}
 use Rattle.office_tables_shelf.specs.declared.{rows.IntersectionRow.IntersectionRow, rows.RowChange.TheVariants.AddIntersection as AddRow}
 use Rattle.office_tables_shelf.specs.declared.rows.Table.TheVariants as table
 use Rattle.office_desk_timing.specs.Adding.{AddsRow, AreLimited}
@@ -82,14 +82,14 @@ differs_named true why e = absurd (let f : reply.Same ≡ reply.Refused why = e 
 differs_named false why e = refuses_so (11 ∷ []) refusal.IntersectionDiffers (inl refl) why e
 
 pub add_decides : (is_honest : Type 0) (tables : Content) (id interval : ℕ) (name : List ℕ) (row : Option IntersectionRow) (decided : Decided)
-    → (is_honest → ReadsIntersection tables id row × (¬ HasDamagedIntersection tables id)) → AddsRow id interval name row decided.reply decided.changes.items → IsDecision is_honest tables (AddIntersection id interval name) decided
+    → (is_honest → ReadsIntersection tables id row) → AddsRow id interval name row decided.reply decided.changes.items → IsDecision is_honest tables (AddIntersection id interval name) decided
 add_decides is_honest tables id interval name None decided reads adds =
     accepted_decides is_honest tables (AddIntersection id interval name) reply.Added _ decided adds.0 adds.1 (λ refused. refused) (λ query. query)
-    (λ honest office stands. new_answers tables office id interval name stands (reads honest).0 adds.2)
-    (λ honest. one_row tables id interval name (row_of (new_intersection interval name))) (λ honest. ((reads honest).0, tt)) (λ honest. (reads honest).1)
+    (λ honest office stands. new_answers tables office id interval name stands (reads honest) adds.2)
+    (λ honest. one_row tables id interval name (row_of (new_intersection interval name))) (λ honest. (reads honest, tt))
 add_decides is_honest tables id interval name (Some row) decided reads adds =
-    told_decides is_honest tables (AddIntersection id interval name) _ decided adds.0 (never_damaged (bytes_eq row.name name && (row.interval == interval))) (differs_named (bytes_eq row.name name && (row.interval == interval))) adds.1 (λ honest. (reads honest).1)
+    told_decides is_honest tables (AddIntersection id interval name) _ decided adds.0 (never_damaged (bytes_eq row.name name && (row.interval == interval))) (differs_named (bytes_eq row.name name && (row.interval == interval))) adds.1
     (λ honest office stands.
-    let at = there tables office id row stands (reads honest).0 in
+    let at = there tables office id row stands (reads honest) in
     ap (add_step office id interval name) at.1
     ∙ ap (λ (r : IntersectionRow). (answer_at interval name r, office)) (sym at.2))

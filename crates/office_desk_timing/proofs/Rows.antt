@@ -1,8 +1,9 @@
 -- The row of an intersection is told by its cells.
-use Rattle.std.proofs.Common.{◌≡◌, Option, Some, None, refl, ap, arith, option_map}
+use Rattle.std.proofs.Common.{◌≡◌, ℕ, List, Option, Some, None, IsSome, refl, sym, ap, subst, arith, option_map}
 use Rattle.signal_records.specs.declared.{state.Stage.Stage, state.Stage.TheVariants.Transaction, state.Stage.TheVariants.Verify, state.Stage.TheVariants.Done}
 use Rattle.signal_records.specs.declared.state.Holder.{Holder}
 use Rattle.office_tables_shelf.specs.Rows.{stage_number, state_number, owner_cell, intersection_columns}
+use Rattle.office_tables_shelf.specs.{Cells.Cell, Content.Content, Shelf.IsThere, Shelf.ReadsIntersection}
 use Rattle.office_tables_shelf.specs.declared.rows.IntersectionRow.{IntersectionRow}
 
 stage_from_number : (a b : Stage) → stage_number a ≡ stage_number b → a ≡ b
@@ -35,3 +36,7 @@ read_from_cells (Some x) (Some y) e =
     let same : intersection_columns x ≡ intersection_columns y = cc in
     ap (λ (row : IntersectionRow). Some row) (row_from_cells x y same)
 read_from_cells _ _ e = cc
+
+-- where a row was read, one stands
+pub row_there : (tables : Content) (id : ℕ) (row : IntersectionRow) → ReadsIntersection tables id (Some row) → IsThere tables id
+row_there tables id row reads = subst (λ (o : Option (List Cell)). IsSome o) (sym reads) refl

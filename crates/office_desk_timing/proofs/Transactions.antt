@@ -209,18 +209,13 @@ never_query : (id : ℕ) (clerk : List ℕ) (step : Step) → IsQueryCommand (as
 never_query id clerk Begin query = query
 never_query id clerk _ query = query
 
-names_row : (tables : Content) (id : ℕ) (clerk : List ℕ) (step : Step)
-    → MeetsDamage tables (asking_command id clerk step) → HasDamageIn (reach_of step) tables id
-names_row tables id clerk Begin damaged = damaged
-names_row tables id clerk _ damaged = damaged
-
 unknown_named : (id : ℕ) (clerk : List ℕ) (step : Step) → IsOneOf (numbers_of (asking_command id clerk step)) 10
 unknown_named id clerk Begin = inl refl
 unknown_named id clerk _ = inl refl
 
--- what was found, as far as a step reads, and no row there is damaged
+-- what was found, as far as a step reads
 abbrev pub IsFound : Reach → Content → ℕ → Option Found → Type 0
-IsFound reach tables id found = (FindsAny reach tables id found × IfSome found (ListsFound reach tables id)) × (¬ HasDamageIn reach tables id)
+IsFound reach tables id found = FindsAny reach tables id found × IfSome found (ListsFound reach tables id)
 
 -- on what was found
 pub transact_decides : (is_honest : Type 0) (tables : Content) (id : ℕ) (clerk : List ℕ) (step : Step) (found : Found) (decision : Result Move DraftRefusal) (result : Result Decided ShelfFault)
@@ -234,21 +229,20 @@ transact_decides is_honest tables id clerk step found (Ok move)
     accepted_decides is_honest tables (asking_command id clerk step) (Moved move.revision move.state move.verdict) (rows_of_move id clerk found move) decided
     writes.told writes.rows (λ refused. refused) (never_query id clerk step)
     (λ honest office stands.
-    let at = found_there (reach_of step) tables office id found stands (finds honest).0.0 in
+    let at = found_there (reach_of step) tables office id found stands (finds honest).0 in
     let sound = sound_there tables office id at.0 stands at.1 in
     moves tables office id clerk step at.0 found stands at.1 sound at.2 words within move (table_line step clerk at.0.timing)
     (among_within (drafted_in move.changes) (asked_changes step) takes.writes.drafts within) refl
     (takes.line (drafts_at stands.stand id) at.0.timing at.2.timing_stands (relied_on step at.0.timing sound.no_violations)))
-    (λ honest other. move_writes tables id clerk step (moved_row found clerk move) found move other (finds honest).0.1 takes.writes)
-    (λ honest. move_news (reach_of step) tables id found (moved_row found clerk move) move.changes (finds honest).0.1 takes.writes.news)
-    (λ honest damaged. (finds honest).1 (names_row tables id clerk step damaged))
+    (λ honest other. move_writes tables id clerk step (moved_row found clerk move) found move other (finds honest).1 takes.writes)
+    (λ honest. move_news (reach_of step) tables id found (moved_row found clerk move) move.changes (finds honest).1 takes.writes.news)
 transact_decides is_honest tables id clerk step found (Err why)
     (Ok decided) words within finds takes writes fault =
     told_decides is_honest tables (asking_command id clerk step) (Refused (refusal_of_draft why)) decided writes.1 (not_damaged why)
     (refuses_so (numbers_of (asking_command id clerk step)) (refusal_of_draft why) (refusal_named step id clerk found.timing.holder why takes.refuses writes.0))
-    writes.2 (λ honest damaged. (finds honest).1 (names_row tables id clerk step damaged))
+    writes.2
     (λ honest office stands.
-    let at = found_there (reach_of step) tables office id found stands (finds honest).0.0 in
+    let at = found_there (reach_of step) tables office id found stands (finds honest).0 in
     let sound = sound_there tables office id at.0 stands at.1 in
     refuses tables office id clerk step at.0 found stands at.1 sound at.2 words within why writes.0
     (takes.line (drafts_at stands.stand id) at.0.timing at.2.timing_stands (relied_on step at.0.timing sound.no_violations)))
@@ -261,9 +255,9 @@ pub absent_decides : (is_honest : Type 0) (tables : Content) (id : ℕ) (clerk :
     (decided : Decided) → (is_honest → IsFound (reach_of step) tables id None)
     → decided.reply ≡ Refused refusal.UnknownIntersection → decided.changes.items ≡ [] → IsDecision is_honest tables (asking_command id clerk step) decided
 absent_decides is_honest tables id clerk step decided finds told none =
-    unknown_decides is_honest tables (asking_command id clerk step) decided told (unknown_named id clerk step) none (λ honest damaged. (finds honest).1 (names_row tables id clerk step damaged)) (λ honest office stands.
+    unknown_decides is_honest tables (asking_command id clerk step) decided told (unknown_named id clerk step) none (λ honest office stands.
     by_line step office id clerk ∙ ap (transacted office id (table_line step clerk))
-    (found_none (reach_of step) tables office id stands (finds honest).0.0))
+    (found_none (reach_of step) tables office id stands (finds honest).0))
 
 -- where a row that is read is no record
 pub meets : (tables : Content) (id : ℕ) (clerk : List ℕ) (step : Step)

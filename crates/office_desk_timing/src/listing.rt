@@ -1,7 +1,7 @@
 //! The list of all intersections.
 ghost use Rattle.std.specs.Prelude.{◌≡◌, [], ◌∷◌, ◌++◌, ⊤, OnOk};
 ghost use Rattle.office_tables_shelf.specs.Damage.{HasAnyDamagedIntersection};
-ghost use Rattle.office_tables_decisions.specs.Reads.{OnlyReads, ReportsWhole};
+ghost use Rattle.office_tables_decisions.specs.Reads.{OnlyReads, Reports};
 ghost use Rattle.office_desk_timing.specs.Listing.{ListsEachIntersection, row_listed};
 
 use office_machine::intersections::ListedIntersection;
@@ -43,7 +43,7 @@ pub fn list_intersections<S: Shelf>(
     shelf: &mut S,
     alloc: Global,
 ) -> Result<Vec<ListedIntersection>, ShelfFault>
-    ensures lists { ReportsWhole (S.is_honest shelf.new) result
+    ensures lists { Reports (S.is_honest shelf.new) result
         (λ found. ListsEachIntersection (S.content shelf.old) found.items)
         (HasAnyDamagedIntersection (S.content shelf.old)) }
     ensures reads { OnlyReads S.Shelf ⊤ result shelf.old shelf.new }

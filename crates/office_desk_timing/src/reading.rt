@@ -2,7 +2,7 @@
 ghost use Rattle.std.specs.Prelude.{IfOk, IfSome, ⊤, ◌≢◌};
 ghost use Rattle.office_tables_shelf.specs.Damage.{HasDamagedIntersection};
 ghost use Rattle.office_tables_shelf.specs.Shelf.{ReadsIntersection};
-ghost use Rattle.office_tables_decisions.specs.Reads.{OnlyReads, Reports, ReportsWhole};
+ghost use Rattle.office_tables_decisions.specs.Reads.{OnlyReads, Reports};
 ghost use Rattle.office_tables_decisions.specs.Damage.{HasDamageIn, HasDamagedPlan};
 ghost use Rattle.office_desk_timing.specs.Reading.{AreRowsWithin, FindsAny, IsMadeOf, ListsFound, ListsPlan};
 
@@ -59,7 +59,7 @@ pub fn intersection_row<S: Shelf>(
     alloc: Global,
     id: InterId,
 ) -> Result<Option<IntersectionRow>, ShelfFault>
-    ensures row { ReportsWhole (S.is_honest shelf.new) result
+    ensures row { Reports (S.is_honest shelf.new) result
         (ReadsIntersection (S.content shelf.old) id)
         (HasDamagedIntersection (S.content shelf.old) id) }
     ensures reads { OnlyReads S.Shelf ⊤ result shelf.old shelf.new }
@@ -100,7 +100,7 @@ pub(crate) fn find<S: Shelf>(
     id: InterId,
     reach: Reach,
 ) -> Result<Option<Found>, ShelfFault>
-    ensures found { ReportsWhole (S.is_honest shelf.new) result
+    ensures found { Reports (S.is_honest shelf.new) result
         (λ found. FindsAny reach (S.content shelf.old) id found
         × IfSome found (ListsFound reach (S.content shelf.old) id))
         (HasDamageIn reach (S.content shelf.old) id) }

@@ -1,7 +1,7 @@
 //! The queries State, Timing and Draft.
 ghost use Rattle.std.specs.Prelude.{◌≡◌, ◌≢◌, ◌∷◌, [], ⊤, IfOk};
 ghost use Rattle.draft_core.specs.Transaction.{state_of_holder};
-ghost use Rattle.office_tables_decisions.specs.Reads.{OnlyReads, ReportsWhole};
+ghost use Rattle.office_tables_decisions.specs.Reads.{OnlyReads, Reports};
 ghost use Rattle.office_tables_decisions.specs.Deciding.{Decides};
 ghost use Rattle.office_tables_decisions.specs.Damage.{HasDamage, IsDone};
 ghost use Rattle.office_desk_timing.specs.Decisions.{row_shown, IsVerdictOf, ShowsDraft};
@@ -63,7 +63,7 @@ fn verdict_at<S: Shelf>(
     id: InterId,
     row: &IntersectionRow,
 ) -> Result<Verdict, ShelfFault>
-    ensures verdict { ReportsWhole (S.is_honest shelf.new) result
+    ensures verdict { Reports (S.is_honest shelf.new) result
         (IsVerdictOf (S.content shelf.old) id row.now)
         (IsDone row.now × HasDamage (S.content shelf.old) id) }
     ensures reads { OnlyReads S.Shelf (IsDone row.now) result shelf.old shelf.new }

@@ -4,7 +4,7 @@ use Rattle.std.specs.Prelude.{IsErrAnd}
 use Rattle.office_tables_shelf.specs.{Change.AddNew, Change.changed_by, Content.Content, Counts.writes_in}
 use Rattle.office_tables_shelf.specs.declared.{rows.RowChange.RowChange, rows.Table.Table, shelf.ShelfFault.ShelfFault}
 use Rattle.office_tables_shelf.specs.declared.shelf.ShelfFault.TheVariants.{Damaged}
-use Rattle.office_tables_decisions.specs.{RecordBounds.IsOneOf, Answers.Answers, Answers.AnswersAny, Changes.IsQueryCommand, Changes.IsRefused, Changes.most_writes, Damage.IsImport, Damage.MeetsDamage, Deciding.Decides, Deciding.IsDecision, Named.RefusesBy, Named.number_of, Named.numbers_of, declared.decided.Decided.Decided}
+use Rattle.office_tables_decisions.specs.{RecordBounds.IsOneOf, Answers.Answers, Answers.AnswersAny, Changes.IsQueryCommand, Changes.IsRefused, Changes.most_writes, Damage.MeetsDamage, Deciding.Decides, Deciding.IsDecision, Named.RefusesBy, Named.number_of, Named.numbers_of, declared.decided.Decided.Decided}
 use Rattle.office_tables_decisions.specs.StandFor.{StandForSound}
 use Rattle.office_machine.specs.{Office.Office, Step.answered}
 use Rattle.office_machine.specs.declared.{command.Command.Command, refusal.Refusal.Refusal, reply.Reply.Reply, reply.Reply.TheVariants.Refused}
@@ -24,12 +24,11 @@ query_answers tables office command said told changes stands is same none = reco
   stand = subst (λ list. StandForSound (changed_by tables list) office) (sym none) stands;
 }
 
--- a decision without a row to write, that meets a damaged row only where an import is refused
-pub idle_decides : (is_honest : Type 0) (tables : Content) (command : Command) (said : Reply) (decided : Decided) → decided.reply ≡ said → said ≢ Refused refusal.Damaged → RefusesBy (numbers_of command) said → decided.changes.items ≡ []
-    → (is_honest → MeetsDamage tables command → IsImport command × IsRefused said)
+-- a refusal, or what a query shows: a decision without a row to write
+pub told_decides : (is_honest : Type 0) (tables : Content) (command : Command) (said : Reply) (decided : Decided) → decided.reply ≡ said → said ≢ Refused refusal.Damaged → RefusesBy (numbers_of command) said → decided.changes.items ≡ []
     → (is_honest → (office : Office) → StandForSound tables office → answered office command ≡ (said, office))
     → IsDecision is_honest tables command decided
-idle_decides is_honest tables command said decided is never named none whole answers = record {
+told_decides is_honest tables command said decided is never named none answers = record {
   step = λ honest office stands. query_answers tables office command said decided.reply
       decided.changes.items stands (answers honest office stands) is none;
   writes = λ honest table. subst (λ (list : List RowChange). writes_in table list ≤ most_writes tables command table) (sym none) (omega arith);
@@ -38,32 +37,22 @@ idle_decides is_honest tables command said decided is never named none whole ans
   query = λ _. none;
   named = λ why e. named why (sym is ∙ e);
   undamaged = λ e. never (sym is ∙ e);
-  whole = λ honest damaged. let met = whole honest damaged in (met.0, subst IsRefused (sym is) met.1);
 }
-
--- a refusal, or what a query shows
-pub told_decides : (is_honest : Type 0) (tables : Content) (command : Command) (said : Reply) (decided : Decided) → decided.reply ≡ said → said ≢ Refused refusal.Damaged → RefusesBy (numbers_of command) said → decided.changes.items ≡ []
-    → (is_honest → ¬ MeetsDamage tables command)
-    → (is_honest → (office : Office) → StandForSound tables office → answered office command ≡ (said, office))
-    → IsDecision is_honest tables command decided
-told_decides is_honest tables command said decided is never named none whole answers =
-    idle_decides is_honest tables command said decided is never named none (λ honest damaged. absurd (whole honest damaged)) answers
 
 -- of an intersection that is not there
 pub unknown_decides : (is_honest : Type 0) (tables : Content) (command : Command) (decided : Decided) → decided.reply ≡ Refused refusal.UnknownIntersection → IsOneOf (numbers_of command) 10 → decided.changes.items ≡ []
-    → (is_honest → ¬ MeetsDamage tables command)
     → (is_honest → (office : Office) → StandForSound tables office → answered office command ≡ (Refused refusal.UnknownIntersection, office))
     → IsDecision is_honest tables command decided
-unknown_decides is_honest tables command decided is known none whole answers =
-    told_decides is_honest tables command (Refused refusal.UnknownIntersection) decided is (λ e. cc) (refuses_so (numbers_of command) refusal.UnknownIntersection known) none whole answers
+unknown_decides is_honest tables command decided is known none answers =
+    told_decides is_honest tables command (Refused refusal.UnknownIntersection) decided is (λ e. cc) (refuses_so (numbers_of command) refusal.UnknownIntersection known) none answers
 
 -- a command that is accepted: its reply is no refusal, and these are its rows
 pub accepted_decides : (is_honest : Type 0) (tables : Content) (command : Command) (said : Reply) (rows : List RowChange) (decided : Decided)
     → decided.reply ≡ said → decided.changes.items ≡ rows → ¬ IsRefused said → ¬ IsQueryCommand command
     → (is_honest → AnswersAny tables command said (changed_by tables rows))
     → (is_honest → (table : Table) → writes_in table rows ≤ most_writes tables command table) → (is_honest → AddNew tables rows)
-    → (is_honest → ¬ MeetsDamage tables command) → IsDecision is_honest tables command decided
-accepted_decides is_honest tables command said rows decided is same accepted asks answers few news whole = record {
+    → IsDecision is_honest tables command decided
+accepted_decides is_honest tables command said rows decided is same accepted asks answers few news = record {
   step = λ honest. subst₂ (λ (reply : Reply) (list : List RowChange). AnswersAny tables command reply (changed_by tables list)) (sym is) (sym same) (answers honest);
   writes = λ honest. subst (λ (list : List RowChange). (table : Table) → writes_in table list ≤ most_writes tables command table) (sym same) (few honest);
   news = λ honest. subst (AddNew tables) (sym same) (news honest);
@@ -71,7 +60,6 @@ accepted_decides is_honest tables command said rows decided is same accepted ask
   query = λ query. absurd (asks query);
   named = λ why e. absurd (accepted (subst IsRefused (sym e ∙ is) tt));
   undamaged = λ e. absurd (accepted (subst IsRefused (sym e ∙ is) tt));
-  whole = λ honest damaged. absurd (whole honest damaged);
 }
 
 -- a fault that is handed on, and reports damage only where the command meets it

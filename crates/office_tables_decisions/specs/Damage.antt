@@ -12,26 +12,14 @@ use Rattle.office_tables_shelf.specs.Overdue.{HasOverdueDamage}
 use Rattle.office_tables_shelf.specs.Shelf.{IsThere, ReadsIntersection}
 use Rattle.office_tables_shelf.specs.declared.rows.IntersectionRow.{IntersectionRow}
 use Rattle.office_tables_shelf.specs.Damage.{HasDamagedIntersection, HasDamagedTiming, HasDamagedDraft}
-use Rattle.office_tables_shelf.specs.CabinetReads.{HasDamagedOrder, HasDamagedPart}
+use Rattle.office_tables_shelf.specs.CabinetReads.{HasDamagedInspection, HasDamagedOrder, HasDamagedPart, HasDamagedUsed}
+use Rattle.office_tables_shelf.specs.Places as place
+use Rattle.office_tables_shelf.specs.Places.{DamagedAt}
 use Rattle.cabinet_core.specs.declared.command.RecordCommand.{RecordCommand}
-use Rattle.office_tables_decisions.specs.RegisterDamage.{HasDamagedCabinet, MeetsRecordDamage}
-use Rattle.office_tables_decisions.specs.Changes.{IsRefused}
+use Rattle.cabinet_core.specs.declared.command.RecordCommand.TheVariants.{Inspect, OpenOrder, UsePart, CloseOrder, Receive}
 use Rattle.office_machine.specs.Step.{cabinet_of}
 use Rattle.office_machine.specs.declared.command.Command.{Command}
 use Rattle.office_machine.specs.declared.command.Command.TheVariants as command
-use Rattle.office_machine.specs.declared.refusal.Refusal.TheVariants as refusal
-use Rattle.office_machine.specs.declared.reply.Reply.{Reply}
-use Rattle.office_machine.specs.declared.reply.Reply.TheVariants.{Refused}
-
--- the command imports records
-abbrev pub IsImport : Command → Type 0
-IsImport (command.Import records) = Unit {0}
-IsImport _ = ⊥
-
--- the reply to a command that reads a row that is no record: Damaged, or Unavailable if memory or the shelf refused before; an import may also be
--- refused for a record before the one that reads that row
-abbrev pub IsTurnedAway : Command → Reply → Type 0
-IsTurnedAway command reply = ((reply ≡ Refused refusal.Damaged) ⊎ (reply ≡ Refused refusal.Unavailable)) ⊎ (IsImport command × IsRefused reply)
 
 -- the row of an intersection is no record; or it is there, and what is read after it meets damage
 abbrev pub MeetsAfter : Content → ℕ → Type 0 → Type 0
@@ -62,6 +50,23 @@ pub record HasJudgedDamage (tables : Content) (id : ℕ) : Type 0 where
   pub done : IsDone row
   pub damage : HasDamage tables id
 
+-- ---- the register
+
+-- a row that the command reads, under its own key, is no record
+abbrev pub MeetsRecordDamage : Content → RecordCommand → Type 0
+MeetsRecordDamage tables (Inspect id inspection) = DamagedAt tables (place.Inspection id inspection.number)
+MeetsRecordDamage tables (OpenOrder id opening) = DamagedAt tables (place.Order id opening.number)
+MeetsRecordDamage tables (UsePart id line) =
+    DamagedAt tables (place.Line id line.order line.line)
+    ⊎ (DamagedAt tables (place.Order id line.order) ⊎ DamagedAt tables (place.Part line.part))
+MeetsRecordDamage tables (CloseOrder id order closing) = DamagedAt tables (place.Order id order)
+MeetsRecordDamage tables (Receive delivery) = DamagedAt tables (place.Delivery delivery.part delivery.number) ⊎ DamagedAt tables (place.Part delivery.part)
+
+-- a row of the intersection among its inspections, orders or used parts is no record
+abbrev pub HasDamagedCabinet : Content → ℕ → Type 0
+HasDamagedCabinet tables id =
+    HasDamagedInspection tables id ⊎ (HasDamagedOrder tables id ⊎ HasDamagedUsed tables id)
+
 -- the intersection's row, or a row of the register that the command reads, is no record
 abbrev pub MeetsCabinetDamage : Content → RecordCommand → Option ℕ → Type 0
 MeetsCabinetDamage tables c None = MeetsRecordDamage tables c
@@ -71,6 +76,8 @@ MeetsCabinetDamage tables c (Some id) = MeetsAfter tables id (MeetsRecordDamage 
 abbrev pub MeetsImportDamage : Content → List RecordCommand → Type 0
 MeetsImportDamage tables [] = ⊥
 MeetsImportDamage tables (c ∷ cs) = MeetsCabinetDamage tables c (cabinet_of c) ⊎ MeetsImportDamage tables cs
+
+-- ---- any command
 
 -- a row that the command reads is no record
 abbrev pub MeetsDamage : Content → Command → Type 0

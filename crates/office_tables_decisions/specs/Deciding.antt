@@ -14,13 +14,12 @@ use Rattle.office_machine.specs.declared.reply.Reply.{Reply}
 use Rattle.office_machine.specs.declared.reply.Reply.TheVariants.{Imported, Refused}
 use Rattle.office_tables_decisions.specs.Answers.{AnswersAny}
 use Rattle.office_tables_decisions.specs.Changes.{IsRefused, IsQueryCommand, most_writes}
-use Rattle.office_tables_decisions.specs.Damage.{IsImport, IsTurnedAway, MeetsDamage}
+use Rattle.office_tables_decisions.specs.Damage.{MeetsDamage}
 use Rattle.office_tables_decisions.specs.Named.{IsNamedFor, RefusesBy, numbers_of}
-use Rattle.office_tables_decisions.specs.Blaming.{BlamesRightly}
 
 -- The reply and what the rows make of the tables are one step; the rows are at most those of the kind of command, and none where it is refused or only asks;
 -- where one is added, none stands under its key;
--- a refusal is one of the command's table; and a row that is no record is reported as a fault, never as a reply, and none that the command reads was found to be such, unless an import was refused before it.
+-- a refusal is one of the command's table; and a row that is no record is reported as a fault, never as a reply.
 pub record IsDecision (is_honest : Type 0) (tables : Content) (command : Command) (decided : Decided) : Type 0 where
   pub step : is_honest → AnswersAny tables command decided.reply (changed_by tables decided.changes.items)
   pub writes : is_honest → (table : Table) → writes_in table decided.changes.items ≤ most_writes tables command table
@@ -29,7 +28,6 @@ pub record IsDecision (is_honest : Type 0) (tables : Content) (command : Command
   pub query : IsQueryCommand command → decided.changes.items ≡ []
   pub named : RefusesBy (numbers_of command) decided.reply
   pub undamaged : decided.reply ≢ Refused Damaged
-  pub whole : is_honest → MeetsDamage tables command → IsImport command × IsRefused decided.reply
 
 -- What is answered, where a fault is reported as its refusal: Unavailable, or Damaged where a row that the command reads is no record.
 pub record IsAnswered (is_honest : Type 0) (tables : Content) (command : Command) (decided : Decided) : Type 0 where
@@ -39,9 +37,7 @@ pub record IsAnswered (is_honest : Type 0) (tables : Content) (command : Command
   pub refused : IsRefused decided.reply → decided.changes.items ≡ []
   pub query : IsQueryCommand command → decided.changes.items ≡ []
   pub named : IsNamedFor command decided.reply
-  pub blames : BlamesRightly is_honest tables command decided.reply
   pub damaged : decided.reply ≡ Refused Damaged → is_honest → MeetsDamage tables command
-  pub turned_away : is_honest → MeetsDamage tables command → IsTurnedAway command decided.reply
 
 -- The command is decided, or a fault is reported: Damaged only where a row that it reads is no record.
 abbrev pub Decides : Type 0 → Content → Command → Result Decided ShelfFault → Type 0

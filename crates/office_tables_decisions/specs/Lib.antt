@@ -2,14 +2,10 @@ pub mod StandFor
 pub mod Reads
 pub mod Committed
 pub mod RecordBounds
-pub mod RegisterRows
-pub mod RegisterDamage
-pub mod Lines
 pub mod Asking
 pub mod Answers
 pub mod Changes
 pub mod Recording
 pub mod Damage
 pub mod Named
-pub mod Blaming
 pub mod Deciding

@@ -18,7 +18,3 @@ pub record OnlyReads {S A : Type 0} (g : Ghosts S) (reads : Type 0) (result : Re
 abbrev pub Reports : {A : Type 0} → (is_honest : Type 0) → Result A ShelfFault → (Says : A → Type 0) → (damage : Type 0) → Type 0
 Reports is_honest (Ok answer) Says damage = is_honest → Says answer
 Reports is_honest (Err why) Says damage = why ≡ Damaged → is_honest → damage
-
--- what a read gives that answers only where no row that it reads is damaged
-abbrev pub ReportsWhole : {A : Type 0} → (is_honest : Type 0) → Result A ShelfFault → (Says : A → Type 0) → (damage : Type 0) → Type 0
-ReportsWhole is_honest result Says damage = Reports is_honest result (λ answer. Says answer × (¬ damage)) damage

@@ -26,13 +26,12 @@ TellsAbout tables None known = known ≡ true
 TellsAbout tables (Some id) known = known ≡ is_some (get tables.intersection (intersection_key id))
 
 -- this tells whether the intersection is there, both in whichever sound office the tables stand for and by
--- its row, which is not damaged
+-- its row
 pub record TellsIntersection (tables : Content) (about : Option ℕ) (is_there : Bool) : Type 0 where
   pub known : IsKnownIn tables about is_there
   pub told : TellsAbout tables about is_there
-  pub whole : ¬ HasDamagedAbout tables about
 
--- each of these intersections is there, and its row is a record
+-- each of these intersections is there
 abbrev pub AreFound : Content → BTreeSet ℕ → Type 0
 AreFound tables found = All (λ id. TellsIntersection tables (Some id) true) found.keys
 

@@ -1,6 +1,6 @@
 use Rattle.std.proofs.Common.{ap, inr, refl, subst}
 use Rattle.office_tables_decisions.proofs.ReadLemmas.{handed_reports}
-use Rattle.office_tables_decisions.specs.RegisterDamage.{MeetsRecordDamage}
+use Rattle.office_tables_decisions.specs.Damage.{MeetsRecordDamage}
 use Rattle.office_machine.specs.Step.{cabinet_of}
 use Rattle.office_desk.proofs.TriedRecords.{cabinet_damage, checks_so}
 use Rattle.office_desk.specs.{Checking.TellsThere, Importing.register_with}

@@ -1,5 +1,5 @@
 use Rattle.std.proofs.Common.{◌≡◌, ◌+◌, ◌⊎◌, arith, refl, subst, subst₂, sym}
-use Rattle.office_tables_decisions.specs.RegisterDamage.{MeetsRecordDamage}
+use Rattle.office_tables_decisions.specs.Damage.{MeetsRecordDamage}
 use Rattle.office_desk.specs.{Checking.ChecksRecord, Recording.AreFound, Recording.HasDamagedAbout}
 use Rattle.office_machine.specs.Step.{cabinet_of}
 use Rattle.office_tables_shelf.specs.Content.{Content}

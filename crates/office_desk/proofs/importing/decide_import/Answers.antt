@@ -1,10 +1,10 @@
-use Rattle.std.proofs.Common.{◌≡◌, ◌+◌, ◌≤◌, ◌∙◌, List, length, inl, inr, ap, sym, refl, subst, arith, rules}
+use Rattle.std.proofs.Common.{◌≡◌, ◌+◌, ◌≤◌, ◌∙◌, List, length, inl, inr, ap, sym, refl, subst, arith}
 use Rattle.cabinet_core.specs.declared.command.RecordCommand.{RecordCommand}
 use Rattle.office_tables_decisions.proofs.ReadLemmas.{handed_told, unread}
-use Rattle.office_desk.specs.{Damage.MeetsCabinetDamage, Recording.AreFound, Importing.IsNamedTaken, Importing.LeavesAnyTiming}
+use Rattle.office_desk.specs.{Damage.MeetsCabinetDamage, Recording.AreFound, Importing.LeavesAnyTiming}
 use Rattle.office_machine.specs.{Step.cabinet_of, declared.reply.Reply.TheVariants.Imported}
-use Rattle.office_desk.proofs.Imports.{SoFar, counted_on, damage_of_record, first_refused, import_decides, is_next, none_next, nothing_leaves, nothing_written, nothing_yet, one_more, refused_all, refused_decides, some_read, taken_reads, takes_so, writes_left, writes_whole}
-use Rattle.office_desk.proofs.{FoundAgain.none_found, Blames.WentOn, Blames.blames_next, Blames.taken_blames}
+use Rattle.office_desk.proofs.Imports.{SoFar, WentOn, counted_on, damage_of_record, import_decides, is_next, none_next, nothing_leaves, nothing_written, nothing_yet, one_more, refused_all, refused_decides, some_read, taken_reads, takes_so, writes_left, writes_whole}
+use Rattle.office_desk.proofs.FoundAgain.{none_found}
 use Rattle.office_tables_decisions.proofs.Decisions.{handed_decides}
 use Rattle.office_desk.proofs.importing.decide_import.Goals.{in-Added, in-Same}
 use Rattle.office_desk.proofs.importing.decide_import.Goals as goal
@@ -73,7 +73,6 @@ returns-in_err-taken g c =
       decides = handed_decides _ _ _ _ _ c.from_residual.ensures.1
           (λ damaged honest. damage_of_record _ c.args.records.now c.loop-index.index item next
           (subst (λ tables. MeetsCabinetDamage tables item (cabinet_of item)) (inv.reads.kept.same_content (took.reads.kept.honest_before honest)) (c.in_err-taken.ensures.takes damaged honest)));
-      blames = search rules;
       reads = taken_reads shelf _ c.loop-index.pending c.loop-index.index _ _ _ _ _ inv.fresh inv.reads took.reads
           (handed_told c.from_residual.result _ c.in_err-taken.field-0.0 c.in_err-taken.was c.from_residual.ensures.1);
       nothing = λ none. absurd (none_next _ c.loop-index.index item next none);
@@ -95,10 +94,6 @@ returns-in-Refused g c =
           (λ honest office stands. refused_all _ all c.loop-index.index c.loop-index.added c.loop-index.same c.loop-index.pending c.in_ok-taken.next item c.in_ok-taken.taken
           (inv.so_far (first honest)) next (takes honest) c.in-Refused.refusal _ office c.in-Refused.is c.number-cause.ensures stands)
           c.all_or_none.ensures.reply (c.all_or_none.ensures.none tt);
-      blames = blames_next _ _ all c.loop-index.index _ _ item c.in-Refused.refusal _ next.left refl c.number-cause.ensures c.all_or_none.ensures.reply
-          (subst (IsNamedTaken item) c.in-Refused.is told.within.named)
-          (λ honest. first_refused _ all c.loop-index.index c.loop-index.added c.loop-index.same c.loop-index.pending c.in_ok-taken.next item c.in_ok-taken.taken
-          (inv.so_far (first honest)) next (takes honest) c.in-Refused.refusal c.in-Refused.is);
       reads = taken_reads shelf _ c.loop-index.pending c.loop-index.index _ _ _ _ _ inv.fresh inv.reads told.reads (λ told. tt);
       nothing = λ none. absurd (none_next _ c.loop-index.index item next none);
     }
@@ -112,7 +107,6 @@ returns g c =
     record {
       decides = import_decides _ _ all index c.loop-index.added c.loop-index.same c.loop-index.pending _ high inv.so_far inv.leaves
           (λ table. writes_whole table all index _ _ high (inv.writes table)) c.all_or_none-2.ensures.reply (c.all_or_none-2.ensures.all (λ refused. refused) ∙ c.into_changes-2.ensures);
-      blames = taken_blames _ _ _ _ (Imported c.loop-index.added c.loop-index.same) c.all_or_none-2.ensures.reply (λ why e. cc);
       reads = record {
         kept = inv.reads.kept;
         clean_before = inv.reads.clean_before;

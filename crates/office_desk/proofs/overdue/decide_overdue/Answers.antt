@@ -1,4 +1,4 @@
-use Rattle.std.proofs.Common.{◌∙◌, ◌<◌, ◌≤◌, List, ap, arith}
+use Rattle.std.proofs.Common.{◌∙◌, ◌≤◌, List, ap, arith}
 use Rattle.cabinet_core.specs.Overdue.{Listed}
 use Rattle.office_machine.specs.declared.reply.Reply.TheVariants.{Overdue}
 use Rattle.office_tables_decisions.proofs.Decisions.{told_decides}
@@ -11,8 +11,5 @@ returns-clause-decides g c =
     told_decides _ _ _ _ _
     (c.from_reply.ensures.reply ∙ ap (λ (list : List Listed). Overdue list) c.new-found.ensures)
     (λ e. cc) (λ why e. absurd cc) c.from_reply.ensures.no_changes
-    (λ honest. c.in_ok-late.ensures.whole honest
-    (let few : c.in_ok-late.late.len < 18_446_744_073_709_551_615 =
-    omega (arith, c.in_ok-late.late.ok.1, c.in_ok-late.late.small) in few))
     (λ honest office stands. overdue_shows (g.S.Shelf.content c.args.shelf.now) office c.args.day
     18_446_744_073_709_551_615 _ many stands (c.in_ok-late.ensures.rows honest))

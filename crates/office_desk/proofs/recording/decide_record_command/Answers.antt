@@ -1,7 +1,7 @@
 use Rattle.std.proofs.Common.{◌∙◌, Bool, Ok, ap}
 use Rattle.office_machine.specs.Step.{cabinet_of}
 use Rattle.office_tables_decisions.proofs.ReadLemmas.{handed_told, told_on}
-use Rattle.office_desk.proofs.Recorded.{about_tells, at_unknown, gone_whole, decides_stored, meets_record, record_decides, unknown_named}
+use Rattle.office_desk.proofs.Recorded.{about_tells, at_unknown, decides_stored, meets_record, record_decides, unknown_named}
 use Rattle.office_tables_decisions.proofs.Decisions.{fault_decides, unknown_decides}
 use Rattle.office_desk.proofs.recording.decide_record_command.Goals as goal
 
@@ -13,7 +13,6 @@ returns-then-not-branch-clause-decides g c =
     let tells = λ (honest : g.S.Shelf.is_honest c.is_known.new.shelf). about_tells tables _ _ _ _ c.cabinet_of.ensures gone (c.in_ok-is_known.ensures.tells honest) in
     unknown_decides _ _ _ _ c.from_refusal.ensures.reply
     (unknown_named (cabinet_of asked) _ (rw c.cabinet_of.ensures at (c.is_known.ensures.asked (c.in_ok-is_known.was ∙ ap (λ (b : Bool). Ok b) gone)))) c.from_refusal.ensures.no_changes
-    (λ honest. gone_whole tables asked (cabinet_of asked) (tells honest).told (tells honest).whole)
     (λ honest office stands. at_unknown office (cabinet_of asked) _ ((tells honest).known office stands))
 
 pub returns-clause-decides : goal.returns-clause-decides

@@ -6,14 +6,13 @@ use Rattle.office_desk.proofs.recording.is_known.Goals as goal
 pub returns-in_default-clause-tells : goal.returns-in_default-clause-tells
 returns-in_default-clause-tells g c = λ honest.
     subst (λ about. TellsIntersection (g.S.Shelf.content c.args.shelf.now) about true) (sym c.in_default.is)
-    (record { known = λ office stands. refl; told = refl; whole = λ never. never })
+    (record { known = λ office stands. refl; told = refl })
 
 pub returns-clause-tells : goal.returns-clause-tells
 returns-clause-tells g c = λ honest.
     let tables = g.S.Shelf.content c.args.shelf.now in
     let row = c.in_ok-row.ensures.row honest in
     subst (λ about. TellsIntersection tables about c.is_some.result) (sym c.in-Some.is) (record {
-      known = λ office stands. c.is_some.ensures ∙ known_read _ c.in-Some.id c.in_ok-row.row row.0 office stands;
-      told = c.is_some.ensures ∙ row_stands tables c.in-Some.id c.in_ok-row.row row.0;
-      whole = row.1;
+      known = λ office stands. c.is_some.ensures ∙ known_read _ c.in-Some.id c.in_ok-row.row row office stands;
+      told = c.is_some.ensures ∙ row_stands tables c.in-Some.id c.in_ok-row.row row;
     })

@@ -1,8 +1,7 @@
 use Rattle.std.proofs.Common.{◌∙◌, inl, inr, refl, sym}
 use Rattle.std.specs.FinMap.{get}
 use Rattle.office_tables_decisions.proofs.Decisions.{handed_decides, told_decides, unknown_decides}
-use Rattle.office_desk_timing.proofs.WholeRows.{row_after}
-use Rattle.office_desk.proofs.Recorded.{cabinet_shows, gone_after, none_there}
+use Rattle.office_desk.proofs.Recorded.{cabinet_shows, none_there}
 use Rattle.office_desk.proofs.register_showing.decide_cabinet.Goals as goal
 
 pub returns-then-not-branch-clause-decides : goal.returns-then-not-branch-clause-decides
@@ -10,7 +9,6 @@ returns-then-not-branch-clause-decides g c =
     let gone = c.if-not-branch.true in
     let known = c.in_ok-is_known.ensures in
     unknown_decides _ _ _ _ c.from_refusal.ensures.reply (inl refl) c.from_refusal.ensures.no_changes
-    (λ honest. gone_after _ c.args.id _ (sym gone ∙ (known.tells honest).told) (known.tells honest).whole)
     (λ honest office stands. rw (none_there (get office.intersections c.args.id) (sym gone ∙ (known.tells honest).known office stands)))
 
 pub returns-clause-decides : goal.returns-clause-decides
@@ -18,13 +16,10 @@ returns-clause-decides g c =
     let known = c.in_ok-is_known.ensures in
     let view = c.in_ok-view.ensures in
     told_decides _ _ _ _ _ c.from_reply.ensures.reply (λ e. cc) (λ why e. absurd cc) c.from_reply.ensures.no_changes
-    (λ honest.
-    let first = c.cabinet_view.ensures.reads.kept.honest_before honest in
-    row_after _ c.args.id _ (known.tells first).whole (rw (c.is_known.ensures.reads.kept.same_content first) at (view.shows honest).1))
     (λ honest office stands.
     let first = c.cabinet_view.ensures.reads.kept.honest_before honest in
     cabinet_shows _ office c.args.id _ stands (λ other at. sym c.if-not-branch.false ∙ (known.tells first).known other at)
-    (rw (c.is_known.ensures.reads.kept.same_content first) at (view.shows honest).0))
+    (rw (c.is_known.ensures.reads.kept.same_content first) at (view.shows honest)))
 
 pub returns-in_err-view-clause-decides : goal.returns-in_err-view-clause-decides
 returns-in_err-view-clause-decides g c =

@@ -2,8 +2,7 @@ use Rattle.std.proofs.Common.{◌∙◌, ℕ, List, ap, inl, inr, refl, sym}
 use Rattle.std.specs.FinMap.{get}
 use Rattle.office_machine.specs.declared.reply.Reply.TheVariants.{OpenOrders}
 use Rattle.office_tables_decisions.proofs.Decisions.{handed_decides, told_decides, unknown_decides}
-use Rattle.office_desk_timing.proofs.WholeRows.{row_after}
-use Rattle.office_desk.proofs.Recorded.{gone_after, none_there, orders_show}
+use Rattle.office_desk.proofs.Recorded.{none_there, orders_show}
 use Rattle.office_desk.proofs.register_showing.decide_open_orders.Goals as goal
 
 pub returns-then-not-known-clause-decides : goal.returns-then-not-known-clause-decides
@@ -11,7 +10,6 @@ returns-then-not-known-clause-decides g c =
     let gone = c.if-not-known.true in
     let known = c.in_ok-known.ensures in
     unknown_decides _ _ _ _ c.from_refusal.ensures.reply (inl refl) c.from_refusal.ensures.no_changes
-    (λ honest. gone_after _ c.args.id _ (sym gone ∙ (known.tells honest).told) (known.tells honest).whole)
     (λ honest office stands. rw (none_there (get office.intersections c.args.id) (sym gone ∙ (known.tells honest).known office stands)))
 
 pub returns-clause-decides : goal.returns-clause-decides
@@ -21,13 +19,10 @@ returns-clause-decides g c =
     told_decides _ _ _ _ _
     (c.from_reply.ensures.reply ∙ ap (λ (numbers : List ℕ). OpenOrders numbers) c.new-numbers.ensures)
     (λ e. cc) (λ why e. absurd cc) c.from_reply.ensures.no_changes
-    (λ honest.
-    let first = c.open_orders.ensures.reads.kept.honest_before honest in
-    row_after _ c.args.id _ (known.tells first).whole (rw (c.is_known.ensures.reads.kept.same_content first) at (list.shows honest).1))
     (λ honest office stands.
     let first = c.open_orders.ensures.reads.kept.honest_before honest in
     orders_show _ office c.args.id _ stands (λ other at. sym c.if-not-known.false ∙ (known.tells first).known other at)
-    (rw (c.is_known.ensures.reads.kept.same_content first) at (list.shows honest).0))
+    (rw (c.is_known.ensures.reads.kept.same_content first) at (list.shows honest)))
 
 pub returns-in_err-list-clause-decides : goal.returns-in_err-list-clause-decides
 returns-in_err-list-clause-decides g c =

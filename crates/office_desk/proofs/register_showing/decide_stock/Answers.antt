@@ -8,5 +8,5 @@ pub returns-clause-decides : goal.returns-clause-decides
 returns-clause-decides g c =
     told_decides _ _ _ _ _
     (c.from_reply.ensures.reply ∙ ap (λ (parts : List (List ℕ × ℕ)). Stock parts) c.new-parts.ensures)
-    (λ e. cc) (λ why e. absurd cc) c.from_reply.ensures.no_changes (λ honest. (c.in_ok-list.ensures.shows honest).1)
-    (λ honest office stands. stock_shows _ office _ stands (c.in_ok-list.ensures.shows honest).0)
+    (λ e. cc) (λ why e. absurd cc) c.from_reply.ensures.no_changes
+    (λ honest office stands. stock_shows _ office _ stands (c.in_ok-list.ensures.shows honest))

@@ -7,8 +7,8 @@ use Rattle.office_desk.proofs.there.what_is_there.Goals as goal
 pub returns-clause-there : goal.returns-clause-there
 returns-clause-there g c = λ honest.
     found_place _ c.args.pending.now _ _ _ (sym c.key_told-key.ensures)
-    (found_at (place_of c.key_told-key.result) c.in_ok-found.found, c.in_ok-found.ensures.stands honest, c.in_ok-there_at.ensures)
+    (found_at (place_of c.key_told-key.result) c.in_ok-found.found, c.in_ok-found.ensures.row honest, c.in_ok-there_at.ensures)
 
 pub returns-in_err-found-clause-there : goal.returns-in_err-found-clause-there
 returns-in_err-found-clause-there g c = handed_reports _ _ _ _ _ c.from_residual.ensures.1
-    (λ damaged honest. damaged_place _ _ _ (sym c.key_told-key.ensures) (c.in_err-found.ensures.stands damaged honest))
+    (λ damaged honest. damaged_place _ _ _ (sym c.key_told-key.ensures) (c.in_err-found.ensures.row damaged honest))

@@ -1,7 +1,6 @@
-use Rattle.std.proofs.Common.{◌∙◌, Err, ⊎_elim, ap, inr, subst}
+use Rattle.std.proofs.Common.{◌∙◌, Err, ap, inr, subst}
 use Rattle.office_tables_shelf.specs.CabinetReads.{HasDamagedUsed, ListsOrders, ListsUsed}
 use Rattle.office_tables_shelf.specs.declared.shelf.ShelfFault.{ShelfFault}
-use Rattle.office_tables_shelf.proofs.ListedRows.{inspections_whole, lines_whole, orders_whole}
 use Rattle.office_tables_decisions.proofs.ReadLemmas.{handed_reports}
 use Rattle.office_desk_cabinet.proofs.InOrder.{inspections_in_order, lines_in_order, orders_in_order}
 use Rattle.office_desk_cabinet.proofs.ListedRecords.{inspections_listed, orders_listed, lines_listed}
@@ -23,18 +22,15 @@ returns-clause-shows g c = λ honest.
     let has_orders = subst (λ t. ListsOrders t id orders) same_first (c.in_ok-orders.ensures.rows second) in
     let orders_within = c.in_ok-orders.ensures.within second in
     let has_lines = subst (λ t. ListsUsed t id lines) same_second (c.in_ok-lines.ensures.rows honest) in
-    let lines_within = c.in_ok-lines.ensures.within honest in (
-      λ r stands. record {
-        inspections = c.new.ensures.same (inspections_in_order tables id inspections has_inspections inspections_within)
-            ∙ inspections_listed tables r id inspections stands has_inspections;
-        orders = c.new-2.ensures.same (orders_in_order tables id orders has_orders orders_within)
-            ∙ orders_listed tables r id orders stands has_orders;
-        lines = c.new-3.ensures.same (lines_in_order tables id lines has_lines lines_within)
-            ∙ lines_listed tables r id lines stands has_lines;
-      },
-      ⊎_elim (inspections_whole tables id inspections has_inspections inspections_within)
-          (⊎_elim (orders_whole tables id orders has_orders orders_within) (lines_whole tables id lines has_lines lines_within)),
-    )
+    let lines_within = c.in_ok-lines.ensures.within honest in
+    λ r stands. record {
+      inspections = c.new.ensures.same (inspections_in_order tables id inspections has_inspections inspections_within)
+          ∙ inspections_listed tables r id inspections stands has_inspections;
+      orders = c.new-2.ensures.same (orders_in_order tables id orders has_orders orders_within)
+          ∙ orders_listed tables r id orders stands has_orders;
+      lines = c.new-3.ensures.same (lines_in_order tables id lines has_lines lines_within)
+          ∙ lines_listed tables r id lines stands has_lines;
+    }
 
 pub returns-in_err-lines-clause-shows : goal.returns-in_err-lines-clause-shows
 returns-in_err-lines-clause-shows g c = handed_reports _ _ _ _ _ c.from_residual-in_err-lines.ensures.1 (λ damaged honest.

@@ -1,8 +1,7 @@
-use Rattle.std.proofs.Common.{⊎_elim, subst}
+use Rattle.std.proofs.Common.{subst}
 use Rattle.cabinet_core.specs.{Cabinet.receive_line, declared.command.RecordCommand.TheVariants.Receive}
-use Rattle.office_tables_shelf.specs.{Change.changed_by, Places.Delivery, Places.Part}
-use Rattle.office_desk_cabinet.specs.Puts.{StandsAt}
-use Rattle.office_desk_cabinet.proofs.{Decided.decided, PendingLemmas.taken_stands, Stocked.received_tells}
+use Rattle.office_tables_shelf.specs.{Change.changed_by, Places.Delivery, Places.Part, Places.ReadsAt}
+use Rattle.office_desk_cabinet.proofs.{Decided.decided, PendingLemmas.taken_reads, Stocked.received_tells}
 use Rattle.office_desk_cabinet.proofs.stocking.decide_receive.Goals as goal
 
 pub returns-clause-decides : goal.returns-clause-decides
@@ -16,10 +15,10 @@ returns-clause-decides g c =
     (λ honest.
     let at_hand = c.record_at-2.ensures.reads.kept.honest_before honest in
     let first = c.record_at.ensures.reads.kept.same_content at_hand in
-    let came = subst (λ t. StandsAt (changed_by t pending) (Delivery asked.part asked.number) there) first
-    (taken_stands _ (Delivery asked.part asked.number) _ _ c.delivery-there.ensures (c.in_ok-record_at.ensures.stands honest)) in
-    let on = taken_stands _ (Part asked.part) _ _ c.hand-hand.ensures (c.in_ok-found.ensures.stands at_hand) in
-    record { reads = (came.reads, on.reads); whole = ⊎_elim came.whole on.whole })
+    let came = subst (λ t. ReadsAt (changed_by t pending) (Delivery asked.part asked.number) there) first
+    (taken_reads _ (Delivery asked.part asked.number) _ _ c.delivery-there.ensures (c.in_ok-record_at.ensures.row honest)) in
+    let on = taken_reads _ (Part asked.part) _ _ c.hand-hand.ensures (c.in_ok-found.ensures.row at_hand) in
+    (came, on))
     says.line (says.makes 0)
     (received_tells 0 asked (receive_line there hand asked) hand c.receive-decision.result
     c.report_delivery.result says.line c.report_delivery.ensures.tells) c.report_delivery.ensures.fault

@@ -1,8 +1,7 @@
-use Rattle.std.proofs.Common.{⊎_elim, subst, ◌∙◌}
+use Rattle.std.proofs.Common.{subst, ◌∙◌}
 use Rattle.cabinet_core.specs.declared.command.RecordCommand.TheVariants.{UsePart}
-use Rattle.office_tables_shelf.specs.{Change.changed_by, Places.Line, Places.Order, Places.Part}
-use Rattle.office_desk_cabinet.specs.Puts.{StandsAt}
-use Rattle.office_desk_cabinet.proofs.{Decided.decided, PendingLemmas.taken_stands}
+use Rattle.office_tables_shelf.specs.{Change.changed_by, Places.Line, Places.Order, Places.Part, Places.ReadsAt}
+use Rattle.office_desk_cabinet.proofs.{Decided.decided, PendingLemmas.taken_reads}
 use Rattle.office_desk_cabinet.proofs.stocking.decide_use_part.Goals as goal
 
 pub returns-clause-decides : goal.returns-clause-decides
@@ -20,13 +19,10 @@ returns-clause-decides g c =
     let at_hand = c.record_at-2.ensures.reads.kept.honest_before at_line in
     let first = c.record_at.ensures.reads.kept.same_content at_hand in
     let second = c.record_at-2.ensures.reads.kept.same_content at_line ∙ first in
-    let line = subst (λ t. StandsAt (changed_by t pending) (Line id asked.order asked.line) there) first
-    (taken_stands _ (Line id asked.order asked.line) _ _ c.line-there.ensures (c.in_ok-record_at.ensures.stands at_line)) in
-    let of = subst (λ t. StandsAt (changed_by t pending) (Order id asked.order) order) second
-    (taken_stands _ (Order id asked.order) _ _ c.order-order.ensures (c.in_ok-record_at-2.ensures.stands honest)) in
-    let on = taken_stands _ (Part asked.part) _ _ c.hand-hand.ensures (c.in_ok-found.ensures.stands at_hand) in
-    record {
-      reads = (line.reads, of.reads, on.reads);
-      whole = ⊎_elim line.whole (⊎_elim of.whole on.whole);
-    })
+    let line = subst (λ t. ReadsAt (changed_by t pending) (Line id asked.order asked.line) there) first
+    (taken_reads _ (Line id asked.order asked.line) _ _ c.line-there.ensures (c.in_ok-record_at.ensures.row at_line)) in
+    let of = subst (λ t. ReadsAt (changed_by t pending) (Order id asked.order) order) second
+    (taken_reads _ (Order id asked.order) _ _ c.order-order.ensures (c.in_ok-record_at-2.ensures.row honest)) in
+    let on = taken_reads _ (Part asked.part) _ _ c.hand-hand.ensures (c.in_ok-found.ensures.row at_hand) in
+    (line, of, on))
     says.line (says.makes id) c.report_record.ensures.tells c.report_record.ensures.fault

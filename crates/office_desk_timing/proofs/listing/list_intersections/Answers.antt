@@ -1,10 +1,8 @@
 use Rattle.std.proofs.Common.{◌≡◌, ◌∙◌, Ok, Err, ap, arith, length, map, subst, sym}
 use Rattle.std.proofs.{lemmas.List.take_all}
 use Rattle.std.specs.Prelude.{⊤}
-use Rattle.std.specs.List.{AllByRecursion}
-use Rattle.office_tables_shelf.specs.Shelf.{CountsTiming, IsIntersectionWithin, ListsIntersections, rows_of}
+use Rattle.office_tables_shelf.specs.Shelf.{CountsTiming, ListsIntersections, rows_of}
 use Rattle.office_tables_shelf.specs.declared.shelf.ShelfFault.{ShelfFault}
-use Rattle.office_tables_shelf.proofs.ListedRows.{intersections_whole}
 use Rattle.office_tables_decisions.proofs.ReadLemmas.{handed_reports, handed_told, reads_then}
 use Rattle.office_desk_timing.specs.Listing.{listed_in, row_listed}
 use Rattle.office_desk_timing.proofs.ListedIntersections.{listed_more}
@@ -15,8 +13,6 @@ loop-id-init g c =
     let tables = g.S.Shelf.content c.args.shelf.now in
     record {
       read = λ honest. subst (ListsIntersections tables) (sym c.as_slice-id-items.ensures.value) (c.in_ok-rows.ensures.rows honest);
-      within = λ honest. subst (AllByRecursion IsIntersectionWithin)
-          (sym c.as_slice-id-items.ensures.value) (c.in_ok-rows.ensures.within honest);
       listed = λ honest. c.new-found.ensures.items;
       reads = record {
         kept = c.intersections.ensures.kept;
@@ -36,7 +32,6 @@ loop-id-preserved g c =
     let before = c.committed_count.ensures.kept.honest_before in
     record {
       read = λ honest. c.loop-id.invariant.read (before honest);
-      within = λ honest. c.loop-id.invariant.within (before honest);
       listed = λ honest.
           let counted : count ≡ length (rows_of e.0 tables.timing) =
           subst (λ t. CountsTiming t e.0 count) (c.loop-id.invariant.reads.kept.same_content (before honest))
@@ -64,11 +59,9 @@ pub returns-clause-lists : goal.returns-clause-lists
 returns-clause-lists g c = λ honest.
     let tables = g.S.Shelf.content c.args.shelf.now in
     let rows = c.as_slice-id-items.result.now in
-    let inv = c.loop-id.invariant in (
-      record {
-        rows = rows;
-        lists = inv.read honest;
-        found_is = inv.listed honest ∙ ap (λ list. map (listed_in tables) list) (take_all c.loop-id.id-index rows (omega arith));
-      },
-      intersections_whole tables rows (inv.read honest) (inv.within honest),
-    )
+    let inv = c.loop-id.invariant in
+    record {
+      rows = rows;
+      lists = inv.read honest;
+      found_is = inv.listed honest ∙ ap (λ list. map (listed_in tables) list) (take_all c.loop-id.id-index rows (omega arith));
+    }

@@ -1,7 +1,6 @@
 use Rattle.std.proofs.Common.{◌≡◌, map, take}
 use Rattle.std.specs.Prelude.{⊤}
-use Rattle.std.specs.List.{AllByRecursion}
-use Rattle.office_tables_shelf.specs.Shelf.{IsIntersectionWithin, ListsIntersections}
+use Rattle.office_tables_shelf.specs.Shelf.{ListsIntersections}
 use Rattle.office_tables_decisions.proofs.ReadLemmas.{HasRead}
 use Rattle.office_desk_timing.specs.Listing.{listed_in}
 use Rattle.office_desk_timing.proofs.listing.list_intersections.Given as goal
@@ -12,7 +11,6 @@ invariant-loop-id g l =
     let shelf = g.S.Shelf in
     record {
       read : shelf.is_honest l.shelf → ListsIntersections (shelf.content l.fn.shelf) l.id-items;
-      within : shelf.is_honest l.shelf → AllByRecursion IsIntersectionWithin l.id-items;
       listed : shelf.is_honest l.shelf → l.found.items ≡ map (listed_in (shelf.content l.fn.shelf)) (take l.id-index l.id-items);
       reads : HasRead shelf ⊤ l.fn.shelf l.shelf;
     }

@@ -10,19 +10,14 @@ use Rattle.office_desk_timing.proofs.showing.verdict_at.Goals as goal
 pub returns-in_default-2-clause-verdict : goal.returns-in_default-2-clause-verdict
 returns-in_default-2-clause-verdict g c = λ honest.
     let tables = g.S.Shelf.content c.args.shelf.now in
-    let found = c.in_ok-found.ensures.found honest in (
-      no_verdict tables c.args.id c.args.row.now _ (subst (FindsAny Plan tables c.args.id) c.in_default-2.is found.0.0),
-      λ met. found.1 met.1,
-    )
+    no_verdict tables c.args.id c.args.row.now _
+    (subst (FindsAny Plan tables c.args.id) c.in_default-2.is (c.in_ok-found.ensures.found honest).0)
 
 pub returns-clause-verdict : goal.returns-clause-verdict
 returns-clause-verdict g c = λ honest.
     let tables = g.S.Shelf.content c.args.shelf.now in
-    let found = c.in_ok-found.ensures.found honest in (
-      verdict_found tables c.args.id c.args.row.now c.in-Some-2.found c.in_ok-verdict.field-0
-          (subst (FindsAny Plan tables c.args.id) c.in-Some-2.is found.0.0) c.in_ok-verdict.ensures,
-      λ met. found.1 met.1,
-    )
+    verdict_found tables c.args.id c.args.row.now c.in-Some-2.found c.in_ok-verdict.field-0
+    (subst (FindsAny Plan tables c.args.id) c.in-Some-2.is (c.in_ok-found.ensures.found honest).0) c.in_ok-verdict.ensures
 
 pub returns-in_err-found-clause-verdict : goal.returns-in_err-found-clause-verdict
 returns-in_err-found-clause-verdict g c = handed_reports _ _ _ _ _ c.from_residual.ensures.1

@@ -1,7 +1,7 @@
--- A command's line of the register's table on the rows that stand under its own keys, whatever else is stored.
-use Rattle.std.specs.Prelude.{◌≡◌, List, [], ◌∷◌}
+-- What is read under a command's keys, and the rows that the command adds by it.
+use Rattle.std.specs.Prelude.{List, [], ◌∷◌}
 use Rattle.cabinet_core.specs.Cabinet.{Line, added, same, refused, record_of, use_changes, close_changes, receive_changes}
-use Rattle.cabinet_core.specs.Step.{Standing, line_on}
+use Rattle.cabinet_core.specs.Step.{Standing}
 use Rattle.cabinet_core.specs.declared.command.RecordCommand.{RecordCommand}
 use Rattle.cabinet_core.specs.declared.command.RecordCommand.TheVariants.{Inspect, OpenOrder, UsePart, CloseOrder, Receive}
 use Rattle.office_tables_shelf.specs.Content.{Content}
@@ -9,7 +9,7 @@ use Rattle.office_tables_shelf.specs.Places as place
 use Rattle.office_tables_shelf.specs.Places.{ReadsAt}
 use Rattle.office_tables_shelf.specs.declared.rows.RowChange.{RowChange}
 use Rattle.office_tables_shelf.specs.declared.rows.RowChange.TheVariants.{AddInspection, AddOrder}
-use Rattle.office_tables_decisions.specs.RegisterRows.{row_changes_of, stock_rows_of}
+use Rattle.office_desk_cabinet.specs.{Stocking.stock_rows_of, Telling.row_changes_of}
 
 -- the rows that a line writes: only what is added writes any
 abbrev pub rows_for : Line → List RowChange → List RowChange
@@ -35,9 +35,3 @@ rows_added (OpenOrder id asked) there = AddOrder id (record_of asked) ∷ []
 rows_added (UsePart id asked) (there, order, hand) = row_changes_of id (use_changes hand asked)
 rows_added (CloseOrder id number asked) there = row_changes_of id (close_changes there asked)
 rows_added (Receive asked) (there, hand) = stock_rows_of (receive_changes hand asked)
-
--- by what stands under the command's keys, it has this line of the register's table and writes these rows
-abbrev pub TellsLine : Content → RecordCommand → Line → List RowChange → Type 0
-TellsLine tables command line rows =
-    (there : Standing command) × ReadsKeys tables command there
-    × (line ≡ line_on command there) × (rows ≡ rows_for line (rows_added command there))
