@@ -4,7 +4,7 @@ import os
 import sys
 import time
 
-BAR = 20  # columns of the bar
+BAR = 10  # columns of the bar
 WIDTH = 80  # columns of a terminal that does not tell
 OFTEN, SELDOM = 1, 60  # seconds between two lines in a terminal, and elsewhere
 CLEAR = "\r\033[K"
@@ -17,11 +17,9 @@ def draw(went, left):
     return f"[{'#' * filled}{'.' * (BAR - filled)}]"
 
 
-def say_minutes(seconds):
-    """So many seconds, as a reader who waits wants to know them."""
-    if seconds < 60:
-        return "less than a minute"
-    return f"{(seconds + 30) // 60:.0f} min"
+def shorten(text, columns):
+    """A text that fits into so many columns."""
+    return text if len(text) <= columns else f"{text[:columns - 2]}.."
 
 
 class Line:
@@ -41,15 +39,16 @@ class Line:
         pause = OFTEN if self.is_terminal else SELDOM
         return self.told is None or self.clock() - self.told >= pause
 
-    def show(self, went, left, text):
-        """Tells how far the work is, if it is time to."""
+    def show(self, went, left, done, now):
+        """Tells, if it is time to, what is done after so many seconds, how many are left, and what
+        is being done."""
         if not self.is_due():
             return
         self.told = self.clock()
-        ahead = f"some {say_minutes(left)} left" if left >= 60 else f"{say_minutes(left)} left"
-        whole = f"{self.name}: {draw(went, left)} {ahead}; {text}"
+        minutes, more = int(went // 60), max(1, round(left / 60))
+        whole = f"{self.name}: {draw(went, left)} {done} after {minutes} min, {more} min left: {now}"
         if self.is_terminal:
-            self.stream.write(CLEAR + whole[:self.columns() - 1])
+            self.stream.write(CLEAR + shorten(whole, self.columns() - 1))
             self.is_drawn = True
         else:
             self.stream.write(f"{whole}\n")
