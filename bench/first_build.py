@@ -13,8 +13,6 @@ not have it. Beside the minutes it prints those of the best order that it finds 
 seconds (20) for each number of processors, the work, shared out, and the longest chain of crates;
 then when each crate ends on 4 processors.
 """
-import importlib.machinery
-import importlib.util
 import math
 import pathlib
 import random
@@ -29,6 +27,7 @@ sys.dont_write_bytecode = True
 sys.path[:0] = [str(TOP / "tests"), str(TOP / "building")]
 import measured
 import order
+import script
 
 MINUTES = (10, 20, 30, 40, 50)
 HEAD = ["State and machine", "Crates", *(f"{it} min" for it in MINUTES), "All"]
@@ -36,14 +35,6 @@ PROCESSORS, SHOWN = (2, 4, 8), 4
 MEMORY = 4_000_000_000  # bytes for each processor
 PATIENCE = 20  # seconds of a search
 WARM = 20  # seconds by which an order may be worse at first, and still be gone on from
-
-
-def load_office():
-    """The script `office`, as a module."""
-    loader = importlib.machinery.SourceFileLoader("office", str(TOP / "office"))
-    found = importlib.util.module_from_spec(importlib.util.spec_from_loader("office", loader))
-    loader.exec_module(found)
-    return found
 
 
 def built(folder):
@@ -132,7 +123,7 @@ def search(guess, patience):
 def find_work():
     """The crates of the program with those below them, and the seconds that each takes. The program
     itself takes what `./office` estimates, since the gate builds it twice."""
-    office = load_office()
+    office = script.load()
     below, libraries = office.crates()
     held = {name: office.sources(TOP, name) for name in below}
     work, compiling = office.estimate_all(below, libraries, held)
