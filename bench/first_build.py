@@ -1,23 +1,40 @@
-"""Measures the first build: clones the repository, runs `./office batch` there without requests,
-and says how many crates were proved after how many minutes.
+"""Measures the first build, or simulates it.
 
     python3 bench/first_build.py [--write]
+    python3 bench/first_build.py --simulate [SECONDS]
 
-With --write that goes into docs/MEASUREMENTS.md. Nothing else should run meanwhile. It needs some
-gigabytes in the folder for temporary files.
+The first clones the repository, runs `./office batch` there without requests, and says how many
+crates were proved after how many minutes. With --write that goes into docs/MEASUREMENTS.md. Nothing
+else should run meanwhile. It needs some gigabytes in the folder for temporary files.
+
+The second proves nothing. It goes through the order of `./office` on 2, 4 and 8 processors, by the
+seconds of each crate in the table of the gate, or as `./office` estimates them where the table does
+not have it. Beside the minutes it prints those of the best order that it finds by chance in so many
+seconds (20) for each number of processors, the work, shared out, and the longest chain of crates;
+then when each crate ends on 4 processors.
 """
+import math
 import pathlib
+import random
 import re
 import subprocess
 import sys
 import tempfile
+import time
 
 TOP = pathlib.Path(__file__).resolve().parent.parent
-sys.path.insert(0, str(TOP / "tests"))
+sys.dont_write_bytecode = True
+sys.path[:0] = [str(TOP / "tests"), str(TOP / "building")]
 import measured
+import order
+import script
 
 MINUTES = (10, 20, 30, 40, 50)
 HEAD = ["State and machine", "Crates", *(f"{it} min" for it in MINUTES), "All"]
+PROCESSORS, SHOWN = (2, 4, 8), 4
+MEMORY = 4_000_000_000  # bytes for each processor
+PATIENCE = 20  # seconds of a search
+WARM = 20  # seconds by which an order may be worse at first, and still be gone on from
 
 
 def built(folder):
@@ -38,9 +55,7 @@ def built(folder):
     return crates, proved, minutes
 
 
-def main():
-    if sys.argv[1:] not in ([], ["--write"]):
-        sys.exit("usage: python3 bench/first_build.py [--write]")
+def measure(is_written):
     begun = measured.ticks()
     with tempfile.TemporaryDirectory() as room:
         crates, proved, minutes = built(pathlib.Path(room) / "clone")
@@ -49,8 +64,101 @@ def main():
     where = f"{measured.state()}, {measured.machine(begun)}"
     cells = [where, str(crates), *shown, f"{minutes} min"]
     print(measured.table(HEAD, [cells]), end="")
-    if sys.argv[1:]:
+    if is_written:
         measured.written("first build", measured.table(HEAD, [cells]))
+
+
+def seconds_of_gate():
+    """What the proof of each crate took in the table of the gate."""
+    rows = re.findall(r"^ {4}(\w+) +([\d,]+)(?: |$)", measured.parted("gate")[1], re.MULTILINE)
+    return {name: int(took.replace(",", "")) for name, took in rows}
+
+
+class Guess(order.Order):
+    """An order by chance: the rank and the jobs of each crate, and how many jobs run at once."""
+
+    def __init__(self, *words):
+        super().__init__(*words)
+        self.ranks, self.jobs = dict(self.behind), dict.fromkeys(self.below, 1)
+        self.spare = dict.fromkeys(self.below, 0)
+
+    def find_ready(self, done, running):
+        found = super().find_ready(done, running)
+        return sorted(found, key=lambda it: -self.ranks[it])
+
+    def count_jobs(self, name, taken, others):
+        return self.jobs[name]
+
+    def change(self, chance):
+        """Changes a crate or the slots; what it gives takes that back."""
+        name, was = chance.choice([*self.below]), (dict(self.ranks), dict(self.jobs), self.slots)
+        kind = chance.random()
+        if kind < 0.5:
+            self.jobs[name] = chance.choice((1, 1, *range(1, order.MOST + 1)))
+        elif kind < 0.95:
+            self.ranks[name] *= chance.uniform(0.5, 1.5)
+        else:
+            self.slots = self.processors + chance.randrange(3)
+        return was
+
+    def put_back(self, was):
+        self.ranks, self.jobs, self.slots = was
+
+
+def search(guess, patience):
+    """The least seconds of the orders that were found: each is the one before it, changed, and gone
+    on from where it is not much worse, less and less so."""
+    chance, begun = random.Random(1), time.process_time()
+    best = now = order.foresee(guess)[0]
+    while patience and (gone := (time.process_time() - begun) / patience) < 1:
+        was, before = guess.change(chance), now
+        now = order.foresee(guess)[0]
+        if now > before and chance.random() > math.exp((before - now) / (WARM * (1 - gone))):
+            guess.put_back(was)
+            now = before
+        best = min(best, now)
+    return best
+
+
+def find_work():
+    """The crates of the program with those below them, and the seconds that each takes. The program
+    itself takes what `./office` estimates, since the gate builds it twice."""
+    office = script.load()
+    below, libraries = office.crates()
+    held = {name: office.sources(TOP, name) for name in below}
+    work, compiling = office.estimate_all(below, libraries, held)
+    known = seconds_of_gate()
+    work.update((name, known[name]) for name in work if name in known and name not in compiling)
+    return below, work, compiling
+
+
+def simulate(patience):
+    below, work, compiling = find_work()
+    minutes = lambda seconds: f"{seconds / 60:.1f}"
+    rows, ends = [], []
+    for many in PROCESSORS:
+        words = below, work, compiling, many, many * MEMORY
+        today = order.Order(*words)
+        took, found = order.foresee(today)
+        best = min(took, search(Guess(*words), patience))
+        whole = (sum(work.values()) + sum(compiling.values())) / many
+        chain = max(today.behind.values())
+        rows.append([str(many), *map(minutes, (took, best, whole, chain))])
+        ends = found if many == SHOWN else ends
+    head = ["processors", "this order, min", "best found", "work, shared out", "longest chain"]
+    print(measured.block(head, rows))
+    last = [[name, minutes(at), str(jobs)] for at, name, jobs in ends]
+    print(measured.block([f"crate, on {SHOWN} processors", "ends, min", "jobs"], last), end="")
+
+
+def main():
+    words = sys.argv[1:]
+    if words[:1] == ["--simulate"] and all(it.isdecimal() for it in words[1:]) and len(words) < 3:
+        simulate(int(words[1]) if words[1:] else PATIENCE)
+    elif words in ([], ["--write"]):
+        measure(bool(words))
+    else:
+        sys.exit("usage: python3 bench/first_build.py [--write | --simulate [SECONDS]]")
 
 
 if __name__ == "__main__":
