@@ -33,6 +33,7 @@ MEANT = {
         "Command::inspect Command::open_order Command::use_part Command::close_order "
         "Command::receive",
     "a database that is given back, for tables over any store": "SqlShelf::into_conn",
+    "how many rows were written, for a caller that counts them": "Shelf::writes",
 }
 CALL = re.compile(r"( *)(pub )?(?:const )?fn (\w+)")
 WORD = re.compile(r"(\.|\b\w+(?:::<[^;()]*>)?::|fn )?\b([a-z_]\w*)\b")
