@@ -9,8 +9,8 @@ use Rattle.signal_plans.specs.Difference.{AreTold, Explains, change_of, differen
 use Rattle.signal_plans.specs.declared.difference.Difference.{Difference}
 use Rattle.signal_plans.specs.declared.difference.Difference.TheVariants.{Added, Removed, Changed}
 use Rattle.signal_records.specs.{ChangedRows.changed_key, Key.key_cmp, KeyOrder.key_total, KeyOrder.key_exact, TimingSet.Rows, TimingSet.after_changes}
-use Rattle.signal_records.specs.declared.{key.Key.Key, record.Change.Change, record.Row.Row, state.Holder.Holder}
-use Rattle.draft_core.specs.DraftRows.{RowStands, RowsByKey, Stands, overlaid_row, row_at, silent}
+use Rattle.signal_records.specs.declared.{record.Change.Change, record.Row.Row, state.Holder.Holder}
+use Rattle.draft_core.specs.DraftRows.{RowStands, RowsByKey, Stands, overlaid_row, row_at}
 use Rattle.draft_core.specs.News.{AreInOrder}
 use Rattle.draft_core.specs.Revising.{base_from, base_of}
 use Rattle.draft_core.specs.Transaction.{Draft, TimingSide, holder_of}

@@ -12,7 +12,7 @@ use Rattle.signal_records.specs.declared.state.DbState.TheVariants as state
 use Rattle.signal_rules.specs.Violations.{violations_of}
 use Rattle.signal_values.specs.Words.{AreWords}
 use Rattle.draft_core.specs.Moves.{Follows, Makes, draft_writes, drafted_in, next_holder, timing_writes}
-use Rattle.draft_core.specs.Revising.{RevisionWrites, Revises, WritesRows, base_from, base_of, committing, lines_of, revision_steps, taking_up}
+use Rattle.draft_core.specs.Revising.{Revises, WritesRows, base_from, base_of, committing, lines_of, revision_steps, taking_up}
 use Rattle.draft_core.specs.Transaction.{Draft, TimingSide, holder_of, in_stage, state_of}
 use Rattle.draft_core.specs.{DraftRows.RowsByKey, DraftRows.Stands, Within.AreChangesWithin, Writes.abandon_rows}
 use Rattle.draft_core.specs.declared.refusal.DraftRefusal.{DraftRefusal}
@@ -20,16 +20,15 @@ use Rattle.draft_core.specs.declared.refusal.DraftRefusal.TheVariants as draft
 use Rattle.draft_core.specs.declared.step.Step.TheVariants as step
 use Rattle.draft_core.specs.declared.timing.Move.{Move}
 use Rattle.draft_core.specs.declared.timing.Reach.TheVariants as reach
-use Rattle.draft_core.specs.declared.timing.Timing.{Timing}
 use Rattle.draft_core.proofs.OnlyChanges.{among_within, no_committed}
-use Rattle.office_machine.specs.Office.{Intersection, IsSoundIntersection, Office}
+use Rattle.office_machine.specs.Office.{Intersection, Office}
 use Rattle.office_machine.specs.Step.{moved, moved_to, refusal_of_draft, with_intersection}
 use Rattle.office_machine.specs.declared.refusal.Refusal.TheVariants as refusal
 use Rattle.office_machine.specs.declared.reply.Reply.{Reply}
 use Rattle.office_machine.specs.declared.reply.Reply.TheVariants.{Moved, Refused, Same}
 use Rattle.office_tables_decisions.specs.{Changes.IsRefused, Damage.HasDamageIn, declared.decided.Decided.Decided}
 use Rattle.office_tables_decisions.specs.StandFor.{StandForSound}
-use Rattle.office_tables_shelf.specs.{Change.AddNew, Change.changed_by, Content.Content, Counts.writes_in, Shelf.rows_of}
+use Rattle.office_tables_shelf.specs.{Change.AddNew, Change.changed_by, Content.Content, Counts.writes_in}
 use Rattle.office_tables_shelf.specs.declared.{rows.RowChange.RowChange, shelf.ShelfFault.ShelfFault}
 use Rattle.office_tables_shelf.specs.declared.rows.Table.TheVariants as table
 use Rattle.office_tables_shelf.specs.declared.shelf.ShelfFault.TheVariants as fault
@@ -137,33 +136,20 @@ module _ (tables : Content) (id : ℕ) (clerk : List ℕ) (edit : PlanEdit) (fou
     stays_open : (stage : Stage)
         → (timing_writes move.changes ≡ 0) × (draft_writes move.changes ≤ length planned.edits)
         → WritesIn (in_stage stage)
-    stays_open stage count = go stage
-      where
-        found_few : draft_writes move.changes ≤ length plans.edits.found
-        found_few = subst (λ n. draft_writes move.changes ≤ n) (changes_counted plans.edits) count.1
-
-        go : (s : Stage) → WritesIn (in_stage s)
-        go Transaction = (
+    stays_open stage count =
+        let few = subst (λ n. draft_writes move.changes ≤ n) (changes_counted plans.edits) count.1 in
+        let open_then : WritesIn (in_stage Transaction) = (
           plans.edits.found,
           edits_told stands plans,
           row_once,
           none_and _ _ (timing_written id move.changes ∙ count.0),
-          none_and_few _ _ _ (draft_written id move.changes) found_few,
-        )
-        go Verify = (
-          plans.edits.found,
-          edits_told stands plans,
-          row_once,
-          none_and _ _ (timing_written id move.changes ∙ count.0),
-          none_and_few _ _ _ (draft_written id move.changes) found_few,
-        )
-        go Done = (
-          plans.edits.found,
-          edits_told stands plans,
-          row_once,
-          none_and _ _ (timing_written id move.changes ∙ count.0),
-          none_and_few _ _ _ (draft_written id move.changes) found_few,
-        )
+          none_and_few _ _ _ (draft_written id move.changes) few,
+        ) in
+        elim stage as (λ s. WritesIn (in_stage s)) [
+          | Transaction ↦ open_then
+          | Verify ↦ open_then
+          | Done ↦ open_then
+        ]
 
     pub edit_writes : WritesIn move.state
     edit_writes = go next.draft refl

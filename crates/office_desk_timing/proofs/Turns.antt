@@ -15,7 +15,7 @@ use Rattle.draft_core.specs.declared.refusal.DraftRefusal.TheVariants.{NotNormal
 use Rattle.draft_core.specs.declared.step.Step.TheVariants as step
 use Rattle.draft_core.proofs.Sound.{committed_inverts, owned_inverts}
 use Rattle.office_machine.specs.Office.{Intersection, Office}
-use Rattle.office_machine.specs.Step.{answered, moved, moved_to, with_intersection}
+use Rattle.office_machine.specs.Step.{moved, moved_to, with_intersection}
 use Rattle.office_machine.specs.declared.reply.Reply.{Reply}
 use Rattle.office_tables_decisions.specs.Asking.{asking_command}
 use Rattle.office_tables_shelf.proofs.CellLemmas.{tied}

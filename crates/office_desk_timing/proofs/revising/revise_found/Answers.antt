@@ -1,4 +1,4 @@
-use Rattle.std.proofs.Common.{◌∙◌, inl, sym, true≢false}
+use Rattle.std.proofs.Common.{◌∙◌, inl, sym}
 use Rattle.office_desk_timing.proofs.Revisions.{revision_written}
 use Rattle.office_desk_timing.proofs.revising.revise_found.Goals as goal
 
