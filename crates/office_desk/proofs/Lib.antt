@@ -15,5 +15,6 @@ pub mod OverdueRows
 pub mod Writes
 pub mod Street
 pub mod Runs
+pub mod Edits
 mod TriedRecords
 pub mod Looks

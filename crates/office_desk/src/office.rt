@@ -49,7 +49,7 @@ fn add_reply(replies: &mut Vec<Reply>, reply: Reply)
 /// An office whose tables a shelf stores. Contracts see it as that shelf.
 #[derive(Drop)]
 pub struct Office<S> {
-    shelf: S,
+    pub(crate) shelf: S,
 }
 
 impl<S> Model for Office<S> {

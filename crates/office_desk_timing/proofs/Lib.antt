@@ -10,6 +10,9 @@ pub mod Moved
 pub mod AddedRows
 pub mod Keeps
 pub mod Transactions
+pub mod Turns
+pub mod Planned
+pub mod Revisions
 pub mod Shown
 pub mod IntersectionTable
 pub mod IntersectionCount

@@ -33,14 +33,14 @@ use Rattle.office_desk_timing.proofs.{AddedRows.move_news, Keeps.line_keeps, Kee
 -- ---- the step
 
 -- the rows of a move: the intersection's own, and those of its changes
-abbrev rows_of_move : ℕ → List ℕ → Found → Move → List RowChange
+abbrev pub rows_of_move : ℕ → List ℕ → Found → Move → List RowChange
 rows_of_move id clerk found move = PutIntersection id (moved_row found clerk move) ∷ row_changes_of id move.changes
 
 by_line : (step : Step) (office : Office) (id : ℕ) (clerk : List ℕ) → answered office (asking_command id clerk step) ≡ transacted office id (table_line step clerk) (get office.intersections id)
 by_line Begin office id clerk = refl
 by_line _ office id clerk = refl
 
-answered_at : (step : Step) (office : Office) (id : ℕ) (clerk : List ℕ) (i : Intersection) (l : Result TimingSide DraftRefusal) → get office.intersections id ≡ Some i → table_line step clerk i.timing ≡ l
+pub answered_at : (step : Step) (office : Office) (id : ℕ) (clerk : List ℕ) (i : Intersection) (l : Result TimingSide DraftRefusal) → get office.intersections id ≡ Some i → table_line step clerk i.timing ≡ l
     → answered office (asking_command id clerk step) ≡ moved office id i l
 answered_at step office id clerk i l there line = by_line step office id clerk ∙ ap (transacted office id (table_line step clerk)) there ∙ ap (moved office id i) line
 
@@ -77,20 +77,20 @@ module _ (tables : Content) (office : Office) (id : ℕ) (clerk : List ℕ) (ste
 
 -- ---- replies
 
-not_damaged : (why : DraftRefusal) → Refused (refusal_of_draft why) ≢ Refused refusal.Damaged
+pub not_damaged : (why : DraftRefusal) → Refused (refusal_of_draft why) ≢ Refused refusal.Damaged
 not_damaged draft.NoMemory e = cc
 not_damaged why e = cc
 
 -- ---- how many rows are written
 
-timing_written : (id : ℕ) (changes : List TimingChange) → writes_in table.Timing (row_changes_of id changes) ≡ timing_writes changes
+pub timing_written : (id : ℕ) (changes : List TimingChange) → writes_in table.Timing (row_changes_of id changes) ≡ timing_writes changes
 timing_written id [] = refl
 timing_written id (Committed (Put row) ∷ changes) =
     let later = timing_written id changes in omega (arith, later)
 timing_written id (_ ∷ changes) =
     let later = timing_written id changes in omega (arith, later)
 
-draft_written : (id : ℕ) (changes : List TimingChange) → writes_in table.Draft (row_changes_of id changes) ≡ draft_writes changes
+pub draft_written : (id : ℕ) (changes : List TimingChange) → writes_in table.Draft (row_changes_of id changes) ≡ draft_writes changes
 draft_written id [] = refl
 draft_written id (Committed (Put row) ∷ changes) =
     let later = draft_written id changes in omega (arith, later)
@@ -98,7 +98,7 @@ draft_written id (_ ∷ changes) =
     let later = draft_written id changes in omega (arith, later)
 
 -- other tables are not written
-none_written : (other : Table) → is_same_table table.Timing other ≡ false → is_same_table table.Draft other ≡ false → (id : ℕ) (changes : List TimingChange) → writes_in other (row_changes_of id changes) ≡ 0
+pub none_written : (other : Table) → is_same_table table.Timing other ≡ false → is_same_table table.Draft other ≡ false → (id : ℕ) (changes : List TimingChange) → writes_in other (row_changes_of id changes) ≡ 0
 none_written other t d id [] = refl
 none_written other t d id (Committed (Put row) ∷ changes) =
     let later = none_written other t d id changes in simp (t, d) (omega (arith, later))
@@ -106,7 +106,7 @@ none_written other t d id (_ ∷ changes) =
     let later = none_written other t d id changes in simp (t, d) (omega (arith, later))
 
 -- the bounds, of the draft rows that were read
-listed_many : (tables : Content) (id : ℕ) (changes : List Change) → ListsDraft tables id changes
+pub listed_many : (tables : Content) (id : ℕ) (changes : List Change) → ListsDraft tables id changes
     → length (rows_of id tables.draft) ≡ length changes
 listed_many tables id changes lists = sym (ap length lists) ∙ length-map changes _
 

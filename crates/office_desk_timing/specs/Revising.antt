@@ -54,9 +54,13 @@ all_or_none office commands = ended_from office (in_turn office Same commands)
 
 -- ---- what an edit asks for
 
--- the plan that an edit asks for: what its changes make of no rows, where the file is the whole plan; else of the rows that a revision goes on with
+-- the plan that an edit makes of these rows: what its changes make of none, where they are the whole plan; else of the rows
+abbrev pub plan_from : PlanEdit → Rows → Rows
+plan_from edit rows = after_changes (if edit.replaces then empty else rows) edit.changes
+
+-- the plan that an edit asks for, of the rows that a revision goes on with
 abbrev pub plan_asked : PlanEdit → TimingSide → Rows
-plan_asked edit side = after_changes (if edit.replaces then empty else base_of side) edit.changes
+plan_asked edit side = plan_from edit (base_of side)
 
 -- these edits make that plan
 pub record AreEdits (edit : PlanEdit) (side : TimingSide) (edits : List Change) : Type 0 where
@@ -111,12 +115,18 @@ abbrev pub WritesForEdit : Content → ℕ → PlanEdit → Reply → List RowCh
 WritesForEdit tables id edit reply changes =
     (office : Office) (i : Intersection) → StandForSound tables office → get office.intersections id ≡ Some i → EditWrites tables id edit i.timing reply changes
 
--- The reply and what the rows make of the tables are one edit; where a row is added, none stands under its key; none is written where the edit is refused; and a
--- row that is no record is reported as a fault, never as a reply.
+-- the reply says that the transaction went on
+abbrev pub IsMoved : Reply → Type 0
+IsMoved (Moved revision state verdict) = Unit {0}
+IsMoved reply = ⊥
+
+-- The reply and what the rows make of the tables are one edit; where a row is added, none stands under its key; some are written where the transaction went on,
+-- and none where the edit is refused; and a row that is no record is reported as a fault, never as a reply.
 pub record IsEditDecision (is_honest : Type 0) (tables : Content) (id : ℕ) (clerk : List ℕ) (edit : PlanEdit) (decided : Decided) : Type 0 where
   pub step : is_honest → AnswersAnyEdit tables id clerk edit decided.reply (changed_by tables decided.changes.items)
   pub writes : is_honest → WritesForEdit tables id edit decided.reply decided.changes.items
   pub news : is_honest → AddNew tables decided.changes.items
+  pub made : IsMoved decided.reply → decided.changes.items ≢ []
   pub refused : IsRefused decided.reply → decided.changes.items ≡ []
   pub undamaged : decided.reply ≢ Refused Damaged
 

@@ -1,12 +1,20 @@
 //! A clerk's edit of a plan, decided in one step.
-ghost use Rattle.std.specs.Prelude.{⊤};
-ghost use Rattle.office_desk_timing.specs.Revising.{DecidesEdit};
+ghost use Rattle.std.specs.Prelude.{◌≡◌, IfOk, OnErr, ⊤};
+ghost use Rattle.office_desk_timing.specs.Planning.{AreChangesTo, PlansChanges, WritesRevision, asks_nothing};
+ghost use Rattle.office_desk_timing.specs.Revising.{DecidesEdit, plan_from};
 ghost use Rattle.office_tables_decisions.specs.Reads.{OnlyReads};
 
+use crate::moving::answer;
+use crate::reading::{Found, find};
 use draft_core::changes::Changes;
+use draft_core::timing::{Reach, Timing};
+use draft_core::{overlay, revise};
+use office_machine::refusal::Refusal;
+use office_machine::reply::Reply;
 use office_tables_decisions::decided::Decided;
 use office_tables_shelf::shelf::{Shelf, ShelfFault};
-use signal_records::{InterId, Words};
+use signal_plans::{changes, compare};
+use signal_records::{Change, InterId, NoMemory, TimingSet, Words};
 use std::alloc::Global;
 
 /// What a clerk asks of an intersection's plan.
@@ -20,16 +28,85 @@ pub struct PlanEdit {
     pub commits: bool,
 }
 
-/// Decides an edit of a clerk's plan as one step: the draft is taken up, or begun where nobody holds
-/// one, edited, and committed where that is asked for and it breaks no rule. `Same` where the plan
-/// is the committed set and nobody holds a draft; else `Moved`, in state Normal exactly where the
-/// plan was committed. `UnknownIntersection` where the intersection is not there, and the refusals
-/// of the transaction; a refused edit writes no row. The fault is `Damaged` where a row of the
-/// intersection or of its plan is no record, `Store` where the database refused, and `NoMemory`
+/// The changes that make the plan which an edit asks for.
+#[derive(Drop)]
+struct PlanChanges {
+    /// Of the rows that the clerk goes on with: the draft, or the committed set where there is
+    /// none.
+    edits: Changes,
+    /// Of the committed set.
+    settled: Vec<Change>,
+}
+
+/// The plan that an edit asks for, by the rows that the clerk goes on with.
+fn plan_of(alloc: Global, base: &TimingSet, edit: &PlanEdit) -> Result<TimingSet, NoMemory>
+    ensures { IfOk result (λ plan. plan ≡ plan_from edit.now base.now) }
+{
+    if edit.replaces {
+        return TimingSet::new(alloc).changed(edit.changes.as_slice());
+    }
+    overlay(alloc, base, edit.changes.as_slice())
+}
+
+/// The changes that make the second set of the first, one for each key at which they differ.
+fn changes_to(alloc: Global, first: &TimingSet, second: &TimingSet) -> Result<Vec<Change>, NoMemory>
+    ensures { IfOk result (λ changes. AreChangesTo first.now second.now changes.items) }
+{
+    let differences = compare(alloc, first, second)?;
+    changes(alloc, differences.as_slice())
+}
+
+/// The changes that make the plan which an edit asks for, of what was read of an intersection.
+fn plan_changes(alloc: Global, timing: &Timing, edit: &PlanEdit) -> Result<PlanChanges, NoMemory>
+    ensures { IfOk result (λ planned. PlansChanges timing.now edit.now planned) }
+{
+    let base = overlay(alloc, &timing.committed, timing.delta.as_slice())?;
+    let plan = plan_of(alloc, &base, edit)?;
+    let edits = Changes::new(changes_to(alloc, &base, &plan)?);
+    let settled = changes_to(alloc, &timing.committed, &plan)?;
+    Ok(PlanChanges { edits, settled })
+}
+
+/// Nothing is to be done: nobody holds a draft, and the plan is the committed set.
+fn asks_nothing(timing: &Timing, planned: &PlanChanges) -> bool
+    ensures { result ≡ asks_nothing timing.now planned.now }
+{
+    timing.holder.is_none() && planned.settled.is_empty()
+}
+
+/// The answer to an edit of an intersection that was found. The fault is `NoMemory`.
+fn revise_found(
+    alloc: Global,
+    id: InterId,
+    clerk: &Words<40>,
+    found: Found,
+    edit: &PlanEdit,
+) -> Result<Decided, ShelfFault>
+    ensures writes { IfOk result (λ decided.
+        WritesRevision id clerk.now found edit.now decided.reply decided.changes.items) }
+    ensures fault { OnErr result (result ≡ Err ShelfFault.NoMemory) }
+{
+    let _name = clerk.as_str();
+    let planned = plan_changes(alloc, &found.timing, edit)?;
+    if asks_nothing(&found.timing, &planned) {
+        return Ok(Decided::from_reply(alloc, Reply::Same));
+    }
+    let edits = planned.edits.as_slice();
+    let settled = planned.settled.as_slice();
+    let decision = revise(alloc, &found.timing, clerk, edits, settled, edit.commits);
+    answer(alloc, id, clerk, found, decision)
+}
+
+/// Decides an edit of a clerk's plan as one step: the draft is taken up, or begun where nobody
+/// holds one, edited, and committed where that is asked for and it breaks no rule. `Same` where the
+/// plan is the committed set and nobody holds a draft; else `Moved`, in state Normal exactly where
+/// the plan was committed. `UnknownIntersection` where the intersection is not there, and the
+/// refusals of the transaction; a refused edit writes no row. The fault is `Damaged` where a row of
+/// the intersection or of its plan is no record, `Store` where the database refused, and `NoMemory`
 /// where a growth was refused.
 pub fn decide_revision<S: Shelf>(
     shelf: &mut S,
-    _alloc: Global,
+    alloc: Global,
     id: InterId,
     clerk: &Words<40>,
     edit: &PlanEdit,
@@ -38,5 +115,8 @@ pub fn decide_revision<S: Shelf>(
         edit.now result }
     ensures reads { OnlyReads S.Shelf ⊤ result shelf.old shelf.new }
 {
-    Err(ShelfFault::NoMemory)
+    let Some(found) = find(shelf, alloc, id, Reach::Plan)? else {
+        return Ok(Decided::from_refusal(alloc, Refusal::UnknownIntersection));
+    };
+    revise_found(alloc, id, clerk, found, edit)
 }
