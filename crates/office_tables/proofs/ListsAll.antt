@@ -7,7 +7,7 @@ use Rattle.sqlite_rules.specs.Lists.{Has}
 use Rattle.office_tables_shelf.specs.{Cells.Cell, Cells.null, Cells.number, Cells.text, declared.rows.Table.Table, Rows.body_in}
 use Rattle.office_tables_shelf.specs.Rows.{timing_key, draft_key, left_columns_in}
 use Rattle.office_tables_statements.specs.{Calls.AreOrdered, Calls.Reads, Listed.shown_key, Listed.shown_body, Stored.cells_at, Stored.content_of, Stored.cell_of, Tables.rows_at, Tables.row_shown}
-use Rattle.office_tables_statements.specs.Tables.{places_from}
+use Rattle.office_tables_statements.specs.Layout.{places_from}
 use Rattle.office_tables_statements.specs.Schema.{office_schema}
 use Rattle.office_tables_shelf.proofs.{ListLemmas.stands, ListLemmas.where_all, RowLemmas.same_row}
 use Rattle.office_tables_statements.proofs.{ListedLemmas.is_in, StoredLists.lists, StoredLists.width}

@@ -13,7 +13,8 @@ use Rattle.sqlite_trees.proofs.ListLemmas.{all_both, all_weaker}
 use Rattle.office_tables_shelf.proofs.ListLemmas.{all_more}
 use Rattle.office_tables_shelf.specs.Content.{Content, no_content}
 use Rattle.office_tables_statements.specs.Calls.{AreOrdered, IsOffice, IsReady, command_of, statement_of}
-use Rattle.office_tables_statements.specs.Layout as layout
+use Rattle.office_tables_shelf.specs.declared.rows.Table.TheVariants as table
+use Rattle.office_tables_statements.specs.Tables.{layout_at}
 use Rattle.office_tables_statements.specs.Stored.{content_now, rows_in}
 use Rattle.office_tables_statements.specs.{Schema.no_schema, Schema.office_schema, declared.schema.TheConstants.CREATES}
 use Rattle.office_tables.specs.{Opening.AreRun, Opening.IsMade}
@@ -113,14 +114,14 @@ module _ {S : Type 0} (g : Ghosts S) (old new : Held S) (run : AreRun g office_t
 
   pub office_empty : content_now (state g new) ≡ no_content
   office_empty = let e = ended.0.holds in λ i. record {
-    intersection = rows_in layout.intersection (e.0 i);
-    timing = rows_in layout.timing (e.1.0 i);
-    draft = rows_in layout.draft (e.1.1.0 i);
-    inspection = rows_in layout.inspection (e.1.1.1.0 i);
-    work_order = rows_in layout.work_order (e.1.1.1.1.0 i);
-    part = rows_in layout.part (e.1.1.1.1.1.0 i);
-    delivery = rows_in layout.delivery (e.1.1.1.1.1.1.0 i);
-    used_part = rows_in layout.used_part (e.1.1.1.1.1.1.1.0 i);
+    intersection = rows_in (layout_at table.Intersection) (e.0 i);
+    timing = rows_in (layout_at table.Timing) (e.1.0 i);
+    draft = rows_in (layout_at table.Draft) (e.1.1.0 i);
+    inspection = rows_in (layout_at table.Inspection) (e.1.1.1.0 i);
+    work_order = rows_in (layout_at table.WorkOrder) (e.1.1.1.1.0 i);
+    part = rows_in (layout_at table.Part) (e.1.1.1.1.1.0 i);
+    delivery = rows_in (layout_at table.Delivery) (e.1.1.1.1.1.1.0 i);
+    used_part = rows_in (layout_at table.UsedPart) (e.1.1.1.1.1.1.1.0 i);
   }
 
 -- the transaction was committed

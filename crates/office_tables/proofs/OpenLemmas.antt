@@ -1,6 +1,6 @@
 -- What the steps of an opening come to.
 use Rattle.std.proofs.Common.{◌≡◌, ◌≤◌, inl, inr, List, map, Some, IsTrue, false, refl, sym, ap, subst, subst₂, ◌∙◌, arith}
-use Rattle.sqlite.specs.State.{State, HasCleanDisk, Opens, IsLive, Survives}
+use Rattle.sqlite.specs.State.{State, HasCleanDisk, Opens, IsLive}
 use Rattle.sqlite.specs.{Effect.Database, Effect.IsDatabase, Held.Held, Held.state, Steps.IsFresh, Tree.Trees, View.View, View.IsClean}
 use Rattle.sqlite_trees.specs.{View.doubt, Objects.catalog_tree, declared.store.Store.Ghosts}
 use Rattle.sqlite_catalog.specs.Listing.{AreListed}
@@ -51,16 +51,16 @@ module _ (old new : State) (office : IsOffice old) (it : Keeps old new) (opened 
   pub still_committed : IsHonest new → new.committed.trees ≡ old.committed.trees
   still_committed h = ap (λ (d : Database). d.trees) (sym (it.office.settled h)) ∙ same h
 
-  pub asked_again : (HasCleanDisk old → IsArranged old.committed.trees) → Survives old new (λ _. ⊥) → IsCheckedAgain old new
-  asked_again arranged survives = record {
+  pub asked_again : (HasCleanDisk old → IsArranged old.committed.trees) → IsCheckedAgain old new
+  asked_again arranged = record {
     autocommit = it.office.autocommit;
-    clean = survives.clean;
+    clean = it.crash.clean;
     was_open = λ h. (it.honest (opened h)).1;
     is_open = λ h. (opened h).1;
     settled = λ h. it.office.settled (opened h);
     kept = λ h. still_committed (opened h);
     arranged = λ h. subst IsArranged (sym (still_committed (opened h))) (arranged (it.honest (opened h)).0);
-    crash = λ h trees may. elim (survives.crash h trees may) [ inl was ↦ was | inr none ↦ absurd none ];
+    crash = λ h trees may. elim (it.crash.crash h trees may) [ inl was ↦ was | inr none ↦ absurd none ];
   }
 
   -- today's version is stored in them

@@ -2,27 +2,24 @@
 use Rattle.std.proofs.Common.{◌≡◌, ℕ, true, true≢false, ◌&&◌, List, [], ◌∷◌, ◌++◌, map, length, drop, Result, Ok, Err, refl, sym, ap, subst, ◌∙◌}
 use Rattle.std.proofs.lemmas.Bool.{and_parts}
 use Rattle.std.specs.Prelude.{OnOk, ⊤}
-use Rattle.sqlite.specs.{Order.Row, Order.column, State.State, Listing.understood}
+use Rattle.sqlite.specs.{Order.Row, Order.column, State.State}
 use Rattle.sqlite.specs.declared.types.Value.{Value, TheVariants.Null, TheVariants.Int, TheVariants.Real, TheVariants.Text, TheVariants.Blob}
 use Rattle.sqlite.specs.Values.{bound_value}
 use Rattle.sqlite_schema.specs.declared.{schema.Column.Column, schema.Kind.Kind}
 use Rattle.sqlite_schema.specs.declared.schema.Kind.TheVariants as kind
-use Rattle.sqlite_tied.specs.Compute.{everything}
 use Rattle.office_tables_shelf.specs.Cells.{Cell, null, number, text, odd}
 use Rattle.office_tables_shelf.specs.Content.{Content, no_content}
 use Rattle.office_tables_shelf.specs.declared.rows.Table.{Table}
 use Rattle.office_tables_shelf.specs.declared.rows.Table.TheVariants as table
-use Rattle.office_tables_statements.specs.Layout as layout
 use Rattle.office_tables_statements.specs.{Layout.values_at, Calls.IsReady, Calls.IsTurned, Calls.Ran}
 use Rattle.office_tables_statements.specs.Stored.{are_sound, cell_of, cells, cells_at, content_now, is_sound}
 use Rattle.office_tables_statements.specs.Tables.{Fits, IsInsertText, layout_at, places_of, schema_at, suit, suits_kind, value_of, values_of}
 use Rattle.office_tables_statements.proofs.{StoredPuts.inserts, TableLemmas.each}
-use Rattle.office_tables.specs.Moved.{Part, all_put, part_moved, row_put, rows_put, suit_kinds}
+use Rattle.office_tables.specs.Moved.{Part, all_put, part_moved, row_put, rows_put}
 use Rattle.office_tables.specs.declared.gather.Moved.{Moved}
 use Rattle.office_tables.specs.{Opening.IsMade}
 use Rattle.office_tables_sql.specs.{Version.version_of}
 use Rattle.office_tables.proofs.MadeLemmas.{made_ready}
-use Rattle.office_tables.specs.declared.refill.TheConstants.{INTERSECTION, TIMING, DRAFT, INSPECTION, WORK_ORDER, PART, DELIVERY, USED_PART}
 
 -- ---- values and their cells
 
@@ -40,40 +37,32 @@ back_value k (Real x) h = absurd (no_odd k h)
 back_value k (Text t) h = refl
 back_value k (Blob b) h = absurd (no_odd k h)
 
-back_values : (ks : List Kind) (vs : Row) → length ks ≡ length vs → suit_kinds ks (cells vs) ≡ true → values_of (cells vs) ≡ vs
+back_values : (cs : List Column) (vs : Row) → length cs ≡ length vs → suit cs (cells vs) ≡ true → values_of (cells vs) ≡ vs
 back_values [] [] long h = refl
 back_values [] (v ∷ vs) long h = absurd (cc)
-back_values (k ∷ ks) [] long h = absurd (cc)
-back_values (k ∷ ks) (v ∷ vs) long h =
+back_values (c ∷ cs) [] long h = absurd (cc)
+back_values (c ∷ cs) (v ∷ vs) long h =
     let both = and_parts _ _ h in
-    let one = back_value k v both.0 in
-    let more = back_values ks vs (cc) both.1 in
+    let one = back_value c.kind v both.0 in
+    let more = back_values cs vs (cc) both.1 in
     λ i. one i ∷ more i
 
-same_suit : (cs : List Column) (xs : List Cell) → suit cs xs ≡ suit_kinds (map (λ c. c.kind) cs) xs
-same_suit [] xs = refl
-same_suit (c ∷ cs) [] = refl
-same_suit (c ∷ cs) (x ∷ xs) = ap (λ b. suits_kind c.kind x && b) (same_suit cs xs)
-
-abbrev kinds : Table → List Kind
-kinds t = map (λ c. c.kind) (schema_at t).columns
-
--- ---- each table takes a row of its kinds
+-- ---- each table takes a row that suits its columns
 
 abbrev IsTold : Table → Row → Type 0
 IsTold t row = are_sound (layout_at t).keys row ≡ true
 
 abbrev IsSuited : Table → Row → Type 0
-IsSuited t row = suit_kinds (kinds t) (cells_at (places_of t) row) ≡ true
+IsSuited t row = suit (schema_at t).columns (cells_at (places_of t) row) ≡ true
 
 abbrev FitsRow : Table → Row → Type 0
 FitsRow t row = Fits t (cells_at (layout_at t).keys row) (cells_at (layout_at t).columns row)
 
-fits_first : (v : Value) (row : Row) → is_sound v && true ≡ true → suit_kinds (kinds table.Intersection) (cell_of v ∷ cells_at (2 ∷ 3 ∷ 4 ∷ 5 ∷ 6 ∷ []) row) ≡ true
+fits_first : (v : Value) (row : Row) → is_sound v && true ≡ true → suit (schema_at table.Intersection).columns (cell_of v ∷ cells_at (2 ∷ 3 ∷ 4 ∷ 5 ∷ 6 ∷ []) row) ≡ true
     → Fits table.Intersection (cell_of v ∷ []) (cells_at (2 ∷ 3 ∷ 4 ∷ 5 ∷ 6 ∷ []) row)
 fits_first (Int n) row told suited =
     let others = values_at (2 ∷ 3 ∷ 4 ∷ 5 ∷ 6 ∷ []) row in
-    let back = back_values (drop 1 (kinds table.Intersection)) others refl suited in
+    let back = back_values (drop 1 (schema_at table.Intersection).columns) others refl suited in
     let shown = ap (λ vs. cells_at (2 ∷ 3 ∷ 4 ∷ 5 ∷ 6 ∷ []) (Null ∷ Null ∷ vs)) back in
     record {
       whole = refl;
@@ -81,7 +70,7 @@ fits_first (Int n) row told suited =
       given = λ limit db rows h. h.1;
       rest = λ r. refl;
       numbered = refl;
-      suits = same_suit (schema_at table.Intersection).columns (null ∷ cells others) ∙ suited;
+      suits = suited;
       placed = λ rows. (refl, shown);
       kept = λ m r has. has;
       shows = λ m. shown;
@@ -92,7 +81,7 @@ fits_first _ row told suited = absurd (true≢false (sym told))
 fits : (t : Table) (row : Row) → IsTold t row → IsSuited t row → FitsRow t row
 fits table.Intersection row told suited = fits_first (column row 0) row told suited
 fits t row told suited =
-    let back = back_values (kinds t) (values_at (places_of t) row) refl suited in
+    let back = back_values (schema_at t).columns (values_at (places_of t) row) refl suited in
     let keyed = ap (λ vs. cells_at (layout_at t).keys (Null ∷ vs)) back in
     let shown = ap (λ vs. cells_at (layout_at t).columns (Null ∷ vs)) back in
     record {
@@ -101,7 +90,7 @@ fits t row told suited =
       given = λ limit db rows h. h.1;
       rest = λ r. refl;
       numbered = refl;
-      suits = same_suit (schema_at t).columns (cells_at (places_of t) row) ∙ suited;
+      suits = suited;
       placed = λ rows. (keyed, shown);
       kept = λ m r has. keyed;
       shows = λ m. shown;
@@ -120,7 +109,7 @@ bound_at row places = map (λ p. bound_value (column row p)) places
 bound_row : (t : Table) (row : Row) → IsSuited t row → bound_at row (places_of t) ≡ values_of (cells_at (layout_at t).keys row ++ cells_at (layout_at t).columns row)
 bound_row t row suited =
     let at = λ (t : Table). values_at (places_of t) row in
-    let back = back_values (kinds t) (at t) (each (λ t. length (kinds t) ≡ length (at t)) refl refl refl refl refl refl refl refl t) suited in
+    let back = back_values (schema_at t).columns (at t) (each (λ t. length (schema_at t).columns ≡ length (at t)) refl refl refl refl refl refl refl refl t) suited in
     let joined = each (λ t. map bound_value (at t) ≡ bound_at row (places_of t)) refl refl refl refl refl refl refl refl t in
     let parted = each (λ t. values_of (cells_at (layout_at t).keys row ++ cells_at (layout_at t).columns row) ≡ values_of (cells (at t))) refl refl refl refl refl refl refl refl t in
     sym joined ∙ ap (map bound_value) (sym back) ∙ bound_cells (cells (at t)) ∙ sym parted
@@ -134,40 +123,6 @@ put_stored t row told suited sql means params is old new count ready ran =
 pub one_bound : {X Y Z : Type 0} (f : X → Z) (g : Y → Z) (xs : List X) (x : X) (y : Y) (ys : List Y) → f x ≡ g y → map f (xs ++ x ∷ []) ++ map g ys ≡ map f xs ++ map g (y ∷ ys)
 one_bound f g [] x y ys e = ap (λ z. z ∷ map g ys) e
 one_bound f g (w ∷ xs) x y ys e = ap (λ zs. f w ∷ zs) (one_bound f g xs x y ys e)
-
--- ---- the texts
-
-pub into_intersection : IsInsertText table.Intersection INTERSECTION.now
-unfolding understood everything
-into_intersection = record { is = refl; plain = (refl, refl) }
-
-pub into_timing : IsInsertText table.Timing TIMING.now
-unfolding understood everything
-into_timing = record { is = refl; plain = (refl, refl) }
-
-pub into_draft : IsInsertText table.Draft DRAFT.now
-unfolding understood everything
-into_draft = record { is = refl; plain = (refl, refl) }
-
-pub into_inspection : IsInsertText table.Inspection INSPECTION.now
-unfolding understood everything
-into_inspection = record { is = refl; plain = (refl, refl) }
-
-pub into_work_order : IsInsertText table.WorkOrder WORK_ORDER.now
-unfolding understood everything
-into_work_order = record { is = refl; plain = (refl, refl) }
-
-pub into_part : IsInsertText table.Part PART.now
-unfolding understood everything
-into_part = record { is = refl; plain = (refl, refl) }
-
-pub into_delivery : IsInsertText table.Delivery DELIVERY.now
-unfolding understood everything
-into_delivery = record { is = refl; plain = (refl, refl) }
-
-pub into_used_part : IsInsertText table.UsedPart USED_PART.now
-unfolding understood everything
-into_used_part = record { is = refl; plain = (refl, refl) }
 
 -- ---- one row after another, from the last one
 

@@ -9,7 +9,7 @@ use Rattle.sqlite_schema.specs.declared.schema.Column.{Column}
 use Rattle.sqlite_schema.specs.declared.schema.Schema.{Schema}
 use Rattle.sqlite_schema.specs.declared.schema.Table.{Table}
 use Rattle.sqlite_trees.specs.Objects.{catalog_tree}
-use Rattle.office_tables_statements.specs.Schema.{IsOffices}
+use Rattle.office_tables_statements.specs.Schema.{IsNameAmong, IsOffices, office_schema}
 use Rattle.office_tables_shelf.specs.Cells.{number}
 use Rattle.office_tables_shelf.specs.Content.{Content}
 use Rattle.office_tables_statements.specs.Stored.{content_of}
@@ -17,17 +17,12 @@ use Rattle.office_tables.specs.Moved.{Part, content_by, moved_from, rows_named}
 use Rattle.office_tables_sql.specs.Version.{AreToday, version_in, version_of, current_version}
 use Rattle.office_tables.specs.declared.open.OpenFault.{OpenFault}
 use Rattle.office_tables.specs.declared.open.OpenFault.TheVariants as fault
-use Rattle.office_tables.specs.declared.found.TheConstants.{OURS, KEEPER, COLUMNS}
+use Rattle.office_tables.specs.declared.found.TheConstants.{KEEPER, COLUMNS}
 use Rattle.office_tables.specs.declared.gather.TheConstants.{CHILDREN_FIRST}
-
--- the name is in this list of names
-abbrev pub IsNameAmong : List ℕ → List (List ℕ) → Type 0
-IsNameAmong name [] = ⊥
-IsNameAmong name (first ∷ more) = (name ≡ first) ⊎ IsNameAmong name more
 
 -- the name is that of one of the office's nine tables
 abbrev pub IsOurs : List ℕ → Type 0
-IsOurs name = IsNameAmong name (map (λ text. text.now) OURS)
+IsOurs name = IsNameAmong name (map (λ t. t.name) office_schema.tables)
 
 -- the table has two columns: the number `one`, which is its rowid, and `version`
 pub record IsVersionKeeper (table : Table) : Type 0 where

@@ -1,7 +1,6 @@
 -- Rows that are read from tables by the names of these, and put into the office's tables again.
-use Rattle.std.specs.Prelude.{List, [], ◌∷◌, map, if◌then◌else◌, ℕ, ◌&&◌, Bool, true}
+use Rattle.std.specs.Prelude.{List, [], ◌∷◌, map, if◌then◌else◌, ℕ}
 use Rattle.sqlite_schema.specs.Names.{same_name}
-use Rattle.sqlite_schema.specs.declared.schema.Kind.{Kind}
 use Rattle.sqlite_schema.specs.declared.schema.Table.{Table as SqlTable}
 use Rattle.sqlite.specs.Order.{Row}
 use Rattle.sqlite.specs.Tree.{Trees}
@@ -10,7 +9,7 @@ use Rattle.office_tables_shelf.specs.Content.{Content}
 use Rattle.office_tables_shelf.specs.declared.rows.Table.{Table}
 use Rattle.office_tables_shelf.specs.declared.rows.Table.TheVariants as table
 use Rattle.office_tables_statements.specs.Stored.{cells_at, rows_in}
-use Rattle.office_tables_statements.specs.Tables.{layout_at, schema_at, put_in, suits_kind}
+use Rattle.office_tables_statements.specs.Tables.{layout_at, schema_at, put_in}
 use Rattle.office_tables.specs.declared.gather.Moved.{Moved}
 
 -- the rows of each table, by the table's name
@@ -66,9 +65,3 @@ rows_put t tables (row ∷ rows) = row_put t (rows_put t tables rows) row
 abbrev pub all_put : Content → List Part → Content
 all_put tables [] = tables
 all_put tables (part ∷ more) = rows_put part.0 (all_put tables more) part.1
-
--- columns of these kinds take the cells as they are, as far as both lists go
-abbrev pub suit_kinds : List Kind → List Cell → Bool
-suit_kinds [] cells = true
-suit_kinds (k ∷ ks) [] = true
-suit_kinds (k ∷ ks) (x ∷ xs) = suits_kind k x && suit_kinds ks xs

@@ -10,7 +10,7 @@ ghost use Rattle.sqlite_value.specs.declared.value.Value.TheVariants.{Int};
 ghost use Rattle.office_tables_shelf.specs.Cells.{number};
 ghost use Rattle.office_tables_shelf.specs.Content.{no_content};
 ghost use Rattle.office_tables.specs.Arranged.{IsUnchanged, IsTaken, IsCheckedAgain};
-ghost use Rattle.office_tables.specs.Found.{HaveNoRow, IsNameAmong, IsOurs, IsVersionKeeper, KeepVersion, MayBeMade, TellsHeld, HasOtherVersion, HasRowsAlone, eight_rows, keeper_rows};
+ghost use Rattle.office_tables.specs.Found.{HaveNoRow, IsOurs, IsVersionKeeper, KeepVersion, MayBeMade, TellsHeld, HasOtherVersion, HasRowsAlone, eight_rows, keeper_rows};
 ghost use Rattle.office_tables.specs.Moved.{all_put, part_moved};
 ghost use Rattle.office_tables.specs.Opening.{IsAsFound, MayMake};
 ghost use Rattle.office_tables_sql.specs.Promises.{IsSettled};
@@ -19,7 +19,7 @@ ghost use Rattle.office_tables_sql.specs.Version.{version_of};
 use crate::gather::{Moved, gather_eight, read_named};
 use crate::open::OpenFault;
 use crate::version::VERSION;
-use office_tables_statements::schema::are_of_office;
+use office_tables_statements::schema::{are_of_office, is_name};
 use office_tables_statements::statement::SqlFault;
 use sqlite::{Alter, Connection};
 use sqlite_schema::names::same_name;
@@ -30,33 +30,11 @@ use sqlite_value::row::Row;
 use sqlite_value::value::ValueRef;
 use std::alloc::Global;
 
-/// The names of the office's nine tables.
-pub const OURS: [&str; 9] = [
-    "intersection",
-    "timing",
-    "draft",
-    "inspection",
-    "work_order",
-    "part",
-    "delivery",
-    "used_part",
-    KEEPER,
-];
-
 /// The name of the table that keeps the version.
 pub const KEEPER: &str = "office_version";
 
 /// The columns of `office_version`: the number 1, which is its rowid, and the version.
 const COLUMNS: [&str; 2] = ["one", "version"];
-
-fn is_one_of(name: &[u8], names: &[&str]) -> bool
-    ensures { IsTrue result → IsNameAmong name.now (map (λ text. text.now) names.now) }
-{
-    let Some((first, names)) = names.split_first() else {
-        return false;
-    };
-    name == first.as_bytes() || is_one_of(name, names)
-}
 
 fn are_ours(tables: &[Table]) -> bool
     ensures { IsTrue result → AllByRecursion (λ t. IsOurs t.name) tables.now }
@@ -64,10 +42,10 @@ fn are_ours(tables: &[Table]) -> bool
     let Some((table, tables)) = tables.split_first() else {
         return true;
     };
-    is_one_of(table.name.as_slice(), &OURS) && are_ours(tables)
+    is_name(table.name.as_slice()) && are_ours(tables)
 }
 
-/// Whether each table of a database has one of the nine names of `OURS`, and there is no view.
+/// Whether each table of a database has one of the office's nine names, and there is no view.
 /// Tables may be missing, and their columns are not looked at.
 pub fn has_only_ours(schema: &Schema) -> bool
     ensures named { IsTrue result → AllByRecursion (λ t. IsOurs t.name) schema.now.tables }

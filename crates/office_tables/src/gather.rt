@@ -3,12 +3,12 @@
 
 ghost use Rattle.std.specs.Prelude.{◌≡◌, ◌++◌, map, IfOk, OnOk};
 ghost use Rattle.sqlite_trees.specs.View.{IsClean, IsQuiet};
-ghost use Rattle.office_tables_statements.specs.Tables.{schema_at};
 ghost use Rattle.office_tables.specs.Arranged.{IsUnchanged};
 ghost use Rattle.office_tables.specs.Found.{eight_rows};
 ghost use Rattle.office_tables.specs.Moved.{part_moved, rows_named, moved_from};
 
 use office_tables_shelf::rows::Table;
+use office_tables_statements::tables::name_of;
 use sqlite_exec::check::all_rows;
 use sqlite_exec::work::Workspace;
 use sqlite_schema::names::same_name;
@@ -37,21 +37,6 @@ pub const CHILDREN_FIRST: [Table; 8] = [
     Table::Part,
     Table::Intersection,
 ];
-
-fn name_of(table: Table) -> &'static str
-    ensures { result.now ≡ (schema_at table).name }
-{
-    match table {
-        Table::Intersection => "intersection",
-        Table::Timing => "timing",
-        Table::Draft => "draft",
-        Table::Inspection => "inspection",
-        Table::WorkOrder => "work_order",
-        Table::Part => "part",
-        Table::Delivery => "delivery",
-        Table::UsedPart => "used_part",
-    }
-}
 
 /// The rows of the first table with this name, as SQL compares names, in the order of their rowids;
 /// none where it is missing. The error is the store's, or want of memory.

@@ -1,7 +1,6 @@
 //! All rows of `timing` and of `draft`, as version 1 kept them.
 
 ghost use Rattle.std.specs.Prelude.{◌≡◌, map, IfOk};
-ghost use Rattle.sqlite.specs.State.{Survives};
 ghost use Rattle.sqlite.specs.Held.{state};
 ghost use Rattle.office_tables_statements.specs.Calls.{IsOffice, IsQuery, Keeps, TellsOpen};
 ghost use Rattle.office_tables_statements.specs.Stored.{content_now};
@@ -53,7 +52,6 @@ fn list<S: Alter>(
         (rows_at (content_now (state S.Store conn.old))) }
     ensures open { TellsOpen result (state S.Store conn.new) }
     ensures kept { Keeps (state S.Store conn.old) (state S.Store conn.new) }
-    ensures crash { Survives (state S.Store conn.old) (state S.Store conn.new) (λ _. ⊥) }
 {
     let rows = select(conn, sql, &[])?;
     read_all(alloc, rows)
@@ -73,7 +71,6 @@ pub fn timing_rows<S: Alter>(
         (content_now (state S.Store conn.old)).timing }
     ensures open { TellsOpen result (state S.Store conn.new) }
     ensures kept { Keeps (state S.Store conn.old) (state S.Store conn.new) }
-    ensures crash { Survives (state S.Store conn.old) (state S.Store conn.new) (λ _. ⊥) }
 {
     list(alloc, conn, TIMING)
 }
@@ -92,7 +89,6 @@ pub fn draft_rows<S: Alter>(
         (content_now (state S.Store conn.old)).draft }
     ensures open { TellsOpen result (state S.Store conn.new) }
     ensures kept { Keeps (state S.Store conn.old) (state S.Store conn.new) }
-    ensures crash { Survives (state S.Store conn.old) (state S.Store conn.new) (λ _. ⊥) }
 {
     list(alloc, conn, DRAFT)
 }

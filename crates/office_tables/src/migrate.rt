@@ -6,10 +6,11 @@ ghost use Rattle.sqlite.specs.Held.{state};
 ghost use Rattle.office_tables_statements.specs.Stored.{content_now};
 ghost use Rattle.office_tables_statements.specs.Calls.{IsHonest, IsOffice, StandsOn, StaysOpen};
 ghost use Rattle.office_tables.specs.Migrate.{KeepNoVersion, IsChangedToday, IsSpelledToday, MayBecome, WritesToday, WritesAllToday, Migrates, AreNeither, Brings, ShowsNeither, StaysIdle, TellsVersion, TellsFormerDamage, TellsDamage};
-ghost use Rattle.office_tables_sql.specs.Promises.{WasHonest, StaysReady, LeavesNoMore, KeepsTrees, KeepsCommitted, Commits};
+ghost use Rattle.office_tables_sql.specs.Promises.{WasHonest, StaysReady, KeepsTrees, KeepsCommitted, Commits};
 ghost use Rattle.office_tables.specs.Arranged.{IsArrangedIfClean};
 ghost use Rattle.office_tables_sql.specs.Version.{AreToday};
 
+use crate::found::KEEPER;
 use crate::listing::{draft_rows, timing_rows};
 use crate::open::OpenFault;
 use crate::rewritten::{Migrated, draft_changes, timing_changes};
@@ -30,7 +31,7 @@ fn keep_version(tables: &[Table]) -> bool
     let Some((table, tables)) = tables.split_first() else {
         return false;
     };
-    table.name.as_slice() == b"office_version".as_slice() || keep_version(tables)
+    table.name.as_slice() == KEEPER.as_bytes() || keep_version(tables)
 }
 
 /// The changes of the first list, and then those of the second.
@@ -58,7 +59,6 @@ fn write_in<S: Alter>(
     ensures written { WritesToday result changes.now (state S.Store tx.old.conn.now)
         (state S.Store tx.new.conn.now) }
     ensures stands { StandsOn (state S.Store tx.old.conn.now) (state S.Store tx.new.conn.now) }
-    ensures crash { LeavesNoMore (state S.Store tx.old.conn.now) (state S.Store tx.new.conn.now) }
 {
     change_rows(alloc, tx, changes)?;
     renew_version(tx)?;
@@ -138,7 +138,6 @@ fn shows_neither<S: Alter>(conn: &mut Connection<S>) -> Result<bool, SqlFault>
         IfOk result (λ neither. IsTrue neither → ShowsNeither S.Store conn.old) }
     ensures stands { StandsOn (state S.Store conn.old) (state S.Store conn.new) }
     ensures idle { (state S.Store conn.new).in_transaction ≡ false }
-    ensures crash { LeavesNoMore (state S.Store conn.old) (state S.Store conn.new) }
 {
     let mut tx = conn.transaction();
     let rows = tx.query_all(FIND, params![1u32])?;
@@ -155,7 +154,6 @@ fn fault_in<S: Alter>(conn: &mut Connection<S>) -> OpenFault
     ensures damaged { result ≢ OpenFault.Damaged }
     ensures stands { StandsOn (state S.Store conn.old) (state S.Store conn.new) }
     ensures idle { (state S.Store conn.new).in_transaction ≡ false }
-    ensures crash { LeavesNoMore (state S.Store conn.old) (state S.Store conn.new) }
 {
     match shows_neither(conn) {
         Ok(true) => OpenFault::Version,

@@ -8,7 +8,7 @@ ghost use Rattle.office_tables_shelf.specs.Content.{no_content};
 ghost use Rattle.office_tables_statements.specs.Calls.{IsHonest, IsOffice, StandsOn, StaysOpen};
 ghost use Rattle.office_tables.specs.Moved.{all_put, part_moved};
 ghost use Rattle.office_tables.specs.Opening.{AreOurs, AreRun, IsMade, IsPrepared, IsRefused};
-ghost use Rattle.office_tables_sql.specs.Promises.{IsSettled, KeepsCommitted, LeavesNoMore, WasHonest};
+ghost use Rattle.office_tables_sql.specs.Promises.{IsSettled, KeepsCommitted, WasHonest};
 ghost use Rattle.office_tables.specs.Arranged.{IsArrangedIfClean};
 ghost use Rattle.office_tables_sql.specs.Version.{Completes};
 
@@ -98,7 +98,6 @@ const DROPS: [&str; 9] = [
 fn run_all<S: Alter>(tx: &mut Transaction<'_, S>, texts: &[&str]) -> Result<(), SqlFault>
     ensures same_reference { tx.new.conn.ghost_name ≡ tx.old.conn.ghost_name }
     ensures stands { StandsOn (state S.Store tx.old.conn.now) (state S.Store tx.new.conn.now) }
-    ensures crash { LeavesNoMore (state S.Store tx.old.conn.now) (state S.Store tx.new.conn.now) }
     ensures run { HasCleanDisk (state S.Store tx.new.conn.now) →
         tx.old.conn.now.in_transaction ≡ true →
         OnOk result (AreRun S.Store (map (λ text. text.now) texts.now)
@@ -114,7 +113,6 @@ fn run_all<S: Alter>(tx: &mut Transaction<'_, S>, texts: &[&str]) -> Result<(), 
 fn make_all<S: Alter>(tx: &mut Transaction<'_, S>) -> Result<(), SqlFault>
     ensures same_reference { tx.new.conn.ghost_name ≡ tx.old.conn.ghost_name }
     ensures stands { StandsOn (state S.Store tx.old.conn.now) (state S.Store tx.new.conn.now) }
-    ensures crash { LeavesNoMore (state S.Store tx.old.conn.now) (state S.Store tx.new.conn.now) }
     ensures honest { WasHonest result (state S.Store tx.old.conn.now)
         (state S.Store tx.new.conn.now) }
     ensures made { HasCleanDisk (state S.Store tx.new.conn.now) →
@@ -134,7 +132,6 @@ fn make_again<S: Alter>(
 ) -> Result<(), SqlFault>
     ensures same_reference { tx.new.conn.ghost_name ≡ tx.old.conn.ghost_name }
     ensures stands { StandsOn (state S.Store tx.old.conn.now) (state S.Store tx.new.conn.now) }
-    ensures crash { LeavesNoMore (state S.Store tx.old.conn.now) (state S.Store tx.new.conn.now) }
     ensures honest { WasHonest result (state S.Store tx.old.conn.now)
         (state S.Store tx.new.conn.now) }
     ensures made { HasCleanDisk (state S.Store tx.new.conn.now) →

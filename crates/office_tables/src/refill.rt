@@ -7,63 +7,22 @@ ghost use Rattle.sqlite.specs.Values.{bound, bound_value};
 ghost use Rattle.sqlite_value.specs.Value.{owned};
 ghost use Rattle.office_tables_statements.specs.Calls.{StandsOn, TurnsTo};
 ghost use Rattle.office_tables_statements.specs.Stored.{are_sound, cell_of, cells_at, content_now, is_sound};
-ghost use Rattle.office_tables_statements.specs.Tables.{layout_at, schema_at, suits_kind, places_of as places_in, IsInsertText};
-ghost use Rattle.office_tables.specs.Moved.{part_moved, row_put, rows_put, all_put, suit_kinds};
-ghost use Rattle.office_tables_sql.specs.Promises.{LeavesNoMore};
+ghost use Rattle.office_tables_statements.specs.Tables.{suit, suits_kind, places_of as places_in};
+ghost use Rattle.office_tables_statements.specs.Wanted.{column_wanted};
+ghost use Rattle.office_tables.specs.Moved.{part_moved, row_put, rows_put, all_put};
 
 use crate::gather::Moved;
 use office_tables_shelf::rows::Table;
+use office_tables_sql::insert_text::insert_of;
+use office_tables_statements::parts::WantedColumn;
 use office_tables_statements::statement::{SqlFault, write};
+use office_tables_statements::tables::{columns_of, keys_of};
 use signal_records::NoMemory;
 use sqlite::types::ValueRef;
 use sqlite::{Alter, Transaction};
 use sqlite_schema::schema::Kind;
 use sqlite_value::row::Row;
 use std::alloc::Global;
-
-const INTERSECTION: &str = "INSERT INTO intersection VALUES (?1, ?2, ?3, ?4, ?5, ?6)";
-
-const TIMING: &str = "INSERT INTO timing VALUES (?1, ?2, ?3, ?4, ?5)";
-
-const DRAFT: &str = "INSERT INTO draft VALUES (?1, ?2, ?3, ?4, ?5)";
-
-const INSPECTION: &str = "INSERT INTO inspection VALUES (?1, ?2, ?3, ?4, ?5)";
-
-const WORK_ORDER: &str = "INSERT INTO work_order VALUES (?1, ?2, ?3, ?4, ?5, ?6, ?7)";
-
-const PART: &str = "INSERT INTO part VALUES (?1, ?2)";
-
-const DELIVERY: &str = "INSERT INTO delivery VALUES (?1, ?2, ?3, ?4)";
-
-const USED_PART: &str = "INSERT INTO used_part VALUES (?1, ?2, ?3, ?4, ?5)";
-
-fn insert_of(table: Table) -> &'static str
-    ensures { IsInsertText table result.now }
-{
-    match table {
-        Table::Intersection => INTERSECTION,
-        Table::Timing => TIMING,
-        Table::Draft => DRAFT,
-        Table::Inspection => INSPECTION,
-        Table::WorkOrder => WORK_ORDER,
-        Table::Part => PART,
-        Table::Delivery => DELIVERY,
-        Table::UsedPart => USED_PART,
-    }
-}
-
-/// The places of a table's key in a stored row, whose rowid is at place 0.
-fn keys_of(table: Table) -> &'static [usize]
-    ensures { result.now ≡ (layout_at table).keys }
-{
-    match table {
-        Table::Intersection => &[0],
-        Table::Timing | Table::Draft => &[1, 2, 3, 4],
-        Table::Inspection | Table::WorkOrder | Table::Delivery => &[1, 2],
-        Table::Part => &[1],
-        Table::UsedPart => &[1, 2, 3],
-    }
-}
 
 /// The places of all columns of a table in a stored row, in their order. The rowid is at place 0:
 /// it is the key of an intersection, and no column of the other tables.
@@ -80,22 +39,6 @@ fn places_of(table: Table) -> &'static [usize]
     }
 }
 
-fn kinds_of(table: Table) -> &'static [Kind]
-    ensures { result.now ≡ map (λ c. c.kind) (schema_at table).columns }
-{
-    const I: Kind = Kind::Integer;
-    const T: Kind = Kind::Text;
-    match table {
-        Table::Intersection => &[I, T, I, I, I, T],
-        Table::Timing | Table::Draft => &[I, I, I, I, T],
-        Table::Inspection => &[I, I, I, T, T],
-        Table::WorkOrder => &[I, I, I, T, T, I, T],
-        Table::Part => &[T, I],
-        Table::Delivery => &[T, I, I, I],
-        Table::UsedPart => &[I, I, I, T, I],
-    }
-}
-
 fn suits(value: ValueRef<'_>, kind: Kind) -> bool
     ensures { IsTrue result → suits_kind kind (cell_of (owned value.entry)) ≡ true }
 {
@@ -107,18 +50,18 @@ fn suits(value: ValueRef<'_>, kind: Kind) -> bool
     }
 }
 
-/// Whether columns of these kinds take, as they are, the values that stand at these places of a
-/// row.
-fn suit(row: &Row, places: &[usize], kinds: &[Kind]) -> bool
-    ensures { IsTrue result → suit_kinds kinds.now (cells_at places.now row.now) ≡ true }
+/// Whether columns take, as they are, the values that stand at these places of a row.
+fn suit(row: &Row, places: &[usize], columns: &[WantedColumn<'_>]) -> bool
+    ensures { IsTrue result →
+        suit (map column_wanted columns.now) (cells_at places.now row.now) ≡ true }
 {
-    let Some((kind, kinds)) = kinds.split_first() else {
+    let Some((column, columns)) = columns.split_first() else {
         return true;
     };
     let Some((place, places)) = places.split_first() else {
         return true;
     };
-    suits(row.get(*place), *kind) && suit(row, places, kinds)
+    suits(row.get(*place), column.1) && suit(row, places, columns)
 }
 
 fn is_told(value: ValueRef<'_>) -> bool
@@ -167,10 +110,9 @@ fn put_row<S: Alter>(
         (row_put table (content_now (state S.Store tx.old.conn.now)) row.now)
         (state S.Store tx.old.conn.now) (state S.Store tx.new.conn.now) }
     ensures stands { StandsOn (state S.Store tx.old.conn.now) (state S.Store tx.new.conn.now) }
-    ensures crash { LeavesNoMore (state S.Store tx.old.conn.now) (state S.Store tx.new.conn.now) }
 {
     let places = places_of(table);
-    if !are_told(row, keys_of(table)) || !suit(row, places, kinds_of(table)) {
+    if !are_told(row, keys_of(table)) || !suit(row, places, columns_of(table)) {
         return Err(SqlFault::Store);
     }
     let values = values_of(alloc, row, places)?;
@@ -190,7 +132,6 @@ fn put_rows<S: Alter>(
         (rows_put table (content_now (state S.Store tx.old.conn.now)) rows.items)
         (state S.Store tx.old.conn.now) (state S.Store tx.new.conn.now) }
     ensures stands { StandsOn (state S.Store tx.old.conn.now) (state S.Store tx.new.conn.now) }
-    ensures crash { LeavesNoMore (state S.Store tx.old.conn.now) (state S.Store tx.new.conn.now) }
 {
     while let Some(row) = rows.pop() {
         put_row(alloc, tx, table, &row)?;
@@ -210,7 +151,6 @@ pub(crate) fn put_all<S: Alter>(
         (all_put (content_now (state S.Store tx.old.conn.now)) (map part_moved all.items))
         (state S.Store tx.old.conn.now) (state S.Store tx.new.conn.now) }
     ensures stands { StandsOn (state S.Store tx.old.conn.now) (state S.Store tx.new.conn.now) }
-    ensures crash { LeavesNoMore (state S.Store tx.old.conn.now) (state S.Store tx.new.conn.now) }
 {
     let Some(moved) = all.pop() else {
         return Ok(());

@@ -6,7 +6,7 @@ ghost use Rattle.sqlite.specs.Held.{state};
 ghost use Rattle.office_tables_statements.specs.Stored.{cells};
 ghost use Rattle.office_tables_statements.specs.Calls.{IsHonest, IsOffice, Keeps, StandsOn, StaysOpen};
 ghost use Rattle.office_tables_sql.specs.Version.{version_in, version_cells, current_version};
-ghost use Rattle.office_tables_sql.specs.Promises.{WasHonest, StaysReady, StaysSame, StoresToday, LeavesNoMore};
+ghost use Rattle.office_tables_sql.specs.Promises.{WasHonest, StaysReady, StaysSame, StoresToday};
 
 use office_tables_statements::statement::{SqlFault, select_one, write};
 use sqlite::{Alter, Connection, Row, Transaction, params};
@@ -34,7 +34,6 @@ pub fn stored_version<S: Alter>(conn: &mut Connection<S>) -> Result<Option<Row>,
         IfOk result (λ row. IfSome row (λ r. length r ≡ 1)) }
     ensures open { StaysOpen result (state S.Store conn.new) }
     ensures kept { Keeps (state S.Store conn.old) (state S.Store conn.new) }
-    ensures crash { LeavesNoMore (state S.Store conn.old) (state S.Store conn.new) }
 {
     select_one(conn, FIND, params![1u32])
 }
@@ -59,7 +58,6 @@ fn drop_version<S: Alter>(tx: &mut Transaction<'_, S>) -> Result<(), SqlFault>
     ensures same { StaysSame result (state S.Store tx.old.conn.now)
         (state S.Store tx.new.conn.now) }
     ensures stands { StandsOn (state S.Store tx.old.conn.now) (state S.Store tx.new.conn.now) }
-    ensures crash { LeavesNoMore (state S.Store tx.old.conn.now) (state S.Store tx.new.conn.now) }
 {
     write(tx, DROP, params![1u32])?;
     Ok(())
@@ -77,7 +75,6 @@ pub(crate) fn put_version<S: Alter>(tx: &mut Transaction<'_, S>) -> Result<(), S
     ensures stored { StoresToday result (state S.Store tx.old.conn.now)
         (state S.Store tx.new.conn.now) }
     ensures stands { StandsOn (state S.Store tx.old.conn.now) (state S.Store tx.new.conn.now) }
-    ensures crash { LeavesNoMore (state S.Store tx.old.conn.now) (state S.Store tx.new.conn.now) }
 {
     write(tx, PUT, params![1u32, VERSION])?;
     Ok(())
@@ -96,7 +93,6 @@ pub fn renew_version<S: Alter>(tx: &mut Transaction<'_, S>) -> Result<(), SqlFau
     ensures stored { StoresToday result (state S.Store tx.old.conn.now)
         (state S.Store tx.new.conn.now) }
     ensures stands { StandsOn (state S.Store tx.old.conn.now) (state S.Store tx.new.conn.now) }
-    ensures crash { LeavesNoMore (state S.Store tx.old.conn.now) (state S.Store tx.new.conn.now) }
 {
     drop_version(tx)?;
     put_version(tx)?;
@@ -110,7 +106,6 @@ pub(crate) fn is_today<S: Alter>(conn: &mut Connection<S>) -> Result<bool, SqlFa
         version_in (state S.Store conn.old).now.trees ≡ Some current_version) }
     ensures open { StaysOpen result (state S.Store conn.new) }
     ensures kept { Keeps (state S.Store conn.old) (state S.Store conn.new) }
-    ensures crash { LeavesNoMore (state S.Store conn.old) (state S.Store conn.new) }
 {
     match stored_version(conn)? {
         Some(row) => is_version(&row, VERSION),

@@ -13,10 +13,9 @@ use Rattle.office_tables_sql.specs.declared.inspection.TheConstants.{LIST, WALK,
 abbrev pub table_texts : SqlTexts
 table_texts = record { list = LIST.now; find = FIND.now; update = UPDATE.now; insert = INSERT.now }
 
--- the four texts in SQL of the table of inspections, where the list shows those of all
--- intersections
-abbrev pub walk_texts : SqlTexts
-walk_texts = record table_texts { list = WALK.now }
+-- the text of the query that walks the table
+abbrev pub walk : List ℕ
+walk = WALK.now
 
 -- the names of the columns that the queries of inspections show
 abbrev shown_columns : List (List ℕ)
@@ -52,10 +51,6 @@ means = record {
   updates = record { is = refl; plain = (refl, refl) };
   inserts = record { is = refl; plain = (refl, refl) };
 }
-
--- the texts that stand beside the walk find, change and add the inspection under a key
-pub walk_means : AreTextsOf Inspection walk_texts
-walk_means = record { finds = means.finds; updates = means.updates; inserts = means.inserts }
 
 -- the cells of each inspection fit the columns of the table
 pub fits : (id : ℕ) (found : Found) → Fits Inspection (inspection_key id found.number) (inspection_columns found)

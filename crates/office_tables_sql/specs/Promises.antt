@@ -1,7 +1,7 @@
 -- What a call that may fail promises of a connection, by the state that it found and the one that it left.
 use Rattle.std.specs.Prelude.{◌≡◌, Bool, Result, Some, IsTrue, IfOk, OnOk, OnErr}
 use Rattle.sqlite.specs.Effect.{IsDatabase}
-use Rattle.sqlite.specs.State.{State, HasCleanDisk, Survives}
+use Rattle.sqlite.specs.State.{State, HasCleanDisk}
 use Rattle.sqlite.specs.Tree.{Trees}
 use Rattle.office_tables_statements.specs.Calls.{IsHonest, IsReady}
 use Rattle.office_tables_shelf.specs.Content.{Content}
@@ -24,11 +24,6 @@ StaysSame result old new = HasCleanDisk new → OnOk result (IsReady old → con
 -- a step of a ready transaction that succeeds on a clean disk leaves today's version stored
 abbrev pub StoresToday : {A E : Type 0} → Result A E → State → State → Type 0
 StoresToday result old new = HasCleanDisk new → OnOk result (IsReady old → version_in new.now.trees ≡ Some current_version)
-
--- A crash after the call leaves only what a crash before it could leave; the call forgets no fault, and only
--- a fault shuts the connection.
-abbrev pub LeavesNoMore : State → State → Type 0
-LeavesNoMore old new = Survives old new (λ _. ⊥)
 
 -- a call leaves the version that is stored as it was, if the database is open after it
 abbrev pub KeepsVersion : State → State → Type 0

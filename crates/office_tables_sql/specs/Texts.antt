@@ -1,5 +1,6 @@
 -- The texts of the statements on one table, and what those on one of its rows mean over the schema.
-use Rattle.std.specs.Prelude.{ℕ, List}
+use Rattle.std.specs.Prelude.{ℕ, List, [], ◌∷◌}
+use Rattle.office_tables_shelf.specs.Cells.{Cell, null}
 use Rattle.office_tables_shelf.specs.declared.rows.Table.{Table}
 use Rattle.office_tables_statements.specs.Tables.{IsFindText, IsUpdateText, IsInsertText}
 
@@ -17,3 +18,8 @@ pub record AreTextsOf (t : Table) (texts : SqlTexts) : Type 0 where
   pub finds : IsFindText t texts.find
   pub updates : IsUpdateText t texts.update
   pub inserts : IsInsertText t texts.insert
+
+-- the first of these cells
+abbrev pub first_cell : List Cell → Cell
+first_cell [] = null
+first_cell (cell ∷ more) = cell

@@ -6,9 +6,9 @@ ghost use Rattle.sqlite.specs.Held.{state};
 ghost use Rattle.office_tables_shelf.specs.Change.{changed, changed_by};
 ghost use Rattle.office_tables_statements.specs.Stored.{content_now};
 ghost use Rattle.office_tables_statements.specs.Calls.{IsHonest, IsOffice, StandsOn, TurnsTo};
-ghost use Rattle.office_tables_sql.specs.Promises.{WasHonest, KeepsVersion, LeavesNoMore, HoldUnder};
+ghost use Rattle.office_tables_sql.specs.Promises.{WasHonest, KeepsVersion, HoldUnder};
 
-use crate::{draft, intersection, part, stored_row};
+use crate::{draft, part, stored_row};
 use office_tables_shelf::rows::RowChange;
 use office_tables_statements::statement::SqlFault;
 use signal_records::{Change, Row};
@@ -28,11 +28,10 @@ fn change_row<S: Alter>(
     ensures honest { WasHonest result (state S.Store tx.old.conn.now)
         (state S.Store tx.new.conn.now) }
     ensures stands { StandsOn (state S.Store tx.old.conn.now) (state S.Store tx.new.conn.now) }
-    ensures crash { LeavesNoMore (state S.Store tx.old.conn.now) (state S.Store tx.new.conn.now) }
 {
     match change {
-        RowChange::AddIntersection(id, row) => intersection::add(alloc, tx, *id, row),
-        RowChange::PutIntersection(id, row) => intersection::put(alloc, tx, *id, row),
+        RowChange::AddIntersection(id, row) => stored_row::add(alloc, tx, *id, row),
+        RowChange::PutIntersection(id, row) => stored_row::put(alloc, tx, *id, row),
         RowChange::AddTiming(id, row) => stored_row::add(alloc, tx, *id, row),
         RowChange::PutTiming(id, row) => stored_row::put(alloc, tx, *id, row),
         RowChange::RemoveTiming(id, key) => stored_row::remove::<Row, S>(tx, *id, key),
@@ -63,7 +62,6 @@ pub fn change_rows<S: Alter>(
     ensures honest { HasCleanDisk (state S.Store tx.new.conn.now) →
         OnOk result (changes.now ≢ [] → IsHonest (state S.Store tx.old.conn.now)) }
     ensures stands { StandsOn (state S.Store tx.old.conn.now) (state S.Store tx.new.conn.now) }
-    ensures crash { LeavesNoMore (state S.Store tx.old.conn.now) (state S.Store tx.new.conn.now) }
 {
     for change in changes {
         change_row(alloc, tx, change)?;

@@ -17,7 +17,8 @@ const FIND: &str = "SELECT part, number, day, amount FROM delivery WHERE part = 
 
 const UPDATE: &str = "UPDATE delivery SET day = ?3, amount = ?4 WHERE part = ?1 AND number = ?2";
 
-const INSERT: &str = "INSERT INTO delivery (part, number, day, amount) VALUES (?1, ?2, ?3, ?4)";
+pub(crate) const INSERT: &str =
+    "INSERT INTO delivery (part, number, day, amount) VALUES (?1, ?2, ?3, ?4)";
 
 impl StoredRow for Delivery {
     ghost use Rattle.cabinet_core.specs.Within.{IsDeliveryWithin};

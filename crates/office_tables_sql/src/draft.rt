@@ -2,7 +2,7 @@
 
 ghost use Rattle.std.specs.Prelude.{◌≡◌, [], ◌∷◌, Some, IfOk, OnOk};
 ghost use Rattle.sqlite.specs.Held.{state};
-ghost use Rattle.sqlite.specs.State.{HasCleanDisk, Survives};
+ghost use Rattle.sqlite.specs.State.{HasCleanDisk};
 ghost use Rattle.sqlite.specs.Values.{bound_value};
 ghost use Rattle.sqlite_value.specs.Value.{owned};
 ghost use Rattle.office_tables_shelf.specs.Rows.{draft_columns};
@@ -31,7 +31,8 @@ const FIND: &str = "SELECT inter, kind, a, b, body FROM draft \
 const UPDATE: &str =
     "UPDATE draft SET body = ?5 WHERE inter = ?1 AND kind = ?2 AND a = ?3 AND b = ?4";
 
-const INSERT: &str = "INSERT INTO draft (inter, kind, a, b, body) VALUES (?1, ?2, ?3, ?4, ?5)";
+pub(crate) const INSERT: &str =
+    "INSERT INTO draft (inter, kind, a, b, body) VALUES (?1, ?2, ?3, ?4, ?5)";
 
 const REMOVE: &str = "DELETE FROM draft WHERE inter = ?1 AND kind = ?2 AND a = ?3 AND b = ?4";
 
@@ -139,8 +140,6 @@ pub fn drop_all<S: Alter>(tx: &mut Transaction<'_, S>, id: InterId) -> Result<()
     ensures honest { HasCleanDisk (state S.Store tx.new.conn.now) →
         OnOk result (IsHonest (state S.Store tx.old.conn.now)) }
     ensures stands { StandsOn (state S.Store tx.old.conn.now) (state S.Store tx.new.conn.now) }
-    ensures crash { Survives (state S.Store tx.old.conn.now) (state S.Store tx.new.conn.now)
-        (λ _. ⊥) }
 {
     write(tx, DROP, params![id.get()])?;
     Ok(())

@@ -1,12 +1,11 @@
 //! Rows of a table, read one at a time.
 
-ghost use Rattle.std.specs.Prelude.{◌≡◌, ◌≢◌, List, [], ◌∷◌, ◌++◌, Some, None, IfOk, OnOk, IsTrue};
+ghost use Rattle.std.specs.Prelude.{◌≡◌, ◌≢◌, List, [], ◌∷◌, ◌++◌, Some, None, IfOk, OnOk};
 ghost use Rattle.std.specs.List.{AllByRecursion};
-ghost use Rattle.sqlite.specs.State.{HasCleanDisk, Survives};
 ghost use Rattle.sqlite.specs.Held.{state};
 ghost use Rattle.sqlite.specs.Values.{bound};
 ghost use Rattle.office_tables_statements.specs.Stored.{content_now};
-ghost use Rattle.office_tables_statements.specs.Calls.{IsHonest, IsOffice, IsQuery, Keeps, TellsOpen};
+ghost use Rattle.office_tables_statements.specs.Calls.{IsHonest, IsOffice, Keeps, TellsOpen};
 ghost use Rattle.office_tables_statements.specs.Tables.{params_of, ListsRows, HasDamagedRow};
 ghost use Rattle.office_tables_sql.specs.Gathers.{Gathers};
 
@@ -15,7 +14,7 @@ use office_tables_shelf::shelf::ShelfFault;
 use office_tables_statements::statement::SqlFault;
 use signal_records::{InterId, NoMemory};
 use sqlite::types::ValueRef;
-use sqlite::{Alter, Connection, Error, Statement, params};
+use sqlite::{Alter, Connection, Error, params};
 use std::alloc::Global;
 
 /// What gathers the records of a list, one after another, in the order of their keys.
@@ -45,21 +44,6 @@ fn shelf_fault(error: Error) -> ShelfFault
     ShelfFault::from(SqlFault::from(error))
 }
 
-/// The statement of this text. To prepare it commits nothing, and shows that the connection is
-/// open.
-fn prepare_list<S: Alter>(conn: &mut Connection<S>, sql: &str) -> Result<Statement, SqlFault>
-    requires office { IsOffice (state S.Store conn.old) }
-    requires query { IsQuery sql.now }
-    ensures text { HasCleanDisk (state S.Store conn.new) → IfOk result (λ s. s.text ≡ sql.now) }
-    ensures opened { HasCleanDisk (state S.Store conn.new) →
-        OnOk result (IsTrue (state S.Store conn.new).is_open) }
-    ensures kept { Keeps (state S.Store conn.old) (state S.Store conn.new) }
-    ensures crash { Survives (state S.Store conn.old) (state S.Store conn.new) (λ _. ⊥) }
-{
-    let statement = conn.prepare(sql)?;
-    Ok(statement)
-}
-
 /// The rows that a table keeps of the intersection, in the order of their keys. `Damaged` means
 /// that one of them is no record, `Store` that the database refused, `NoMemory` that a growth was
 /// refused.
@@ -79,7 +63,6 @@ pub fn list<T: StoredRow<Of = InterId>, S: Alter>(
         HasDamagedRow T.table T.is_within (T.key id) T.columns
         (content_now (state S.Store conn.old)) (T.whose id) }
     ensures kept { Keeps (state S.Store conn.old) (state S.Store conn.new) }
-    ensures crash { Survives (state S.Store conn.old) (state S.Store conn.new) (λ _. ⊥) }
     ensures open { TellsOpen result (state S.Store conn.new) }
 {
     gather_rows::<T, Vec<T>, S>(alloc, conn, id, params![id.get()], Vec::new(alloc))
@@ -102,7 +85,6 @@ pub fn list_all<T: StoredRow<Of = ()>, S: Alter>(
         HasDamagedRow T.table T.is_within (T.key tt) T.columns
         (content_now (state S.Store conn.old)) (T.whose tt) }
     ensures kept { Keeps (state S.Store conn.old) (state S.Store conn.new) }
-    ensures crash { Survives (state S.Store conn.old) (state S.Store conn.new) (λ _. ⊥) }
     ensures open { TellsOpen result (state S.Store conn.new) }
 {
     gather_rows::<T, Vec<T>, S>(alloc, conn, (), params![], Vec::new(alloc))
@@ -128,41 +110,10 @@ pub(crate) fn gather_rows<T: StoredRow, G: Gather<T>, S: Alter>(
         HasDamagedRow T.table T.is_within (T.key of) T.columns
         (content_now (state S.Store conn.old)) (T.whose of) }
     ensures kept { Keeps (state S.Store conn.old) (state S.Store conn.new) }
-    ensures crash { Survives (state S.Store conn.old) (state S.Store conn.new) (λ _. ⊥) }
-    ensures open { TellsOpen result (state S.Store conn.new) }
-{
-    let statement = prepare_list(conn, T::texts().list)?;
-    gather_each::<T, G, S>(alloc, conn, &statement, of, params, begun)
-}
-
-/// Gathers the rows that the prepared query of a list shows, in the order of their keys, into
-/// `begun`, which holds none yet.
-fn gather_each<T: StoredRow, G: Gather<T>, S: Alter>(
-    alloc: Global,
-    conn: &mut Connection<S>,
-    statement: &Statement,
-    of: T::Of,
-    params: &[ValueRef<'_>],
-    begun: G,
-) -> Result<G, ShelfFault>
-    requires text { HasCleanDisk (state S.Store conn.old) → statement.now.text ≡ T.texts.list }
-    requires params { bound params.now ≡ params_of (T.whose of) }
-    requires office { IsOffice (state S.Store conn.old) }
-    requires opened { HasCleanDisk (state S.Store conn.old) →
-        IsTrue (state S.Store conn.old).is_open }
-    requires begun { G.holds begun [] }
-    ensures rows { IfOk result (λ found. IsHonest (state S.Store conn.new) →
-        Gathers G.holds T.table T.is_within (T.key of) T.columns
-        (content_now (state S.Store conn.old)) (T.whose of) found) }
-    ensures damaged { result ≡ Err ShelfFault.Damaged → IsHonest (state S.Store conn.new) →
-        HasDamagedRow T.table T.is_within (T.key of) T.columns
-        (content_now (state S.Store conn.old)) (T.whose of) }
-    ensures kept { Keeps (state S.Store conn.old) (state S.Store conn.new) }
-    ensures crash { Survives (state S.Store conn.old) (state S.Store conn.new) (λ _. ⊥) }
     ensures open { TellsOpen result (state S.Store conn.new) }
 {
     let mut found = begun;
-    let mut rows = match conn.query_prepared(statement, params) {
+    let mut rows = match conn.query(T::texts().list, params) {
         Ok(rows) => rows,
         Err(error) => return Err(shelf_fault(error)),
     };

@@ -1,7 +1,6 @@
 //! The table `inspection`: the inspections of each cabinet.
 
 ghost use Rattle.std.specs.Prelude.{◌≡◌, ℕ, Some, None, IfOk};
-ghost use Rattle.sqlite.specs.State.{Survives};
 ghost use Rattle.sqlite.specs.Held.{state};
 ghost use Rattle.cabinet_core.specs.Overdue.{latest_day};
 ghost use Rattle.office_tables_shelf.specs.CabinetReads.{of_one, HasAnyDamagedInspection};
@@ -11,7 +10,7 @@ ghost use Rattle.office_tables_statements.specs.Stored.{content_now};
 ghost use Rattle.office_tables_statements.specs.Calls.{IsHonest, IsOffice, Keeps, TellsOpen};
 
 use crate::each_row::{Gather, gather_rows};
-use crate::stored_row::{StoredRow, Texts};
+use crate::stored_row::{StoredRow, Texts, WalkedRow};
 use cabinet_core::{Day, Inspection};
 use office_tables_shelf::overdue::add_day;
 use office_tables_shelf::shelf::ShelfFault;
@@ -34,7 +33,7 @@ const FIND: &str =
 const UPDATE: &str =
     "UPDATE inspection SET day = ?3, clerk = ?4, body = ?5 WHERE inter = ?1 AND number = ?2";
 
-const INSERT: &str =
+pub(crate) const INSERT: &str =
     "INSERT INTO inspection (inter, number, day, clerk, body) VALUES (?1, ?2, ?3, ?4, ?5)";
 
 impl StoredRow for Inspection {
@@ -100,55 +99,18 @@ impl StoredRow for Inspection {
     }
 }
 
-/// An inspection with the number of its intersection: the list shows those of all intersections.
-impl StoredRow for (InterId, Inspection) {
-    ghost use Rattle.cabinet_core.specs.Within.{IsInspectionWithin};
-    ghost use Rattle.office_tables_shelf.specs.CabinetReads.{IsOfOne};
-    ghost use Rattle.office_tables_shelf.specs.declared.rows.Table.TheVariants as table;
+impl WalkedRow for Inspection {
+    ghost use Rattle.std.specs.Prelude.{refl};
     ghost use Rattle.office_tables_sql.specs.InspectionTexts as facts;
 
-    type Of = ();
+    ghost walk = { facts.walk };
 
-    ghost whose = { λ _. None };
+    ghost walks = { facts.walks };
 
-    ghost table = { table.Inspection };
+    ghost begins = { λ _ _. refl };
 
-    ghost key = { λ _ e. inspection_key e.0 e.1.number };
-
-    ghost columns = { λ e. inspection_columns e.1 };
-
-    ghost is_within = { IsOfOne IsInspectionWithin };
-
-    ghost texts = { facts.walk_texts };
-
-    ghost lists = { λ _. facts.walks };
-
-    ghost means = { facts.walk_means };
-
-    ghost fits = { λ _ e. facts.fits e.0 e.1 };
-
-    fn texts() -> Texts {
-        Texts {
-            list: WALK,
-            find: FIND,
-            update: UPDATE,
-            insert: INSERT,
-        }
-    }
-
-    fn read(alloc: Global, _of: (), row: &Row) -> Result<(InterId, Inspection), ShelfFault> {
-        let id = ranged_at(row, 0)?;
-        let found = Inspection::read(alloc, id, row)?;
-        Ok((id, found))
-    }
-
-    fn bind<'a>(
-        &'a self,
-        alloc: Global,
-        _of: (),
-        text: &'a mut String,
-    ) -> Result<Vec<ValueRef<'a>>, NoMemory> {
-        self.1.bind(alloc, self.0, text)
+    fn walk_text() -> &'static str {
+        WALK
     }
 }
 
@@ -177,7 +139,6 @@ pub fn last_days<S: Alter>(
     ensures damaged { result ≡ Err ShelfFault.Damaged → IsHonest (state S.Store conn.new) →
         HasAnyDamagedInspection (content_now (state S.Store conn.old)) }
     ensures kept { Keeps (state S.Store conn.old) (state S.Store conn.new) }
-    ensures crash { Survives (state S.Store conn.old) (state S.Store conn.new) (λ _. ⊥) }
     ensures open { TellsOpen result (state S.Store conn.new) }
 {
     gather_rows::<(InterId, Inspection), BTreeMap<InterId, Day>, S>(

@@ -1,8 +1,7 @@
 //! The table `intersection`, whose key is the rowid.
 
-ghost use Rattle.std.specs.Prelude.{◌≡◌, ◌≢◌, pos, length, Option, None, IfOk, IfSome, OnOk};
+ghost use Rattle.std.specs.Prelude.{◌≡◌, ◌≢◌, pos, length, Option, None, IfOk, IfSome};
 ghost use Rattle.sqlite.specs.Order.{column};
-ghost use Rattle.sqlite.specs.State.{HasCleanDisk, Survives};
 ghost use Rattle.sqlite.specs.Held.{state};
 ghost use Rattle.sqlite.specs.Values.{bound_value};
 ghost use Rattle.sqlite_value.specs.Value.{owned};
@@ -10,27 +9,24 @@ ghost use Rattle.signal_values.specs.Words.{AreWords};
 ghost use Rattle.signal_records.specs.declared.state.Holder.{Holder};
 ghost use Rattle.signal_records.specs.declared.state.Stage.{Stage};
 ghost use Rattle.office_tables_shelf.specs.Cells.{number};
-ghost use Rattle.office_tables_shelf.specs.Content.{put_in};
-ghost use Rattle.office_tables_shelf.specs.Rows.{stage_number, state_number, owner_cell, intersection_key, intersection_columns, IsIntersectionRow};
+ghost use Rattle.office_tables_shelf.specs.Rows.{stage_number, state_number, owner_cell, IsIntersectionRow};
 ghost use Rattle.office_tables_shelf.specs.Shelf.{ReadsIntersection};
 ghost use Rattle.office_tables_shelf.specs.Damage.{HasDamagedIntersection};
-ghost use Rattle.office_tables_shelf.specs.declared.rows.IntersectionRow.{IntersectionRow};
-ghost use Rattle.office_tables_shelf.specs.declared.rows.Table.TheVariants as table;
 ghost use Rattle.office_tables_statements.specs.Stored.{cell_of, content_now};
-ghost use Rattle.office_tables_statements.specs.Calls.{IsHonest, IsOffice, Keeps, TurnsTo, StandsOn, TellsOpen};
+ghost use Rattle.office_tables_statements.specs.Calls.{IsHonest, IsOffice, Keeps, TellsOpen};
 ghost use Rattle.office_tables_statements.specs.Tables.{value_of};
 
-use crate::stored_row::{self, StoredRow, Texts};
+use crate::stored_row::{StoredRow, Texts, WalkedRow, find};
 use office_tables_shelf::rows::IntersectionRow;
 use office_tables_shelf::shelf::ShelfFault;
-use office_tables_statements::statement::SqlFault;
+use office_tables_statements::listed::check_number;
 use office_tables_statements::value::{
     number_at, ranged_at, revision_at, words_at, words_or_null_at,
 };
 use signal_records::state::{Holder, Stage};
 use signal_records::{InterId, NoMemory, Words};
 use sqlite::types::{ToSql, ValueRef};
-use sqlite::{Alter, Connection, Row, Transaction, params};
+use sqlite::{Alter, Connection, Row, params};
 use std::alloc::Global;
 
 const LIST: &str = "SELECT id, name, days, revision, state, owner FROM intersection ORDER BY id";
@@ -41,26 +37,25 @@ const UPDATE: &str =
     "UPDATE intersection SET name = ?2, days = ?3, revision = ?4, state = ?5, owner = ?6 \
      WHERE id = ?1";
 
-const INSERT: &str = "INSERT INTO intersection (id, name, days, revision, state, owner) \
+pub(crate) const INSERT: &str = "INSERT INTO intersection (id, name, days, revision, state, owner) \
      VALUES (?1, ?2, ?3, ?4, ?5, ?6)";
 
-impl StoredRow for (InterId, IntersectionRow) {
-    ghost use Rattle.office_tables_shelf.specs.Rows.{intersection_key, intersection_columns};
-    ghost use Rattle.office_tables_shelf.specs.Shelf.{IsIntersectionWithin};
+impl StoredRow for IntersectionRow {
+    ghost use Rattle.office_tables_shelf.specs.Rows.{intersection_key, intersection_columns, IsIntersectionRow};
     ghost use Rattle.office_tables_shelf.specs.declared.rows.Table.TheVariants as table;
     ghost use Rattle.office_tables_sql.specs.IntersectionTexts as facts;
 
-    type Of = ();
+    type Of = InterId;
 
     ghost whose = { λ _. None };
 
     ghost table = { table.Intersection };
 
-    ghost key = { λ _ found. intersection_key found.0 };
+    ghost key = { λ id _. intersection_key id };
 
-    ghost columns = { λ found. intersection_columns found.1 };
+    ghost columns = { intersection_columns };
 
-    ghost is_within = { IsIntersectionWithin };
+    ghost is_within = { IsIntersectionRow };
 
     ghost texts = { facts.table_texts };
 
@@ -68,8 +63,7 @@ impl StoredRow for (InterId, IntersectionRow) {
 
     ghost means = { facts.means };
 
-    ghost fits = { λ _ found.
-        facts.fits found.0 found.1.name found.1.interval found.1.revision found.1.holder };
+    ghost fits = { λ id row. facts.fits id row.name row.interval row.revision row.holder };
 
     fn texts() -> Texts {
         Texts {
@@ -80,36 +74,48 @@ impl StoredRow for (InterId, IntersectionRow) {
         }
     }
 
-    fn read(alloc: Global, _of: (), row: &Row) -> Result<(InterId, IntersectionRow), ShelfFault> {
-        let id = ranged_at(row, 0)?;
+    fn read(alloc: Global, id: InterId, row: &Row) -> Result<IntersectionRow, ShelfFault> {
+        check_number(row, 0, id.get())?;
         let name = words_at(alloc, row, 1)?;
         let interval = ranged_at(row, 2)?;
         let revision = revision_at(row, 3)?;
         let holder = holder_at(alloc, row)?;
-        Ok((
-            id,
-            IntersectionRow {
-                name,
-                interval,
-                revision,
-                holder,
-            },
-        ))
+        Ok(IntersectionRow {
+            name,
+            interval,
+            revision,
+            holder,
+        })
     }
 
     fn bind<'a>(
         &'a self,
         alloc: Global,
-        _of: (),
+        id: InterId,
         _text: &'a mut String,
     ) -> Result<Vec<ValueRef<'a>>, NoMemory> {
-        let id = self.0.get().to_sql();
-        let name = self.1.name.as_str().to_sql();
-        let days = self.1.interval.get().to_sql();
-        let revision = self.1.revision.get().to_sql();
-        let state = state_of(&self.1.holder).to_sql();
-        let owner = owner_of(&self.1.holder);
+        let id = id.get().to_sql();
+        let name = self.name.as_str().to_sql();
+        let days = self.interval.get().to_sql();
+        let revision = self.revision.get().to_sql();
+        let state = state_of(&self.holder).to_sql();
+        let owner = owner_of(&self.holder);
         Ok(vec![in alloc; id, name, days, revision, state, owner]?)
+    }
+}
+
+impl WalkedRow for IntersectionRow {
+    ghost use Rattle.std.specs.Prelude.{refl};
+    ghost use Rattle.office_tables_sql.specs.IntersectionTexts as facts;
+
+    ghost walk = { facts.table_texts.list };
+
+    ghost walks = { facts.lists_rows };
+
+    ghost begins = { λ _ _. refl };
+
+    fn walk_text() -> &'static str {
+        LIST
     }
 }
 
@@ -127,19 +133,9 @@ pub fn read<S: Alter>(
     ensures damaged { result ≡ Err ShelfFault.Damaged → IsHonest (state S.Store conn.new) →
         HasDamagedIntersection (content_now (state S.Store conn.old)) id }
     ensures kept { Keeps (state S.Store conn.old) (state S.Store conn.new) }
-    ensures crash { Survives (state S.Store conn.old) (state S.Store conn.new) (λ _. ⊥) }
     ensures open { TellsOpen result (state S.Store conn.new) }
 {
-    let found: Option<(InterId, IntersectionRow)> = stored_row::find(
-        alloc,
-        conn,
-        (),
-        params![id.get()],
-    )?;
-    match found {
-        Some((_, row)) => Ok(Some(row)),
-        None => Ok(None),
-    }
+    find(alloc, conn, id, params![id.get()])
 }
 
 /// Who holds the draft, by the state in column 4 and the owner in column 5. State 0 is Normal, and
@@ -180,58 +176,6 @@ fn stage_of(state: u32) -> Option<Stage>
         3 => Some(Stage::Done),
         _ => None,
     }
-}
-
-fn copy_of(row: &IntersectionRow) -> Result<IntersectionRow, NoMemory>
-    ensures { IfOk result (λ copy. copy ≡ row.now) }
-{
-    row.clone()
-}
-
-/// Puts the row of an intersection under its number: changes the one that is there, or adds it.
-/// `Store` means that the database refused, `NoMemory` that a growth was refused.
-pub fn put<S: Alter>(
-    alloc: Global,
-    tx: &mut Transaction<'_, S>,
-    id: InterId,
-    row: &IntersectionRow,
-) -> Result<(), SqlFault>
-    ensures same_reference { tx.new.conn.ghost_name ≡ tx.old.conn.ghost_name }
-    ensures put { TurnsTo result
-        (put_in (content_now (state S.Store tx.old.conn.now)) table.Intersection
-        (intersection_key id) (intersection_columns row.now))
-        (state S.Store tx.old.conn.now) (state S.Store tx.new.conn.now) }
-    ensures honest { HasCleanDisk (state S.Store tx.new.conn.now) →
-        OnOk result (IsHonest (state S.Store tx.old.conn.now)) }
-    ensures stands { StandsOn (state S.Store tx.old.conn.now) (state S.Store tx.new.conn.now) }
-    ensures crash { Survives (state S.Store tx.old.conn.now) (state S.Store tx.new.conn.now)
-        (λ _. ⊥) }
-{
-    let found = (id, copy_of(row)?);
-    stored_row::put(alloc, tx, (), &found)
-}
-
-/// Adds the row of a new intersection. `Store` means that the database refused, also where there is
-/// one with this number, `NoMemory` that a growth was refused.
-pub fn add<S: Alter>(
-    alloc: Global,
-    tx: &mut Transaction<'_, S>,
-    id: InterId,
-    row: &IntersectionRow,
-) -> Result<(), SqlFault>
-    ensures same_reference { tx.new.conn.ghost_name ≡ tx.old.conn.ghost_name }
-    ensures added { TurnsTo result
-        (put_in (content_now (state S.Store tx.old.conn.now)) table.Intersection
-        (intersection_key id) (intersection_columns row.now))
-        (state S.Store tx.old.conn.now) (state S.Store tx.new.conn.now) }
-    ensures honest { HasCleanDisk (state S.Store tx.new.conn.now) →
-        OnOk result (IsHonest (state S.Store tx.old.conn.now)) }
-    ensures stands { StandsOn (state S.Store tx.old.conn.now) (state S.Store tx.new.conn.now) }
-    ensures crash { Survives (state S.Store tx.old.conn.now) (state S.Store tx.new.conn.now)
-        (λ _. ⊥) }
-{
-    let found = (id, copy_of(row)?);
-    stored_row::add(alloc, tx, (), &found)
 }
 
 /// The number that is stored for a state: 0 where nobody holds a draft, else 1 to 3 by its stage.

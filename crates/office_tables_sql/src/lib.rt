@@ -6,6 +6,7 @@ pub mod change;
 pub mod delivery;
 pub mod draft;
 pub mod each_row;
+pub mod insert_text;
 pub mod inspection;
 pub mod intersection;
 pub mod order;

@@ -1,7 +1,6 @@
 //! The table `work_order`: the orders on each cabinet.
 
 ghost use Rattle.std.specs.Prelude.{◌≡◌, ◌≢◌, ℕ, filter, length, Option, Some, None, IfOk, IfSome};
-ghost use Rattle.sqlite.specs.State.{Survives};
 ghost use Rattle.sqlite.specs.Held.{state};
 ghost use Rattle.sqlite.specs.Order.{column};
 ghost use Rattle.sqlite.specs.Values.{bound_value};
@@ -17,7 +16,7 @@ ghost use Rattle.office_tables_statements.specs.Stored.{cell_of, content_now};
 ghost use Rattle.office_tables_statements.specs.Tables.{value_of};
 
 use crate::each_row::{Gather, gather_rows};
-use crate::stored_row::{StoredRow, Texts};
+use crate::stored_row::{StoredRow, Texts, WalkedRow};
 use cabinet_core::{Closing, Order};
 use office_tables_shelf::open_orders::add_open;
 use office_tables_shelf::shelf::ShelfFault;
@@ -43,7 +42,8 @@ const UPDATE: &str =
     "UPDATE work_order SET opened = ?3, clerk = ?4, body = ?5, closed = ?6, closer = ?7 \
      WHERE inter = ?1 AND number = ?2";
 
-const INSERT: &str = "INSERT INTO work_order (inter, number, opened, clerk, body, closed, closer) \
+pub(crate) const INSERT: &str =
+    "INSERT INTO work_order (inter, number, opened, clerk, body, closed, closer) \
      VALUES (?1, ?2, ?3, ?4, ?5, ?6, ?7)";
 
 impl StoredRow for Order {
@@ -114,55 +114,18 @@ impl StoredRow for Order {
     }
 }
 
-/// An order with the number of its intersection: the list shows those of all intersections.
-impl StoredRow for (InterId, Order) {
-    ghost use Rattle.cabinet_core.specs.Within.{IsOrderWithin};
-    ghost use Rattle.office_tables_shelf.specs.CabinetReads.{IsOfOne};
-    ghost use Rattle.office_tables_shelf.specs.declared.rows.Table.TheVariants as table;
+impl WalkedRow for Order {
+    ghost use Rattle.std.specs.Prelude.{refl};
     ghost use Rattle.office_tables_sql.specs.OrderTexts as facts;
 
-    type Of = ();
+    ghost walk = { facts.walk };
 
-    ghost whose = { λ _. None };
+    ghost walks = { facts.walks };
 
-    ghost table = { table.WorkOrder };
+    ghost begins = { λ _ _. refl };
 
-    ghost key = { λ _ e. order_key e.0 e.1.number };
-
-    ghost columns = { λ e. order_columns e.1 };
-
-    ghost is_within = { IsOfOne IsOrderWithin };
-
-    ghost texts = { facts.walk_texts };
-
-    ghost lists = { λ _. facts.walks };
-
-    ghost means = { facts.walk_means };
-
-    ghost fits = { λ _ e. facts.fits e.0 e.1.number e.1.opened e.1.clerk e.1.text e.1.closing };
-
-    fn texts() -> Texts {
-        Texts {
-            list: WALK,
-            find: FIND,
-            update: UPDATE,
-            insert: INSERT,
-        }
-    }
-
-    fn read(alloc: Global, _of: (), row: &Row) -> Result<(InterId, Order), ShelfFault> {
-        let id = ranged_at(row, 0)?;
-        let found = Order::read(alloc, id, row)?;
-        Ok((id, found))
-    }
-
-    fn bind<'a>(
-        &'a self,
-        alloc: Global,
-        _of: (),
-        text: &'a mut String,
-    ) -> Result<Vec<ValueRef<'a>>, NoMemory> {
-        self.1.bind(alloc, self.0, text)
+    fn walk_text() -> &'static str {
+        WALK
     }
 }
 
@@ -191,7 +154,6 @@ pub fn open_orders<S: Alter>(
     ensures damaged { result ≡ Err ShelfFault.Damaged → IsHonest (state S.Store conn.new) →
         HasAnyDamagedOrder (content_now (state S.Store conn.old)) }
     ensures kept { Keeps (state S.Store conn.old) (state S.Store conn.new) }
-    ensures crash { Survives (state S.Store conn.old) (state S.Store conn.new) (λ _. ⊥) }
     ensures open { TellsOpen result (state S.Store conn.new) }
 {
     gather_rows::<(InterId, Order), BTreeMap<InterId, Vec<Order>>, S>(

@@ -2,7 +2,7 @@
 
 ghost use Rattle.std.specs.Prelude.{◌≡◌, None, IfOk, IfSome, OnOk};
 ghost use Rattle.std.specs.FinMap.{insert};
-ghost use Rattle.sqlite.specs.State.{HasCleanDisk, Survives};
+ghost use Rattle.sqlite.specs.State.{HasCleanDisk};
 ghost use Rattle.sqlite.specs.Held.{state};
 ghost use Rattle.office_tables_shelf.specs.CabinetReads.{IsHand};
 ghost use Rattle.office_tables_shelf.specs.CabinetRows.{part_key, part_columns};
@@ -27,7 +27,7 @@ const FIND: &str = "SELECT code, hand FROM part WHERE code = ?1";
 
 const UPDATE: &str = "UPDATE part SET hand = ?2 WHERE code = ?1";
 
-const INSERT: &str = "INSERT INTO part (code, hand) VALUES (?1, ?2)";
+pub(crate) const INSERT: &str = "INSERT INTO part (code, hand) VALUES (?1, ?2)";
 
 impl StoredRow for (PartCode, Hand) {
     ghost use Rattle.office_tables_shelf.specs.CabinetReads.{IsPartWithin};
@@ -96,7 +96,6 @@ pub(crate) fn hand<S: Alter>(
     ensures damaged { BlamesAt (IsHonest (state S.Store conn.new))
         (content_now (state S.Store conn.old)) (place.Part code.now) result }
     ensures kept { Keeps (state S.Store conn.old) (state S.Store conn.new) }
-    ensures crash { Survives (state S.Store conn.old) (state S.Store conn.new) (λ _. ⊥) }
     ensures open { TellsOpen result (state S.Store conn.new) }
 {
     let found: Option<(PartCode, Hand)> = stored_row::find(
@@ -133,8 +132,6 @@ pub fn put<S: Alter>(
     ensures honest { HasCleanDisk (state S.Store tx.new.conn.now) →
         OnOk result (IsHonest (state S.Store tx.old.conn.now)) }
     ensures stands { StandsOn (state S.Store tx.old.conn.now) (state S.Store tx.new.conn.now) }
-    ensures crash { Survives (state S.Store tx.old.conn.now) (state S.Store tx.new.conn.now)
-        (λ _. ⊥) }
 {
     let part = (copy_of(code)?, hand);
     stored_row::put(alloc, tx, (), &part)

@@ -1,7 +1,6 @@
 //! The records of the register in SQL, found by their keys.
 
 ghost use Rattle.std.specs.Prelude.{◌≡◌, IfOk, IfSome};
-ghost use Rattle.sqlite.specs.State.{Survives};
 ghost use Rattle.sqlite.specs.Held.{state};
 ghost use Rattle.office_tables_shelf.specs.Places.{BlamesAt, GivesAt, IsOfPlace, place_of};
 ghost use Rattle.office_tables_statements.specs.Stored.{content_now};
@@ -29,7 +28,6 @@ pub fn record_at<S: Alter>(
     ensures damaged { BlamesAt (IsHonest (state S.Store conn.new))
         (content_now (state S.Store conn.old)) (place_of key.now) result }
     ensures kept { Keeps (state S.Store conn.old) (state S.Store conn.new) }
-    ensures crash { Survives (state S.Store conn.old) (state S.Store conn.new) (λ _. ⊥) }
     ensures open { TellsOpen result (state S.Store conn.new) }
 {
     match key {

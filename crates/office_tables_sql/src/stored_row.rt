@@ -1,20 +1,21 @@
 //! Rows of the office's tables as records: found, put, added and removed, each by one fixed text.
 
-ghost use Rattle.std.specs.Prelude.{◌≡◌, ◌++◌, ℕ, List, length, Option, IfOk, IfSome, OnOk};
-ghost use Rattle.sqlite.specs.State.{HasCleanDisk, Survives};
+ghost use Rattle.std.specs.Prelude.{◌≡◌, ◌++◌, ℕ, pos, List, length, Option, None, IfOk, IfSome, OnOk};
+ghost use Rattle.sqlite.specs.State.{HasCleanDisk};
 ghost use Rattle.sqlite.specs.Held.{state};
 ghost use Rattle.sqlite.specs.Values.{bound};
 ghost use Rattle.signal_records.specs.declared.key.Key.{Key};
-ghost use Rattle.office_tables_shelf.specs.Cells.{Cell};
+ghost use Rattle.office_tables_shelf.specs.Cells.{Cell, number};
 ghost use Rattle.office_tables_shelf.specs.Rows.{timing_key};
 ghost use Rattle.office_tables_shelf.specs.declared.rows.Table.{Table};
 ghost use Rattle.office_tables_statements.specs.Stored.{content_now};
 ghost use Rattle.office_tables_statements.specs.Calls.{IsHonest, IsOffice, Keeps, TurnsTo, StandsOn, StaysOpen, TellsOpen};
 ghost use Rattle.office_tables_statements.specs.Tables.{put_in, remove_in, key_values, key_shown, columns_shown, width_of, key_given, IsKeyOf, IsUnder, ReadsRow, HasDamagedUnder, IsNoRow, IsListText, IsRemoveText, Fits, values_of};
-ghost use Rattle.office_tables_sql.specs.Texts.{SqlTexts, AreTextsOf};
+ghost use Rattle.office_tables_sql.specs.Texts.{SqlTexts, AreTextsOf, first_cell};
 
 use office_tables_shelf::shelf::ShelfFault;
 use office_tables_statements::statement::{SqlFault, select_one, write};
+use office_tables_statements::value::ranged_at;
 use signal_records::{InterId, Key, NoMemory};
 use sqlite::types::ValueRef;
 use sqlite::{Alter, Connection, Row, Transaction, params};
@@ -89,6 +90,71 @@ pub trait StoredRow: Sized + Drop {
     ghost fits: { (of : Self.Of) (x : Self) → Fits table (key of x) (columns x) };
 }
 
+/// A record of one intersection, of which a walk shows those of all intersections.
+pub trait WalkedRow: StoredRow<Of = InterId> {
+    /// The text of the query that walks.
+    ghost walk: { List ℕ };
+
+    /// The query of the rows of all intersections, in the order of their keys.
+    fn walk_text() -> &'static str
+        ensures { result.now ≡ walk };
+
+    ghost walks: { IsListText Self.table None walk };
+
+    ghost begins: { (id : ℕ) (x : Self) → first_cell (Self.key id x) ≡ number (pos id) };
+}
+
+/// A record with the number of its intersection: the list shows those of all intersections.
+impl<T: WalkedRow> StoredRow for (InterId, T) {
+    ghost use Rattle.office_tables_shelf.specs.CabinetReads.{IsOfOne};
+
+    type Of = ();
+
+    ghost whose = { λ _. None };
+
+    ghost table = { T.table };
+
+    ghost key = { λ _ e. T.key e.0 e.1 };
+
+    ghost columns = { λ e. T.columns e.1 };
+
+    ghost is_within = { IsOfOne T.is_within };
+
+    ghost texts = { record T.texts { list = T.walk } };
+
+    ghost lists = { λ _. T.walks };
+
+    ghost means = { record {
+      finds = T.means.finds;
+      updates = T.means.updates;
+      inserts = T.means.inserts;
+    } };
+
+    ghost fits = { λ _ e. T.fits e.0 e.1 };
+
+    fn texts() -> Texts {
+        Texts {
+            list: T::walk_text(),
+            ..T::texts()
+        }
+    }
+
+    fn read(alloc: Global, _of: (), row: &Row) -> Result<(InterId, T), ShelfFault> {
+        let id = ranged_at(row, 0)?;
+        let found = T::read(alloc, id, row)?;
+        Ok((id, found))
+    }
+
+    fn bind<'a>(
+        &'a self,
+        alloc: Global,
+        _of: (),
+        text: &'a mut String,
+    ) -> Result<Vec<ValueRef<'a>>, NoMemory> {
+        self.1.bind(alloc, self.0, text)
+    }
+}
+
 /// A record under a key of timing (intersection, kind, and two numbers), which may be removed.
 pub trait TimingKeyed: StoredRow {
     /// The statement that removes the row under a key, if there is one.
@@ -117,7 +183,6 @@ pub fn find<T: StoredRow, S: Alter>(
         HasDamagedUnder T.table T.is_within (T.key of) T.columns
         (content_now (state S.Store conn.old)) (key_given T.table (bound key.now)) }
     ensures kept { Keeps (state S.Store conn.old) (state S.Store conn.new) }
-    ensures crash { Survives (state S.Store conn.old) (state S.Store conn.new) (λ _. ⊥) }
     ensures open { TellsOpen result (state S.Store conn.new) }
 {
     match under::<T, S>(conn, key)? {
@@ -137,7 +202,6 @@ fn under<T: StoredRow, S: Alter>(
         IfOk result (IsUnder T.table (content_now (state S.Store conn.old))
         (key_given T.table (bound key.now))) }
     ensures kept { Keeps (state S.Store conn.old) (state S.Store conn.new) }
-    ensures crash { Survives (state S.Store conn.old) (state S.Store conn.new) (λ _. ⊥) }
     ensures open { StaysOpen result (state S.Store conn.new) }
 {
     select_one(conn, T::texts().find, key)
@@ -159,8 +223,6 @@ pub fn put<T: StoredRow, S: Alter>(
     ensures honest { HasCleanDisk (state S.Store tx.new.conn.now) →
         OnOk result (IsHonest (state S.Store tx.old.conn.now)) }
     ensures stands { StandsOn (state S.Store tx.old.conn.now) (state S.Store tx.new.conn.now) }
-    ensures crash { Survives (state S.Store tx.old.conn.now) (state S.Store tx.new.conn.now)
-        (λ _. ⊥) }
 {
     let mut text = String::new(alloc);
     let Ok(values) = row.bind(alloc, of, &mut text) else {
@@ -190,8 +252,6 @@ pub fn add<T: StoredRow, S: Alter>(
     ensures honest { HasCleanDisk (state S.Store tx.new.conn.now) →
         OnOk result (IsHonest (state S.Store tx.old.conn.now)) }
     ensures stands { StandsOn (state S.Store tx.old.conn.now) (state S.Store tx.new.conn.now) }
-    ensures crash { Survives (state S.Store tx.old.conn.now) (state S.Store tx.new.conn.now)
-        (λ _. ⊥) }
 {
     let mut text = String::new(alloc);
     let Ok(values) = row.bind(alloc, of, &mut text) else {
@@ -216,8 +276,6 @@ pub fn remove<T: TimingKeyed, S: Alter>(
     ensures honest { HasCleanDisk (state S.Store tx.new.conn.now) →
         OnOk result (IsHonest (state S.Store tx.old.conn.now)) }
     ensures stands { StandsOn (state S.Store tx.old.conn.now) (state S.Store tx.new.conn.now) }
-    ensures crash { Survives (state S.Store tx.old.conn.now) (state S.Store tx.new.conn.now)
-        (λ _. ⊥) }
 {
     let kind = key.kind();
     let first = key.first();

@@ -1,7 +1,6 @@
 //! The table `timing`: the rows of the committed sets.
 
 ghost use Rattle.std.specs.Prelude.{◌≡◌, length, Some, IfOk};
-ghost use Rattle.sqlite.specs.State.{Survives};
 ghost use Rattle.sqlite.specs.Held.{state};
 ghost use Rattle.office_tables_shelf.specs.Shelf.{rows_of};
 ghost use Rattle.office_tables_statements.specs.Stored.{content_now};
@@ -30,7 +29,8 @@ const COUNT: &str = "SELECT count(*) FROM timing WHERE inter = ?1";
 const UPDATE: &str =
     "UPDATE timing SET body = ?5 WHERE inter = ?1 AND kind = ?2 AND a = ?3 AND b = ?4";
 
-const INSERT: &str = "INSERT INTO timing (inter, kind, a, b, body) VALUES (?1, ?2, ?3, ?4, ?5)";
+pub(crate) const INSERT: &str =
+    "INSERT INTO timing (inter, kind, a, b, body) VALUES (?1, ?2, ?3, ?4, ?5)";
 
 const REMOVE: &str = "DELETE FROM timing WHERE inter = ?1 AND kind = ?2 AND a = ?3 AND b = ?4";
 
@@ -41,7 +41,6 @@ pub fn count<S: Alter>(conn: &mut Connection<S>, id: InterId) -> Result<usize, S
     ensures count { IfOk result (λ count. IsHonest (state S.Store conn.new) →
         count ≡ length (rows_of id (content_now (state S.Store conn.old)).timing)) }
     ensures kept { Keeps (state S.Store conn.old) (state S.Store conn.new) }
-    ensures crash { Survives (state S.Store conn.old) (state S.Store conn.new) (λ _. ⊥) }
     ensures open { StaysOpen result (state S.Store conn.new) }
 {
     let Some(row) = select_one(conn, COUNT, params![id.get()])? else {

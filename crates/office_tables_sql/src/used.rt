@@ -22,7 +22,7 @@ const FIND: &str = "SELECT inter, ord, line, part, amount FROM used_part \
 const UPDATE: &str =
     "UPDATE used_part SET part = ?4, amount = ?5 WHERE inter = ?1 AND ord = ?2 AND line = ?3";
 
-const INSERT: &str =
+pub(crate) const INSERT: &str =
     "INSERT INTO used_part (inter, ord, line, part, amount) VALUES (?1, ?2, ?3, ?4, ?5)";
 
 impl StoredRow for UsedLine {

@@ -1,14 +1,15 @@
 -- What a statement leaves of a connection, also where the rows of a query are read one at a time, and what the rows so far are.
-use Rattle.std.proofs.Common.{◌≡◌, ◌⊎◌, inl, inr, ℕ, ◌≤◌, List, [], true, false, None, Some, Ok, Option, IsTrue, refl, sym, ap, subst, subst₂, ◌∙◌, arith, true≢false, cond, ◌∷◌, ◌++◌, map}
+use Rattle.std.proofs.Common.{◌≡◌, ◌⊎◌, inl, inr, ℕ, ◌≤◌, List, [], true, false, None, Some, Ok, Option, IsTrue, refl, sym, ap, subst, ◌∙◌, arith, true≢false, cond, ◌∷◌, ◌++◌, map}
 use Rattle.sqlite_trees.specs.View.{doubt}
-use Rattle.sqlite.specs.{Order.Row, Tree.Trees, declared.error.Error.Error, Clock.timed, Effect.Database, Effect.IsDatabase, Given.IsPlain, Listing.understood, Steps.FailsToCommit, Held.Held, Held.state}
+use Rattle.sqlite.specs.{Order.Row, Tree.Trees, declared.error.Error.Error, Clock.timed, Effect.Database, Effect.IsDatabase, Given.IsPlain, Given.Returns, Given.HasGiven, Given.HasBegun, Listing.understood, Steps.FailsToCommit, Held.Held, Held.state}
 use Rattle.sqlite.specs.State.{State, HasCleanDisk, Survives, CommitsShowing, IsUnchanged, IsRolledBack, Shown, ShowsRows, FailsToQuery, FailsToShow, IsNotRun, ExecutesInside, IsTooLate, Begins, Fails}
 use Rattle.sqlite_schema.specs.declared.command.Returning.{Returning}
 use Rattle.sqlite_trees.specs.declared.store.Store as store
 use Rattle.office_tables_statements.specs.Schema.{office_schema}
 use Rattle.office_tables_statements.specs.Calls.{AreOrdered, IsHonest, IsOffice, IsReady, Keeps, IsQuery, Reads, IsWriting, Ran, StandsOn, command_of}
-use Rattle.sqlite.proofs.Callers.{reads_as, runs_as, never_commits, survives_begin, begins_shown, unchanged_then, EndsIn}
+use Rattle.sqlite.proofs.Callers.{reads_as, runs_as, survives_begin, begins_shown, EndsIn}
 use Rattle.sqlite.proofs.StateLemmas.{survives_then, survives_weaker}
+use Rattle.office_tables_statements.proofs.Returning.{never_returns}
 use Rattle.std.specs.List.{AllByRecursion}
 use Rattle.std.proofs.lemmas.List.{map-append}
 use Rattle.sqlite_rules.specs.Lists.{Has}
@@ -58,90 +59,117 @@ fails_undisturbed sql params old new e (inr h) = go h.0.returning h.2
     go (Some what) (inl it) = inl it.1
     go (Some what) (inr it) = inr it.3
 
-pub keeps : (old new : State) → IsOffice old → doubt old.is_clean ≤ doubt new.is_clean → new.in_transaction ≡ false
+pub survives_on : (a b c : State) → Survives a b (λ _. ⊥) → Survives b c (λ _. ⊥) → Survives a c (λ _. ⊥)
+survives_on a b c p q = survives_then a b c (λ _. ⊥) (λ _. ⊥) (λ _. ⊥) (λ _ _ none. none) (λ _ _ none. none) p q
+
+keeps : (old new : State) → IsOffice old → Survives old new (λ _. ⊥) → new.in_transaction ≡ false
     → (IsHonest new → IsTrue old.is_open) → (IsHonest new → old.now.schema ≡ office_schema → IsUndisturbed old new) → Keeps old new
-keeps old new office clean mode opened undisturbed =
-    let honest : IsHonest new → IsHonest old = λ h. (omega (arith, h.0, clean), opened h) in
+keeps old new office crash mode opened undisturbed =
+    let honest : IsHonest new → IsHonest old = λ h. (omega (arith, h.0, crash.clean), opened h) in
     let now : (h : IsHonest new) → (new.now ≡ old.now) × (new.committed ≡ old.now) = λ h. go h (office.settled (honest h)) (undisturbed h (office.schema (honest h))) in
     record {
       office = record { autocommit = mode; schema = λ h. ap (λ (d : Database). d.schema) (now h).0 ∙ office.schema (honest h); settled = λ h. (now h).0 ∙ sym (now h).1; ordered = λ h. subst (λ (d : Database). AreOrdered d.trees) (sym (now h).0) (office.ordered (honest h)); sound = λ h. subst IsDatabase (sym (now h).0) (office.sound (honest h)) };
       honest = honest;
       same = λ h. (now h).0;
+      crash = crash;
     }
   where
     go : IsHonest new → old.now ≡ old.committed → IsUndisturbed old new → (new.now ≡ old.now) × (new.committed ≡ old.now)
     go h settled (inl same) = (same.0.now_is, same.0.committed_is ∙ sym settled)
     go h settled (inr undone) = ((undone.undone h.1).0 ∙ sym settled, (undone.undone h.1).1 ∙ sym settled)
 
-pub keeps_then : (a b c : State) → Keeps a b → Keeps b c → Keeps a c
-keeps_then a b c one two = record { office = two.office; honest = λ h. one.honest (two.honest h); same = λ h. two.same h ∙ one.same (two.honest h) }
+keeps_then : (a b c : State) → Keeps a b → Keeps b c → Keeps a c
+keeps_then a b c one two = record { office = two.office; honest = λ h. one.honest (two.honest h); same = λ h. two.same h ∙ one.same (two.honest h); crash = survives_on a b c one.crash two.crash }
 
-pub unprepared_keeps : (sql : List ℕ) (old new : State) (e : Error) → IsOffice old → doubt old.is_clean ≤ doubt new.is_clean → new.in_transaction ≡ false
-    → (HasCleanDisk new → (params : Row) → IsNotRun old new sql params e) → Keeps old new
-unprepared_keeps sql old new e office clean mode h =
-    keeps old new office clean mode (λ honest. (undisturbed_kept old new (unprepared sql [] old new e (h honest.0 []))).0 honest.1) (λ honest has. unprepared sql [] old new e (h honest.0 []))
+same_self : (s : State) → IsTrue s.is_open → IsUnchanged s s
+same_self s opened = (record { was_open = opened; is_open = opened; now_is = refl; committed_is = refl; mode = refl }, record { changes = refl; last_rowid = refl }, refl)
 
--- a query that was prepared, over the state in which it was found
-module _ (sql text : List ℕ) (old mid : State) (query : IsQuery sql) (office : IsOffice old) (survives : Survives old mid (λ _. ⊥)) (mode : mid.in_transaction ≡ false)
-    (ready : HasCleanDisk mid → (text ≡ sql) × IsUnchanged old mid) where
-  pub prepared_keeps : Keeps old mid
-  prepared_keeps = keeps old mid office survives.clean mode (λ honest. (ready honest.0).1.0.was_open) (λ honest has. inl (ready honest.0).1)
+-- a query commits nothing, whatever the tables are
+never_commits : (sql : List ℕ) → IsQuery sql → (params : Row) (s : State) (db : Trees) → ¬ CommitsShowing sql params s db
+unfolding CommitsShowing
+never_commits sql query params s db h = never_returns office_schema s.now.schema sql query.plain (subst Returns (sym h.1.is) h.2)
 
-  query_ready : HasCleanDisk mid → IsQuery text
-  query_ready clean = subst IsQuery (sym (ready clean).0) query
+-- a query over the office's tables
+module _ (sql : List ℕ) (query : IsQuery sql) (old : State) (office : IsOffice old) where
+  module _ (params : Row) (new : State) (then : Survives old new (CommitsShowing sql params old)) (after : new.in_transaction ≡ false) where
+    pub queried_survives : Survives old new (λ _. ⊥)
+    queried_survives = survives_weaker old new (CommitsShowing sql params old) (λ _. ⊥) (λ clean db. never_commits sql query params old db) then
 
-  module _ (params : Row) (new : State) (then : Survives mid new (CommitsShowing text params mid)) (after : new.in_transaction ≡ false) where
-    pub prepared_survives : Survives old new (λ _. ⊥)
-    prepared_survives =
-        survives_then old mid new (λ _. ⊥) (CommitsShowing text params mid) (λ _. ⊥) (λ clean db none. none)
-        (λ clean db commits.
-        let early : HasCleanDisk mid = omega (arith, clean, then.clean) in
-        let has = prepared_keeps.office.schema (early, (ready early).1.0.is_open) in
-        never_commits text params mid db (subst (λ s. IsPlain (understood s text)) (sym has) (query_ready early).plain) commits)
-        survives then
+    pub queried_keeps : (rows : List Row) → (HasCleanDisk new → Shown sql params old new rows) → Keeps old new
+    queried_keeps rows h = keeps old new office queried_survives after (λ honest. (shown_open sql params old new rows (h honest.0)).0)
+        (λ honest has. inl (shown_unchanged sql params old new rows (subst (λ s. IsPlain (understood s sql)) (sym has) query.plain) (h honest.0)))
 
-    pub queried_keeps : (rows : List Row) → (HasCleanDisk new → Shown text params mid new rows) → Keeps old new
-    queried_keeps rows h = keeps_then old mid new prepared_keeps (keeps mid new prepared_keeps.office then.clean after (λ honest. (shown_open text params mid new rows (h honest.0)).0)
-        (λ honest has. inl (shown_unchanged text params mid new rows (subst (λ s. IsPlain (understood s text)) (sym has) (query_ready (omega (arith, honest.0, then.clean))).plain) (h honest.0))))
+    pub unqueried_keeps : (e : Error) → (HasCleanDisk new → FailsToQuery sql params old new e) → Keeps old new
+    unqueried_keeps e h = keeps old new office queried_survives after
+        (λ honest. (undisturbed_kept old new (fails_undisturbed sql params old new e (h honest.0))).0 honest.1) (λ honest has. fails_undisturbed sql params old new e (h honest.0))
 
-    pub unqueried_keeps : (e : Error) → (HasCleanDisk new → FailsToQuery text params mid new e) → Keeps old new
-    unqueried_keeps e h = keeps_then old mid new prepared_keeps (keeps mid new prepared_keeps.office then.clean after
-        (λ honest. (undisturbed_kept mid new (fails_undisturbed text params mid new e (h honest.0))).0 honest.1) (λ honest has. fails_undisturbed text params mid new e (h honest.0)))
-
-    pub queried_reads : (rows : List Row) → (HasCleanDisk new → Shown text params mid new rows) → IsHonest new → Reads sql params old.now rows
+    pub queried_reads : (rows : List Row) → (HasCleanDisk new → Shown sql params old new rows) → IsHonest new → Reads sql params old.now rows
     queried_reads rows h honest =
-        let early : HasCleanDisk mid = omega (arith, honest.0, then.clean) in
-        let has = prepared_keeps.office.schema (early, (ready early).1.0.is_open) in
-        let q = query_ready early in
-        subst₂ (λ t (d : Database). Reads t params d rows) (ready early).0 (ready early).1.0.now_is
-        (reads_as text params mid new office_schema has _ refl q.plain q.unlisted rows (h honest.0))
+        reads_as sql params old new office_schema (office.schema ((queried_keeps rows h).honest honest)) _ refl query.plain query.unlisted rows (h honest.0)
+
+  -- whose rows are read one at a time
+  pub starts : {S : Type 0} (g : store.Ghosts S) (params : Row) (was now : Held S) → HasBegun g sql params was now → HasGiven g sql params now [] × IsUnchanged (state g was) (state g now)
+  starts g params was now (inl h) = h
+  starts g params was now (inr h) = absurd (never_returns office_schema was.schema sql query.plain h.0)
+
+  -- at some row
+  module _ (mid : State) (survives : Survives old mid (λ _. ⊥)) (mode : mid.in_transaction ≡ false) (same : HasCleanDisk mid → IsUnchanged old mid) where
+    pub still_keeps : Keeps old mid
+    still_keeps = keeps old mid office survives mode (λ honest. (same honest.0).0.was_open) (λ honest has. inl (same honest.0))
+
+    pub broken_keeps : (new : State) → Survives mid new (λ _. ⊥) → new.in_transaction ≡ false → (e : Error) → (HasCleanDisk new → Fails mid new ⊥ e ⊎ IsUnchanged mid new) → Keeps old new
+    broken_keeps new crash after e kept =
+        keeps_then old mid new still_keeps (keeps mid new still_keeps.office crash after (λ honest. was honest.1 (kept honest.0)) (λ honest has. undisturbed (kept honest.0)))
+      where
+        was : IsTrue new.is_open → Fails mid new ⊥ e ⊎ IsUnchanged mid new → IsTrue mid.is_open
+        was up (inl failed) = failed.3.was_open up
+        was up (inr kept) = kept.0.was_open
+
+        undisturbed : Fails mid new ⊥ e ⊎ IsUnchanged mid new → IsUnchanged mid new ⊎ IsRolledBack mid new
+        undisturbed (inl failed) = inr failed.3
+        undisturbed (inr kept) = inl kept
+
+    known : (clean : HasCleanDisk mid) → mid.now.schema ≡ office_schema
+    known clean = still_keeps.office.schema (clean, (same clean).0.is_open)
+
+    -- at the end
+    pub all_read : (params : Row) (new : State) → doubt mid.is_clean ≤ doubt new.is_clean → (rows : List Row) → (HasCleanDisk new → Shown sql params mid new rows) → IsHonest new → Reads sql params old.now rows
+    all_read params new clean rows shown honest =
+        let early : HasCleanDisk mid = omega (arith, honest.0, clean) in
+        subst (λ (d : Database). Reads sql params d rows) (same early).0.now_is (reads_as sql params mid new office_schema (known early) _ refl query.plain query.unlisted rows (shown honest.0))
+
+    -- the rows so far are the first of an answer
+    pub some_read : (params : Row) (t : Table) (whose : Option ℕ) → IsListText t whose sql → IsHonest mid → (rows : List Row) → Begins sql params mid rows → (tail : List Row) × Reads sql params old.now (rows ++ tail)
+    some_read params t whose means honest rows begins =
+        let has = known honest.0 in
+        let whole = begins_shown sql params mid mid rows begins (same_self mid honest.1) (λ c db it source.
+        let is : Ok c ≡ understood office_schema sql = sym it.is ∙ ap (λ s. understood s sql) has in
+        let command : c.command ≡ _ = ap command_of is ∙ means.is in
+        subst (λ k. EndsIn k db (timed params c.formats it.now)) (sym command) tt) in
+        (whole.0, subst (λ (d : Database). Reads sql params d (rows ++ whole.0)) (same honest.0).0.now_is (reads_as sql params mid mid office_schema has _ refl query.plain query.unlisted (rows ++ whole.0) whole.1))
 
 -- ---- inside a transaction
 
-pub stands : (old new : State) → doubt old.is_clean ≤ doubt new.is_clean → (IsHonest new → IsUndisturbed old new) → StandsOn old new
-stands old new clean h = record {
-  honest = λ honest. (omega (arith, honest.0, clean), (undisturbed_kept old new (h honest)).0 honest.1);
+pub stands : (old new : State) → Survives old new (λ _. ⊥) → (IsHonest new → IsUndisturbed old new) → StandsOn old new
+stands old new crash h = record {
+  honest = λ honest. (omega (arith, honest.0, crash.clean), (undisturbed_kept old new (h honest)).0 honest.1);
   committed = λ honest. (undisturbed_kept old new (h honest)).1 honest.1;
+  crash = crash;
 }
 
 pub stands_then : (a b c : State) → StandsOn a b → StandsOn b c → StandsOn a c
-stands_then a b c one two = record { honest = λ h. one.honest (two.honest h); committed = λ h. two.committed h ∙ one.committed (two.honest h) }
+stands_then a b c one two = record { honest = λ h. one.honest (two.honest h); committed = λ h. two.committed h ∙ one.committed (two.honest h); crash = survives_on a b c one.crash two.crash }
 
-module _ (held : ℕ) (sql : List ℕ) (params : Row) (old new : State) (clean : doubt old.is_clean ≤ doubt new.is_clean) where
+module _ (held : ℕ) (sql : List ℕ) (params : Row) (old new : State) (crash : Survives old new (λ _. ⊥)) where
   pub ran_stands : (count : ℕ) → (HasCleanDisk new → ExecutesInside held sql params old new (Ok count)) → StandsOn old new
   ran_stands count h = record {
-    honest = λ honest. (omega (arith, honest.0, clean), (h honest.0).1.was_open);
+    honest = λ honest. (omega (arith, honest.0, crash.clean), (h honest.0).1.was_open);
     committed = λ honest. (h honest.0).1.committed_is;
+    crash = crash;
   }
 
   pub ran : (count : ℕ) → IsWriting sql → ExecutesInside held sql params old new (Ok count) → Ran sql params old new count
   ran count plain h = record { was_open = h.1.was_open; inside = rw h.1.mode; runs = λ has. runs_as sql params old new office_schema has _ refl plain count h.0 }
-
-pub survives_on : (a b c : State) → Survives a b (λ _. ⊥) → Survives b c (λ _. ⊥) → Survives a c (λ _. ⊥)
-survives_on a b c p q = survives_then a b c (λ _. ⊥) (λ _. ⊥) (λ _. ⊥) (λ _ _ none. none) (λ _ _ none. none) p q
-
-pub survives_self : (s : State) (P : Trees → Type 0) → Survives s s P
-survives_self s P = record { clean = omega arith; shield = λ h. h; counts = omega arith; limit = refl; closes = λ clean opened. inl opened; crash = λ clean db h. inl h }
 
 -- a transaction over the office's tables whose commit fails is undone
 module _ (old mid new : State) (office : IsOffice old) (stands : StandsOn old mid) (clean : doubt mid.is_clean ≤ doubt new.is_clean) (inside : HasCleanDisk mid → IsHonest old → mid.in_transaction ≡ true)
@@ -178,7 +206,7 @@ failed_commit mid new e (inl failed) = inl failed.3
 failed_commit mid new e (inr none) = inr (none.1, none.2)
 
 pub begun_stands : {S : Type 0} (g : store.Ghosts S) (old : Held S) (new : State) → StandsOn (state g (record old { in_transaction = true })) new → StandsOn (state g old) new
-begun_stands g old new h = record { honest = h.honest; committed = h.committed }
+begun_stands g old new h = record { honest = h.honest; committed = h.committed; crash = survives_begin g old new _ h.crash }
 
 -- a transaction whose steps leave nothing more leaves, once it ends, what it then holds
 pub ended_survives : {S : Type 0} (g : store.Ghosts S) (old mid : Held S) (new : State)
@@ -221,14 +249,15 @@ shown_kept sql params old new rows inside h = go h.0.returning h.2
     go None it = undisturbed_kept old new (inl it.3)
     go (Some what) it = (λ _. it.1.shown.was_open, λ _. it.1.shown.committed_is ∙ ap (λ b. cond b old.committed new.now) inside)
 
-stands_if : (old mid new : State) → doubt old.is_clean ≤ doubt mid.is_clean → doubt mid.is_clean ≤ doubt new.is_clean → (HasCleanDisk mid → Kept old mid) → (HasCleanDisk new → IsRolledBack mid new) → StandsOn old new
+stands_if : (old mid new : State) → Survives old mid (λ _. ⊥) → Survives mid new (λ _. ⊥) → (HasCleanDisk mid → Kept old mid) → (HasCleanDisk new → IsRolledBack mid new) → StandsOn old new
 stands_if old mid new first second kept undone = record {
-  honest = λ h. let early : HasCleanDisk mid = omega (arith, h.0, second) in (omega (arith, early, first), (kept early).0 ((undone h.0).was_open h.1));
-  committed = λ h. let early : HasCleanDisk mid = omega (arith, h.0, second) in ((undone h.0).undone h.1).1 ∙ (kept early).1 ((undone h.0).was_open h.1);
+  honest = λ h. let early : HasCleanDisk mid = omega (arith, h.0, second.clean) in (omega (arith, early, first.clean), (kept early).0 ((undone h.0).was_open h.1));
+  committed = λ h. let early : HasCleanDisk mid = omega (arith, h.0, second.clean) in ((undone h.0).undone h.1).1 ∙ (kept early).1 ((undone h.0).was_open h.1);
+  crash = survives_on old mid new first second;
 }
 
 module _ (sql : List ℕ) (params : Row) (old mid new : State) (inside : old.in_transaction ≡ true)
-    (first : doubt old.is_clean ≤ doubt mid.is_clean) (second : doubt mid.is_clean ≤ doubt new.is_clean) (undone : HasCleanDisk new → IsRolledBack mid new) where
+    (first : Survives old mid (λ _. ⊥)) (second : Survives mid new (λ _. ⊥)) (undone : HasCleanDisk new → IsRolledBack mid new) where
   pub asked_stands : (rows : List Row) → (HasCleanDisk mid → Shown sql params old mid rows) → StandsOn old new
   asked_stands rows shown = stands_if old mid new first second (λ h. shown_kept sql params old mid rows inside (shown h)) undone
 
@@ -245,74 +274,8 @@ HasGathered {X} holds t within key columns given found =
     (records : List X) × holds found records × AllByRecursion within records
     × (map (stored_for key columns) records ≡ map (row_shown t) given)
 
-same_self : (s : State) → IsTrue s.is_open → IsUnchanged s s
-same_self s opened = (record { was_open = opened; is_open = opened; now_is = refl; committed_is = refl; mode = refl }, record { changes = refl; last_rowid = refl }, refl)
-
 pub one_more : {X Y Z : Type 0} (f : X → Z) (h : Y → Z) (xs : List X) (ys : List Y) (x : X) (y : Y) → map f xs ≡ map h ys → f x ≡ h y → map f (xs ++ x ∷ []) ≡ map h (ys ++ y ∷ [])
 one_more f h xs ys x y same one = map-append f xs (x ∷ []) ∙ (λ i. same i ++ one i ∷ []) ∙ sym (map-append h ys (y ∷ []))
 
 pub has_mid : {X : Type 0} (front : List X) (x : X) (tail : List X) → Has ((front ++ x ∷ []) ++ tail) x
 has_mid front x tail = has_left (front ++ x ∷ []) tail x (has_right front (x ∷ []) x (inl refl))
-
--- at some row
-module _ (sql : List ℕ) (query : IsQuery sql) (old : State) (office : IsOffice old) (mid : State) (survives : Survives old mid (λ _. ⊥)) (mode : mid.in_transaction ≡ false) (same : HasCleanDisk mid → IsUnchanged old mid) where
-  pub still_keeps : Keeps old mid
-  still_keeps = prepared_keeps sql sql old mid query office survives mode (λ clean. (refl, same clean))
-
-  pub broken_keeps : (new : State) → doubt mid.is_clean ≤ doubt new.is_clean → new.in_transaction ≡ false → (e : Error) → (HasCleanDisk new → Fails mid new ⊥ e ⊎ IsUnchanged mid new) → Keeps old new
-  broken_keeps new clean after e kept =
-      keeps_then old mid new still_keeps (keeps mid new still_keeps.office clean after (λ honest. was honest.1 (kept honest.0)) (λ honest has. undisturbed (kept honest.0)))
-    where
-      was : IsTrue new.is_open → Fails mid new ⊥ e ⊎ IsUnchanged mid new → IsTrue mid.is_open
-      was up (inl failed) = failed.3.was_open up
-      was up (inr kept) = kept.0.was_open
-
-      undisturbed : Fails mid new ⊥ e ⊎ IsUnchanged mid new → IsUnchanged mid new ⊎ IsRolledBack mid new
-      undisturbed (inl failed) = inr failed.3
-      undisturbed (inr kept) = inl kept
-
-  -- at the next row
-  module _ (new : State) (then : Survives mid new (λ _. ⊥)) (after : mid.in_transaction ≡ false → new.in_transaction ≡ false) (step : HasCleanDisk new → IsUnchanged mid new) where
-    next_unchanged : HasCleanDisk new → IsUnchanged old new
-    next_unchanged clean = unchanged_then old mid new (same (omega (arith, clean, then.clean))) (step clean)
-
-    pub next_keeps : Keeps old new
-    next_keeps = prepared_keeps sql sql old new query office (survives_on old mid new survives then) (after mode) (λ clean. (refl, next_unchanged clean))
-
-    pub next_honest : HasCleanDisk new → IsHonest new
-    next_honest clean = (clean, (next_unchanged clean).0.is_open)
-
-module _ (sql text : List ℕ) (params : Row) (query : IsQuery sql) (old : State) (office : IsOffice old) (opened : HasCleanDisk old → IsTrue old.is_open) (is_text : HasCleanDisk old → text ≡ sql) where
-  ready : HasCleanDisk old → (text ≡ sql) × IsUnchanged old old
-  ready clean = (is_text clean, same_self old (opened clean))
-
-  pub plain_at : HasCleanDisk old → IsPlain (understood old.now.schema text)
-  plain_at clean = subst (λ t. IsPlain (understood old.now.schema t)) (sym (is_text clean)) (subst (λ s. IsPlain (understood s sql)) (sym (office.schema (clean, opened clean))) query.plain)
-
-  self : Survives old old (λ _. ⊥)
-  self = survives_self old (λ _. ⊥)
-
-  module _ (new : State) (survives : Survives old new (CommitsShowing text params old)) (mode : new.in_transaction ≡ false) where
-    pub began_survives : Survives old new (λ _. ⊥)
-    began_survives = prepared_survives sql text old old query office self office.autocommit ready params new survives mode
-
-    pub refused_keeps : (e : Error) → (HasCleanDisk new → FailsToQuery text params old new e) → Keeps old new
-    refused_keeps e fails = unqueried_keeps sql text old old query office self office.autocommit ready params new survives mode e fails
-
-  module _ (mid : State) (survives : Survives old mid (λ _. ⊥)) (mode : mid.in_transaction ≡ false) (same : HasCleanDisk mid → IsUnchanged old mid) where
-    -- at the end
-    pub all_read : (new : State) → Survives mid new (λ _. ⊥) → new.in_transaction ≡ false → (rows : List Row) → (HasCleanDisk new → Shown text params mid new rows) → IsHonest new → Reads sql params old.now rows
-    all_read new then after rows shown honest =
-        queried_reads sql text old mid query office survives mode (λ clean. (is_text (omega (arith, clean, survives.clean)), same clean)) params new (survives_weaker mid new (λ _. ⊥) (CommitsShowing text params mid) (λ _ db none. absurd none) then) after rows shown honest
-
-    -- the rows so far are the first of an answer
-    pub some_read : (t : Table) (whose : Option ℕ) → IsListText t whose sql → IsHonest mid → (rows : List Row) → Begins text params mid rows → (tail : List Row) × Reads sql params old.now (rows ++ tail)
-    some_read t whose means honest rows begins =
-        let now = (same honest.0).0.now_is in
-        let kept = still_keeps sql query old office mid survives mode same in
-        let has : mid.now.schema ≡ office_schema = kept.office.schema honest in
-        let whole = begins_shown sql params mid mid rows (subst (λ t. Begins t params mid rows) (is_text (kept.honest honest).0) begins) (same_self mid honest.1) (λ c db it source.
-        let is : Ok c ≡ understood office_schema sql = sym it.is ∙ ap (λ s. understood s sql) has in
-        let command : c.command ≡ _ = ap command_of is ∙ means.is in
-        subst (λ k. EndsIn k db (timed params c.formats it.now)) (sym command) tt) in
-        (whole.0, subst (λ (d : Database). Reads sql params d (rows ++ whole.0)) now (reads_as sql params mid mid office_schema has _ refl query.plain query.unlisted (rows ++ whole.0) whole.1))

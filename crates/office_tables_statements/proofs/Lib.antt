@@ -2,6 +2,7 @@ mod CheckLemmas
 pub mod StoredLemmas
 pub mod QueryLemmas
 pub mod SoundLemmas
+mod Returning
 pub mod CallLemmas
 pub mod WriteLemmas
 pub mod ContentLemmas

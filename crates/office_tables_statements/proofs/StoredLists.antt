@@ -11,9 +11,9 @@ use Rattle.sqlite_value.specs.Keys.{plain}
 use Rattle.office_tables_shelf.specs.{Cells.Cell, Cells.cells_cmp, Cells.number, Content.Content, Shelf.is_of, Shelf.rows_of, declared.rows.Table.Table}
 use Rattle.office_tables_statements.specs.{Calls.AreOrdered, Calls.Reads, Layout.values_at, Layout.has_key}
 use Rattle.office_tables_statements.specs.Stored.{cells_at, rows_in, content_of, cells, cell_of}
+use Rattle.office_tables_shelf.specs.declared.rows.Table.TheVariants as table
 use Rattle.office_tables_statements.specs.Tables.{rows_at, layout_at, schema_at, key_shown, columns_shown, row_shown, width_of, filter_of, of_first, params_of, is_among, rows_among, listed_by, IsListText, IsNoRow, HasDamagedRow, places_of, key_given, IsKeyOf, IsUnder, IsFindText, count_grouping, counted_by, IsCountText}
 use Rattle.office_tables_statements.specs.Schema.{office_schema}
-use Rattle.office_tables_statements.specs.Layout as layout
 use Rattle.office_tables_statements.proofs.StoredLemmas.{HaveKeys, same_order, sound_rowids, agree_ties, get_columns}
 use Rattle.office_tables_statements.proofs.{SoundLemmas.sound_keys, ListedLemmas.distinct_keys, ListedLemmas.distinct_rising, ListedLemmas.is_in}
 use Rattle.office_tables_statements.proofs.ListedLemmas.{unique_by, listing, shown_width, counted, distinct_kept}
@@ -52,7 +52,7 @@ small n many low is = omega (arith, low, is)
 -- rising rowids are keys that differ
 rowids_distinct : (rows : List Row) → IsShaped shape.Table rows → IsDistinct (eq_by_cmp cells_cmp) (map (cells_at (0 ∷ [])) rows)
 rowids_distinct rows shaped =
-    let sound = sound_rowids layout.intersection refl rows shaped in
+    let sound = sound_rowids (layout_at table.Intersection) refl rows shaped in
     distinct_rising (0 ∷ []) rows shaped.0 (λ r x here there below.
     ap is_eq (sym (same_order (0 ∷ []) (0 ∷ []) r x (sound r here) (sound x there)))
     ∙ rw below refl)

@@ -13,7 +13,7 @@ use Rattle.sqlite.specs.Effect.{Database, IsDatabase}
 use Rattle.sqlite.specs.Given.{IsPlain}
 use Rattle.sqlite.specs.Held.{Held, state}
 use Rattle.sqlite.specs.Listing.{understood, reads_listing}
-use Rattle.sqlite.specs.State.{State, HasCleanDisk, Runs, text_of}
+use Rattle.sqlite.specs.State.{State, HasCleanDisk, Runs, Survives, text_of}
 use Rattle.sqlite_resolve.specs.declared.compiled.Compiled.{Compiled}
 use Rattle.sqlite_resolve.specs.declared.error.CompileError.{CompileError}
 use Rattle.office_tables_shelf.specs.Shelf.{IsTold}
@@ -51,12 +51,14 @@ pub record IsReady (s : State) : Type 0 where
   pub ordered : AreOrdered s.now.trees
   pub sound : IsDatabase s.now
 
--- after a call the tables are those of the office and, if the database is open, it was open before, and they hold
--- what they held
+-- A call that only reads: after it the tables are those of the office and, if the database is open, it was open before,
+-- and they hold what they held. A crash leaves only what it could leave before; no fault is forgotten, and only a fault
+-- shuts the connection.
 pub record Keeps (old new : State) : Type 0 where
   pub office : IsOffice new
   pub honest : IsHonest new → IsHonest old
   pub same : IsHonest new → new.now ≡ old.now
+  pub crash : Survives old new (λ _. ⊥)
 
 -- on a clean disk, a call that answers leaves the database open
 abbrev pub StaysOpen : {A E : Type 0} → Result A E → State → Type 0
@@ -106,7 +108,9 @@ pub record IsTurned (tables : Content) (old new : State) : Type 0 where
 abbrev pub TurnsTo : {A E : Type 0} → Result A E → Content → State → State → Type 0
 TurnsTo result tables old new = HasCleanDisk new → OnOk result (IsReady old → IsTurned tables old new)
 
--- if the database is open after a call, it was open before, and the last commit stands
+-- A step of a transaction: if the database is open after it, it was open before, and the last commit stands. A crash
+-- leaves only what it could leave before; no fault is forgotten, and only a fault shuts the connection.
 pub record StandsOn (old new : State) : Type 0 where
   pub honest : IsHonest new → IsHonest old
   pub committed : IsHonest new → new.committed ≡ old.committed
+  pub crash : Survives old new (λ _. ⊥)

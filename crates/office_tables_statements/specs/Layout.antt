@@ -1,9 +1,11 @@
 -- Where each table keeps its key and its other columns.
-use Rattle.std.specs.Prelude.{ℕ, Bool, List, [], ◌∷◌, map, find, Option, option_map}
+use Rattle.std.specs.Prelude.{ℕ, suc, Bool, List, [], ◌∷◌, drop, length, map, find, Option, option_map}
 use Rattle.sqlite.specs.Order.{Row, column}
 use Rattle.sqlite.specs.Tree.{Trees}
 use Rattle.sqlite_schema.specs.Rules.{agree}
+use Rattle.sqlite_schema.specs.declared.schema.Table.{Table}
 use Rattle.sqlite_value.specs.Keys.{plain}
+use Rattle.office_tables_statements.specs.Schema.{version_table}
 
 -- where a table keeps its rows: its tree, the places of its key and of its other columns in a stored row, whose
 -- rowid is at place 0, and the places of the cells of a key that stands by itself
@@ -13,41 +15,24 @@ pub record Layout : Type 0 where
   pub places : List ℕ
   pub columns : List ℕ
 
--- where the table of intersections has its keys and columns
-abbrev pub intersection : Layout
-intersection = record { tree = 0; keys = 0 ∷ []; places = 0 ∷ []; columns = 2 ∷ 3 ∷ 4 ∷ 5 ∷ 6 ∷ [] }
+-- as many places as the list has members, one after another from this one on
+abbrev pub places_from : {X : Type 0} → ℕ → List X → List ℕ
+places_from n [] = []
+places_from n (x ∷ xs) = n ∷ places_from (suc n) xs
 
--- where the table of committed rows has its keys and columns
-abbrev pub timing : Layout
-timing = record { tree = 1; keys = 1 ∷ 2 ∷ 3 ∷ 4 ∷ []; places = 0 ∷ 1 ∷ 2 ∷ 3 ∷ []; columns = 5 ∷ [] }
-
--- where the table of draft rows has its keys and columns
-abbrev pub draft : Layout
-draft = record timing { tree = 3 }
-
--- where the table of inspections has its keys and columns
-abbrev pub inspection : Layout
-inspection = record { tree = 5; keys = 1 ∷ 2 ∷ []; places = 0 ∷ 1 ∷ []; columns = 3 ∷ 4 ∷ 5 ∷ [] }
-
--- where the table of work orders has its keys and columns
-abbrev pub work_order : Layout
-work_order = record { tree = 7; keys = 1 ∷ 2 ∷ []; places = 0 ∷ 1 ∷ []; columns = 3 ∷ 4 ∷ 5 ∷ 6 ∷ 7 ∷ [] }
-
--- where the table of parts has its keys and columns
-abbrev pub part : Layout
-part = record { tree = 9; keys = 1 ∷ []; places = 0 ∷ []; columns = 2 ∷ [] }
-
--- where the table of deliveries has its keys and columns
-abbrev pub delivery : Layout
-delivery = record { tree = 11; keys = 1 ∷ 2 ∷ []; places = 0 ∷ 1 ∷ []; columns = 3 ∷ 4 ∷ [] }
-
--- where the table of used parts has its keys and columns
-abbrev pub used_part : Layout
-used_part = record { tree = 13; keys = 1 ∷ 2 ∷ 3 ∷ []; places = 0 ∷ 1 ∷ 2 ∷ []; columns = 4 ∷ 5 ∷ [] }
+-- Where a table keeps its key and its other columns. The columns of the key are the first ones, and column n is at
+-- place n + 1; a key that is the rowid is at place 0.
+abbrev pub layout_of : Table → Layout
+layout_of t = record {
+  tree = t.tree;
+  keys = t.primary;
+  places = places_from 0 t.primary;
+  columns = places_from (suc (length t.primary)) (drop (length t.primary) t.columns);
+}
 
 -- where the table `office_version` has its key and its column of the version
 abbrev pub office_version : Layout
-office_version = record { tree = 15; keys = 0 ∷ []; places = 0 ∷ []; columns = 2 ∷ [] }
+office_version = layout_of version_table
 
 -- the values of a row at some places
 abbrev pub values_at : List ℕ → Row → Row

@@ -8,8 +8,8 @@ use Rattle.sqlite.specs.State.{State}
 use Rattle.sqlite.specs.Tree.{Trees}
 use Rattle.office_tables_shelf.specs.Cells.{Cell, TableRows, rows_by, null, number, text, odd}
 use Rattle.office_tables_shelf.specs.Content.{Content}
-use Rattle.office_tables_statements.specs.Layout as layout
-use Rattle.office_tables_statements.specs.Layout.{Layout, values_at}
+use Rattle.office_tables_statements.specs.Layout.{Layout, layout_of, values_at}
+use Rattle.office_tables_statements.specs.Schema as schema
 
 -- a value of SQL as a cell: a real number and a blob are odd, which no office stores
 abbrev pub cell_of : Value → Cell
@@ -43,14 +43,14 @@ rows_stored t trees = rows_in t (trees t.tree)
 -- what trees hold of the office's eight tables, as they are laid out
 abbrev pub content_of : Trees → Content
 content_of trees = record {
-  intersection = rows_stored layout.intersection trees;
-  timing = rows_stored layout.timing trees;
-  draft = rows_stored layout.draft trees;
-  inspection = rows_stored layout.inspection trees;
-  work_order = rows_stored layout.work_order trees;
-  part = rows_stored layout.part trees;
-  delivery = rows_stored layout.delivery trees;
-  used_part = rows_stored layout.used_part trees;
+  intersection = rows_stored (layout_of schema.intersection_table) trees;
+  timing = rows_stored (layout_of schema.timing_table) trees;
+  draft = rows_stored (layout_of schema.draft_table) trees;
+  inspection = rows_stored (layout_of schema.inspection_table) trees;
+  work_order = rows_stored (layout_of schema.work_order_table) trees;
+  part = rows_stored (layout_of schema.part_table) trees;
+  delivery = rows_stored (layout_of schema.delivery_table) trees;
+  used_part = rows_stored (layout_of schema.used_part_table) trees;
 }
 
 -- what the tables of a connection hold now

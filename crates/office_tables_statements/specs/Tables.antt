@@ -1,5 +1,5 @@
 -- The eight tables by their names: where each keeps its rows, and what its statements mean.
-use Rattle.std.specs.Prelude.{◌≡◌, ℕ, suc, ℤ, pos, negsuc, Bool, true, false, ◌&&◌, cond, List, [], ◌∷◌, ◌++◌, map, length, Option, Some, None, IfSome, Ok, slice_get, unwrap_or}
+use Rattle.std.specs.Prelude.{◌≡◌, ℕ, suc, ℤ, pos, negsuc, Bool, true, false, ◌&&◌, cond, List, [], ◌∷◌, ◌++◌, map, length, Option, Some, None, IfSome, Ok, is_none, slice_get, unwrap_or}
 use Rattle.std.specs.Option.{option_map}
 use Rattle.std.specs.FinMap.{get, entries}
 use Rattle.sqlite.specs.Command.TheVariants.{Select, Insert, Update, Delete}
@@ -35,24 +35,12 @@ use Rattle.office_tables_shelf.specs.Shelf.{rows_of}
 use Rattle.office_tables_shelf.specs.declared.rows.Table.{Table}
 use Rattle.office_tables_shelf.specs.declared.rows.Table.TheVariants as table
 use Rattle.office_tables_statements.specs.Calls.{IsQuery, IsWriting, command_of}
-use Rattle.office_tables_statements.specs.Layout as layout
-use Rattle.office_tables_statements.specs.Layout.{Layout}
+use Rattle.office_tables_statements.specs.Layout.{Layout, layout_of, places_from}
 use Rattle.office_tables_statements.specs.Schema as schema
 use Rattle.office_tables_statements.specs.Schema.{office_schema}
 use Rattle.office_tables_statements.specs.Stored.{cells_at, are_sound}
 
 -- ---- where each table is
-
--- the layout of a table
-abbrev pub layout_at : Table → Layout
-layout_at table.Intersection = layout.intersection
-layout_at table.Timing = layout.timing
-layout_at table.Draft = layout.draft
-layout_at table.Inspection = layout.inspection
-layout_at table.WorkOrder = layout.work_order
-layout_at table.Part = layout.part
-layout_at table.Delivery = layout.delivery
-layout_at table.UsedPart = layout.used_part
 
 -- the table of the schema for one of the eight
 abbrev pub schema_at : Table → SqlTable
@@ -65,16 +53,13 @@ schema_at table.Part = schema.part_table
 schema_at table.Delivery = schema.delivery_table
 schema_at table.UsedPart = schema.used_part_table
 
+-- the layout of a table
+abbrev pub layout_at : Table → Layout
+layout_at t = layout_of (schema_at t)
+
 -- the table has a PRIMARY KEY of its own, and does not keep its key as the rowid
 abbrev pub is_keyed : Table → Bool
-is_keyed table.Intersection = false
-is_keyed table.Timing = true
-is_keyed table.Draft = true
-is_keyed table.Inspection = true
-is_keyed table.WorkOrder = true
-is_keyed table.Part = true
-is_keyed table.Delivery = true
-is_keyed table.UsedPart = true
+is_keyed t = is_none (schema_at t).key
 
 -- the filter of the rows whose columns at these places are the parameters at those places
 abbrev pub of_key : List ℕ → List ℕ → List Term
@@ -104,11 +89,6 @@ rows_among None rows = entries rows
 rows_among (Some id) rows = rows_of id rows
 
 -- ---- a row as a list shows it: the columns of the key, and then the others
-
--- as many places as the list has members, one after another from this one on
-abbrev pub places_from : ℕ → List ℕ → List ℕ
-places_from n [] = []
-places_from n (p ∷ ps) = n ∷ places_from (suc n) ps
 
 -- the places in a stored row that a query of all columns shows: those of the key, and then the others
 abbrev pub places_of : Table → List ℕ

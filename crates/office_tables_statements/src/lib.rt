@@ -6,8 +6,8 @@
 pub mod body;
 pub mod body_reading;
 pub mod listed;
-mod parts;
+pub mod parts;
 pub mod schema;
 pub mod statement;
-mod tables;
+pub mod tables;
 pub mod value;

@@ -5,7 +5,7 @@ ghost use Rattle.std.specs.List.{AllByRecursion};
 ghost use Rattle.sqlite_value.specs.declared.value.Value.TheVariants.{Int};
 ghost use Rattle.sqlite_value.specs.Keys.{plain};
 ghost use Rattle.sqlite_schema.specs.declared.code.Op.TheVariants.{Column as AColumn, Literal as ALiteral};
-ghost use Rattle.office_tables_statements.specs.Schema.{with_tree, IsAlikeOne};
+ghost use Rattle.office_tables_statements.specs.Schema.{with_tree, IsAlikeOne, IsNameAmong};
 ghost use Rattle.office_tables_statements.specs.Wanted.{column_wanted, reference_wanted, ComparesAt, checks_wanted, key_of, primary_of, uniques_of, orders_of, table_wanted, index_wanted, indexes_wanted};
 
 use sqlite_items::Items;
@@ -16,7 +16,7 @@ use sqlite_value::keys::{Collation, Order};
 use sqlite_value::value::Value;
 
 /// What a column has to be: its name, its kind, and whether it refuses NULL.
-pub(crate) struct WantedColumn<'a>(pub(crate) &'a str, pub(crate) Kind, pub(crate) bool);
+pub struct WantedColumn<'a>(pub &'a str, pub Kind, pub bool);
 
 /// What a foreign key has to be: the table that it names, and the places of its columns in a stored
 /// row, whose rowid is at place 0.
@@ -241,6 +241,16 @@ pub(crate) fn is_one_of(table: &Table, wanted: &[WantedTable<'_>]) -> bool
         return false;
     };
     is_alike(table, want) || is_one_of(table, wanted)
+}
+
+/// Whether the name is that of one of the wanted tables.
+pub(crate) fn is_named(name: &[u8], wanted: &[WantedTable<'_>]) -> bool
+    ensures { IsTrue result → IsNameAmong name.now (map (λ t. t.name) (map table_wanted wanted.now)) }
+{
+    let Some((want, wanted)) = wanted.split_first() else {
+        return false;
+    };
+    name == want.name.as_bytes() || is_named(name, wanted)
 }
 
 fn is_table(table: &Table, want: &WantedTable<'_>) -> bool

@@ -1,11 +1,11 @@
 //! The schema of the office in SQL: the texts that make its tables, and whether a database has
 //! them.
 
-ghost use Rattle.std.specs.Prelude.{◌≡◌, IsTrue};
+ghost use Rattle.std.specs.Prelude.{◌≡◌, map, IsTrue};
 ghost use Rattle.std.specs.List.{AllByRecursion};
-ghost use Rattle.office_tables_statements.specs.Schema.{office_schema, IsOffices};
+ghost use Rattle.office_tables_statements.specs.Schema.{office_schema, IsNameAmong, IsOffices};
 
-use crate::parts::{are_indexes, are_tables, is_one_of};
+use crate::parts::{are_indexes, are_tables, is_named, is_one_of};
 use crate::tables::{self, all_tables};
 use sqlite_schema::schema::{Schema, Table};
 
@@ -33,6 +33,13 @@ pub fn is_office(schema: &Schema) -> bool
     schema.views.is_empty()
         && are_indexes(schema.indexes.as_slice(), tables)
         && are_tables(schema.tables.as_slice(), tables)
+}
+
+/// Whether the name is that of a table of the office.
+pub fn is_name(name: &[u8]) -> bool
+    ensures { IsTrue result → IsNameAmong name.now (map (λ t. t.name) office_schema.tables) }
+{
+    is_named(name, all_tables())
 }
 
 /// Whether each of these is a table of the office, whatever its number. Tables may be missing.

@@ -3,7 +3,7 @@
 ghost use Rattle.std.specs.Prelude.{◌≡◌, IfOk, OnOk};
 ghost use Rattle.std.specs.Option.{option_to_list};
 ghost use Rattle.sqlite.specs.Values.{bound};
-ghost use Rattle.sqlite.specs.State.{HasCleanDisk, Survives};
+ghost use Rattle.sqlite.specs.State.{HasCleanDisk};
 ghost use Rattle.sqlite.specs.Held.{state};
 ghost use Rattle.office_tables_statements.specs.Calls.{IsHonest, IsOffice, Keeps, IsQuery, Reads, IsWriting, Ran, StandsOn, StaysOpen};
 
@@ -50,8 +50,7 @@ impl From<SqlFault> for ShelfFault {
     }
 }
 
-/// All rows of the answer to a query, in its order. The empty text is prepared first, which commits
-/// nothing and shows that the connection is open. `Store` means that the database refused,
+/// All rows of the answer to a query, in its order. `Store` means that the database refused,
 /// `NoMemory` that a growth was refused.
 pub fn select<S: Alter>(
     conn: &mut Connection<S>,
@@ -63,10 +62,8 @@ pub fn select<S: Alter>(
     ensures rows { IsHonest (state S.Store conn.new) → IfOk result (λ rows.
         Reads sql.now (bound params.now) (state S.Store conn.old).now rows.items) }
     ensures kept { Keeps (state S.Store conn.old) (state S.Store conn.new) }
-    ensures crash { Survives (state S.Store conn.old) (state S.Store conn.new) (λ _. ⊥) }
     ensures open { StaysOpen result (state S.Store conn.new) }
 {
-    let _empty = conn.prepare("")?;
     let rows = conn.query_all(sql, params)?;
     Ok(rows)
 }
@@ -83,7 +80,6 @@ pub fn select_one<S: Alter>(
     ensures row { IsHonest (state S.Store conn.new) → IfOk result (λ row.
         Reads sql.now (bound params.now) (state S.Store conn.old).now (option_to_list row)) }
     ensures kept { Keeps (state S.Store conn.old) (state S.Store conn.new) }
-    ensures crash { Survives (state S.Store conn.old) (state S.Store conn.new) (λ _. ⊥) }
     ensures open { StaysOpen result (state S.Store conn.new) }
 {
     let mut rows = select(conn, sql, params)?;
@@ -108,8 +104,6 @@ pub fn write<S: Alter>(
     ensures honest { HasCleanDisk (state S.Store tx.new.conn.now) →
         OnOk result (IsHonest (state S.Store tx.old.conn.now)) }
     ensures stands { StandsOn (state S.Store tx.old.conn.now) (state S.Store tx.new.conn.now) }
-    ensures crash { Survives (state S.Store tx.old.conn.now) (state S.Store tx.new.conn.now)
-        (λ _. ⊥) }
 {
     let count = tx.execute(sql, params)?;
     Ok(count)

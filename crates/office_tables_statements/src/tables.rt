@@ -4,9 +4,11 @@
 ghost use Rattle.std.specs.Prelude.{◌≡◌, ◌<◌, ◌^◌, map};
 ghost use Rattle.std.specs.List.{AllByRecursion};
 ghost use Rattle.office_tables_statements.specs.Schema.{office_schema};
-ghost use Rattle.office_tables_statements.specs.Wanted.{table_wanted, indexes_wanted};
+ghost use Rattle.office_tables_statements.specs.Tables.{layout_at, schema_at};
+ghost use Rattle.office_tables_statements.specs.Wanted.{column_wanted, table_wanted, indexes_wanted};
 
 use crate::parts::{WantedCheck, WantedColumn, WantedKey, WantedReference, WantedTable};
+use office_tables_shelf::rows::Table;
 use sqlite_schema::schema::Kind;
 use sqlite_sql::ops::CompareOp;
 
@@ -183,6 +185,46 @@ static TABLES: [WantedTable<'static>; 9] = [
         references: &[],
     },
 ];
+
+/// What one of the eight tables beside that of the version has to be.
+fn description_of(table: Table) -> &'static WantedTable<'static>
+    ensures { table_wanted result.now ≡ schema_at table }
+{
+    match table {
+        Table::Intersection => &TABLES[0],
+        Table::Timing => &TABLES[1],
+        Table::Draft => &TABLES[2],
+        Table::Inspection => &TABLES[3],
+        Table::WorkOrder => &TABLES[4],
+        Table::Part => &TABLES[5],
+        Table::Delivery => &TABLES[6],
+        Table::UsedPart => &TABLES[7],
+    }
+}
+
+/// The name of a table.
+pub fn name_of(table: Table) -> &'static str
+    ensures { result.now ≡ (schema_at table).name }
+{
+    description_of(table).name
+}
+
+/// The columns of a table, in their order.
+pub fn columns_of(table: Table) -> &'static [WantedColumn<'static>]
+    ensures { map column_wanted result.now ≡ (schema_at table).columns }
+{
+    description_of(table).columns
+}
+
+/// The places of a table's key in a stored row, whose rowid is at place 0.
+pub fn keys_of(table: Table) -> &'static [usize]
+    ensures { result.now ≡ (layout_at table).keys }
+{
+    match &description_of(table).key {
+        WantedKey::Rowid => &[0],
+        WantedKey::Places(places, _) => places,
+    }
+}
 
 /// What the office's nine tables have to be, in the order of their numbers.
 pub(crate) fn all_tables() -> &'static [WantedTable<'static>]

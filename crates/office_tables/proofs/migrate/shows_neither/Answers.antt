@@ -13,7 +13,7 @@ returns-clause-stands g c =
     let mid = c.query_all.new.self.conn.now in
     let begun = c.transaction-tx.ensures.begun in
     let it = c.in_ok-rows.ensures in
-    let whole = asked_stands _ _ (state g.S.Store (record old { in_transaction = true })) (state g.S.Store mid) (state g.S.Store c.rollback.new.self.0) refl (rw begun at it.survives.clean) c.rollback.ensures.survives.clean c.rollback.ensures.undone _ (rw begun at it.ok) in
+    let whole = asked_stands _ _ (state g.S.Store (record old { in_transaction = true })) (state g.S.Store mid) (state g.S.Store c.rollback.new.self.0) refl (rw begun at it.survives) c.rollback.ensures.survives c.rollback.ensures.undone _ (rw begun at it.ok) in
     let same : c.rollback.new.self.0 ≡ c.conn-2-1.given.0 = search rules in
     subst (λ h. StandsOn (state g.S.Store old) (state g.S.Store h)) same (begun_stands g.S.Store old (state g.S.Store c.rollback.new.self.0) whole)
 
@@ -23,7 +23,7 @@ returns-in_err-rows-clause-stands g c =
     let mid = c.query_all.new.self.conn.now in
     let begun = c.transaction-tx.ensures.begun in
     let it = c.in_err-rows.ensures in
-    let whole = unasked_stands _ _ (state g.S.Store (record old { in_transaction = true })) (state g.S.Store mid) (state g.S.Store c.drop-tx.new.self.0) refl (rw begun at it.survives.clean) c.drop-tx.ensures.survives.clean c.drop-tx.ensures.undone _ (rw begun at it.err) in
+    let whole = unasked_stands _ _ (state g.S.Store (record old { in_transaction = true })) (state g.S.Store mid) (state g.S.Store c.drop-tx.new.self.0) refl (rw begun at it.survives) c.drop-tx.ensures.survives c.drop-tx.ensures.undone _ (rw begun at it.err) in
     let same : c.drop-tx.new.self.0 ≡ c.conn-1.given.0 = search rules in
     subst (λ h. StandsOn (state g.S.Store old) (state g.S.Store h)) same (begun_stands g.S.Store old (state g.S.Store c.drop-tx.new.self.0) whole)
 

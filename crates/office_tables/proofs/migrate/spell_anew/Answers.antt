@@ -23,7 +23,7 @@ returns-in_err-write_anew-clause-crash g c =
     c.in_ok-kept.kept.items c.in_ok-kept-2.kept.items c.in_ok-kept.ensures.rows c.in_ok-kept-2.ensures.rows c.in_ok-committed.ensures.rows
     c.in_ok-committed.committed.items c.in_ok-drafted.drafted.items c.as_slice.result.now c.in_ok-committed.ensures.puts c.in_ok-drafted.ensures (c.as_slice.ensures.value ∙ c.in_ok-changes.ensures)
     (state g.S.Store c.write_anew.new.conn) (record { timing = length c.as_slice-timing.result.now; draft = length c.as_slice-draft.result.now }) (ap length c.as_slice-timing.ensures.value) (ap length c.as_slice-draft.ensures.value)
-    c.timing_rows.ensures.crash c.draft_rows.ensures.crash c.write_anew.ensures.crash
+    c.timing_rows.ensures.kept.crash c.draft_rows.ensures.kept.crash c.write_anew.ensures.crash
 
 pub returns-clause-crash : goal.returns-clause-crash
 returns-clause-crash g c =
@@ -31,4 +31,4 @@ returns-clause-crash g c =
     c.in_ok-kept.kept.items c.in_ok-kept-2.kept.items c.in_ok-kept.ensures.rows c.in_ok-kept-2.ensures.rows c.in_ok-committed.ensures.rows
     c.in_ok-committed.committed.items c.in_ok-drafted.drafted.items c.as_slice.result.now c.in_ok-committed.ensures.puts c.in_ok-drafted.ensures (c.as_slice.ensures.value ∙ c.in_ok-changes.ensures)
     (state g.S.Store c.write_anew.new.conn) (record { timing = length c.as_slice-timing.result.now; draft = length c.as_slice-draft.result.now }) (ap length c.as_slice-timing.ensures.value) (ap length c.as_slice-draft.ensures.value)
-    c.timing_rows.ensures.crash c.draft_rows.ensures.crash c.write_anew.ensures.crash
+    c.timing_rows.ensures.kept.crash c.draft_rows.ensures.kept.crash c.write_anew.ensures.crash

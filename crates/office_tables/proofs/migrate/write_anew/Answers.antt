@@ -22,4 +22,4 @@ returns-in_err-commit-clause-crash g c =
     let P = λ (trees : Trees). Completes (changed_by (content_now old) c.args.changes.now) trees in
     let same : c.commit.new.self.0 ≡ c.conn-2-1.given.0 = search rules in
     subst (λ h. Survives old (state g.S.Store h) (λ trees. IsHonest old × P trees)) same (commit_survives g.S.Store c.args.conn.now c.write_in.new.tx.conn.now (state g.S.Store c.commit.new.self.0) c.requires
-    P (rw begun at it.crash) c.commit.ensures.survives (λ clean. rw begun at (it.honest clean)) (λ clean. rw begun at (it.written clean)))
+    P (rw begun at it.stands.crash) c.commit.ensures.survives (λ clean. rw begun at (it.honest clean)) (λ clean. rw begun at (it.written clean)))

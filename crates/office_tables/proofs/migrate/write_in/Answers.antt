@@ -8,7 +8,7 @@ returns-clause-written g c clean ready =
     let mid = state g.S.Store c.change_rows.new.tx.conn.now in
     let new = state g.S.Store c.renew_version.new.tx.conn.now in
     let it = c.in_ok-renew_version.ensures in
-    let early : HasCleanDisk mid = omega (arith, clean, it.crash.clean) in
+    let early : HasCleanDisk mid = omega (arith, clean, it.stands.crash.clean) in
     let turned = c.in_ok-change_rows.ensures.changed early ready in
     record {
       content = it.same clean turned.ready ∙ turned.content;

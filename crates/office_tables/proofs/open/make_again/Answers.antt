@@ -9,7 +9,7 @@ returns-clause-made g c clean begun ours =
     let old = c.args.tx.now.conn.now in
     let bare = c.run_all.new.tx.conn.now in
     let mid = c.make_all.new.tx.conn.now in
-    let early : HasCleanDisk (state g.S.Store mid) = omega (arith, clean, c.put_all.ensures.crash.clean) in
-    let first : HasCleanDisk (state g.S.Store bare) = omega (arith, early, c.in_ok-make_all.ensures.crash.clean) in
+    let early : HasCleanDisk (state g.S.Store mid) = omega (arith, clean, c.put_all.ensures.stands.crash.clean) in
+    let first : HasCleanDisk (state g.S.Store bare) = omega (arith, early, c.in_ok-make_all.ensures.stands.crash.clean) in
     let blank = blank_after g.S.Store old bare begun ours (c.in_ok-run_all.ensures.run first begun) in
     refilled_if c.put_all.result (map part_moved c.args.eight.items) (state g.S.Store mid) (state g.S.Store c.put_all.new.tx.conn.now) (c.put_all.ensures.put clean) (c.in_ok-make_all.ensures.made early blank.1 blank.0)

@@ -24,7 +24,7 @@ crash g c h same =
     let begun = c.transaction-tx.ensures.begun in
     let it = c.in_ok-make_again.ensures in
     rw (sym same) (ended_survives g.S.Store c.args.conn.now c.make_again.new.tx.conn.now (state g.S.Store c.commit.new.self.0) _
-    (rw begun at it.crash) c.commit.ensures.survives (λ clean. (rw begun at (it.honest clean), (made g c clean).completes)))
+    (rw begun at it.stands.crash) c.commit.ensures.survives (λ clean. (rw begun at (it.honest clean), (made g c clean).completes)))
 
 pub returns-clause-office : goal.returns-clause-office
 returns-clause-office g c =

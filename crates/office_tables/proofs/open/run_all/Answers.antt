@@ -1,7 +1,7 @@
 use Rattle.std.proofs.Common.{◌≡◌, true, inl, inr, map, refl, sym, subst, ◌∙◌, arith}
 use Rattle.std.proofs.{lemmas.Bool.cases_Bool, lemmas.List.drop_more, lemmas.List.drop_all}
 use Rattle.sqlite.specs.Held.{state}
-use Rattle.office_tables_statements.proofs.CallLemmas.{ran_stands, stands_then, survives_on}
+use Rattle.office_tables_statements.proofs.CallLemmas.{ran_stands, stands_then}
 use Rattle.office_tables.specs.Opening.{AreRun}
 use Rattle.office_tables.proofs.open.run_all.Goals as goal
 
@@ -14,10 +14,9 @@ loop-sql-preserved g c =
     let it = c.in_ok-execute.ensures in
     let inside : old.in_transaction ≡ true = elim (cases_Bool old.in_transaction) [ inl on ↦ on | inr off ↦ absurd (let e = (it.ended off).0 in cc) ] in (
       it.same_reference ∙ was.0,
-      stands_then first (state g.S.Store old) (state g.S.Store new) was.1 (ran_stands 0 _ _ (state g.S.Store old) (state g.S.Store new) it.survives.clean c.in_ok-execute.field-0 (λ clean. it.runs clean (rw inside))),
-      survives_on first (state g.S.Store old) (state g.S.Store new) was.2 it.survives,
+      stands_then first (state g.S.Store old) (state g.S.Store new) was.1 (ran_stands 0 _ _ (state g.S.Store old) (state g.S.Store new) it.survives c.in_ok-execute.field-0 (λ clean. it.runs clean (rw inside))),
       λ clean begun.
-          let before = was.3 (omega (arith, clean, it.survives.clean)) begun in
+          let before = was.2 (omega (arith, clean, it.survives.clean)) begun in
           let ran = it.runs clean (rw inside) in (
             ran.1.mode,
             λ last rest. before.1 last (subst (λ texts. AreRun g.S.Store (map (λ text. text.now) texts) old last) (sym (drop_more c.args.texts.now c.loop-sql.sql-index _ c.loop-sql-test.true))
@@ -29,4 +28,4 @@ pub returns-clause-run : goal.returns-clause-run
 returns-clause-run g c clean begun =
     let now = c.loop-sql.tx.conn.now in
     let none = drop_all c.loop-sql.sql-index c.args.texts.now (omega (arith, c.loop-sql-test.false)) in
-    (c.loop-sql.invariant.3 clean begun).1 now (subst (λ texts. AreRun g.S.Store (map (λ text. text.now) texts) now now) (sym none) refl)
+    (c.loop-sql.invariant.2 clean begun).1 now (subst (λ texts. AreRun g.S.Store (map (λ text. text.now) texts) now now) (sym none) refl)

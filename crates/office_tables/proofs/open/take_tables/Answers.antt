@@ -15,11 +15,11 @@ returns-in-Ok-true-clause-prepared g c =
 pub returns-in-Ok-false-clause-prepared : goal.returns-in-Ok-false-clause-prepared
 returns-in-Ok-false-clause-prepared g c =
     let it = c.in-Ok-false.ensures in
-    let again = asked_again (state g.S.Store c.args.conn) (state g.S.Store c.is_today.new.conn) c.requires.office it.kept it.open c.requires.arranged it.crash in
+    let again = asked_again (state g.S.Store c.args.conn) (state g.S.Store c.is_today.new.conn) c.requires.office it.kept it.open c.requires.arranged in
     IfOk-weaker c.made_again.result _ _ (λ new. prepared_before g.S.Store c.args.conn c.is_today.new.conn again (state g.S.Store new)) c.made_again.ensures.prepared
 
 pub returns-in-Ok-false-clause-refused : goal.returns-in-Ok-false-clause-refused
 returns-in-Ok-false-clause-refused g c =
     let it = c.in-Ok-false.ensures in
-    let again = asked_again (state g.S.Store c.args.conn) (state g.S.Store c.is_today.new.conn) c.requires.office it.kept it.open c.requires.arranged it.crash in
+    let again = asked_again (state g.S.Store c.args.conn) (state g.S.Store c.is_today.new.conn) c.requires.office it.kept it.open c.requires.arranged in
     IfErr-weaker c.made_again.result _ _ (λ e. refused_before g.S.Store c.args.conn c.is_today.new.conn again e.0 e.1) c.made_again.ensures.refused

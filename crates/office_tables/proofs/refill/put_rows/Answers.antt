@@ -1,6 +1,6 @@
 use Rattle.std.proofs.Common.{arith, refl, sym, ap, ◌∙◌}
 use Rattle.sqlite.specs.Held.{state}
-use Rattle.office_tables_statements.proofs.CallLemmas.{stands_then, survives_on}
+use Rattle.office_tables_statements.proofs.CallLemmas.{stands_then}
 use Rattle.office_tables_statements.specs.Stored.{content_now}
 use Rattle.office_tables.specs.Moved.{rows_put}
 use Rattle.office_tables.proofs.RefillLemmas.{last_row}
@@ -16,9 +16,8 @@ loop-row-preserved g c =
     let it = c.in_ok-put_row.ensures in (
       it.same_reference ∙ was.0,
       stands_then old mid new was.1 it.stands,
-      survives_on old mid new was.2 it.crash,
       λ clean ready.
-          let before = was.3 (omega (arith, clean, it.crash.clean)) ready in
+          let before = was.2 (omega (arith, clean, it.stands.crash.clean)) ready in
           let then = it.put clean before.0.ready in (
             record { ready = then.ready; content = refl; version = then.version ∙ before.0.version },
             ap (λ tables. rows_put c.args.table tables rest) then.content

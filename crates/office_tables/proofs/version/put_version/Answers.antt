@@ -6,7 +6,7 @@ pub write-requires : goal.write-requires
 write-requires g c = put_version_is.plain
 
 pub returns-clause-honest : goal.returns-clause-honest
-returns-clause-honest g c clean = let it = c.in_ok-write.ensures in (omega (arith, clean, it.crash.clean), (it.ran clean).was_open)
+returns-clause-honest g c clean = let it = c.in_ok-write.ensures in (omega (arith, clean, it.stands.crash.clean), (it.ran clean).was_open)
 
 pub returns-clause-ready : goal.returns-clause-ready
 returns-clause-ready g c honest ready =

@@ -25,7 +25,7 @@ returns-in_err-commit-clause-crash g c =
     let some : c.args.changes.now ≢ [] = λ none. true≢false (sym (c.is_empty.ensures ∙ ap (λ changes. length changes == 0) none) ∙ c.if-is_empty.false) in
     let same : c.commit.new.self.0 ≡ c.conn-2-1.given.0 = search rules in
     subst (λ h. Survives old (state g.S.Store h) (λ trees. IsHonest old × P trees)) same (commit_survives g.S.Store c.args.conn.now c.change_rows.new.tx.conn.now (state g.S.Store c.commit.new.self.0) c.requires
-    P (rw begun at it.crash) c.commit.ensures.survives (λ clean. (rw begun at (it.honest clean)) some) (λ clean ready. let then = (rw begun at (it.changed clean)) ready in
+    P (rw begun at it.stands.crash) c.commit.ensures.survives (λ clean. (rw begun at (it.honest clean)) some) (λ clean ready. let then = (rw begun at (it.changed clean)) ready in
     let mid = (state g.S.Store c.change_rows.new.tx.conn.now).now in
     record {
       sound = subst (λ s. IsDatabase (record mid { schema = s })) then.ready.schema then.ready.sound;

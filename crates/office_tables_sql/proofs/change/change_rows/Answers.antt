@@ -3,7 +3,7 @@ use Rattle.std.proofs.lemmas.List.{drop_more, nil_from_length}
 use Rattle.office_tables_shelf.specs.Change.{changed, changed_by}
 use Rattle.office_tables_statements.specs.Stored.{content_now}
 use Rattle.sqlite.specs.Held.{state}
-use Rattle.office_tables_statements.proofs.CallLemmas.{stands_then, survives_on}
+use Rattle.office_tables_statements.proofs.CallLemmas.{stands_then}
 use Rattle.office_tables_sql.proofs.change.change_rows.Goals as goal
 
 pub loop-change-preserved : goal.loop-change-preserved
@@ -15,10 +15,9 @@ loop-change-preserved g c =
     let it = c.in_ok-change_row.ensures in (
       it.same_reference ∙ was.0,
       stands_then old mid new was.1 it.stands,
-      survives_on old mid new was.2 it.crash,
       λ clean. inr (was.1.honest (c.in_ok-change_row.ensures.honest clean)),
       λ clean ready.
-          let before = was.4 (omega (arith, clean, it.crash.clean)) ready in
+          let before = was.3 (omega (arith, clean, it.stands.crash.clean)) ready in
           let rest = drop (c.loop-change.change-index + 1) c.args.changes.now in
           let tables = content_now mid in
           let then = it.changed clean before.0.ready in (
@@ -30,7 +29,7 @@ loop-change-preserved g c =
 
 pub returns-clause-honest : goal.returns-clause-honest
 returns-clause-honest g c = λ clean some.
-    elim (c.loop-change.invariant.3 clean) [
+    elim (c.loop-change.invariant.2 clean) [
       | inl none ↦ absurd (some (nil_from_length c.args.changes.now (omega (arith, none, c.loop-change-test.false))))
       | inr honest ↦ honest
     ]

@@ -20,7 +20,7 @@ returns-clause-put g c clean ready =
           let second = rw (c.texts-texts.ensures.insert, w.as_slice-then-changed-eq0.ensures.value, c.in-Ok.ensures) at (w.in_ok-write.ensures.ran clear) in
           subst (λ tx. IsTurned put old (state g.S.Store tx.conn.now)) (sym w.tx-is)
           (two_put _ _ _ fits _ _ met.means.updates met.means.inserts _ _ _ _ _ w.if-changed-eq0.true ready
-          (first (omega (arith, clear, w.in_ok-write.ensures.crash.clean))) second)
+          (first (omega (arith, clear, w.in_ok-write.ensures.stands.crash.clean))) second)
       | else-changed-eq0 w ↦
           subst (λ tx. IsTurned put old (state g.S.Store tx.conn.now)) (sym w.tx-is)
           (one_put _ _ _ fits _ met.means.updates _ _ _ w.if-changed-eq0.false ready

@@ -1,55 +1,51 @@
 use Rattle.std.proofs.Common.{◌≡◌, ◌++◌, rules, refl, None, Some, [], ◌∷◌, arith, ap, subst, sym, ◌∙◌, Err}
 use Rattle.std.specs.Prelude.{option_copied}
-use Rattle.sqlite.specs.{Given.GivesOn, Given.row_if, Order.Row, State.HasCleanDisk, Held.state}
-use Rattle.sqlite.proofs.Callers.{given_begin, begun_plain, unchanged_then}
+use Rattle.sqlite.specs.{Given.GivesOn, Given.row_if, Order.Row, State.HasCleanDisk, State.IsUnchanged, Held.state}
+use Rattle.sqlite.proofs.Callers.{given_begin, unchanged_then}
 use Rattle.office_tables_shelf.proofs.ListLemmas.{all_more}
 use Rattle.office_tables_shelf.specs.declared.shelf.ShelfFault.TheVariants.{Damaged}
 use Rattle.office_tables_statements.specs.{Calls.IsHonest, Calls.Keeps, Calls.Reads, Stored.content_now, Tables.params_of, Tables.row_shown, Tables.stored_for, Tables.HasDamagedRow}
 use Rattle.office_tables_sql.specs.Gathers.{Gathers}
 use Rattle.office_tables_statements.proofs.StoredLists.{lists, width, damaged_at}
-use Rattle.office_tables_sql.proofs.each_row.gather_each.Given.{Over}
-use Rattle.office_tables_statements.proofs.CallLemmas.{survives_on, plain_at, refused_keeps, began_survives, broken_keeps, all_read, some_read, has_mid, one_more, next_honest, next_keeps}
-use Rattle.office_tables_sql.proofs.each_row.gather_each.Goals.{In_default}
-use Rattle.office_tables_sql.proofs.each_row.gather_each.Goals as goal
+use Rattle.office_tables_sql.proofs.each_row.gather_rows.Given.{Over}
+use Rattle.office_tables_statements.proofs.CallLemmas.{survives_on, queried_survives, unqueried_keeps, starts, still_keeps, broken_keeps, all_read, some_read, has_mid, one_more}
+use Rattle.office_tables_sql.proofs.each_row.gather_rows.Goals.{In_default}
+use Rattle.office_tables_sql.proofs.each_row.gather_rows.Goals as goal
 
 -- what the call left once the query was asked for one more row
+unchanged : (g : Over) (c : In_default g) → HasCleanDisk (state g.S.Store c.advance.new.self.conn.now)
+    → IsUnchanged (state g.S.Store c.args.conn.now) (state g.S.Store c.advance.new.self.conn.now)
+unchanged g c clean =
+    let step = c.in_default.ensures in
+    unchanged_then _ _ _ (c.rows.invariant.3 (omega (arith, clean, step.survives.clean))).0 (step.same clean)
+
 keeps : (g : Over) (c : In_default g) → Keeps (state g.S.Store c.args.conn.now) (state g.S.Store c.advance.new.self.conn.now)
 keeps g c =
     let inv = c.rows.invariant in
     let step = c.in_default.ensures in
-    next_keeps g.T.StoredRow.texts.list (g.met.T.StoredRow.lists c.args.of).query _ c.requires.office _ inv.1
-    inv.2 (λ clean. (inv.3 clean).0) _ step.survives step.mode step.same
+    still_keeps g.T.StoredRow.texts.list (g.met.T.StoredRow.lists c.args.of).query _ c.requires.office _
+    (survives_on _ _ _ inv.1 step.survives) (step.mode inv.2) (unchanged g c)
 
 honest : (g : Over) (c : In_default g) → HasCleanDisk (state g.S.Store c.advance.new.self.conn.now) → IsHonest (state g.S.Store c.advance.new.self.conn.now)
-honest g c =
-    let inv = c.rows.invariant in
-    let step = c.in_default.ensures in
-    next_honest g.T.StoredRow.texts.list (g.met.T.StoredRow.lists c.args.of).query _ c.requires.office _ inv.1
-    inv.2 (λ clean. (inv.3 clean).0) _ step.survives step.mode step.same
+honest g c clean = (clean, (unchanged g c clean).0.is_open)
 
 pub returns-in-Err-clause-kept : goal.returns-in-Err-clause-kept
 returns-in-Err-clause-kept g c =
-    let held = rw (c.in-Err.is, c.requires.params) at c.query_prepared.follows.holds-at-none in
-    refused_keeps _ _ _ (g.met.T.StoredRow.lists c.args.of).query _ c.requires.office c.requires.opened c.requires.text _ held.survives (held.mode c.requires.office.autocommit) _ held.err
-
-pub returns-in-Err-clause-crash : goal.returns-in-Err-clause-crash
-returns-in-Err-clause-crash g c =
-    let held = rw (c.in-Err.is, c.requires.params) at c.query_prepared.follows.holds-at-none in
-    began_survives _ _ _ (g.met.T.StoredRow.lists c.args.of).query _ c.requires.office c.requires.opened c.requires.text _ held.survives (held.mode c.requires.office.autocommit)
+    let held = rw (c.in-Err.is, c.texts.ensures.list, c.requires.params) at c.query.follows.holds-at-none in
+    unqueried_keeps _ (g.met.T.StoredRow.lists c.args.of).query _ c.requires.office _ _ held.survives (held.mode c.requires.office.autocommit) _ held.err
 
 pub rows-init : goal.rows-init
 rows-init g c =
     let query = (g.met.T.StoredRow.lists c.args.of).query in
-    let made = rw (c.requires.params) at c.in-Ok.ensures in
+    let made = rw (c.texts.ensures.list, c.requires.params) at c.in-Ok.ensures in
     let mode = made.mode c.requires.office.autocommit in
-    let params : Row = params_of (g.T.StoredRow.whose c.args.of) in
-    let survives = began_survives _ _ params query _ c.requires.office c.requires.opened c.requires.text _ made.survives mode in (
+    let params : Row = params_of (g.T.StoredRow.whose c.args.of) in (
       refl,
-      survives,
+      queried_survives _ query _ c.requires.office params _ made.survives mode,
       mode,
       λ clean.
-          let begun = begun_plain g.S.Store _ params c.args.conn.now c.in-Ok.rows.conn.now (plain_at _ _ params query _ c.requires.office c.requires.opened c.requires.text (omega (arith, clean, survives.clean))) (made.begun clean) in
-          (begun.1, [], begun.0, ([], c.requires.begun, tt, refl)),
+          let it = starts _ query _ c.requires.office g.S.Store params c.args.conn.now c.in-Ok.rows.conn.now (made.begun clean) in
+          (it.1, [], it.0, ([], c.requires.begun, tt, refl)),
     )
 
 pub returns-in-Err-advance-clause-kept : goal.returns-in-Err-advance-clause-kept
@@ -57,13 +53,12 @@ returns-in-Err-advance-clause-kept g c =
     let inv = c.rows.invariant in
     let step = c.in-Err-advance.ensures in
     let kept : Keeps (state g.S.Store c.args.conn.now) (state g.S.Store c.advance.new.self.conn.now) =
-    broken_keeps g.T.StoredRow.texts.list (g.met.T.StoredRow.lists c.args.of).query _ c.requires.office _ inv.1
-    inv.2 (λ clean. (inv.3 clean).0) _ step.survives.clean (step.mode inv.2) _ step.kept in
+    broken_keeps _ (g.met.T.StoredRow.lists c.args.of).query _ c.requires.office _ inv.1
+    inv.2 (λ clean. (inv.3 clean).0) _ step.survives (step.mode inv.2) _ step.kept in
     search rules
 
 pub returns-in_default-get-clause-rows : goal.returns-in_default-get-clause-rows
 returns-in_default-get-clause-rows g c =
-    let text = c.args.statement.now.text in
     let params : Row = params_of (g.T.StoredRow.whose c.args.of) in
     let T = g.T.StoredRow in
     let key = T.key c.args.of in
@@ -77,8 +72,8 @@ returns-in_default-get-clause-rows g c =
     let told : IsHonest new → Gathers g.G.Gather.holds T.table T.is_within key T.columns
     (content_now old) whose c.rows.found = λ honest.
     let now = inv.3 (omega (arith, honest.0, step.survives.clean)) in
-    let shown = λ (clean : HasCleanDisk new). subst (GivesOn g.S.Store text params c.rows.rows.conn.now c.advance.new.self.conn.now now.1) none (step.ok clean text params now.1 now.2) in
-    let reads : Reads g.T.StoredRow.texts.list params old.now now.1 = all_read _ text params means.query old c.requires.office c.requires.opened c.requires.text _ inv.1 inv.2 (λ clean. (inv.3 clean).0) _ step.survives (step.mode inv.2) now.1 shown honest in
+    let shown = λ (clean : HasCleanDisk new). subst (GivesOn g.S.Store g.T.StoredRow.texts.list params c.rows.rows.conn.now c.advance.new.self.conn.now now.1) none (step.ok clean g.T.StoredRow.texts.list params now.1 now.2) in
+    let reads : Reads g.T.StoredRow.texts.list params old.now now.1 = all_read _ means.query old c.requires.office _ inv.1 inv.2 (λ clean. (inv.3 clean).0) params _ step.survives.clean now.1 shown honest in
     let was = (keeps g (goal.at.returns-in_default-get-clause-rows g c).In_default).honest honest in
     let office = c.requires.office in
     let listed = lists T.table old.now (office.schema was) (office.sound was) (office.ordered was) whose _
@@ -98,7 +93,6 @@ returns-in_default-get-clause-kept g c =
 
 pub returns-in_err-record-clause-damaged : goal.returns-in_err-record-clause-damaged
 returns-in_err-record-clause-damaged g c bad =
-    let text = c.args.statement.now.text in
     let params : Row = params_of (g.T.StoredRow.whose c.args.of) in
     let T = g.T.StoredRow in
     let key = T.key c.args.of in
@@ -108,18 +102,16 @@ returns-in_err-record-clause-damaged g c bad =
     let old = state g.S.Store c.args.conn.now in
     let new = state g.S.Store c.advance.new.self.conn.now in
     let step = c.in_default.ensures in
-    let survives = survives_on _ _ _ inv.1 step.survives in
-    let mode = step.mode inv.2 in
-    let unchanged = λ (clean : HasCleanDisk new). unchanged_then _ _ _ (inv.3 (omega (arith, clean, step.survives.clean))).0 (step.same clean) in
+    let mine = (goal.at.returns-in_err-record-clause-damaged g c).In_default in
     let is : c.read.result ≡ Err Damaged = search rules in
     let some : row_if c.advance.new.self.has_row c.advance.new.self.conn.now ≡ Some c.in-Some.row.now = sym c.get.ensures ∙ ap option_copied c.in-Some.is in
     let told : IsHonest new → HasDamagedRow T.table T.is_within key T.columns (content_now old)
     whose = λ honest.
     let now = inv.3 (omega (arith, honest.0, step.survives.clean)) in
     let so_far = now.1 ++ c.in-Some.row.now ∷ [] in
-    let given = subst (GivesOn g.S.Store text params c.rows.rows.conn.now c.advance.new.self.conn.now now.1) some (step.ok honest.0 text params now.1 now.2) in
-    let whole = some_read _ text params means.query old c.requires.office c.requires.opened c.requires.text new survives mode unchanged T.table whose means honest so_far (given_begin g.S.Store text params c.advance.new.self.conn.now so_far given) in
-    let was = (keeps g (goal.at.returns-in_err-record-clause-damaged g c).In_default).honest honest in
+    let given = subst (GivesOn g.S.Store g.T.StoredRow.texts.list params c.rows.rows.conn.now c.advance.new.self.conn.now now.1) some (step.ok honest.0 g.T.StoredRow.texts.list params now.1 now.2) in
+    let whole = some_read _ means.query old c.requires.office new (survives_on _ _ _ inv.1 step.survives) (step.mode inv.2) (unchanged g mine) params T.table whose means honest so_far (given_begin g.S.Store g.T.StoredRow.texts.list params c.advance.new.self.conn.now so_far given) in
+    let was = (keeps g mine).honest honest in
     let all = so_far ++ whole.0 in
     let office = c.requires.office in
     damaged_at T.table T.is_within key T.columns (content_now old) whose all
@@ -147,13 +139,11 @@ returns-in_err-take-clause-kept g c =
 
 pub rows-preserved : goal.rows-preserved
 rows-preserved g c =
-    let text = c.args.statement.now.text in
     let params : Row = params_of (g.T.StoredRow.whose c.args.of) in
     let inv = c.rows.invariant in
     let new = state g.S.Store c.advance.new.self.conn.now in
     let step = c.in_default.ensures in
     let survives = survives_on _ _ _ inv.1 step.survives in
-    let unchanged = λ (clean : HasCleanDisk new). unchanged_then _ _ _ (inv.3 (omega (arith, clean, step.survives.clean))).0 (step.same clean) in
     let some : row_if c.advance.new.self.has_row c.advance.new.self.conn.now ≡ Some c.in-Some.row.now = sym c.get.ensures ∙ ap option_copied c.in-Some.is in
     let read = c.in_ok-record.record in
     let key = c.in_ok-record.ensures.key in
@@ -163,8 +153,8 @@ rows-preserved g c =
       step.mode inv.2,
       λ clean.
           let now = inv.3 (omega (arith, clean, step.survives.clean)) in
-          let given = subst (GivesOn g.S.Store text params c.rows.rows.conn.now c.advance.new.self.conn.now now.1) some (step.ok clean text params now.1 now.2) in (
-            unchanged clean,
+          let given = subst (GivesOn g.S.Store g.T.StoredRow.texts.list params c.rows.rows.conn.now c.advance.new.self.conn.now now.1) some (step.ok clean g.T.StoredRow.texts.list params now.1 now.2) in (
+            unchanged_then _ _ _ now.0 (step.same clean),
             now.1 ++ c.in-Some.row.now ∷ [],
             given,
             (

@@ -1,0 +1,111 @@
+-- A text that has no RETURNING over one schema has none over any other, so a query of the office commits nothing.
+use Rattle.std.proofs.Common.{◌≡◌, ◌≢◌, ◌==◌, ℕ, inl, inr, List, [], length, true, Option, Some, None, Result, Ok, Err, refl, sym, ap, subst, ◌∙◌}
+use Rattle.std.proofs.lemmas.Bool.{cases_Bool}
+use Rattle.sqlite_ast.specs.declared.Shown.{Shown}
+use Rattle.sqlite_ast.specs.declared.Statement.{Statement}
+use Rattle.sqlite_ast.specs.declared.Statement.TheVariants as written
+use Rattle.sqlite_syntax.specs.declared.statement.Parsed.{Parsed}
+use Rattle.sqlite_schema.specs.declared.command.Command.{Command}
+use Rattle.sqlite_schema.specs.declared.command.Returning.{Returning}
+use Rattle.sqlite_schema.specs.declared.schema.Schema.{Schema}
+use Rattle.sqlite_resolve.specs.declared.compiled.Compiled.{Compiled}
+use Rattle.sqlite_resolve.specs.Body.{table_at}
+use Rattle.sqlite_resolve.specs.Given.{returned}
+use Rattle.sqlite_resolve.specs.Compile.{target, source_of, compiled, first, planned, meaning, command, returning, shows, with_command}
+use Rattle.sqlite_resolve.specs.Lowering.{Checked, and_then}
+use Rattle.sqlite_resolve.specs.Scope.{Name}
+use Rattle.sqlite.specs.Given.{IsPlain, Returns}
+use Rattle.sqlite.specs.Listing.{understood, reads_listing, if_select, is_select, listing_schema}
+
+-- what a statement shows of the rows that it writes
+abbrev shown_by : Statement → List Shown
+shown_by (written.Insert how name columns rows clauses shown) = shown
+shown_by (written.Update name sets test shown) = shown
+shown_by (written.Delete name test shown) = shown
+shown_by _ = []
+
+never_none : {A B : Type 0} (r : Checked A) (f : A → Checked (Option B)) → ((a : A) → f a ≢ Ok None) → and_then r f ≢ Ok None
+never_none (Ok a) f never is = never a is
+never_none (Err e) f never is = absurd cc
+
+ok_some : {B : Type 0} (b : B) (r : Checked (Option B)) → r ≡ Ok (Some b) → r ≢ Ok None
+ok_some b r is none = absurd (let e = sym is ∙ none in cc)
+
+shows_none : (schema : Schema) (base : ℕ) (name : Name) (shown : List Shown) → shows schema base name shown ≡ Ok None → (length shown == 0) ≡ true
+unfolding shows
+shows_none schema base name shown is = elim (cases_Bool (length shown == 0)) [
+  | inl none ↦ none
+  | inr some ↦ absurd (never_none (target schema name) _ (λ at. never_none (table_at schema at) _ (λ table. never_none (returned schema table base shown) _ (λ r. never_none (source_of schema (length r.0) r.1) _ (λ s. ok_some _ _ refl)))) (rw some at is))
+]
+
+none_shown : (schema : Schema) (base : ℕ) (it : Statement) → returning schema base it ≡ Ok None → (length (shown_by it) == 0) ≡ true
+unfolding returning
+none_shown schema base (written.Insert how name columns rows clauses shown) is = shows_none schema base name shown is
+none_shown schema base (written.Update name sets test shown) is = shows_none schema base name shown is
+none_shown schema base (written.Delete name test shown) is = shows_none schema base name shown is
+none_shown schema base _ is = refl
+
+returns_none : (schema : Schema) (base : ℕ) (it : Statement) → (length (shown_by it) == 0) ≡ true → returning schema base it ≡ Ok None
+unfolding returning shows
+returns_none schema base (written.Insert how name columns rows clauses shown) none = rw none refl
+returns_none schema base (written.Update name sets test shown) none = rw none refl
+returns_none schema base (written.Delete name test shown) none = rw none refl
+returns_none schema base _ none = refl
+
+abbrev returning_in : Checked Compiled → Checked (Option Returning)
+returning_in (Ok c) = Ok c.returning
+returning_in (Err e) = Err e
+
+returned_by : (p : Parsed) (formats : List Name) (r : Checked (Option Returning)) (k : Checked Command) (c : Compiled)
+    → and_then (and_then (and_then r (λ shown. and_then k (λ k. Ok (k, shown)))) (λ found. Ok (formats, found))) (λ plan. Ok (with_command p plan)) ≡ Ok c → r ≡ Ok c.returning
+returned_by p formats (Ok shown) (Ok k) c is = ap returning_in is
+returned_by p formats (Ok shown) (Err e) c is = absurd cc
+returned_by p formats (Err e) k c is = absurd cc
+
+-- what the statement of a text shows, by what was compiled of it over some schema
+compiled_shows : (schema : Schema) (sql : List ℕ) (c : Compiled) → compiled schema sql ≡ Ok c
+    → (p : Parsed) × (base : ℕ) × (first sql ≡ Ok p) × (returning schema base p.statement ≡ Ok c.returning)
+unfolding compiled planned meaning
+compiled_shows schema sql c = go (first sql) refl
+  where
+    go : (r : Checked Parsed) → first sql ≡ r → and_then r (λ p. and_then (planned schema p) (λ plan. Ok (with_command p plan))) ≡ Ok c
+        → (p : Parsed) × (base : ℕ) × (first sql ≡ Ok p) × (returning schema base p.statement ≡ Ok c.returning)
+    go (Ok p) parsed is = (p, _, parsed, returned_by p _ _ _ c is)
+    go (Err e) parsed is = absurd cc
+
+compiled_none : (one other : Schema) (sql : List ℕ) (c d : Compiled) → compiled one sql ≡ Ok c → c.returning ≡ None → compiled other sql ≡ Ok d → d.returning ≡ None
+compiled_none one other sql c d is none also =
+    let first = compiled_shows one sql c is in
+    let second = compiled_shows other sql d also in
+    let same : first.0 ≡ second.0 = cc in
+    let shown : (length (shown_by first.0.statement) == 0) ≡ true = none_shown one first.1 first.0.statement (first.3 ∙ ap (λ r. Ok r) none) in
+    let bare = returns_none other second.1 second.0.statement (subst (λ p. (length (shown_by p.statement) == 0) ≡ true) same shown) in
+    let both : Ok d.returning ≡ Ok None = sym second.3 ∙ bare in
+    cc
+
+listed_as : (r : Result Compiled _) (c : Compiled) → if_select r ≡ Ok c → r ≡ Ok c
+listed_as (Ok d) c is = elim (cases_Bool (is_select d.command)) [
+  | inl selects ↦ rw selects at is
+  | inr other ↦ absurd (let refused = rw other at is in cc)
+]
+listed_as (Err e) c is = absurd cc
+
+-- what is understood was compiled over some schema
+understood_as : (schema : Schema) (sql : List ℕ) (c : Compiled) → understood schema sql ≡ Ok c → (s : Schema) × (compiled s sql ≡ Ok c)
+unfolding understood
+understood_as schema sql c is = elim (cases_Bool (reads_listing schema sql)) [
+  | inl listing ↦ (listing_schema, listed_as _ c (rw listing at is))
+  | inr plain ↦ (schema, rw plain at is)
+]
+
+pub never_returns : (one other : Schema) (sql : List ℕ) → IsPlain (understood one sql) → ¬ Returns (understood other sql)
+never_returns one other sql = go (understood one sql) (understood other sql) refl refl
+  where
+    go : (r s : Result Compiled _) → understood one sql ≡ r → understood other sql ≡ s → IsPlain r → ¬ Returns s
+    go (Ok c) (Ok d) is also plain some =
+        let a = understood_as one sql c is in
+        let b = understood_as other sql d also in
+        let none = compiled_none a.0 b.0 sql c d a.1 plain.0 b.1 in
+        absurd (let it = rw none at some in cc)
+    go (Ok c) (Err e) is also plain some = some
+    go (Err e) s is also plain some = plain
