@@ -97,7 +97,7 @@ def missing_links():
 
 def missing_files():
     """The files of the repository that a document names by their paths."""
-    pattern = re.compile(r"(?<![\w/.])(?:\./)?((?:tests|bench|docs|crates|packaging)/[\w./-]*\w)")
+    pattern = re.compile(r"(?<![\w/.])(?:\./)?((?:tests|bench|building|docs|crates|packaging)/[\w./-]*\w)")
     for document in DOCUMENTS:
         for path in sorted(set(pattern.findall(document.read_text()))):
             if not (TOP / path).exists() and "/out/" not in path:
