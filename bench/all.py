@@ -7,10 +7,11 @@ The program is the one at that path, or the one that `./office` built. A figure 
 seconds of the least of three runs, less those of a run without the work; memory is the most that
 the program held. The answers of all programs are compared. The C program is built if there is a
 compiler `cc` and SQLite's header (Debian's `libsqlite3-dev`), and does the streams of requests
-alone; edits are done by the program alone. With --instructions, which needs valgrind, a twentieth of each stream is done once, and
-instructions are counted: seconds swing by a third on many machines, and these do not. With --clock
-the streams over a file are measured by the clock, in the folder for temporary files. With --times
-each stream is so many times as long. With --write the table is put into docs/MEASUREMENTS.md.
+alone; edits are done by the program alone. With --instructions, which needs valgrind, a twentieth
+of each stream is done once, and instructions are counted: seconds swing by a third on many
+machines, and these do not. With --clock the streams over a file are measured by the clock, in the
+folder for temporary files. With --times each stream is so many times as long. With --write the
+table is put into docs/MEASUREMENTS.md.
 """
 import argparse
 import dataclasses
@@ -113,8 +114,9 @@ def edits(program, folder, many):
     file, plans = os.path.join(folder, "edits.db"), []
     work.filled(program, file, 100, work.with_plans)
     for every in (1, 0):
+        records = [f"{','.join(it)}\n" for it in work.plan(every, 0)]
         plans.append(os.path.join(folder, f"plan{every}.csv"))
-        pathlib.Path(plans[-1]).write_text("".join(f"{','.join(it)}\n" for it in work.plan(every, 0)))
+        pathlib.Path(plans[-1]).write_text("".join(records))
     words = ("edit", "--db", "FILE", "--clerk", "Ana", "--commit", "12", "PLAN")
     for runs in (1, many):
         name = f"edit --commit, 60 rows, 100 intersections, {runs} times"

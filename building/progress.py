@@ -46,7 +46,8 @@ class Line:
             return
         self.told = self.clock()
         minutes, more = int(went // 60), max(1, round(left / 60))
-        whole = f"{self.name}: {draw(went, left)} {done} after {minutes} min, {more} min left: {now}"
+        bar, times = draw(went, left), f"{minutes} min, {more} min left"
+        whole = f"{self.name}: {bar} {done} after {times}: {now}"
         if self.is_terminal:
             self.stream.write(CLEAR + shorten(whole, self.columns() - 1))
             self.is_drawn = True

@@ -10,8 +10,9 @@ ROOT is a folder with a Debian that has systemd and curl, as this makes it:
 It stays as it is: the system runs over an overlay, in name spaces of its own, without a network.
 The commands of `Install the package` are run there as they stand in the document; then the server
 is killed, gets another port, is backed up, also where no copy can be made, upgraded, restored from
-a copy, given another office, removed and purged. Needs root, and `./office-package`. It prints what it tried, and ends
-with status 1 if something was otherwise; it takes a minute. ./office-tests does not run it.
+a copy, given another office, removed and purged. Needs root, and `./office-package`. It prints what
+it tried, and ends with status 1 if something was otherwise; it takes a minute. ./office-tests does
+not run it.
 """
 import contextlib
 import os
@@ -29,15 +30,15 @@ from package import COPIES, OFFICE, OLDER, PLAN, Off, expect, packed, part, ran
 from program import found
 
 PATIENCE = 60  # seconds in which something has to become so
-PACKAGES = "/root"
+PACKAGES = "/srv"
 STOCK = '{"hand":[]}'
 FIRST = """
 mount --make-rprivate /
 mount -t tmpfs tmpfs {over}
-mkdir {over}/upper {over}/work {over}/root
-mount -t overlay overlay -o lowerdir={root},upperdir={over}/upper,workdir={over}/work {over}/root
-cp {packages}/*.deb {packages}/SHA256SUMS {over}/root/root/
-cd {over}/root
+mkdir {over}/upper {over}/work {over}/top
+mount -t overlay overlay -o lowerdir={root},upperdir={over}/upper,workdir={over}/work {over}/top
+cd {over}/top
+cp {packages}/*.deb {packages}/SHA256SUMS srv/
 mount -t proc proc proc
 mount --bind proc/sys proc/sys
 mount -o remount,ro,bind proc/sys
@@ -97,7 +98,7 @@ class System:
 
     def shell(self, line, status=0):
         """What a line prints in the system's shell."""
-        enter = ("nsenter", "--target", self.first, "--all", "env", "-i", "HOME=/root",
+        enter = ("nsenter", "--target", self.first, "--all", "env", "-i", "HOME=/srv",
                  "DEBIAN_FRONTEND=noninteractive", "PATH=/usr/sbin:/usr/bin:/sbin:/bin")
         self.told = ran(*enter, "bash", "-c", f"cd {PACKAGES} && {{ {line}\n}}", status=status)
         return self.told

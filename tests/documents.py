@@ -97,7 +97,8 @@ def missing_links():
 
 def missing_files():
     """The files of the repository that a document names by their paths."""
-    pattern = re.compile(r"(?<![\w/.])(?:\./)?((?:tests|bench|building|docs|crates|packaging)/[\w./-]*\w)")
+    folders = "tests|bench|building|docs|crates|packaging"
+    pattern = re.compile(rf"(?<![\w/.])(?:\./)?((?:{folders})/[\w./-]*\w)")
     for document in DOCUMENTS:
         for path in sorted(set(pattern.findall(document.read_text()))):
             if not (TOP / path).exists() and "/out/" not in path:

@@ -79,8 +79,8 @@ FIVE = [["pattern", "1", "60", "5", "1", "1"]]
 BROKEN = [["split", "1", "2", "34", "2", "1"]]
 BACK = [BASE[-1]]
 CROWDED = [*BASE, ["pattern", "2", "60", "30", "1", "1"]]
-# Of each its name; the committed rows; the state of the draft, whose it is and its changes, or none;
-# the clerk's options, and the rows of the file, or none.
+# Of each its name; the committed rows; the state of the draft, whose it is and its changes, or
+# none; the clerk's options, and the rows of the file, or none.
 CASES = (
     ("a first plan", [], None, ["--commit"], BASE),
     ("a first plan with warnings", [], None, ["--commit", "--advise"], BASE),
@@ -193,7 +193,8 @@ def main():
     seed, count = map(int, words)
     with tempfile.TemporaryDirectory(dir=ROOM) as folder, \
             concurrent.futures.ProcessPoolExecutor(len(os.sched_getaffinity(0))) as pool:
-        library, empty = built(pathlib.Path(folder), "disk", DISK), str(pathlib.Path(folder) / "a.db")
+        library = built(pathlib.Path(folder), "disk", DISK)
+        empty = str(pathlib.Path(folder) / "a.db")
         subprocess.run([path, "batch", "--db", empty], input=b"", stdout=subprocess.DEVNULL)
         stopped = [pool.submit(stops, path, library, it) for it in range(len(CASES))]
         drawn = [pool.submit(tried, path, empty, seed, it) for it in range(-(-count // EDITS))]
@@ -204,8 +205,8 @@ def main():
                 pool.shutdown(cancel_futures=True)
                 sys.exit(f"edits.py: {wrong[0]}")
             totals.append(sum(it for it, _ in made))
-    print(f"{totals[0]} drawn edits and {totals[1]} runs of {len(CASES)} edits that are stopped: as "
-          "the model has it")
+    print(f"{totals[0]} drawn edits and {totals[1]} runs of {len(CASES)} edits that are stopped: "
+          "as the model has it")
 
 
 if __name__ == "__main__":

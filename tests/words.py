@@ -14,6 +14,7 @@ import re
 import shutil
 import subprocess
 import sys
+import textwrap
 
 import version
 from making.help import HINTS, PATHS, PROGRAM, Words, told
@@ -23,15 +24,24 @@ from program import TOP, found
 
 PACKAGING, COMMANDS = TOP / "packaging", TOP / "docs" / "COMMANDS.md"
 HELP = PACKAGING / "help.txt"
+COLUMNS = 100  # of a document
 STATE = re.compile("[0-9a-f]{12}|unknown")  # by ./office, or by something else
 
 
+def item_of(command):
+    """The synopsis of a command, with which its item in docs/COMMANDS.md begins. No option is broken
+    off from its value."""
+    words = "\n".join([command.name, *(it.shown() for it in command.words)])
+    kept = f"- `{words}`".replace(" ", "\0").replace("\n", " ")
+    return textwrap.fill(kept, COLUMNS, subsequent_indent="  ", break_long_words=False,
+                         break_on_hyphens=False).replace("\0", " ")
+
+
 def commands_text(words):
-    """docs/COMMANDS.md with today's synopses: the first line of each command of its list."""
+    """docs/COMMANDS.md with today's synopses: the first lines of each command of its list."""
     text = COMMANDS.read_text()
     for it in words.commands:
-        text = re.sub(rf"^- `{it.name} [^`]*`$", lambda _: f"- `{it.synopsis()}`", text,
-                      flags=re.MULTILINE)
+        text = re.sub(rf"^- `{it.name} [^`]*`$", lambda _: item_of(it), text, flags=re.MULTILINE)
     return text
 
 
@@ -51,7 +61,7 @@ def out_of_date():
         if not path.is_file() or path.read_text() != text:
             yield f"{path.relative_to(TOP)} is out of date: tests/words.py --write"
     for it in words.commands:
-        if f"- `{it.synopsis()}`\n" not in files[COMMANDS]:
+        if f"{item_of(it)}\n" not in files[COMMANDS]:
             yield f"COMMANDS.md lacks the synopsis of {it.name}"
 
 

@@ -43,10 +43,6 @@ class Command(typing.NamedTuple):
     def others(self):
         return [it for it in self.words if not it.is_option()]
 
-    def synopsis(self):
-        """The command with all its arguments."""
-        return " ".join([self.name, *(it.shown() for it in self.words)])
-
 
 def asked(program, words):
     """The help of the program, or of a command."""

@@ -173,7 +173,7 @@ def an_id(dice, office):
 
 
 def edit_rows(dice, there, replaces):
-    """Rows of a plan or of a change of one; now and then those that make what is committed of it."""
+    """Rows of a plan or of a change of one; now and then those that make what is committed."""
     if not there or dice.random() < 0.75:
         return plan_rows(dice)
     if replaces:

@@ -56,8 +56,8 @@ def take(office, csv):
 def edit(office, id, clerk, records, commits, replaces=False, explains=False, advises=False):
     """Makes the plan of an intersection what the records make of the draft, or of the committed
     plan where there is none; where that is asked, what they make of none. Commits it where that is
-    asked and no rule is broken; else it is the clerk's draft, which stays open. Where that is asked,
-    what it breaks has reasons, and the plan's warnings are told behind that."""
+    asked and no rule is broken; else it is the clerk's draft, which stays open. Where that is
+    asked, what it breaks has reasons, and the plan's warnings are told behind that."""
     changes = read_each(read_change, records)
     it = office.find(id)
     plan = apply({} if replaces else it.stands(), changes)

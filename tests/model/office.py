@@ -44,7 +44,7 @@ class Intersection:
         return {"revision": self.revision, "state": self.state, "verify": self.verdict()}
 
     def stands(self):
-        """The plan that an edit goes on with: the draft, or what is committed where there is none."""
+        """The plan that an edit goes on with: the draft, or without one what is committed."""
         return self.committed if self.draft is None else self.draft
 
     def enter(self, state, owner, draft):

@@ -152,7 +152,8 @@ fn commit_draft(alloc: Global, timing: &Timing) -> Result<Move, DraftRefusal>
 }
 
 /// Makes these changes in the committed set, at the next revision, and drops the draft rows. That
-/// they break no rule was tested before. It is refused at the last revision, and for want of memory.
+/// they break no rule was tested before. It is refused at the last revision, and for want of
+/// memory.
 pub(crate) fn commit_settled(
     alloc: Global,
     timing: &Timing,

@@ -19,8 +19,8 @@ use std::alloc::Global;
 /// of the committed set where there is none, what `settled` makes of the committed set, which
 /// breaks no rule; the keys of `settled` are in order.
 ///
-/// `NotOwner` where another clerk holds the draft, `RevisionFull` for a commit at the last revision,
-/// and `NoMemory` where a growth was refused.
+/// `NotOwner` where another clerk holds the draft, `RevisionFull` for a commit at the last
+/// revision, and `NoMemory` where a growth was refused.
 pub fn revise(
     alloc: Global,
     timing: &Timing,

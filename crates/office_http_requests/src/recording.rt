@@ -9,8 +9,8 @@ use crate::{body, path, record};
 use cabinet_core::RecordCommand;
 use std::alloc::Global;
 
-/// The command of a kind, by the path and the body, or the first fault: a field of the path from the
-/// left, the fault of the body, a key of the body by name.
+/// The command of a kind, by the path and the body, or the first fault: a field of the path from
+/// the left, the fault of the body, a key of the body by name.
 #[tactic(auto, unfolding(crate::specs::Recording::record_asked))]
 pub(crate) fn command_of(
     alloc: Global,

@@ -245,7 +245,8 @@ pub(crate) fn is_one_of(table: &Table, wanted: &[WantedTable<'_>]) -> bool
 
 /// Whether the name is that of one of the wanted tables.
 pub(crate) fn is_named(name: &[u8], wanted: &[WantedTable<'_>]) -> bool
-    ensures { IsTrue result → IsNameAmong name.now (map (λ t. t.name) (map table_wanted wanted.now)) }
+    ensures { IsTrue result →
+        IsNameAmong name.now (map (λ t. t.name) (map table_wanted wanted.now)) }
 {
     let Some((want, wanted)) = wanted.split_first() else {
         return false;

@@ -136,7 +136,8 @@ fn put_records<S: Shelf, D: Folder>(
     Ok(())
 }
 
-/// Puts the page of an intersection, by what was read of it, and gathers what the index shows of it.
+/// Puts the page of an intersection, by what was read of it, and gathers what the index shows of
+/// it.
 fn put_read_page<D: Folder>(
     alloc: Global,
     listed: &ListedIntersection,
