@@ -119,6 +119,7 @@ module _ {S : Type 0} (g : Ghosts S) (law : (s : S) → g.is_honest s → g.is_c
     );
     crash = λ tables left. inl (kept.same_outcomes tables left);
     settled = λ went_on. absurd (is.made went_on none);
+    still_open = λ went_on. absurd (is.made went_on none);
   }
 
   module _ (new : S) (some : decided.changes.items ≢ []) (clean : g.is_clean new → g.is_clean mid)
@@ -175,6 +176,7 @@ module _ {S : Type 0} (g : Ghosts S) (law : (s : S) → g.is_honest s → g.is_c
       );
       crash = left_by;
       settled = λ went_on. settled;
+      still_open = λ went_on. still_open;
     }
 
     -- they were refused
@@ -193,6 +195,7 @@ module _ {S : Type 0} (g : Ghosts S) (law : (s : S) → g.is_honest s → g.is_c
       rows = λ now. ([], λ office i stands there. refl, uncounted ∙ kept.same_counts);
       crash = left_by;
       settled = λ went_on. absurd went_on;
+      still_open = λ went_on. absurd went_on;
     }
       where
         stays : g.is_honest new → g.content new ≡ g.content old

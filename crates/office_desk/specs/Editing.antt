@@ -45,7 +45,8 @@ TellsUnavailable decided = (decided.reply ≡ Refused Unavailable) × (decided.c
 
 -- A PLAN WAS EDITED. On a clean disk the reply and the tables are those of an edit, all of its steps or none; a refused one leaves the tables; Damaged tells only of
 -- a row of the plan that is no record; and no more rows are written than the edit changes. A crash leaves what it could leave before, or the tables after the whole
--- edit, and after a reply that tells that the transaction went on, these alone. An edit makes no disk clean again, and opens no database.
+-- edit, and after a reply that tells that the transaction went on, these alone, in a database that is still open on a clean disk. An edit makes no disk clean again,
+-- and opens no database.
 pub record EditsPlan {S : Type 0} (g : Ghosts S) (id : ℕ) (clerk : List ℕ) (edit : PlanEdit) (reply : Reply) (old new : S) : Type 0 where
   pub clean : g.is_clean new → g.is_clean old
   pub honest : g.is_honest new → g.is_honest old
@@ -55,3 +56,4 @@ pub record EditsPlan {S : Type 0} (g : Ghosts S) (id : ℕ) (clerk : List ℕ) (
   pub rows : g.is_honest new → RiseForEdit (g.content old) id edit reply (g.written old) (g.written new)
   pub crash : (tables : Content) → g.may_leave new tables → g.may_leave old tables ⊎ (g.is_honest old × AfterEdit id clerk edit (g.content old) tables)
   pub settled : IsMoved reply → (tables : Content) → g.may_leave new tables → tables ≡ g.content new
+  pub still_open : IsMoved reply → g.is_clean new → g.is_honest new
