@@ -163,6 +163,31 @@ def killed(system):
     return system.shell("curl -fsS http://127.0.0.1:8080/intersections/12")
 
 
+def failed(system):
+    """A server that can't be started is told as failed, and comes back once it can."""
+    system.shell(f"mv {OFFICE} {OFFICE}.away; echo text > {OFFICE}; systemctl restart cayunchis")
+    asked = "systemctl is-failed cayunchis || true"
+    system.until("failure", lambda: "failed" in system.shell(asked))
+    told = system.until("line of what failed", lambda: system.shell(
+        "journalctl --priority alert --output cat || true"))
+    expect("what is told", told, "cayunchis.service failed: see journalctl -u cayunchis.service")
+    note = system.shell("journalctl -u cayunchis --output cat | grep note: | sort -u")
+    expect("the note in the journal", note, f"note: {OFFICE} is no database")
+    system.shell(f"mv {OFFICE}.away {OFFICE}; systemctl reset-failed cayunchis; "
+                 "systemctl start cayunchis")
+    expect("the stock", system.asked(), STOCK)
+    return told
+
+
+def watched(system):
+    """The two checks of the document: the second one writes."""
+    for block in part("Watch it")[1:]:
+        system.shell("\n".join(block))
+    told = system.shell("curl -fsS http://127.0.0.1:8080/intersections/9999")
+    expect("the state after a check", '"state":"normal"' in told, True)
+    return told
+
+
 def ported(system):
     """The server gets another port, and the first one again."""
     lines = "\\n".join(part("Install the package")[1])
@@ -176,21 +201,29 @@ def ported(system):
 
 
 def saved(system):
-    """A copy is made, and where none can be made the server is started all the same."""
+    """A copy is made, and where none can be made nothing else is; the server runs on."""
+    server = system.shell("systemctl show -P MainPID cayunchis")
     system.shell("systemctl start cayunchis-backup")
     expect("the stock after a copy", system.asked(), STOCK)
     system.shell(f"mount -t tmpfs -o size=4k tmpfs {COPIES} && systemctl start cayunchis-backup",
                  status=1)
     expect("the stock after a copy that failed", system.asked(), STOCK)
+    told = system.until("line of what failed", lambda: system.shell(
+        "journalctl --priority alert --output cat | grep cayunchis-backup || true"))
+    expect("what is told", told, "cayunchis-backup.service failed: see journalctl -u "
+           "cayunchis-backup.service")
     system.shell(f"umount {COPIES} && systemctl reset-failed")
+    expect("the server", system.shell("systemctl show -P MainPID cayunchis"), server)
+    for turn in range(7):
+        system.shell("sleep 1; systemctl start cayunchis-backup")
+        expect(f"the stock after copy {turn + 1} of seven", system.asked(), STOCK)
     return system.shell(f"ls {COPIES}").replace("\n", " ")
 
 
 def upgraded(system):
     """A newer version comes over an office that is served."""
-    system.shell("systemctl stop cayunchis && runuser -u cayunchis -- signal_office edit --db "
-                 f"{OFFICE} --clerk Ana --commit 12 {PLAN} && systemctl start cayunchis")
-    system.asked()
+    system.shell(f"runuser -u cayunchis -- signal_office edit --db {OFFICE} --clerk Ana --commit "
+                 f"12 {PLAN}")
     before = system.shell("curl -fsS http://127.0.0.1:8080/intersections/12")
     told = system.shell(f"apt install ./cayunchis_{version.number()}_amd64.deb")
     expect("the migration", "migrated 0 rows" in told, True)
@@ -231,7 +264,7 @@ def removed(system):
     return system.shell(f"ls {OFFICE}")
 
 
-TRIALS = (installed, killed, ported, saved, upgraded, restored, brought, removed)
+TRIALS = (installed, killed, failed, watched, ported, saved, upgraded, restored, brought, removed)
 
 
 def main():

@@ -20,7 +20,7 @@ import sys
 import drawing
 
 TOP = pathlib.Path(__file__).resolve().parent.parent
-PROGRAM, WIDTH = "signal_office", 34
+MAIN, WIDTH = "signal_office_main", 34
 CALL = re.compile(r"( *)(pub )?(?:pub\([^)]*\) )?(?:const )?fn (\w+)")
 CLAUSE = re.compile(r" *(ensures|requires)(?: (\w+))? (\{.*)")
 OWN = drawing.crates()[0]
@@ -128,7 +128,7 @@ def shown(crate):
 
 def libraries():
     """The crates whose calls others use."""
-    return [it for it in drawing.crates()[0] if it not in drawing.TESTS and it != PROGRAM]
+    return [it for it in drawing.crates()[0] if it not in drawing.TESTS and it != MAIN]
 
 
 def listed(crates):

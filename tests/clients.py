@@ -75,8 +75,8 @@ class Longest:
     """The longest of some calls, in seconds by the clock. One that kept its client waiting for too
     long is refused, with what happened when."""
 
-    def __init__(self, port):
-        self.port, self.seconds = port, 0
+    def __init__(self, port, most=LONGEST):
+        self.port, self.most, self.seconds = port, most, 0
 
     @contextlib.contextmanager
     def call(self, what):
@@ -85,21 +85,22 @@ class Longest:
         yield lambda text: notes.append(f"{text} after {waited.seconds():.3f} s")
         took, idle = waited.seconds(), waited.idle()
         self.seconds = max(self.seconds, took)
-        if idle > LONGEST:
+        if idle > self.most:
             happened = "; ".join([f"{took:.2f} s by the clock", *notes])
-            raise Off(f"{what} waited {idle:.2f} s, and may wait {LONGEST} s: {happened}")
+            raise Off(f"{what} waited {idle:.2f} s, and may wait {self.most} s: {happened}")
 
 
 class Caller:
     """A client of http.client, which sends a call again where no byte of its answer came."""
 
-    def __init__(self, port):
-        self.port, self.again, self.longest = port, 0, Longest(port)
+    def __init__(self, port, most=LONGEST):
+        self.port, self.again, self.longest = port, 0, Longest(port, most)
         self.line, self.open = None, collections.deque()
 
     def connected(self):
         if self.line is None:
-            self.line = http.client.HTTPConnection("127.0.0.1", int(self.port), timeout=PATIENCE)
+            patience = max(PATIENCE, self.longest.most)
+            self.line = http.client.HTTPConnection("127.0.0.1", int(self.port), timeout=patience)
         return self.line
 
     def close(self):
@@ -356,7 +357,7 @@ def late(port):
 
 def shown(text):
     """The lines that an example prints, by the comments behind its calls of `print`."""
-    prints = (line for line in text.splitlines() if line.startswith("print("))
+    prints = (line for line in text.splitlines() if line.strip().startswith("print("))
     return (line.partition("  # ")[2] for line in prints)
 
 

@@ -258,7 +258,7 @@ class Program:
         if line:
             answers = b"".join(exchange(port, sent, PATIENCE / 2) for sent in streams)
         came, _ = run.came()
-        if came.told == "fault: bind":
+        if came.told.endswith("fault: bind"):
             return self.serve(words, trouble, streams)
         if came.out or line not in (b"", b"listening on 127.0.0.1:%d\n" % port):
             raise Off(f"it printed {line!r} and {came.out!r}")

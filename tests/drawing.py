@@ -14,7 +14,8 @@ TOP = pathlib.Path(__file__).resolve().parent.parent
 PICTURE = TOP / "docs" / "layers.svg"
 MARGIN = 10  # around all, in pixels
 APART = "tests"  # the layer that the picture leaves out
-TESTS = {"signal_core_tests", "office_trials"}  # crates of tests alone: `office_lives` has laws
+# Crates of tests alone; `office_lives` has laws.
+TESTS = {"signal_core_tests", "office_calls", "office_trials"}
 # Each layer of crates.txt: its column and row in the picture, what it does, and what it knows.
 LAYERS = {
     "program": (1, 0, "words, files, a port", "all layers"),

@@ -109,9 +109,9 @@ class Trial:
         """What came of a command."""
         for name, text in csvs.items():
             if name != asking.INPUT:
-                (self.folder / name).write_bytes(text.encode())
+                (self.folder / name).write_bytes(text.encode(errors="surrogateescape"))
         ran = subprocess.run([self.path, *words], cwd=self.folder, capture_output=True,
-                             input=csvs.get(asking.INPUT, "").encode())
+                             input=csvs.get(asking.INPUT, "").encode(errors="surrogateescape"))
         return program.Ran(ran.returncode, spelled(ran.stdout), spelled(ran.stderr))
 
     def note(self, words, told):
@@ -120,7 +120,7 @@ class Trial:
         lines = texts.marked(told.err)
         self.seen |= {name, *(f"{name} {it}" for it in options)}
         self.seen |= texts.forms_in(told.out, told.err)
-        for line in re.findall(r"^fault: .*(?:\n(?:line|held by))?", lines, re.M):
+        for line in re.findall(r"^fault: .*(?:\nheld by)?", lines, re.M):
             self.seen.add(line.replace("\n", "/"))
         self.note_pieces(told.out + told.err)
 
@@ -186,6 +186,7 @@ class Trial:
     def damaged(self, dice, harm):
         """What is wrong over a file of which a row is damaged, after each thing that is tried."""
         self.change(harm.sql())
+        self.second.harm = harm
         whole = (it for it in asking.reports(dice, self.second.office) if "--first" not in it)
         for words in whole:
             yield self.differs(self.over(words), None, self.told_of(harm, words))
@@ -198,6 +199,7 @@ class Trial:
             if words[0] == "add" or not harm.is_read_by(self.second.office, words):
                 yield self.differs(words, csvs)
         self.change(harm.sql(is_mended=True))
+        self.second.harm = None
         yield self.differs_in_tables()
 
     def changed(self, words, csvs):
@@ -242,6 +244,8 @@ class Trial:
         yield self.differs_in_tables()
         for words, csvs in (*asking.bad_files(), *asking.rare_files()) if self.is_first else ():
             yield self.differs(words, csvs)
+        for words, csvs in asking.noted_edits() if self.is_first else ():
+            yield self.changed(words, csvs)
         harm = damage.draw(dice, self.second.office) if dice.random() < DAMAGED else None
         for wrong in self.damaged(dice, harm) if harm else ():
             yield wrong and f"while {harm} is damaged: {wrong}"

@@ -64,7 +64,7 @@ SENTENCES = [
     (PLANS, f"more than {ANY} on hand", "MOST_ON_HAND"),
     ("docs/ARCHITECTURE.md", f"its buffer of {ANY} bytes", "BUFFER_LEN"),
     ("docs/OPERATING.md", f"After {ANY} connections", "COUNTS.high"),
-    ("docs/OPERATING.md", f"tries again for {ANY} seconds", "USUAL_WAIT"),
+    ("docs/OPERATING.md", f"waits for its turn, {ANY} seconds at most", "USUAL_WAIT"),
     ("docs/OPERATING.md", f"or as many as `--wait SECONDS` says \\(0 to {ANY}\\)",
      "WAITS.high"),
     ("docs/OPERATING.md", f"within {ANY} bytes, more than {ANY} bytes of body", "HEAD_LIMIT",

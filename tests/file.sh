@@ -128,14 +128,19 @@ faulty() {
   same "what $2 prints over $1" "$(cat "$folder/answers")" ""
 }
 faulty "no file" sheet --db "$folder/new.db" 12
-same "the fault over no file" "$(cat "$folder/errors")" "fault: file"
+same "the fault over no file" "$(cat "$folder/errors")" "note: there is no file $folder/new.db
+fault: file"
 same "what a report makes" "$(find "$folder" -name 'new.db*')" ""
 faulty "a file that is not there" migrate --db "$folder/none.db"
-same "what a migration says of no file" "$(cat "$folder/errors")" "fault: version"
+same "what a migration says of no file" "$(cat "$folder/errors")" \
+  "note: there is no file $folder/none.db
+fault: version"
 same "what a migration makes" "$(find "$folder" -name 'none.db*')" ""
 : >"$folder/empty.db"
 faulty "an empty file" migrate --db "$folder/empty.db"
-same "what a migration says of an empty file" "$(cat "$folder/errors")" "fault: version"
+same "what a migration says of an empty file" "$(cat "$folder/errors")" \
+  "note: $folder/empty.db is empty, and no log stands beside it
+fault: version"
 same "what a migration makes of an empty file" \
   "$(find "$folder" -name 'empty.db*' -size -1c | wc -l)" 1
 same "what a migration makes beside it" "$(find "$folder" -name 'empty.db*' | wc -l)" 1
@@ -147,5 +152,20 @@ faulty "a file of another kind" sheet --db "$folder/text.db" 12
 same "the fault over a file of another kind" "$(cat "$folder/errors")" \
   "note: $folder/text.db is no database
 fault: store"
+
+# A link that leads nowhere is told as that. A copy replaces neither its office nor what belongs to it.
+ln -s none.db "$folder/link.db"
+faulty "a link that leads nowhere" stock --db "$folder/link.db"
+same "the fault over a link that leads nowhere" "$(cat "$folder/errors")" \
+  "note: $folder/link.db is a link that leads nowhere
+fault: file"
+file=$folder/kept.db
+same "what is added to be kept" "$("$program" add --db "$file" 12 365 "Main St")" "added"
+for to in kept.db kept.db-wal kept.db-turn kept.db.part; do
+  faulty "a copy onto $to" backup --force --db "$file" "$folder/$to"
+  same "the fault of a copy onto $to" "$(tail -n 1 "$folder/errors")" "fault: exists"
+done
+same "the row that was kept" "$(query "SELECT id, name, days FROM intersection")" "12|Main St|365"
+same "the check of the file that was kept" "$(query "PRAGMA integrity_check")" "ok"
 
 echo ok

@@ -41,7 +41,6 @@ use,12,1,1,RELAY,2
 """
 MOST_SECONDS = 120
 KILLS = 10
-WRITE_FAULT = (1, b"", b"fault: write\n")
 BACK = b"<li><a href='index.html'>All intersections</a></li>\n"
 DAY = "2027-03-02"  # the day after the one on which the inspection of 12 falls due
 KINDS = ("export", "pages")  # the commands that fill a folder
@@ -116,7 +115,8 @@ class Office:
 
     def printed(self, *words):
         status, out, err = self.run(*words)
-        assert (status, err) == (0, b""), (words, status, err)
+        told = [it for it in err.splitlines() if not it.startswith(b"note: ")]
+        assert (status, told) == (0, []), (words, status, err)
         return out
 
     def lines(self, command, *words):
@@ -191,12 +191,18 @@ def writes_whole(office):
     assert office.held("city") == {**office.wanted(), "notes.txt": b"kept\n"}
 
 
+def assert_refused(came, name, why):
+    told = f"note: the system refuses {name}: {why}\nfault: write\n".encode()
+    assert came == (1, b"", told), came
+
+
 def refuses_a_file(office):
     (office.folder / "plain").write_text("a file\n")
     for kind in KINDS:
-        assert office.fill(kind, "plain") == WRITE_FAULT
+        assert_refused(office.fill(kind, "plain"), "plain", "File exists (os error 17)")
         assert (office.folder / "plain").read_text() == "a file\n"
-        assert office.fill(kind, "none/city") == WRITE_FAULT
+        assert_refused(office.fill(kind, "none/city"), "none/city",
+                       "No such file or directory (os error 2)")
         assert not (office.folder / "none").exists()
 
 
@@ -205,7 +211,8 @@ def refuses_a_closed_folder(office):
         return "not tried: root may write it"
     (office.folder / "closed").mkdir(mode=0o500)
     for kind in KINDS:
-        assert office.fill(kind, "closed") == WRITE_FAULT
+        came = office.fill(kind, "closed")
+        assert came[0] == 1 and came[2].endswith(b"Permission denied (os error 13)\nfault: write\n")
         assert not office.held("closed")
 
 
@@ -229,7 +236,9 @@ def leaves_whole_files_on_a_full_disk(office):
         try:
             wanted = office.filled(kind)
             came = office.fill(kind, full.name)
-            assert came == WRITE_FAULT, f"{kind} on a full disk ended with {came}"
+            named = b"note: the system refuses full-%s/" % kind.encode()
+            told = b": No space left on device (os error 28)\nfault: write\n"
+            assert came[0] == 1 and came[2].startswith(named) and came[2].endswith(told), came
             held = office.held(full.name)
             assert held and all(wanted.get(name) == text for name, text in held.items()), held
         finally:
@@ -298,8 +307,11 @@ def writes_pages(office):
     numbers = [it.split(",")[0] for it in office.lines("list")]
     assert set(held) == {"index.html", *(f"{it}.html" for it in numbers)}
     index = held["index.html"].decode()
-    links = re.findall(r"<a href='([^']*)'>", index)
+    listed, _, ordered = index.partition("<caption>Open orders")
+    links = re.findall(r"<a href='([^']*)'>", listed)
     assert sorted(links) == sorted(f"{it}.html" for it in numbers)
+    orders = [it.split(",")[0] for it in office.lines("orders")]
+    assert re.findall(r"<a href='([^']*)'>", ordered) == [f"{it}.html" for it in orders]
     marked = re.findall(r"<a href='([0-9]+)\.html'>[^\n]*class='late'", index)
     late = [it.split(",")[0] for it in office.lines("overdue", DAY)]
     assert marked == late == [it[:-5] for it in links[:len(late)]], (marked, late)

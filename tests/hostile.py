@@ -42,8 +42,10 @@ ON_FILES = (
     ["abandon", "--clerk", "Ana", "12"],
     ["list"],
     ["stock"],
+    ["stock", "RELAY"],
     ["orders"],
     ["used"],
+    ["work", "--from", "2026-05-01", "--to", "2026-05-31"],
     ["cabinet", "12"],
     ["page", "12"],
 )
@@ -81,25 +83,27 @@ def held(path):
         return file.read()
 
 
-def refused(name, path, line=STORE, note="", migrate=None, making=None, **how):
+def refused(name, path, line=STORE, note="", migrate=None, making=None, other="", **how):
     """The commands on a file, which do not wait for it, refuse it with the same line, `migrate` and
     those that make a file perhaps with another, and leave it as it was. Where the store refuses it
-    there is a note before."""
+    there is a note before, and perhaps another one before another fault."""
     before = held(path)
     for words in ON_FILES:
         came = run([words[0], "--db", path, "--wait", "0", *words[1:]], ADD, **how)
         told = {"migrate": migrate, **dict.fromkeys(MAKERS, making)}.get(words[0]) or line
-        wanted = f"note: {note}\n".encode() + told if told == STORE else told
+        why = note if told == STORE else other
+        wanted = f"note: {why}\n".encode() + told if why else told
         case(f"{name}, {words[0]}", came, (1, b"", wanted))
     case(f"{name}, the file", held(path), before)
 
 
-def makes_none(name, path):
+def makes_none(name, path, note):
     """The commands that make no file tell that there is none, and leave what is there."""
     before = held(path)
     for words in ON_FILES:
         if words[0] not in MAKERS:
             told = b"fault: version\n" if words == ["migrate"] else b"fault: file\n"
+            told = f"note: {note}\n".encode() + told
             case(f"{name}, {words[0]}", run([words[0], "--db", path, *words[1:]]), (1, b"", told))
     case(f"{name}, the file", (held(path), os.path.exists(path + "-wal")), (before, False))
 
@@ -147,9 +151,10 @@ def other_files(folder):
     refused(
         "a file in a folder that is not there", away, b"fault: file\n",
         f"the system refuses {away}: No such file or directory (os error 2)",
-        migrate=b"fault: version\n", making=STORE,
+        migrate=b"fault: version\n", making=STORE, other=f"there is no file {away}",
     )
-    makes_none("a file that is not there", os.path.join(folder, "typo.db"))
+    typo = os.path.join(folder, "typo.db")
+    makes_none("a file that is not there", typo, f"there is no file {typo}")
     text = os.path.join(folder, "text.db")
     with open(text, "wb") as file:
         file.write(b"phase,2,1,8,20,40,40,15\n" * 400)
@@ -167,7 +172,7 @@ def other_files(folder):
     refused("another's database", others, note=note, migrate=b"fault: version\n")
     empty = os.path.join(folder, "empty.db")
     open(empty, "wb").close()
-    makes_none("an empty file", empty)
+    makes_none("an empty file", empty, f"{empty} is empty, and no log stands beside it")
     status, out, err = run(["batch", "--db", empty], ADD + STATE)
     case("an empty file", (status, out.count(b"200 OK"), err), (0, 2, b""))
 
@@ -236,7 +241,10 @@ def refused_for_room(name, path, left, **how):
     told = statuses(out)
     done = told.index(503) if 503 in told else len(told)
     case(f"{name}, the answers", told, [200] * done + [503] * (3999 - done))
-    ended = (0 < done < 3999, status in (0, 1), err in (b"", STORE))
+    notes = [it for it in err.splitlines() if it.startswith(b"note: ")]
+    is_named = notes and all(b"note: the system refuses " + path.encode() in it for it in notes)
+    told = without_notes(err) in (b"", STORE)
+    ended = (0 < done < 3999, status in (0, 1), told and bool(is_named))
     case(f"{name}, the end", ended, (True, True, True))
     asked = b"".join(b"GET /intersections/%d HTTP/1.1\r\n\r\n" % n for n in range(1, done + 3))
     status, out, err = run(["batch", "--db", left()], asked)
@@ -295,8 +303,10 @@ def inputs(folder):
         file.write(noise)
     status, out, err = run(["verify-file", path])
     case("random bytes as a plan", (status, out, err[:15]), (1, b"", b"fault: record 1"))
-    for path in (folder, os.path.join(folder, "none.csv")):
-        case("a plan that can't be read", run(["verify-file", path]), (1, b"", b"fault: file\n"))
+    for path, why in ((folder, "Is a directory (os error 21)"),
+                      (os.path.join(folder, "none.csv"), "No such file or directory (os error 2)")):
+        told = f"note: the system refuses {path}: {why}\nfault: file\n".encode()
+        case("a plan that can't be read", run(["verify-file", path]), (1, b"", told))
 
 
 def copies(folder):
@@ -312,7 +322,8 @@ def copies(folder):
     place = os.path.join(folder, "place.db")
     os.mkdir(place)
     came = run(["backup", "--db", path, place, "--force"])
-    case("a folder where a copy is to be put", came, (1, b"", b"fault: write\n"))
+    told = f"note: {place} is a folder\nfault: exists\n".encode()
+    case("a folder where a copy is to be put", came, (1, b"", told))
     case("what it leaves", (os.listdir(place), os.path.exists(place + ".part")), ([], False))
 
 

@@ -4,8 +4,8 @@
     tests/in_use.py [PROGRAM]       by default the program that ./office built
 
 - Sixteen commands that are started at once over one file are each done.
-- Beside a running server a command ends with `fault: store` and status 1, after as long as `--wait`
-  says, with a note before it.
+- Beside a running `batch` a command ends with `fault: store` and status 1, after as long as
+  `--wait` says, with a note before it.
 - A command, `batch` and `serve` that find the file locked are done when the lock goes, two seconds
   later; `serve` does not listen before.
 - A folder, a file that is no database, one without permission and other names that are no office's
@@ -115,19 +115,21 @@ def free_port():
         return free.getsockname()[1]
 
 
-def beside_a_server(folder):
-    path = office(folder, "served.db")
-    server = begun(["serve", "--port", free_port(), "--db", path])
+def beside_a_batch(folder):
+    path = office(folder, "batch.db")
+    batch = begun(["batch", "--db", path], stdin=subprocess.PIPE)
     try:
-        server.stdout.readline()
+        batch.stdin.write(STATE.decode())
+        batch.stdin.flush()
+        batch.stdout.readline()
         for wait, note in ((0, OPEN), (1, WAITING), (3, WAITING)):
             words = ["list", "--db", path, "--wait", wait]
             came, took = timed(words)
-            case(f"{wait} seconds beside a server", came, (1, "", note.format(path) + FAULT))
+            case(f"{wait} seconds beside a batch", came, (1, "", note.format(path) + FAULT))
             case(f"{wait} seconds by the clock", wait <= took < wait + AT_ONCE, True)
     finally:
-        server.kill()
-        server.communicate()
+        batch.kill()
+        batch.communicate()
 
 
 def until_free(name, path, words, sent=subprocess.DEVNULL):
@@ -244,7 +246,7 @@ def without_room(folder):
     path = folder / "empty.db"
     for words in (("add", 12, 365, "Main St"), ("batch",)):
         path.write_bytes(b"")
-        note = f"{path} is empty, and no office can be begun in it"
+        note = f"the system refuses {path}-wal: File too large (os error 27)"
         refused(path, note, words, preexec_fn=limit)
 
 
@@ -263,7 +265,7 @@ def main():
     with tempfile.TemporaryDirectory() as name:
         folder = pathlib.Path(name)
         sixteen_at_once(folder)
-        beside_a_server(folder)
+        beside_a_batch(folder)
         waits(folder)
         serves(folder)
         other_names(folder)

@@ -13,6 +13,7 @@ It starts no systemd. Needs root, Debian's dpkg and adduser, and a kernel with o
 is missing it is skipped with status 77. It prints what it tried, and ends with status 1 if
 something was otherwise; it takes some ten seconds.
 """
+import contextlib
 import http.client
 import json
 import os
@@ -208,29 +209,40 @@ def asked(method, path, keys=None):
             wire.close()
 
 
-def served(root):
-    """The command of the server, as its user, and a record over HTTP."""
+@contextlib.contextmanager
+def running(root):
+    """The command of the server, which runs as its user."""
     command = [*root.commands("cayunchis.service")][0]
     expect("the unit's port", PORT in command, True)
     words = ["chroot", root.path, "runuser", "-u", "cayunchis", "--", "env", "-i", *command]
     with subprocess.Popen(words, stdin=subprocess.DEVNULL, stdout=subprocess.DEVNULL,
                           stderr=subprocess.DEVNULL, start_new_session=True) as process:
         try:
-            added = asked("POST", "/intersections", {"id": 12, "interval": 365, "name": "Main St"})
-            expect("an intersection", added, {"result": "added"})
             expect("the stock", asked("GET", "/stock"), {"hand": []})
+            yield " ".join(command)
         finally:
             os.killpg(process.pid, 15)
-    return " ".join(command)
+
+
+def served(root):
+    """The command of the server, and a record over HTTP."""
+    with running(root) as command:
+        added = asked("POST", "/intersections", {"id": 12, "interval": 365, "name": "Main St"})
+        expect("an intersection", added, {"result": "added"})
+    return command
 
 
 def used(root):
-    """The main job at a shell, as the user, and the nightly copy by its unit's commands."""
-    root.as_user("signal_office", "edit", "--db", OFFICE, "--clerk", "Ana", "--commit", "12", PLAN)
-    for command in root.commands("cayunchis-backup.service"):
-        root.as_user(*command)
+    """The main job at a shell, as the user, and the nightly copy by its unit's commands, beside the
+    server."""
+    edit = "signal_office", "edit", "--db", OFFICE, "--clerk", "Ana", "--commit", "12", PLAN
+    with running(root):
+        root.as_user(*edit)
+        for command in root.commands("cayunchis-backup.service"):
+            root.as_user(*command)
+        expect("the stock", asked("GET", "/stock"), {"hand": []})
+        listed = root.as_user("signal_office", "list", "--csv", "--db", OFFICE)
     (copy,) = root.at(COPIES).glob("city-*.db")
-    listed = root.as_user("signal_office", "list", "--csv", "--db", OFFICE)
     expect("the list", listed, "12,1,normal,,11,Main St,365")
     expect("the copy's list", root.as_user(
         "signal_office", "list", "--csv", "--db", f"{COPIES}/{copy.name}"), listed)

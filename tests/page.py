@@ -1,5 +1,6 @@
 #!/usr/bin/env python3
-"""Looks at pages of the program with a real browser, Debian's `chromium`.
+"""Looks at pages of the program with a real browser, Debian's `chromium`, and at what it prints
+with `pdftotext` of `poppler-utils`.
 
     tests/page.py [PROGRAM [FOLDER]]
 
@@ -11,12 +12,17 @@ and has letters of 11 pixels or more, each section, broken rule, warning and cha
 both screens and on paper; that rules and warnings contrast with their ground by 4.5 or more, light
 and dark; that what differs between the two rows of a change is marked, and nothing else, by bold
 and underlined letters; and puts pictures at 1280 and at 390 pixels of width, light
-and dark, and one page as it is printed, into FOLDER, or into a folder of its own. So it looks at a
-folder of pages, and follows each of its links. It prints `ok` at the end.
+and dark, into FOLDER, or into a folder of its own. So it looks at a folder of pages, and follows
+each of its links; at 390 pixels its index shows due days, open orders and their work without
+scrolling sideways. It prints a page of eight phases and the index of 60 intersections: each printed
+page has the title, each but the last is at least half full, no word lies outside of the paper,
+headings repeat, and all words of the page are there. It prints `ok` at the end.
 """
+import html
 import html.parser
 import json
 import pathlib
+import re
 import shutil
 import subprocess
 import sys
@@ -25,6 +31,9 @@ import tempfile
 TOP = pathlib.Path(__file__).resolve().parent.parent
 SCREENS = 1280, 390
 LEAST_LETTERS = 11  # pixels
+# What the index shows on a narrow screen without scrolling sideways.
+IN_SIGHT = {"Next inspection due", "Open orders", "Opened", "Work"}
+MANY = 60  # intersections of the index that is printed
 DARK = "--blink-settings=preferredColorScheme=0"
 # What each element of the body is shown as. The link past the head stands outside the page until
 # somebody goes to it by the keyboard.
@@ -57,8 +66,11 @@ const contrast = it => {
   const [own, below] = [light(getComputedStyle(it).color), light(ground(it))];
   return Math.max(own / below, below / own);
 };
+const past = [...document.querySelectorAll('thead th')].filter(it =>
+  it.getBoundingClientRect().right > it.closest('.scroll').getBoundingClientRect().right + 1);
 const count = x => document.querySelectorAll(x).length;
 document.title = JSON.stringify({
+  past: past.map(it => it.textContent),
   width: document.body.scrollWidth, lost, small, sections: count('section'), rules: count('tr.why'),
   warnings: count('tr.warned, p.warned'), dark: matchMedia('(prefers-color-scheme: dark)').matches,
   pale: [...document.querySelectorAll('.why p, .warned p, p.warned, .broken, .sound')].filter(x =>
@@ -155,6 +167,8 @@ class Browser:
         self.path = shutil.which("chromium")
         if not self.path:
             missing("there is no chromium: `apt-get install chromium fonts-dejavu-core` brings it")
+        if not shutil.which("pdftotext"):
+            missing("there is no pdftotext: `apt-get install poppler-utils` brings it")
         self.folder = folder
 
     def run(self, page, *words):
@@ -191,8 +205,46 @@ class Browser:
         copy.write_text(page.read_text().replace("</body>", script))
         return copy
 
+    def printed(self, page, target):
+        """The words of each printed page, each with its place, by lines."""
+        self.run(page, f"--print-to-pdf={target}", "--no-pdf-header-footer")
+        told = subprocess.run(["pdftotext", "-bbox", target, "-"], stdout=subprocess.PIPE,
+                              text=True, check=True).stdout
+        for sheet in told.split("<page ")[1:]:
+            yield Sheet(sheet)
+
     def picture(self, page, target, screen, *words):
         self.run(page, f"--screenshot={target}", f"--window-size={screen}", *words)
+
+
+class Sheet:
+    """A printed page: its size, and its words, each with its place."""
+
+    def __init__(self, told):
+        self.wide, self.high = (float(re.search(f'{it}="([0-9.]+)"', told)[1])
+                                for it in ("width", "height"))
+        places = r'<word xMin="(\S+)" yMin="(\S+)" xMax="(\S+)" yMax="(\S+)">(.*)</word>'
+        self.words = [(*map(float, it[:4]), html.unescape(it[4]))
+                      for it in re.findall(places, told)]
+
+    def text(self):
+        return " ".join(it[4] for it in self.words)
+
+
+def make_many(program, folder):
+    """A folder of pages of many intersections, with an open order each."""
+    office, records = folder / "many.db", folder / "many.csv"
+    for number in range(1, MANY + 1):
+        name = f"{number}th Avenue and the old road to the ferry"
+        subprocess.run([program, "add", "--db", office, str(number), "365", name], check=True,
+                       stdout=subprocess.DEVNULL)
+    records.write_text("".join(
+        f"order,{number},1,2026-05-{1 + number % 28:02},Ana,Countdown dark on the northeast corner\n"
+        for number in range(1, MANY + 1)))
+    for words in (["import", "--db", office, records],
+                  ["pages", "--db", office, "--day", "2026-06-30", folder / "many"]):
+        subprocess.run([program, *words], check=True, stdout=subprocess.DEVNULL)
+    return folder / "many" / "index.html"
 
 
 def make(program, folder):
@@ -266,8 +318,28 @@ def follow(browser, folder):
         back = browser.document(browser.clicking(folder / name, 1), "--virtual-time-budget=3000")
         if back.names[0] != "Intersections":
             fail(f"the link of {name} leads back to {back.names[:1]}")
-    if len(links) != 3:
-        fail(f"the index has {len(links)} links")
+    if len(links) != 4:
+        fail(f"the index has {len(links)} links, not those of 3 intersections and an open order")
+
+
+def print_out(browser, page, target, title, headings):
+    """A page as it is printed."""
+    sheets = list(browser.printed(page, target))
+    for number, sheet in enumerate(sheets, 1):
+        where = f"{page.name}, printed page {number} of {len(sheets)}"
+        if title not in sheet.text():
+            fail(f"{where} has no title")
+        if headings and not headings & {it[4] for it in sheet.words}:
+            fail(f"{where} has no headings")
+        if any(it[0] < 0 or it[1] < 0 or it[2] > sheet.wide or it[3] > sheet.high
+               for it in sheet.words):
+            fail(f"{where} has words outside of the paper")
+        if number < len(sheets) and max(it[3] for it in sheet.words) < sheet.high / 2:
+            fail(f"{where} is less than half full")
+    shown = {it[4] for sheet in sheets for it in sheet.words}
+    for text in filter(str.isascii, browser.document(page).names):
+        if {*text.split()} - shown:
+            fail(f"{page.name} is printed without {text!r}")
 
 
 def look_at(browser, page, screen, *words, paper=False):
@@ -279,6 +351,8 @@ def look_at(browser, page, screen, *words, paper=False):
         fail(f"{page.name} is shown in the other colors {where}")
     if told["width"] > screen:
         fail(f"{page.name} is {told['width']} pixels wide {where}")
+    if page.name == "index.html" and IN_SIGHT & {*told["past"]}:
+        fail(f"{page.name} has to be scrolled sideways for {IN_SIGHT & {*told['past']}} {where}")
     for what, names in (("not displayed", told["lost"]), ("too small", told["small"]),
                         ("too pale", told["pale"])):
         if names and not (paper and what == "too small"):
@@ -300,7 +374,6 @@ def draw(browser, pages, target):
             browser.picture(page, target / f"{name}-{size}.png", screen)
     for number in (12, 13):
         browser.picture(pages[number], target / f"{number}-dark.png", "1280,2600", DARK)
-    browser.run(pages[12], f"--print-to-pdf={target / '12.pdf'}", "--no-pdf-header-footer")
 
 
 def main():
@@ -317,6 +390,11 @@ def main():
         pages = make(program.resolve(), folder)
         check(browser, pages)
         follow(browser, folder / "city")
+        print_out(browser, pages["plan"], target / "plan.pdf", "plan.csv", set())
+        print_out(browser, pages[12], target / "12.pdf", "Intersection 12: Main St & 3rd Ave",
+                  set())
+        print_out(browser, make_many(program.resolve(), folder), target / "index.pdf",
+                  "Intersections", {"Name", "Part"})
         draw(browser, pages, target.resolve())
     print("ok")
 

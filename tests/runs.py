@@ -88,6 +88,29 @@ def offices_after(office, asks, came):
     return without_repeats([office, *others])
 
 
+def offices_after_turns(office, asks, came):
+    """The same after a run of `serve`, which opens its file anew after a request that was answered
+    Unavailable: the next one may find that one done."""
+    out, offices = came.out, [office]
+    for number, ask in enumerate(asks, 1):
+        afters = [it.copy() if ask.changes else it for it in offices]
+        wanted = [ask.told(it) for it in afters]
+        fitting = [it for it, text in zip(afters, wanted) if out.startswith(text)]
+        if out.startswith(UNAVAILABLE) and came.refused:
+            out, offices = out[len(UNAVAILABLE):], without_repeats([*offices, *afters])
+        elif fitting:
+            text = next(it for it in wanted if out.startswith(it))
+            out, offices = out[len(text):], without_repeats(fitting)
+        elif came.is_killed and any(it.startswith(out) for it in (*wanted, UNAVAILABLE)):
+            return without_repeats([*offices, *afters])
+        else:
+            asked = f"request {number}: {ask.sent!r}"
+            raise Off(f"{asked}\n  wanted one of {wanted!r}\n  came {out[:999]!r}")
+    if out:
+        raise Off(f"more came: {out[:999]!r}")
+    return offices
+
+
 def settled(came, wanted, steps):
     """What may be left of a command that should end so, after the steps that it makes: where it did
     not, since the disk refused or it was killed, what any of them left."""
@@ -99,7 +122,8 @@ def settled(came, wanted, steps):
         return steps[-1:] if came.out and came.out == wanted[1] else steps
     if came.refused and ended == (1, b"", STORE):
         return steps
-    if came.refused and ended == (0, commands.UNREAD, "") and wanted[1].endswith(b"committed\n"):
+    is_shorter = commands.is_shorter(came.out, wanted[1])
+    if came.refused and ended == (0, came.out, "") and is_shorter:
         return steps[-1:]
     raise Off(f"wanted {wanted}\n  came {ended}")
 
@@ -145,7 +169,8 @@ class Stream:
         if not may_end_so(came):
             raise Off(f"it ended with status {came.status} and told {came.told!r}")
         asks = [ask for asks in self.connections for ask in asks]
-        left = [Held(TODAY, it) for it in offices_after(held.office, asks, came)]
+        after = offices_after_turns if self.is_served else offices_after
+        left = [Held(TODAY, it) for it in after(held.office, asks, came)]
         return [held, *left] if came.is_killed and not came.out else left
 
 

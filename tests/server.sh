@@ -212,5 +212,5 @@ SHEET
 status=0
 "$program" sheet --db "$folder/office.db" 13 2>"$folder/fault" || status=$?
 [ "$status" = 1 ] || fail "status of an unknown intersection: $status"
-expect "the fault" "$folder/fault" $'fault: unknown intersection\n'
+expect "the fault" "$folder/fault" "note: there is no intersection 13 in $folder/office.db"$'\nfault: unknown intersection\n'
 echo ok

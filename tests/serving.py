@@ -73,14 +73,14 @@ def send(wire, sent):
         wire.shutdown(socket.SHUT_WR)
 
 
-def started(program):
+def started(program, *more, **how):
     """A server and its port, on which it listens. Where another program took the port meanwhile,
     it is tried again with another."""
     for _ in range(TRIES):
         with socket.create_server(("127.0.0.1", 0)) as free:
             port = free.getsockname()[1]
-        words = [program, "serve", "--port", str(port)]
-        server = subprocess.Popen(words, stdin=subprocess.DEVNULL, stdout=subprocess.PIPE)
+        words = [program, "serve", "--port", str(port), *map(str, more)]
+        server = subprocess.Popen(words, stdin=subprocess.DEVNULL, stdout=subprocess.PIPE, **how)
         line = server.stdout.readline()
         if line == b"listening on 127.0.0.1:%d\n" % port:
             return server, port
@@ -90,9 +90,9 @@ def started(program):
 
 
 @contextlib.contextmanager
-def served(program):
-    """The port of a server, which is ended afterwards."""
-    server, number = started(program)
+def served(program, *more, **how):
+    """The port of a server, by these further words, which is ended afterwards."""
+    server, number = started(program, *more, **how)
     port = Port(number)
     port.process = server.pid
     try:

@@ -21,7 +21,7 @@ import re
 import subprocess
 import sys
 
-from model import hints, plan, refusal
+from model import hints, plan, refusal, register
 from program import found
 
 TESTS = pathlib.Path(__file__).resolve().parent
@@ -51,10 +51,35 @@ ELSEWHERE = {
         " is a folder": "in_use.py", " is no file": "in_use.py", " is no database": "in_use.py",
         " has more than one name, by hard links": "in_use.py",
         " is a database in which no office can be opened": "in_use.py",
-        " is empty, and no office can be begun in it": "in_use.py",
         " can't be opened beside its log": "in_use.py",
         " has a rollback journal; open it by sqlite3 first": "in_use.py",
         " names no file for SQLite; write ./": "in_use.py", "the system refuses ": "in_use.py",
+        " can't be had again (": "turns.py", "); each request is answered 503": "turns.py",
+        "a random number": "refusals.py", " is a link that leads nowhere": "refusals.py",
+        " is empty, and no log stands beside it": "hostile.py",
+        "port ": "rows/a_port_that_is_taken.row", " of 127.0.0.1": "rows/a_port_that_is_taken.row",
+    },
+    "what is said of a CSV file that is too long": {
+        " has more than 64 MiB": "refusals.py", ": record ": "refusals.py",
+        ", line ": "refusals.py",
+        ", has more than 1 MiB; look for a quote that nothing ends": "refusals.py",
+        " has more than 100000 records; split it, as by split --lines=50000": "refusals.py",
+        "standard input": "refusals.py", " more ": "refusals.py", "other records": "refusals.py",
+        "records": "refusals.py", " put or remove a key again": "refusals.py",
+        " is standard input, which is read once; name another file":
+            "rows/plans_are_compared.row",
+    },
+    "what is said of a place for a copy": {
+        " is the office itself": "refusals.py", " belongs to ": "refusals.py",
+        " is a link": "refusals.py", " is there, of a copy that was cut off":
+            "rows/a_copy_of_an_office.row",
+        " is there, the log of another office": "rows/a_copy_of_an_office.row",
+    },
+    "what a change did, where that could not be read": {
+        "committed": "memory.py", "abandoned": "memory.py",
+    },
+    "over a hundred notes": {
+        " more records are of a new part or there already": "rows/many_new_parts.row",
     },
     "what a server says": {"listening on 127.0.0.1:": "server.sh"},
     "the version": {" (tables of version ": "words.py"},
@@ -63,7 +88,7 @@ ELSEWHERE = {
 }
 # Pieces of text that are no part of what is printed.
 UNPRINTED = {
-    "names of files beside an office or a copy": "-wal .part",
+    "names of files beside an office or a copy": "-wal .part -turn -journal -shm",
     "kinds of records, as they are read": "delivery",
     "how a file of a database begins, and names that are no file's":
         "SQLite~format~3\0 :memory: file:",
@@ -88,6 +113,7 @@ FAULTS = {
     "Exists": ("fault: exists", None),
     "UnknownIntersection": ("fault: unknown intersection", None),
     "UnknownPattern": ("fault: unknown pattern", None),
+    "OtherRevision": ("fault: revision: # is committed", None),
     "Day": ("fault: day", None),
     "Clerk": ("fault: clerk", None),
     "Name": ("fault: name", None),
@@ -96,7 +122,6 @@ FAULTS = {
     "Record": ("fault: record #: NoStock", None),
     "Late": ("fault: record #: Late", None),
     "Csv": ("fault: record #: Number #", None),
-    "Explained": ("fault: record #: Number #/line", None),
     "HeldBy": ("fault: NotOwner/held by", None),
     "OtherCsv": ("fault: other record #: ", None),
     "Words": ("the command line is not UTF-8", "outputs.py"),
@@ -106,8 +131,10 @@ FUNCTIONS = {
     "plan_page": "page --file", "intersection_page": "page", "index_page": "pages",
     "add_entry": "pages", "cabinet_text": "cabinet", "intersections_list": "list",
     "orders_list": "orders --csv", "orders_text": "orders", "overdue_csv": "overdue --csv",
-    "stock_list": "stock", "used_list": "used", "add_used": "used", "diagram": "diagram",
-    "figure": "page", "explained_text": "verify-file --explain", "violation_text": "verify-file",
+    "orders_by_age": "orders --by-age", "stock_list": "stock", "part_text": "stock",
+    "used_list": "used", "add_used": "used", "work_list": "work", "add_work": "work",
+    "diagram": "diagram", "figure": "page", "reasons_text": "verify-file --explain",
+    "violation_text": "verify-file",
     "timing_csv": "export", "records_csv": "export --cabinet", "changes_csv": "compare --csv",
     "overdue_text": "overdue", "timing_sheet": "sheet", "comparison_text": "compare",
     "warnings_text": "verify-file --advise", "csv_file": "list --csv",
@@ -206,22 +233,57 @@ def marked(text):
     return re.sub(r"\d+", "#", text)
 
 
+def formed(line):
+    """A line with a mark for each number and nothing between quotes."""
+    return marked(re.sub(r'"(?:[^"\\]|\\.)*"( \(\d+ bytes\))?', '""', line))
+
+
+def field_forms():
+    """What is told of each field of a bad record."""
+    for kind in (*plan.KINDS, *register.FORMS):
+        for word, form, unit in hints.forms([kind]):
+            hint = formed(f'line 1, {word}: ""; {hints.values(form, unit)}')
+            if isinstance(form, hints.Number):
+                yield from (hint, f"{hint}, in digits without leading zeros")
+            elif form is hints.DAY:
+                yield from (hint, f"{hint}, from #-#-# to #-#-#")
+            else:
+                yield hint
+    for word in ("walk", "day", "part", "count", "kind"):
+        yield f'line #, {word}: ""; no spaces'
+    for word in ("kind", "text", "phases"):
+        yield f"line #, {word}: byte #xF# is not UTF-#; save as CSV UTF-#"
+
+
 def hint_forms():
-    """The second line of a bad record: of each field, and of kinds and numbers of fields."""
-    for kind, (_, form, _) in plan.KINDS.items():
-        whole = (*form, *plan.PEDESTRIAN) if kind == "phase" else form
-        for (word, unit), field in zip(hints.FIELDS[kind], whole, strict=True):
-            hint = marked(f"line 1, {word}: {hints.values(field, unit)}")
-            yield hint
-            if isinstance(field, hints.Number):
-                yield f"{hint}, in digits without leading zeros"
-    yield "line #, kind: phase, seq, split, pattern or remove; no header row"
-    yield "line #, kind: phase, seq, split or pattern after remove"
-    yield from ("line #, fields: #, not #", "line #, fields: #, not # or #")
+    """What is told of a bad record: of each field, of kinds and of numbers of fields."""
+    yield from field_forms()
+    for kinds in (hints.PLAN_KINDS, hints.KEY_KINDS, hints.RECORD_KINDS):
+        yield f'line #, kind: ""; {kinds}'
+    for what in ("nothing but commas; --padded passes over it",
+                 "a comment; remove it, CSV has none", "semicolons between fields; write commas",
+                 "tabs between fields; write commas", "a record of a cabinet; import takes it",
+                 "a row of a plan; edit takes it", "a header row; remove it, CSV has none",
+                 "# fields, not #", "# fields, not # or #", "# field, not #",
+                 "# fields, not #; --padded drops the empty ones at its end",
+                 "# fields, not # or #; --padded drops the empty ones at its end",
+                 "# fields, not #; a comma in a text needs quotes",
+                 "# fields, not #; phases stand in one field, with spaces",
+                 "# fields, not # or #; mates stand in one field, with spaces",
+                 "a workbook (xlsx), not CSV; save as CSV UTF-#",
+                 "UTF-#, not UTF-#; save as CSV UTF-#"):
+        yield f"line #: {what}"
+    yield from ("other line #: # fields, not #", "# more bad records")
 
 
 def note_forms():
-    """The notes on keys that come again."""
+    """The notes on keys that come again, and on edits that were made."""
+    for one, more, of in (("phase", "phases", ""), ("row", "rows", " of sequence #"),
+                          ("row", "rows", " of split #"), ("pattern", "patterns", "")):
+        yield f"note: # {one}{of} stays; --replace would remove it"
+        yield f"note: # {more}{of} stay; --replace would remove them"
+    yield "note: # rows that are not in the file stay; --replace would remove them"
+    yield from ("note: this is the plan of #", "note: # of # committed rows change")
     keys = "phase #", "sequence # ring #", "split # phase #", "pattern #"
     files = "record", "other record"
     for called, deed, key in itertools.product(files, ("puts", "removes"), keys):
@@ -242,8 +304,9 @@ def forms():
 
 def forms_in(out, err):
     """The lines of what was printed and told that are of these forms."""
-    told = [*re.findall(r"^record #, line #: \w+", marked(out), re.M), *marked(err).splitlines()]
-    return {it for it in told if it.startswith(("record", "fault", "note", "line"))}
+    told = [*re.findall(r"^record #, line #: \w+", marked(out), re.M),
+            *map(formed, err.split("\n"))]
+    return {it for it in told if it.startswith(("record", "fault", "note", "line", "other", "#"))}
 
 
 def untold(program, seen):

@@ -23,7 +23,7 @@ import textwrap
 from program import TOP, found
 
 DOCUMENTS = ("README.md", "docs/COMMANDS.md", "docs/HTTP.md", "docs/ARCHITECTURE.md",
-             "docs/FIRST-DAY.md", "examples/README.md")
+             "docs/FIRST-DAY.md", "docs/OPERATING.md", "examples/README.md")
 LONGEST = 60  # seconds of one command
 CURL = 'silent\nshow-error\nnoproxy = "*"\n'
 

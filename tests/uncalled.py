@@ -25,7 +25,6 @@ MEANT = {
     "laws over two calls, and what a plan means":
         "one_front one_list_of_requests is_fit_however_called",
     "a list of phases by its numbers, for a caller that has no row": "PhaseList::new",
-    "how many of a part are on hand, for those who read a shelf": "Shelf::hand",
     "commands that are run in turn whatever they are answered, of which laws speak":
         "Office::run_all",
     "the office on a listener of the system, for a server of one's own": "serve_on",

@@ -1,5 +1,6 @@
 #!/usr/bin/env python3
-"""Has systemd look at the units of packaging/: the service, the backup and its timer.
+"""Has systemd look at the units of packaging/: the service, the backup with its timer, and what tells
+that one of them failed.
 
     tests/units.py [PROGRAM]
 
@@ -23,9 +24,10 @@ def copied(folder, program):
     units = TOP / "packaging"
     for unit in sorted([*units.glob("*.service"), *units.glob("*.timer")]):
         text = unit.read_text()
-        if unit.suffix == ".service" and INSTALLED not in text:
+        is_template = "@" in unit.name
+        if unit.suffix == ".service" and INSTALLED not in text and not is_template:
             sys.exit(f"units.py: {unit.name} does not run {INSTALLED}")
-        copy = folder / unit.name
+        copy = folder / unit.name.replace("@.", "@trial.")
         copy.write_text(text.replace(INSTALLED, program))
         yield copy
 

@@ -4,6 +4,7 @@ import csv
 import io
 
 from . import comparing
+from .office import LAST_REVISION
 from .plan import KINDS, rows
 from .planning import BASE, CHANGES, draw_changes, draw_plan
 from .register import FORMS
@@ -68,32 +69,82 @@ def any_rows(dice):
     return [[kind, *(dice.choice(("1", "2", "", "phase", "x")) for _ in range(dice.randrange(16)))]]
 
 
-def bad_fields():
-    """Of each kind of row each field as no number and as one out of its range, and a kind and a
-    count that are none; all of them as removals too."""
+RECORDS = [row.split(",") for row in """\
+inspection,12,1,2026-03-01,Ana,Fan cleaned
+order,12,1,2026-05-02,Ana,Relay
+use,12,1,1,RELAY,2
+close,12,1,2026-05-02,Bo
+delivery,RELAY,1,2026-05-01,10""".splitlines()]
+# What is no row of a plan and no record, though it may be meant as one.
+FOREIGN = (
+    "phase;2;1;8", "kind;phase;ring", "inspection\t12\t1", "# a comment, 1", "// 2", "Phase,2,1",
+    "kind,phase,ring", "kind,intersection,day", "header", " phase,2", "phase ,2", ",,,", '""',
+    "remove", "remove,", "remove,foo,1", "remove, phase,1", "remove,inspection,1",
+    "phase,2,1,8,20,40,40,15,6 5,4", "phase,2,1,8,20,40,40,15,5,6,7,12,490,60,0,0",
+    "phase,2,1,8,20,40,40,15,6,7,12", "phase,2,1,8,20,40,40,15,6,,", "seq,1,1,2,4", "seq,1,1,2 4,,",
+    "split,1, 2,35,2,1", "phase,2,1,8,20,40,40,15,6, 7,12,490,60,0,0", "split,1,2,35\t,2,1",
+    "pattern,1,60,5.0,1,1", "pattern,1,,0,1,1",
+    'seq,1,1,"2 4\n6"', 'seq,1,1,"a ""b"" \\"', "seq,1,1,2\u00a04", "seq,1,1,\x7f\x85\x01\u202e",
+    "seq,1,1," + "1 " * 30, "seq,1,1," + "\u00f1" * 41, "seq,1,1,\udcf1", "\udcf1,1", "\udce9phase,2",
+    "inspection,12,1,11/23/2026,Ana,Fan", "inspection,12,1, 2026-05-02,Ana,Fan",
+    "inspection,12,1,2026-02-30,Ana,Fan", "inspection,12,1,2026-05-02,Ana,Fan, filter",
+    "inspection,12,1,2026-05-02,Ana", "inspection,12,1,2026-05-02,Ana,F\udcf1n",
+    "inspection,12,1,2026-05-02," + "A" * 41 + ",Fan", 'order,12,1,2026-05-02,Ana,"Fan\nuse,12"',
+    "order,12,1,2026-05-02,Ana,", "order,12,1,2026-05-02,Ana,a\tb", "order,12,1,2026-05-02,Ana,x,,",
+    "close,12,1,2026-05-02,Bo, Ana", "use,12,1,1, RELAY,2", "use,12,1,1,relay,2", "use,12,1,100,A,1",
+    "delivery,RELAY,1,2026-05-01,10,,", "delivery,RELAY,1,2026-05-01, 10", "remove,phase,2,1,,",
+    "use,12,1,1,RELAY,2,3", "delivery,A B ,1,2026-05-01,10",
+)
+FILES = ("PK\3\4\x14\0\x08", "p\0h\0a\0s\0e\0,\0", "\udcff\udcfep\0h\0a\0", "\udcfe\udcff\0p\0h\0a")
+
+
+def foreign_files():
+    """Commands that explain each of them, in a file of either kind, between what is good."""
+    for text in (*(f"seq,1,1,2\n\n{it}\nseq,1,1,3\n" for it in FOREIGN), *FILES, "",
+                 "\n".join(FOREIGN), "seq,1,1\n" * 101, "seq,1,1\n" * 120):
+        for options in ((), ("--padded",)):
+            yield ["verify-file", "--explain", *options, "a.csv"], {"a.csv": text}
+    for text in (*(f"{','.join(RECORDS[0])}\n{it}\n" for it in FOREIGN), *FILES,
+                 "use\n" * 102):
+        for options in ((), ("--padded",), ("--check",)):
+            yield (["import", "--db", "office.db", "--explain", *options, "a.csv"],
+                   {"a.csv": text})
+
+
+def bad_fields(rows):
+    """Of each of these rows each field as no number and as one out of its range, and a kind and a
+    count that are none."""
+    for row in rows:
+        for at in range(len(row)):
+            for bad in ("x", "01", "10000", "2 2", "9999999999"):
+                yield [*row[:at], bad, *row[at + 1:]]
+        yield [*row, "1"]
+        yield row[:-1]
+
+
+def bad_rows():
+    """Bad rows of each kind, and all of them as removals too."""
     rows = [["phase", "2", "1", "8", "20", "40", "40", "15", "6", "7", "12", "490", "60", "0", "0"],
             ["seq", "1", "1", "2 4"], ["split", "1", "2", "35", "2", "1"],
             ["pattern", "1", "60", "0", "1", "1"]]
     rows += [["remove", *row[:1 + KINDS[row[0]][2]]] for row in rows]
-    for row in rows:
-        for at in range(len(row)):
-            for bad in ("x", "01", "10000", "2 2"):
-                yield [*row[:at], bad, *row[at + 1:]]
-        yield [*row, "1"]
-        yield row[:-1]
-    yield ["remove"]
+    return bad_fields(rows)
 
 
 def bad_files():
     """Commands that explain each of them, behind a good row, and that compare two such files."""
     good = "seq,1,1,2\nseq,1,1,3\n\n"
-    for row in bad_fields():
+    for row in bad_rows():
         text = good + ",".join(row) + "\n"
         yield ["verify-file", "--explain", "a.csv"], {"a.csv": text}
+    for row in bad_fields(RECORDS):
+        yield ["import", "--db", "office.db", "--explain", "a.csv"], {"a.csv": ",".join(row)}
     for keys in ("phase,2", "seq,1,1", "split,1,2", "pattern,1"):
         twice = f"remove,{keys}\n" * 2
         yield ["compare", "a.csv", "b.csv"], {"a.csv": twice, "b.csv": twice}
     yield ["compare", "a.csv", "b.csv"], {"a.csv": good, "b.csv": text}
+    yield ["compare", "--explain", "a.csv", "b.csv"], {"a.csv": text, "b.csv": text}
+    yield from foreign_files()
 
 
 # Changes of a good plan: with each of them it has a reason or a warning that is seldom drawn.
@@ -108,7 +159,12 @@ phase,2,1,8,20,40,40,15,6,7,0,490,60,0,0
 phase,2,1,8,20,40,40,15,6,7,12,0,60,0,0
 phase,2,1,28,20,40,40,15,6,7,12,490,60,0,3
 phase,2,1,8,20,40,40,15,6,7,12,490,60,0,8
+phase,4,1,8,4,40,40,15,8
+phase,4,1,8,20,40,40,4,8
+phase,2,1,8,20,40,40,15,6,7,12,199,60,0,0
+phase,2,1,8,20,40,40,15,6,255,255,2001,60,0,0
 split,1,2,20,2,1
+split,1,2,46,2,1;split,1,4,14,2,0;split,1,6,46,2,1;split,1,8,14,2,0
 split,1,4,25,6,0
 split,1,4,6,2,1
 split,1,4,25,2,1
@@ -187,12 +243,46 @@ def draw_edit(dice, office):
     there = office.intersections.get(int(id))
     clerk = there.owner if there and there.owner and dice.random() < 0.8 else told(dice, *CLERKS)
     options = flags(dice, "--replace", "--commit", "--explain", "--advise", "--padded")
+    if dice.random() < 0.15:
+        other = there.revision + dice.choice((0, 0, 1)) if there else 0
+        options += ["--revision", str(min(other, LAST_REVISION))]
     words = ["edit", "--db", "office.db", "--clerk", clerk, *options, id]
     if {"--commit"} <= {*options} and not {"--replace", "--padded"} & {*options}:
         if dice.random() < 0.3:
             return words, {}
     name, texts = file_of(dice, edit_rows(dice, there, "--replace" in options), options)
     return [*words, name], texts
+
+
+def noted_edits():
+    """Edits with each note, of two intersections that are added."""
+    base = {row[0] + row[1] + (row[2] if row[0] in ("seq", "split") else ""): row for row in BASE}
+    other = [*BASE[:-1], ["pattern", "1", "60", "5", "1", "1"]]
+    edit = ["edit", "--db", "office.db", "--clerk", "Ana"]
+
+    def edited(id, rows, *options):
+        text = "".join(f"{','.join(row)}\n" for row in rows)
+        return [*edit, *options, id, "a.csv"], {"a.csv": text}
+
+    for id in ("9995", "9996"):
+        yield ["add", "--db", "office.db", id, "30", f"New {id}"], {}
+    yield edited("9995", BASE, "--commit", "--explain", "--revision", "0")
+    yield edited("9995", other, "--commit", "--explain", "--revision", "0")
+    yield edited("9995", other, "--commit", "--explain", "--revision", "1")
+    yield edited("9996", other, "--commit", "--advise")
+    yield edited("9995", [["pattern", "2", "60", "30", "1", "1"]], "--commit")
+    for gone in (("phase",), ("phase4",), ("seq",), ("seq12",), ("split",), ("split18",),
+                 ("pattern",), ("phase", "seq")):
+        rest = [row for key, row in base.items() if not key.startswith(gone)]
+        changed = [[*row[:3], "9", *row[4:]] if row[0] == "phase" else row for row in rest]
+        patterns = [["pattern", it, "60", "7", "1", "1"] for it in "12"]
+        yield edited("9995", changed + patterns * (gone != ("pattern",)))
+        yield ["abandon", "--db", "office.db", "--clerk", "Bo", "9995"], {}
+    yield edited("9995", [*BASE, ["pattern", "2", "60", "31", "1", "1"]][:-2] + [
+        ["pattern", "2", "60", "31", "1", "1"]])
+    yield edited("9995", [["remove", "pattern", "2"]], "--replace")
+    yield edited("9995", [["remove", "pattern", "2"]])
+    yield [*edit, "--commit", "9995"], {}
 
 
 def new_plan():
@@ -205,7 +295,7 @@ def new_plan():
 
 def draw_import(dice, office):
     """Records are taken, or tried."""
-    options = flags(dice, "--check", "--padded")
+    options = flags(dice, "--check", "--explain", "--padded")
     if dice.random() < 0.3:
         options += ["--until", dice.choice(LAST_DAYS)]
     name, texts = file_of(dice, record_rows(dice, office), options)
@@ -230,7 +320,7 @@ def draw_verify(dice, office):
 
 def draw_comparison(dice, office):
     """Two plans are compared."""
-    options, luck = flags(dice, "--csv", "--padded"), dice.random()
+    options, luck = flags(dice, "--csv", "--explain", "--padded"), dice.random()
     if luck < 0.3:
         return ["compare", "--db", "office.db", *flags(dice, "--csv"), an_id(dice, office)], {}
     name, texts = file_of(dice, plan_rows(dice), options)
@@ -278,7 +368,10 @@ def draw_wrong_word(dice, office):
         ["overdue", "--db", "office.db", day],
         ["pages", "--db", "office.db", "--day", day, "folder"],
         ["import", "--db", "office.db", "--until", day, MISSING],
-        ["used", "--db", "office.db", part],
+        ["used", "--db", "office.db", part], ["stock", "--db", "office.db", part],
+        ["orders", "--db", "office.db", "--by-age", day],
+        ["work", "--db", "office.db", "--from", "2026-05-01", "--to", day],
+        ["used", "--db", "office.db", "--from", day, "--to", day],
         ["abandon", "--db", "office.db", "--clerk", text, "1"],
         ["edit", "--db", "office.db", "--clerk", text, "1", MISSING],
         ["add", "--db", "office.db", "1", "365", text])), {}
@@ -303,15 +396,21 @@ def draw_command(dice, office):
 def reports(dice, office):
     """Every report of an office, and those of some of its intersections."""
     day, part = dice.choice(DAYS), dice.choice(PARTS)
+    first, last = sorted((day, dice.choice(DAYS)))
+    between = ["--from", first, "--to", last]
     for words in (["list"], ["stock"], ["orders"], ["used"], ["used", part], ["overdue", day],
-                  ["overdue", "--first", str(dice.choice((1, 2, 9_999))), day]):
+                  ["overdue", "--first", str(dice.choice((1, 2, 9_999))), day],
+                  ["orders", "--by-age", day], ["used", *between], ["work", *between]):
         yield words
         yield [*words[:1], "--csv", *words[1:]]
+        yield [*words[:1], "--csv", "--headings", *words[1:]]
+    yield ["stock", part]
     ids = sorted(office.intersections)
+    yield ["used", "--from", day, "--to", day, part]
     for id in map(str, [*dice.sample(ids, min(2, len(ids))), *[9_998] * (dice.random() < 0.1)]):
         numbers = ["1", "2", "20", "48"]
         yield from (["sheet", id], ["cabinet", id], ["page", id], ["orders", id],
-                    ["orders", "--csv", id], ["export", id], ["export", "--draft", id],
+                    ["orders", "--csv", id], ["orders", "--by-age", day, id], ["export", id], ["export", "--draft", id],
                     ["export", "--cabinet", id], ["compare", id], ["compare", "--csv", id],
                     ["diagram", id, dice.choice(numbers)], ["diagram", id, "1"])
 

@@ -3,6 +3,7 @@ refused, with what is there."""
 from .refusal import NAMES, Refused
 
 ON_HAND = (25, 26)  # refusals that are told with the pieces on hand
+MOST_NOTES = 100
 
 
 def order(it):
@@ -49,3 +50,27 @@ def checked(office, records, lines):
     same = len(records) - added - len(told)
     counts = f"would add {added}, same {same}, refused {len(told)}\n"
     return "".join(told) + counts, bool(told)
+
+
+def records_noted(office, records):
+    """A note for each record that is the first to name a part which the office never had, or that
+    is there already once those before it are taken."""
+    had = {part for part, _ in office.register.deliveries}
+    after = office.copy()
+    for at, (name, values) in enumerate(records, 1):
+        if values.get("part", None) not in {None, *had}:
+            had.add(values["part"])
+            yield f"note: record {at}: new part {values['part']}"
+        try:
+            if not after.record(name, values):
+                yield f"note: record {at} is there already"
+        except Refused:
+            pass
+
+
+def record_notes(office, records):
+    """The same, for the first hundred of them, and how many more there are."""
+    notes = list(records_noted(office, records))
+    more = len(notes) - MOST_NOTES
+    return notes[:MOST_NOTES] + [
+        f"note: {more} more records are of a new part or there already"] * (more > 0)

@@ -23,6 +23,8 @@ def reads(office, words):
     name, options, others = asked(words)
     there = office.intersections.get(int(others[0])) if others and others[0].isdigit() else None
     drafted = ("draft",) if there is not None and there.draft is not None else ()
+    if name == "stock" and others:
+        return ("intersection", *REGISTER, "part"), ()
     if name in ("sheet", "diagram") or name == "export" and not {*options} - {"--db"}:
         return (), ("intersection", "timing")
     if name == "compare" or "--draft" in options:
@@ -35,7 +37,8 @@ def reads(office, words):
         return (), ("intersection", *REGISTER)
     return {
         "list": ("intersection",), "stock": ("part",), "orders": ("intersection", "work_order"),
-        "used": ("intersection", *REGISTER), "overdue": ("intersection", "inspection"),
+        "used": ("intersection", *REGISTER), "work": ("intersection", *REGISTER),
+        "overdue": ("intersection", "inspection"),
         "pages": ("intersection", "timing", "draft", *REGISTER, "part"),
         "export": ("intersection", "timing", *REGISTER, "part"),
     }[name], ()
@@ -58,7 +61,7 @@ class Harm:
     def is_read_by(self, office, words):
         """Whether a command reads it."""
         of_all, of_one = reads(office, words)
-        numbers = [it for it in words[1:] if it.isdigit()]
+        numbers = [it for it in asked(words)[2] if it.isdigit()]
         return self.table in of_all or (
             self.table in of_one and numbers[:1] == [str(self.row[0])])
 

@@ -51,9 +51,9 @@ class Text:
 
 
 def words(most):
-    """1 to so many bytes, with no character below U+0020 and no U+007F."""
-    return Text(lambda text: 1 <= len(text.encode()) <= most
-                and not re.search("[\x00-\x1f\x7f]", text))
+    """1 to so many bytes of UTF-8, with no character below U+0020 and no U+007F."""
+    return Text(lambda text: not re.search("[\x00-\x1f\x7f\ud800-\udfff]", text)
+                and 1 <= len(text.encode()) <= most)
 
 
 def is_day(text):

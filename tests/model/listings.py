@@ -1,13 +1,16 @@
 """What an office holds, as texts in columns and as CSV."""
+import datetime
+
 from . import fields
+from .letters import left
 from .pages import next_number, tenths
 from .plan import Pattern, Phase, Sequence, Split
 from .register import records_of
 
 
-def left(text, width):
-    """A text at the left of so many places, which count bytes; a longer one stands whole."""
-    return text + " " * (width - len(text.encode()))
+def forms(text, names, records):
+    """A list as lines, as CSV, and as CSV below the names of its fields."""
+    return text, fields.write_csv(records), fields.write_csv([names, *records])
 
 
 def counted(heading, lines):
@@ -23,15 +26,32 @@ def intersections(office):
     records = [[id, it.revision, it.state, it.owner or "", len(it.committed), it.name, it.interval]
                for id, it in held]
     heading = "    No     Rev  State        Owner         Rows  Days  Name\n"
-    return counted(heading, lines), fields.write_csv(records)
+    names = ["id", "revision", "state", "owner", "rows", "name", "days"]
+    return forms(counted(heading, lines), names, records)
 
 
 def stock(office):
     """What is on hand, and its records."""
     held = office.register.stock()
     lines = [f"{it['count']:>10}  {it['part']}\n" for it in held]
-    return (counted("     Count  Part\n", lines),
-            fields.write_csv([[it["part"], it["count"]] for it in held]))
+    return forms(counted("     Count  Part\n", lines), ["part", "count"],
+                 [[it["part"], it["count"]] for it in held])
+
+
+def part(office, code):
+    """What is on hand of a part, its deliveries and its uses."""
+    came = sorted((number, it) for (of, number), it in office.register.deliveries.items()
+                  if of == code)
+    went = sorted((*key, it.count) for key, it in office.register.lines.items() if it.part == code)
+    held = f"{office.register.on_hand(code)} on hand" if came else "never delivered"
+    pieces = sum(it.count for _, it in came), sum(it[3] for it in went)
+    return "".join([
+        f"Part {code}: {held}\nnext free delivery number: {next_number(came)}\n",
+        "Deliveries\n  Number  Day             Count\n",
+        *(f"{number:>8}  {it.day}{it.count:>11}\n" for number, it in came),
+        "Uses\n      No   Order  Line      Count\n",
+        *(f"{id:>8}{order:>8}{line:>6}{count:>11}\n" for id, order, line, count in went),
+        f"Count {len(came)} deliveries of {pieces[0]}, {len(went)} uses of {pieces[1]}\n"])
 
 
 def open_orders(office, id):
@@ -44,15 +64,49 @@ def order_columns(id, number, it):
     return f"{id:>6}{number:>8}  {it.opened}  {left(it.clerk, 12)}"
 
 
+ORDER_NAMES = ["intersection", "name", "order", "opened", "clerk", "text"]
+
+
+def named_orders(office, ids):
+    """The open orders of intersections, each with its intersection's number and name."""
+    named = [(id, office.find(id).name) for id in ids]
+    return [(id, name, number, it) for id, name in named
+            for number, it in open_orders(office, id)]
+
+
+def order_record(id, name, number, it):
+    """The record of an open order."""
+    return [id, name, number, it.opened, it.clerk, it.text]
+
+
+def named_line(id, name, number, it):
+    """The line of an open order with the name of its intersection."""
+    return f"{order_columns(id, number, it)}  {left(name, 24)}  {it.text}\n"
+
+
 def orders(office):
     """The open orders of all with the names of their intersections, and their records."""
-    held = [(id, of.name, number, it) for id, of in sorted(office.intersections.items())
-            for number, it in open_orders(office, id)]
-    lines = [f"{order_columns(id, number, it)}  {left(name, 24)}  {it.text}\n"
-             for id, name, number, it in held]
+    held = named_orders(office, sorted(office.intersections))
     heading = "    No   Order  Opened      Clerk         Name                      Text\n"
-    records = [[id, name, number, it.opened, it.clerk, it.text] for id, name, number, it in held]
-    return counted(heading, lines), fields.write_csv(records)
+    return forms(counted(heading, [named_line(*it) for it in held]), ORDER_NAMES,
+                 [order_record(*it) for it in held])
+
+
+def days_to(day, opened):
+    """The days from one to another."""
+    return (datetime.date.fromisoformat(day) - datetime.date.fromisoformat(opened)).days
+
+
+def orders_by_age(office, day, id=None):
+    """The open orders of one intersection or of all that were opened on a day or before, the oldest
+    first, with their age on that day."""
+    ids = sorted(office.intersections) if id is None else [id]
+    held = sorted((it for it in named_orders(office, ids) if it[3].opened <= day),
+                  key=lambda it: it[3].opened)
+    aged = [(days_to(day, it[3].opened), it) for it in held]
+    heading = "   Age    No   Order  Opened      Clerk         Name                      Text\n"
+    return forms(counted(heading, [f"{age:>6}{named_line(*it)}" for age, it in aged]),
+                 ["age", *ORDER_NAMES], [[age, *order_record(*it)] for age, it in aged])
 
 
 def orders_of(office, id):
@@ -64,22 +118,64 @@ def orders_of(office, id):
 
 def all_orders_of(office, id):
     """The open orders of an intersection, and their records, which have its name too."""
-    name = office.find(id).name
-    return orders_of(office, id), fields.write_csv(
-        [[id, name, number, it.opened, it.clerk, it.text] for number, it in open_orders(office, id)])
+    return forms(orders_of(office, id), ORDER_NAMES,
+                 [order_record(*it) for it in named_orders(office, [id])])
 
 
-def used(office, part=None):
-    """What was used, of a part if one is named, and its records."""
+def day_of_use(order):
+    """The day of what was used for an order: that of its closing, or of its opening while it is
+    open."""
+    return order.closed or order.opened
+
+
+def used(office, code=None, between=None):
+    """What was used, of a part if one is named, and between two days if they are given; how much of
+    each part; and the records."""
     held = [(id, number, order, line, it) for id in sorted(office.intersections)
             for number, order in records_of(office.register.orders, id)
-            for line, it in office.register.used_for(id, number) if part in (None, it.part)]
+            for line, it in office.register.used_for(id, number) if code in (None, it.part)
+            if between is None or between[0] <= day_of_use(order) <= between[1]]
+    totals = {it.part: 0 for *_, it in held}
+    for *_, it in held:
+        totals[it.part] += it.count
     lines = [f"{left(it.part, 20)}{id:>6}{number:>8}  {order.opened}{line:>7}{it.count:>8}"
              f"  {order.clerk}\n" for id, number, order, line, it in held]
     records = [[it.part, id, number, order.opened, line, it.count, order.clerk]
                for id, number, order, line, it in held]
     heading = "Part                    No   Order  Opened       Line   Count  Clerk\n"
-    return counted(heading, lines), fields.write_csv(records)
+    names = ["part", "intersection", "order", "opened", "line", "count", "clerk"]
+    sums = [f"{total:>10}  {name}\n" for name, total in sorted(totals.items())]
+    text = "".join([heading, *lines, "     Total  Part\n", *sums, f"Count {len(lines)}\n"])
+    return forms(text, names, records)
+
+
+def deeds(office, id):
+    """What was done in a cabinet: inspections, then of each order its opening, its used parts and
+    its closing. Each has its day, what it is, its number, a line, a part and pieces, who did it,
+    and a text."""
+    for number, it in records_of(office.register.inspections, id):
+        yield it.day, "inspected", number, "", "", "", it.clerk, it.text
+    for number, it in records_of(office.register.orders, id):
+        yield it.opened, "opened", number, "", "", "", it.clerk, it.text
+        for line, one in office.register.used_for(id, number):
+            yield (day_of_use(it), "used", number, line, one.part, one.count,
+                   it.closer or it.clerk, "")
+        if it.closed:
+            yield it.closed, "closed", number, "", "", "", it.closer, it.text
+
+
+def work(office, first, last):
+    """What was done on the days from one to another, by day."""
+    held = sorted(((day, id, *of) for id in sorted(office.intersections)
+                   for day, *of in deeds(office, id) if first <= day <= last),
+                  key=lambda it: it[0])
+    lines = [f"{day}{id:>6}  {left(what, 9)}{number:>8}  {left(clerk, 12)}  {left(code or '-', 20)}"
+             f"{count:>8}  {text or '-'}\n"
+             for day, id, what, number, line, code, count, clerk, text in held]
+    heading = ("Day           No  What       Number  Clerk         Part                   Count"
+               "  Text\n")
+    names = ["day", "intersection", "what", "number", "line", "part", "count", "clerk", "text"]
+    return forms(counted(heading, lines), names, [[*it] for it in held])
 
 
 def record(number, day, clerk, text):
@@ -117,8 +213,8 @@ def overdue(office, day, most=9_999):
     """The overdue on a day, at most so many, and their records."""
     held = office.overdue(day)["overdue"][:most]
     lines = [f"{it['id']:>4}  {it['due'] or 'never':10}  {it['name']}\n" for it in held]
-    return (counted(f"Overdue on {day}\n", lines),
-            fields.write_csv([[it["id"], it["name"], it["due"] or ""] for it in held]))
+    return forms(counted(f"Overdue on {day}\n", lines), ["id", "name", "due"],
+                 [[it["id"], it["name"], it["due"] or ""] for it in held])
 
 
 def right(*values):

@@ -17,6 +17,11 @@ def width_of(record):
     return WIDTHS.get(kind)
 
 
+def is_blank(record):
+    """A record of empty fields alone, which is none."""
+    return not any(record)
+
+
 def unpadded(record):
     """A record without the padding; one behind whose width anything stands is as it was."""
     width = width_of(record)

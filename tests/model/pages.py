@@ -1,16 +1,17 @@
 """The page of an intersection, or of a plan alone: one HTML text, with the style in page.css."""
-import html
 import pathlib
 import re
+import unicodedata
 
 from . import reasons, rules, warnings
+from .letters import quoted
 from .pictures import picture
 from .plan import Pattern, Phase, Sequence, Split
 from .register import records_of
 
 STYLE = (pathlib.Path(__file__).parent / "page.css").read_text()
 TOP = """<!DOCTYPE html>
-<html lang='en'>
+<html lang='en' style='--title: "{printed}"'>
 <head>
 <meta charset='utf-8'>
 <meta name='viewport' content='width=device-width, initial-scale=1'>
@@ -32,6 +33,7 @@ INDEX_HEAD = TOP + """<header>
 <main>
 """
 END = "</main>\n</body>\n</html>\n"
+HANDED_OVER = "verify", "done"  # states of a draft that has a verify status
 VERDICTS = {"notDone": "not done", "doneWithError": "done, with errors",
             "doneWithNoError": "done, without errors"}
 MODES = {2: "none", 3: "minimum vehicle recall", 4: "maximum vehicle recall",
@@ -51,20 +53,22 @@ TABLES = {
 }
 ORDERS = ["Order", ["Opened"], ["Clerk"], ["Work"], ["Lines: parts used (pieces)"]]
 INSPECTIONS = ["Inspection", ["Day"], ["Clerk"], ["Findings"]]
-INTERSECTIONS = ["No", ["Name"], ["State"], ["Draft of"], "Revision", "Committed rows", "Warnings",
-                 "Open orders", ["Last inspection"], ["Next inspection due"]]
-NAMED_ORDERS = ["No", ["Name"], "Order", ["Opened"], ["Clerk"], ["Work"]]
+INTERSECTIONS = ["No", ["Name"], ["Next inspection due"], "Open orders", "Warnings", ["State"],
+                 ["Draft of"], "Revision", "Committed rows", ["Last inspection"]]
+NAMED_ORDERS = ["No", "Order", ["Opened"], ["Work"], ["Name"], ["Clerk"]]
 STOCK = [["Part"], "On hand (pieces)"]
-
-
-def quoted(text):
-    """A name or text of others, no character of which is markup."""
-    return html.escape(text).replace("&#x27;", "&#39;")
 
 
 def isolated(text):
     """The same in an element of its own, so that its direction stays within it."""
     return f"<bdi>{quoted(text)}</bdi>"
+
+
+def titles(name):
+    """The title of a page, and the same as a text of CSS, which stands on each printed page."""
+    marks = {'"': "\\22 ", "\\": "\\5c "}
+    printed = "".join(marks.get(it, " " if unicodedata.category(it) == "Cc" else it) for it in name)
+    return {"title": quoted(name), "printed": quoted(printed)}
 
 
 # ---- cells
@@ -240,10 +244,11 @@ def count_warnings(plan):
     return "".join(f"<p class='warned'>{it}</p>\n" for it in told)
 
 
-def plan_page(plan):
-    """The page of a plan alone."""
-    broken, name = reasons.explained(plan), "Timing plan"
-    head = HEAD.format(title=name, style=STYLE, heading=name, facts="")
+def plan_page(plan, file):
+    """The page of the plan of a file alone."""
+    broken, name = reasons.explained(plan), "standard input" if file == "-" else file
+    head = HEAD.format(**titles(f"Timing plan: {name}"), style=STYLE,
+                       heading=f"Timing plan: {isolated(name)}", facts="")
     return "".join([head, count_broken(broken), count_warnings(plan),
                     plan_part(plan, broken=broken), END])
 
@@ -273,7 +278,8 @@ def facts(office, id, linked):
             "Next inspection due": office.register.due(id, it.interval) or "never inspected",
             "Open orders": len(office.open_orders(id)["open"]),
             "State": it.state, "Draft of": isolated(it.owner) if it.owner else "nobody",
-            "Verify status": VERDICTS[it.verdict()], "Revision": it.revision,
+            **({"Verify status": VERDICTS[it.verdict()]} if it.state in HANDED_OVER else {}),
+            "Revision": it.revision,
             "Committed rows": len(it.committed),
             "Warnings of the committed plan": len(warnings.warnings(it.committed)) or "none"}
     return (f"<dl>\n{''.join(fact(*pair) for pair in told.items())}</dl>\n"
@@ -374,7 +380,7 @@ def page(office, id, linked=False):
     """The page of an intersection, linked to the index or not, or refusal 10."""
     it = office.find(id)
     head = HEAD.format(
-        title=f"Intersection {id}: {quoted(it.name)}", style=STYLE,
+        **titles(f"Intersection {id}: {it.name}"), style=STYLE,
         heading=f"Intersection {id}: {isolated(it.name)}", facts=facts(office, id, linked))
     runs = count_warnings(it.committed) + plan_part(it.committed, " of the committed plan")
     parts = [section("plan", "The committed plan", runs)]
@@ -386,6 +392,11 @@ def page(office, id, linked=False):
 
 # ---- the index
 
+def link(id):
+    """The cell that heads a row, a link to the page of an intersection."""
+    return f"<th scope='row'><a href='{id}.html'>{id}</a></th>"
+
+
 def entry(office, id, day):
     """The row of an intersection, which begins with the link to its page, and whether it is
     overdue on the day, if one is given."""
@@ -394,18 +405,17 @@ def entry(office, id, day):
     due = office.register.due(id, it.interval)
     late = day is not None and (due is None or due < day)
     mark = " <strong class='late'>overdue</strong>" if late else ""
-    cells = [f"<th scope='row'><a href='{id}.html'>{id}</a></th>", word(isolated(it.name)),
+    cells = [link(id), word(isolated(it.name)), cell(f"{due or 'never inspected'}{mark}", "d"),
+             cell(len(office.open_orders(id)["open"])), cell(len(warnings.warnings(it.committed))),
              word(it.state), word(isolated(it.owner) if it.owner else "nobody"), cell(it.revision),
-             cell(len(it.committed)), cell(len(warnings.warnings(it.committed))),
-             cell(len(office.open_orders(id)["open"])), cell(last or "none", "d"),
-             cell(f"{due or 'never inspected'}{mark}", "d")]
+             cell(len(it.committed)), cell(last or "none", "d")]
     return late, f"<tr>{''.join(cells)}</tr>\n"
 
 
 def named_order(it, id, number, order):
     """The row of an open order with its intersection."""
-    cells = [first(id), word(isolated(it.name)), cell(number), cell(order.opened, "d"),
-             word(isolated(order.clerk)), word(isolated(order.text))]
+    cells = [link(id), cell(number), cell(order.opened, "d"), word(isolated(order.text)),
+             word(isolated(it.name)), word(isolated(order.clerk))]
     return f"<tr>{''.join(cells)}</tr>\n"
 
 
@@ -421,6 +431,6 @@ def index(office, day=None):
               for number, order in records_of(office.register.orders, id) if not order.closed]
     stock = [f"<tr>{word(isolated(it['part']))}{cell(it['count'])}</tr>\n"
              for it in office.register.stock()]
-    head = INDEX_HEAD.format(title="Intersections", style=STYLE, note=note)
+    head = INDEX_HEAD.format(**titles("Intersections"), style=STYLE, note=note)
     return "".join([head, table("Intersections", INTERSECTIONS, rows),
                     table("Open orders", NAMED_ORDERS, orders), table("Stock", STOCK, stock), END])

@@ -2,9 +2,11 @@
 import itertools
 
 from . import reasons, warnings
+from .letters import quoted, width
 from .rules import View, of_pattern
 
 LEFT, RIGHT, LEAST, LANES_TOP, PITCH, RISE = 120, 60, 900, 140, 120, 12
+LONGEST_NAME = 60  # places on a terminal
 BELOW, LINE = 60, 22  # what stands below the lanes: the scale, and a line for each warning
 # Of each stretch how far below the top of its lane it begins, how high it is, and its colour.
 BANDS = {
@@ -47,6 +49,14 @@ def line(x1, y1, x2, y2, width):
 def words(x, y, text, more=""):
     """Words at a point."""
     return f"<text x='{x}' y='{y}'{more}>{text}</text>"
+
+
+def owner(id, name, revision):
+    """Whose plan it is, above the title; a long name is drawn narrower."""
+    is_long = width(name) > LONGEST_NAME
+    more = " textLength='940' lengthAdjust='spacingAndGlyphs'" if is_long else ""
+    return words(120, 14, f"Intersection {id}: <tspan unicode-bidi='isolate'>{quoted(name)}</tspan>,"
+                 f" revision {revision}", f" font-size='16'{more}")
 
 
 def opening(number, width, height, in_page):
@@ -154,19 +164,28 @@ def scale(y, seconds):
         yield words(LEFT + 10 * at, y + 32, at, " text-anchor='middle'")
 
 
-def elements(plan, number, in_page):
-    """The lines of the picture of a pattern that the plan has."""
-    view = View(plan)
-    pattern = view.patterns[number]
+def chart(view, pattern):
+    """The lanes of a pattern by their rings, and for how many seconds they last."""
     rings = sorted({phase.ring for phase in view.phases.values()})
     lanes = [starts(view, pattern, ring) for ring in rings]
-    seconds = max([pattern.cycle, *(sum(it.time for _, it in lane) for lane in lanes)])
+    return rings, lanes, max([pattern.cycle, *(sum(it.time for _, it in lane) for lane in lanes)])
+
+
+def elements(plan, number, whose, in_page):
+    """The lines of the picture of a pattern that the plan has; all patterns of the plan have one
+    scale."""
+    view = View(plan)
+    pattern = view.patterns[number]
+    rings, lanes, seconds = chart(view, pattern)
+    room = max(chart(view, it)[2] for it in view.patterns.values())
     bottom = LANES_TOP + PITCH * len(lanes)
     warned = [] if in_page else warnings.in_pattern(view, pattern)
-    yield opening(number, LEFT + max(LEAST, 10 * seconds) + RIGHT,
+    yield opening(number, LEFT + max(LEAST, 10 * room) + RIGHT,
                   bottom + BELOW + LINE * len(warned), in_page)
     yield GROUND
-    yield words(120, 36, f"Pattern {number}: cycle {pattern.cycle} s, offset {pattern.offset} s, "
+    if whose:
+        yield owner(*whose)
+    yield words(120, 44, f"Pattern {number}: cycle {pattern.cycle} s, offset {pattern.offset} s, "
                 f"split {pattern.split}, sequence {pattern.sequence}", " font-size='28'")
     holds = dict(of_pattern(view, pattern))
     broken = [rule for rule in NAMED if not holds.get(rule, True)]
@@ -187,7 +206,7 @@ def elements(plan, number, in_page):
     yield "</svg>"
 
 
-def picture(plan, number, in_page=False):
-    """The picture of a pattern, to be printed on a sheet, with its warnings, or to stand in a page,
-    which has them below its rows."""
-    return "".join(f"{it}\n" for it in elements(plan, number, in_page))
+def picture(plan, number, whose=None, in_page=False):
+    """The picture of a pattern, to be printed on a sheet, with whose plan it is and its warnings, or
+    to stand in a page, which has them below its rows."""
+    return "".join(f"{it}\n" for it in elements(plan, number, whose, in_page))

@@ -6,7 +6,7 @@ A command is run over an office and over CSV texts by the names of their files."
 import typing
 
 from . import checking, commands, comparing, fields, hints, listings, pages, pictures
-from .padded import unpadded
+from .padded import is_blank, unpadded
 from .plan import apply, read_change
 from .refusal import Refused
 from .register import read_record
@@ -14,7 +14,8 @@ from .rows import noted
 from .tables import widened
 from .wire import read_each
 
-VALUED = ("--db", "--wait", "--clerk", "--until", "--day", "--first", "--file")
+VALUED = ("--db", "--wait", "--clerk", "--until", "--day", "--first", "--file", "--revision",
+          "--from", "--to", "--by-age")
 DIFFERS, HAS_REFUSED, INPUT = 4, 1, "-"
 
 
@@ -27,34 +28,40 @@ class Ran(typing.NamedTuple):
 
 
 class Fault(Exception):
-    """A command ends with this fault, which may have a second line."""
+    """A command ends with this fault, which may have a second line, perhaps after a text that it
+    printed."""
+
+    def __init__(self, line, out=""):
+        super().__init__(line)
+        self.out = out
 
 
 class Csv:
     """The records of a CSV text, and the line on which each begins."""
 
     def __init__(self, text, is_padded, called="record"):
-        records = fields.read_csv(text)
-        self.records = [*map(unpadded, records)] if is_padded else records
-        self.lines, self.called = list(hints.begins(text)), called
+        self.called, self.records, self.lines = called, [], []
+        for record, line in zip(fields.read_csv(text), hints.begins(text), strict=True):
+            if not is_padded or not is_blank(record):
+                self.records.append(unpadded(record) if is_padded else record)
+                self.lines.append(line)
 
-    def spelled(self, read, explains=False):
+    def spelled(self, read):
         """What the records spell; the first that spells nothing is a fault."""
         try:
             return read_each(read, self.records)
         except Refused as it:
             told = commands.fault(it).removeprefix("fault: record")
-            raise Fault(f"{self.called}{told}{self.hint(it) if explains else ''}") from None
+            raise Fault(f"{self.called}{told}") from None
 
-    def hint(self, bad):
-        """The second line of the fault of a bad record."""
-        at = bad.more["record"] - 1
-        hint = hints.hint(self.records[at], bad.more["fault"], bad.more["field"])
-        return f"\nline {self.lines[at]}, {hint}"
+    def explained(self, is_plan):
+        """A line for each bad record."""
+        line = self.called.replace("record", "line")
+        return hints.bad_records(self.records, self.lines, is_plan, line)
 
-    def plan(self, explains=False):
+    def plan(self):
         """The plan that the records make of none."""
-        return apply({}, self.spelled(read_change, explains))
+        return apply({}, self.spelled(read_change))
 
 
 def asked(words):
@@ -72,11 +79,12 @@ def asked(words):
 
 def judge_words(name, options, others):
     """Words that are no day, clerk, name or part are faults, before anything is read."""
-    words = {"day": [options.get("--until"), options.get("--day"), *others * (name == "overdue")],
-             "clerk": [options.get("--clerk")],
-             "name": others[2:] * (name == "add"), "part": others * (name == "used")}
-    for fault, form in (("day", fields.DAY), ("clerk", fields.CLERK), ("name", fields.NAME),
-                        ("part", fields.PART)):
+    days = [options.get(it) for it in ("--until", "--day", "--by-age", "--from", "--to")]
+    words = {"part": others * (name in ("used", "stock")),
+             "day": [*days, *others * (name == "overdue")], "clerk": [options.get("--clerk")],
+             "name": others[2:] * (name == "add")}
+    for fault, form in (("part", fields.PART), ("day", fields.DAY), ("clerk", fields.CLERK),
+                        ("name", fields.NAME)):
         if not all(form.has(it) for it in words[fault] if it is not None):
             raise Fault(fault)
 
@@ -88,42 +96,66 @@ class Program:
     def __init__(self, office, texts, is_old=False, is_missing=False):
         self.office, self.texts = office, texts
         self.is_old, self.is_missing, self.notes, self.copies = is_old, is_missing, [], {}
+        self.harm = None  # a row that is damaged
 
     def run(self, words):
         """Runs a command."""
         name, options, others = asked(words)
-        self.notes = []
+        self.notes, self.db = [], options.get("--db")
         try:
             judge_words(name, options, others)
             status, out = COMMANDS[name](self, options, *others)
             told = ""
         except Fault as it:
-            status, out, told = 1, "", f"fault: {it}\n"
+            status, out, told = 1, it.out, f"fault: {it}\n"
         except Refused as it:
+            self.note_refused(it, options, others)
             status, out, told = 1, "", f"{commands.fault(it)}\n"
         return Ran(status, out, "".join(f"{it}\n" for it in self.notes) + told)
 
+    def note(self, text):
+        """What is said before a fault."""
+        self.notes.append(f"note: {text}")
+
+    def note_refused(self, refused, options, others):
+        """What is said of an intersection that is not there, and of another clerk's draft."""
+        if refused.number == 10:
+            self.note(f"there is no intersection {int(others[0])} in {self.db}")
+        elif refused.number == 14:
+            self.note(f"{options['--clerk']} does not have the draft of intersection "
+                      f"{int(others[0])}; list says who has it")
+
     # ---- files
 
-    def csv(self, name, options, called="record"):
-        """A CSV file that is read."""
+    def csv(self, name, options, is_plan, called="record"):
+        """A CSV file that is read; where that is asked, each bad record is told."""
         if name not in self.texts:
+            self.note(f"the system refuses {name}: No such file or directory (os error 2)")
             raise Fault("file")
-        return Csv(self.texts[name], "--padded" in options, called)
+        csv = Csv(self.texts[name], "--padded" in options, called)
+        if "--explain" in options:
+            self.notes += csv.explained(is_plan)
+        return csv
 
     def plan_csv(self, name, options, called="record"):
         """A plan's file, with notes on keys that come again; none where it is no plan."""
-        csv = self.csv(name, options, called)
+        csv = self.csv(name, options, True, called)
         try:
             self.notes += noted(read_each(read_change, csv.records), called)
         except Refused:
             pass
         return csv
 
+    def found(self, fault="file"):
+        """Ends with a fault where the file of the office is not there."""
+        if self.is_missing:
+            self.note(f"there is no file {self.db}")
+            raise Fault(fault)
+
     def opened(self, makes=False):
         """The office, unless its file can't be opened."""
-        if self.is_missing and not makes:
-            raise Fault("file")
+        if not makes:
+            self.found()
         if self.is_old:
             raise Fault("version")
         return self.office
@@ -131,20 +163,30 @@ class Program:
     # ---- what is shown
 
     def listed(self, options, texts):
-        """A list as a text, or as CSV."""
-        return 0, texts["--csv" in options]
+        """A list as a text, or as CSV, perhaps with headings."""
+        return 0, texts[("--csv" in options) + ("--headings" in options)]
 
     def list(self, options):
         return self.listed(options, listings.intersections(self.opened()))
 
-    def stock(self, options):
+    def stock(self, options, part=None):
+        if part:
+            return 0, listings.part(self.opened(), part)
         return self.listed(options, listings.stock(self.opened()))
 
     def used(self, options, part=None):
-        return self.listed(options, listings.used(self.opened(), part))
+        between = (options["--from"], options["--to"]) if "--from" in options else None
+        return self.listed(options, listings.used(self.opened(), part, between))
+
+    def work(self, options):
+        return self.listed(options, listings.work(self.opened(), options["--from"],
+                                                  options["--to"]))
 
     def orders(self, options, id=None):
         office = self.opened()
+        if "--by-age" in options:
+            return self.listed(options, listings.orders_by_age(
+                office, options["--by-age"], id and int(id)))
         if id is None:
             return self.listed(options, listings.orders(office))
         return self.listed(options, listings.all_orders_of(office, int(id)))
@@ -167,22 +209,27 @@ class Program:
 
     def page(self, options, id=None):
         if "--file" in options:
-            return 0, pages.plan_page(self.plan_csv(options["--file"], options).plan())
+            plan = self.plan_csv(options["--file"], options).plan()
+            return 0, pages.plan_page(plan, options["--file"])
         return 0, pages.page(self.opened(), int(id))
 
     def diagram(self, options, *numbers):
         if "--file" in options:
-            plan = self.plan_csv(options["--file"], options).plan()
+            of, whose = options["--file"], None
+            plan = self.plan_csv(of, options).plan()
         else:
-            plan = self.opened().find(int(numbers[0])).committed
+            of = f"intersection {int(numbers[0])}"
+            it = self.opened().find(int(numbers[0]))
+            plan, whose = it.committed, (numbers[0], it.name, it.revision)
         try:
-            return 0, pictures.picture(plan, int(numbers[-1]))
+            return 0, pictures.picture(plan, int(numbers[-1]), whose)
         except KeyError:
+            self.note(f"there is no pattern {int(numbers[-1])} in the plan of {of}")
             raise Fault("unknown pattern") from None
 
     def verify(self, options, name):
         explains = "--explain" in options
-        plan = self.plan_csv(name, options).plan(explains)
+        plan = self.plan_csv(name, options).plan()
         broken = commands.violation_lines(plan, explains)
         status = 0 if broken == "no violations\n" else commands.BREAKS_A_RULE
         return status, broken + (commands.warning_lines(plan) if "--advise" in options else "")
@@ -204,15 +251,22 @@ class Program:
     def add(self, options, id, interval, name):
         return ran(commands.add(self.opened(makes=True), int(id), int(interval), name))
 
+    def judge_days(self, csv, until, out=""):
+        """A record of a later day is a fault, perhaps after a text that was printed."""
+        for at, (_, values) in enumerate(csv.spelled(read_record) if until else (), 1):
+            if values.get("day", "") > until:
+                raise Fault(f"record {at}: Late", out)
+
     def take(self, options, name):
-        csv, until = self.csv(name, options), options.get("--until")
-        late = (at for at, (_, values) in enumerate(csv.spelled(read_record) if until else (), 1)
-                if values.get("day", "") > until)
-        for at in late:
-            raise Fault(f"record {at}: Late")
+        csv, until = self.csv(name, options, False), options.get("--until")
+        tries = "--check" in options
+        if not tries:
+            self.judge_days(csv, until)
         office, records = self.opened(), csv.spelled(read_record)
-        if "--check" in options:
+        self.notes += checking.record_notes(office, records)
+        if tries:
             text, has_refused = checking.checked(office, records, csv.lines)
+            self.judge_days(csv, until, text)
             return has_refused * HAS_REFUSED, text
         told = office.take(records)
         return 0, f"added {told['added']}, same {told['same']}\n"
@@ -221,10 +275,18 @@ class Program:
         csv = self.plan_csv(name, options) if name else Csv("", False)
         office, (replaces, commits, explains, advises) = self.opened(), (
             it in options for it in ("--replace", "--commit", "--explain", "--advise"))
-        csv.spelled(read_change, explains)
+        csv.spelled(read_change)
+        before = office.find(int(id))
+        if options.get("--revision", str(before.revision)) != str(before.revision):
+            raise Fault(f"revision: {before.revision} is committed")
+        committed = before.committed
         try:
-            return ran(commands.edit(office, int(id), options["--clerk"], csv.records, commits,
+            came = ran(commands.edit(office, int(id), options["--clerk"], csv.records, commits,
                                      replaces, explains, advises))
+            if came[1] != "no changes\n":
+                self.notes += commands.edit_notes(office, int(id), committed, csv.records,
+                                                  bool(name) and not replaces, self.harm)
+            return came
         except Refused as it:
             if explains and it.number == 14:
                 raise Fault(f"NotOwner\nheld by {office.find(int(id)).owner}") from None
@@ -234,15 +296,14 @@ class Program:
         return ran(commands.abandon(self.opened(), int(id), options["--clerk"]))
 
     def migrate(self, options):
-        if self.is_missing:
-            raise Fault("version")
+        self.found("version")
         rewritten, self.is_old = widened(self.office) if self.is_old else 0, False
         return 0, f"migrated {rewritten} rows\n"
 
     def backup(self, options, to):
-        if self.is_missing:
-            raise Fault("file")
+        self.found()
         if to in self.copies and "--force" not in options:
+            self.note(f"{to} is there; --force replaces it")
             raise Fault("exists")
         self.copies[to] = self.opened().copy()
         return 0, "copied\n"
@@ -270,6 +331,7 @@ def ran(steps):
 
 COMMANDS = {
     "list": Program.list, "stock": Program.stock, "used": Program.used, "orders": Program.orders,
+    "work": Program.work,
     "overdue": Program.overdue, "sheet": Program.sheet, "cabinet": Program.cabinet,
     "export": Program.export, "page": Program.page, "diagram": Program.diagram,
     "verify-file": Program.verify, "compare": Program.compare, "add": Program.add,

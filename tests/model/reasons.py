@@ -123,11 +123,24 @@ def of_pattern(view, pattern, rule):
     return conflict(view, list(view.lanes(pattern)), pattern.cycle)
 
 
+def rest(view, pattern, ring, seconds):
+    """What is told of a ring that lacks so many seconds, where another ring has just them in splits
+    of phases with which none of the ring may time."""
+    own = {it for it, phase in view.phases.items() if phase.ring == ring}
+    for other in sorted({phase.ring for phase in view.phases.values()} - {ring}):
+        beside = [it for it, phase in view.phases.items()
+                  if phase.ring == other and not own & {*phase.mates}]
+        splits = (view.splits.get((pattern.split, it)) for it in beside)
+        if 0 < sum(it.time for it in splits if it) == seconds:
+            return (f"; exactly what ring {other} times where this ring has no phase: "
+                    f"{' '.join(map(str, beside))}")
+    return ""
+
+
 def other_sums(view, pattern):
-    """Each ring whose splits add up to another time than the cycle."""
+    """Each ring whose splits add up to another time than the cycle, with that time."""
     used = sorted({phase.ring for phase in view.phases.values()})
-    return [f"ring {ring} adds up to {len(lane)} s, the cycle is {pattern.cycle} s"
-            for ring, lane in zip(used, view.lanes(pattern), strict=True)
+    return [(ring, len(lane)) for ring, lane in zip(used, view.lanes(pattern), strict=True)
             if len(lane) != pattern.cycle]
 
 
@@ -142,11 +155,24 @@ def why(view, subject, rule):
     if kind == "split":
         return [of_split(view, view.splits[numbers])]
     pattern = view.patterns[numbers[0]]
-    return other_sums(view, pattern) if rule == "V12" else [of_pattern(view, pattern, rule)]
+    if rule == "V12":
+        return [f"ring {ring} adds up to {seconds} s, the cycle is {pattern.cycle} s"
+                for ring, seconds in other_sums(view, pattern)]
+    return [of_pattern(view, pattern, rule)]
+
+
+def behind(view, subject, rule):
+    """What is told behind each reason why a subject breaks a rule."""
+    if rule != "V12":
+        return [""]
+    pattern = view.patterns[int(subject.removeprefix("pattern "))]
+    return [rest(view, pattern, ring, pattern.cycle - seconds)
+            for ring, seconds in other_sums(view, pattern)]
 
 
 def explained(plan):
     """A line for each violation of a plan, with its reason."""
     view = View(plan)
-    return [f"{it['subject']} {it['rule']}: {reason}" for it in violations(plan)
-            for reason in why(view, it["subject"], it["rule"])]
+    return [f"{it['subject']} {it['rule']}: {reason}{more}" for it in violations(plan)
+            for reason, more in zip(why(view, it["subject"], it["rule"]),
+                                    behind(view, it["subject"], it["rule"]), strict=True)]

@@ -29,6 +29,7 @@ def played(office, asked):
     return " ".join(answer(office, method, target, body.encode()))
 
 
+MOST_NOTES = 100
 NOTED = {"phase": "phase {}", "seq": "sequence {} ring {}", "split": "split {} phase {}",
          "pattern": "pattern {}"}
 
@@ -69,7 +70,7 @@ def verified(text, flags):
         number, name, field = (it.more[word] for word in ("record", "fault", "field"))
         fault = f"fault: record {number}: {name}{f' {field}' if field else ''}"
         records = fields.read_csv(text)
-        return [fault] + explain * [hints.second_line(text, records, number, name, field)]
+        return explain * hints.bad_records(records, [*hints.begins(text)], True) + [fault]
     made = plan.apply({}, changes)
     if explain:
         found = reasons.explained(made)
@@ -81,7 +82,7 @@ def verified(text, flags):
 
 def noted(changes, called="record"):
     """The notes on the records, called so, that put or remove a key again, each after the latest
-    before it."""
+    before it: the first hundred, and then how many more there are."""
     last, notes = {}, []
     for number, (key, row) in enumerate(changes, 1):
         if key in last:
@@ -89,6 +90,8 @@ def noted(changes, called="record"):
             notes.append(f"note: {called} {number} {deed} {words.format(*key[1:])} again, "
                          f"after record {last[key]}")
         last[key] = number
+    if more := len(notes[MOST_NOTES:]):
+        notes[MOST_NOTES:] = [f"note: {more} more {called}s put or remove a key again"]
     return notes
 
 
@@ -136,9 +139,10 @@ def shown(offices, files, words):
         elif name == "page" and len(rest) == 1 and "--db" in flags:
             return pages.page(office, int(rest[0]))
         elif name == "page" and not rest and flags.get("--file") in files:
-            return pages.plan_page(plan_of(csv))
+            return pages.plan_page(plan_of(csv), flags["--file"])
         elif name == "diagram" and "--db" in flags:
-            return pictures.picture(office.find(int(rest[0])).committed, int(rest[1]))
+            it = office.find(int(rest[0]))
+            return pictures.picture(it.committed, int(rest[1]), (rest[0], it.name, it.revision))
         elif name == "diagram" and flags.get("--file") in files:
             return pictures.picture(plan_of(csv), int(rest[0]))
     except (Refused, KeyError, IndexError, ValueError):

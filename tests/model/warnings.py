@@ -6,6 +6,7 @@ from .reasons import tenths
 from .rules import View, need
 
 PEDESTRIAN_RECALLS, OMITTED = (5, 6), 7
+HALF_SECOND, NARROWEST, WIDEST = 5, 200, 2_000  # tenths of a second, and of a foot
 
 
 def rings(view):
@@ -31,10 +32,17 @@ def of_phase(view, phase):
     patterns = view.patterns.values()
     if patterns and not any(serves(view, it, phase.number) for it in patterns):
         yield "no pattern serves it"
+    for what, value in (("the passage", phase.passage), ("red", phase.red)):
+        if value < HALF_SECOND:
+            yield f"{what} is {tenths(value)} s, less than 0.5 s"
     if phase.clear == 0:
         yield f"the crossing of {tenths(phase.width)} ft has a clearance of 0 s"
     if phase.width == 0:
         yield "the width of the crossing is 0 ft, not measured"
+    if phase.width is not None and 0 < phase.width < NARROWEST:
+        yield f"the crossing is {tenths(phase.width)} ft wide, less than {tenths(NARROWEST)} ft"
+    if phase.width is not None and phase.width > WIDEST:
+        yield f"the crossing is {tenths(phase.width)} ft wide, more than {tenths(WIDEST)} ft"
 
 
 def called(phase, split):
@@ -80,9 +88,23 @@ def together(view, pattern, one, other):
     return begin < other_end and other_begin < end
 
 
+def crowded(view, pattern):
+    """A phase that takes more than half of the cycle, with another one of its ring whose split
+    could not be a second shorter: the first two."""
+    splits = {it: view.splits.get((pattern.split, it)) for it in view.phases}
+    longest = [it for it, split in splits.items() if split and 2 * split.time > pattern.cycle]
+    tight = [it for it, split in splits.items() if split and split.mode != OMITTED
+             and need(view.phases[it], split.mode) > max(10 * split.time - 10, 0)]
+    pairs = ((one, other) for one in longest for other in tight
+             if one != other and view.phases[one].ring == view.phases[other].ring)
+    for one, other in itertools.islice(pairs, 1):
+        yield (f"phase {one} takes {splits[one].time} s of the cycle of {pattern.cycle} s, and "
+               f"phase {other} has no second more than it needs")
+
+
 def of_pattern(view, pattern):
     """The first two coordinated phases that do not time together; where there are such and every
-    phase is coordinated, that."""
+    phase is coordinated, that. Then a split that leaves another one at its need."""
     splits = {it: view.splits.get((pattern.split, it)) for it in view.phases}
     coordinated = [it for it, split in splits.items() if split and split.coord]
     pairs = itertools.combinations(coordinated, 2)
@@ -91,6 +113,7 @@ def of_pattern(view, pattern):
         yield f"each of the {len(coordinated)} phases is coordinated"
     elif apart:
         yield f"phases {apart[0]} and {apart[1]} are coordinated and do not time together"
+    yield from crowded(view, pattern)
 
 
 def of_plan(view):

@@ -3,15 +3,15 @@ use Rattle.std.proofs.Common.{◌≡◌, ◌⊎◌, ℕ, true, false, cond, List
 use Rattle.std.proofs.lemmas.Bool.{cases_Bool}
 use Rattle.std.specs.{Cmp.tied_itself, FinMap.get, List.AllByRecursion, List.Sorted.IsStrictlySortedBy, Ordering.eq_by_cmp, Ordering.is_eq, declared.cmp.Ordering.TheVariants.Less}
 use Rattle.signal_records.specs.{Key.key_cmp, KeyOrder.key_total, TimingSet.Rows, declared.key.Key.Key, declared.record.Row.Row, declared.record.Change.Change, declared.record.Change.TheVariants.Put, ChangedRows.changed_key, declared.state.Holding.Holding, declared.state.Verdict.Verdict}
-use Rattle.draft_core.specs.{declared.step.Step.Step, declared.timing.Move.Move, declared.timing.Reach.Reach, Drafting.AreAmong, Moves.move_to, declared.timing.Timing.Timing, DraftRows.Said, DraftRows.silent, DraftRows.said_by, DraftRows.later_of, DraftRows.overlaid_row, DraftRows.row_at, Drafting.is_said, Moves.committed_by, Moves.said_after, News.AddsOnlyNew, News.AreInOrder, News.AreNew, News.AreNewAt, News.IsNewAt, Steps.StepWrites, Steps.asked_changes, Steps.reach_of, Writes.abandon_rows, Writes.settled_by, Writes.commit_rows}
-use Rattle.signal_records.specs.declared.state.Holding.TheVariants.{Dropped}
+use Rattle.draft_core.specs.{declared.step.Step.Step, declared.timing.Move.Move, declared.timing.Reach.Reach, Drafting.AreAmong, Moves.move_to, declared.timing.Timing.Timing, DraftRows.Said, DraftRows.silent, DraftRows.said_by, DraftRows.later_of, DraftRows.overlaid_row, DraftRows.row_at, Drafting.is_said, Moves.committed_by, Moves.said_after, News.AddsOnlyNew, News.AreInOrder, News.AreNew, News.AreNewAt, News.IsNewAt, Steps.StepWrites, Steps.asked_changes, Steps.reach_of, Writes.settled_by, Writes.commit_rows}
+use Rattle.signal_records.specs.declared.state.DbState.TheVariants.{Normal}
 use Rattle.draft_core.specs.declared.step.Step.TheVariants.{Commit}
 use Rattle.draft_core.specs.declared.refusal.DraftRefusal.{DraftRefusal}
 use Rattle.draft_core.specs.Moves.{draft_writes, drafted_in, timing_writes}
 use Rattle.draft_core.specs.Revising.{RevisionWrites, WritesRows}
 use Rattle.draft_core.specs.declared.timing.Reach.TheVariants as reach
 use Rattle.draft_core.proofs.{OnlyChanges.same_key, Pushed.later_of-silent}
-use Rattle.draft_core.proofs.Written.{abandon_rows_writes, commit_rows_writes, committing, drafted_in-commit_rows, settled_commits, settled_either}
+use Rattle.draft_core.proofs.Written.{commit_rows_writes, committing, drafted_in-commit_rows, settled_commits, settled_either}
 
 -- ---- of which keys changes say something
 
@@ -134,32 +134,30 @@ module _ (timing : Timing) (settled : List Change) where
       ap drafted_in made ∙ drafted_in-commit_rows timing.committed timing.delta settled
 
   writes : (move : Move) → WritesSettled move → (timing_writes move.changes ≡ length settled)
-      × (draft_writes move.changes ≡ length (abandon_rows timing.delta))
+      × (draft_writes move.changes ≡ length timing.delta)
   writes move made = subst (λ list. (timing_writes list ≡ length settled)
-      × (draft_writes list ≡ length (abandon_rows timing.delta))) (sym made)
+      × (draft_writes list ≡ length timing.delta)) (sym made)
       (commit_rows_writes timing.committed timing.delta settled)
 
   -- as the step commit, of the draft rows
   pub step_settles : settled ≡ timing.delta → (result : Result Move DraftRefusal)
       → IfOk result WritesSettled → IfOk result (StepWrites Commit timing)
   step_settles same (Err why) made = tt
-  step_settles same (Ok move) made =
-      let few = abandon_rows_writes timing.delta in
-      record {
-        news = λ order. news move made (subst AreInOrder (sym same) order);
-        drafts = among_none (drafted_in move.changes) [] (drafts_none move made);
-        committed = omega (arith, (writes move made).0, ap length same);
-        drafted = omega (arith, (writes move made).1, few.2);
-      }
+  step_settles same (Ok move) made = record {
+    news = λ order. news move made (subst AreInOrder (sym same) order);
+    drafts = among_none (drafted_in move.changes) [] (drafts_none move made);
+    committed = omega (arith, (writes move made).0, ap length same);
+    drafted = omega (arith, (writes move made).1);
+  }
 
   -- and as a revision
   pub revision_settles : (edits : List Change) (result : Result Move DraftRefusal)
-      → IfOk result (λ move. move.holder ≡ Dropped) → IfOk result WritesSettled
+      → IfOk result (λ move. move.state ≡ Normal) → IfOk result WritesSettled
       → IfOk result (RevisionWrites timing edits settled)
-  revision_settles edits (Err why) dropped made = tt
-  revision_settles edits (Ok move) dropped made = record {
+  revision_settles edits (Err why) normal made = tt
+  revision_settles edits (Ok move) normal made = record {
     news = λ old order. news move made order;
     drafts = among_none (drafted_in move.changes) edits (drafts_none move made);
-    rows = subst (λ holder. WritesRows holder timing.delta edits settled move.changes)
-        (sym dropped) (writes move made);
+    rows = subst (λ state. WritesRows state timing.delta edits settled move.changes)
+        (sym normal) (writes move made);
   }

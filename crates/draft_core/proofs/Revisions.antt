@@ -1,20 +1,19 @@
 -- What the lines of a revision's steps come to.
-use Rattle.std.proofs.Common.{◌≡◌, ◌≤◌, ℕ, ◌==◌, Bool, cond, not, true, false, List, [], ◌∷◌, ◌++◌, length, Option, Some, None, Result, Ok, Err, refl, ap, sym, subst, ◌∙◌}
+use Rattle.std.proofs.Common.{◌≡◌, ℕ, ◌==◌, Bool, cond, not, true, false, List, [], ◌∷◌, ◌++◌, length, Option, Some, None, Result, Ok, Err, refl, ap, sym, subst, ◌∙◌}
 use Rattle.std.proofs.lemmas.Slice.Eq.{bytes_eq-Decides}
 use Rattle.std.specs.{Option.option_map, Str.bytes_eq}
 use Rattle.signal_rules.specs.{Violations.violations_of, declared.violation.Violation.Violation}
 use Rattle.signal_records.specs.{TimingSet.Rows, TimingSet.after_changes, declared.record.Change.Change}
-use Rattle.signal_records.specs.declared.state.DbState.TheVariants.{Normal, Transaction as InTransaction}
 use Rattle.signal_records.specs.declared.state.Holding.{Holding}
-use Rattle.signal_records.specs.declared.state.Holding.TheVariants.{Begun, Kept, Dropped}
+use Rattle.signal_records.specs.declared.state.Holding.TheVariants.{Begun, Kept}
 use Rattle.signal_records.specs.declared.state.Stage.{Stage}
 use Rattle.signal_records.specs.declared.state.Stage.TheVariants.{Transaction, Verify, Done}
-use Rattle.draft_core.specs.{declared.step.Step.Step, declared.refusal.DraftRefusal.DraftRefusal, declared.timing.Timing.Timing, declared.timing.TimingChange.TimingChange, DraftRows.RowsByKey, DraftRows.Stands}
-use Rattle.draft_core.specs.Moves.{draft_writes, next_holder, state_after, timing_writes}
+use Rattle.draft_core.specs.{declared.step.Step.Step, declared.refusal.DraftRefusal.DraftRefusal, declared.timing.Timing.Timing, DraftRows.RowsByKey, DraftRows.Stands}
+use Rattle.draft_core.specs.Moves.{next_holder}
 use Rattle.draft_core.specs.declared.timing.Reach.TheVariants as reach
 use Rattle.draft_core.specs.declared.step.Step.TheVariants as step
 use Rattle.draft_core.specs.declared.refusal.DraftRefusal.TheVariants.{NotOwner}
-use Rattle.draft_core.specs.Revising.{WritesRows, and_then, base_of, committing, lines_of, opening_steps, revision_steps, take_up, taking_up}
+use Rattle.draft_core.specs.Revising.{and_then, base_of, committing, lines_of, opening_steps, revision_steps, take_up, taking_up}
 use Rattle.draft_core.specs.Transaction.{TimingSide, Draft, committed_with, holder_of}
 
 -- nothing comes after the last step
@@ -167,13 +166,3 @@ pub breaks_stay : (commit : Bool) (found : List Violation) → (length found == 
 breaks_stay false found e = refl
 breaks_stay true [] e = absurd (let f : true ≡ false = e in cc)
 breaks_stay true (violation ∷ found) e = refl
-
--- a draft that stays open has draft rows written alone
-pub open_writes : (holder : Holding) → state_after holder ≡ InTransaction
-    → (delta edits settled : List Change) (written : List TimingChange)
-    → timing_writes written ≡ 0 → draft_writes written ≤ length edits
-    → WritesRows holder delta edits settled written
-open_writes Begun opens delta edits settled written none few = (none, few)
-open_writes (Kept stage) opens delta edits settled written none few = (none, few)
-open_writes Dropped opens delta edits settled written none few =
-    absurd (let f : Normal ≡ InTransaction = opens in cc)

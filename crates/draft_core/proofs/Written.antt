@@ -131,13 +131,12 @@ committing_writes set (change ∷ changes) =
 
 pub commit_rows_writes : (set : Rows) (delta changes : List Change)
     → (timing_writes (commit_rows set delta changes) ≡ length changes)
-    × (draft_writes (commit_rows set delta changes) ≡ length (abandon_rows delta))
+    × (draft_writes (commit_rows set delta changes) ≡ length delta)
 commit_rows_writes set [] changes = committing_writes set changes
 commit_rows_writes set (row ∷ delta) changes =
     let all = committing_writes set changes in (omega (arith, all.0), omega (arith, all.1))
 
 pub abandon_rows_writes : (delta : List Change) → (timing_writes (abandon_rows delta) ≤ 0)
     × (draft_writes (abandon_rows delta) ≤ length delta)
-    × (length (abandon_rows delta) ≤ length delta)
-abandon_rows_writes [] = (omega arith, omega arith, omega arith)
-abandon_rows_writes (row ∷ delta) = (omega arith, omega arith, omega arith)
+abandon_rows_writes [] = (omega arith, omega arith)
+abandon_rows_writes (row ∷ delta) = (omega arith, omega arith)

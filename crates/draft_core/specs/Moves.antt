@@ -32,7 +32,7 @@ committed_by (Committed change) key committed = overlaid_row committed (said_at 
 committed_by (DraftedNew change) key committed = committed
 committed_by (Drafted change) key committed = committed
 committed_by (DraftGone gone) key committed = committed
-committed_by DraftDropped key committed = committed
+committed_by (DraftDropped rows) key committed = committed
 
 -- the committed row at a key after changes
 abbrev pub committed_after : List TimingChange → Key → Option Row → Option Row
@@ -47,7 +47,7 @@ said_after (Committed change) key said = said
 said_after (DraftedNew change) key said = later_of (said_at change key) said
 said_after (Drafted change) key said = later_of (said_at change key) said
 said_after (DraftGone gone) key said = cond (eq_by_cmp key_cmp key gone) silent said
-said_after DraftDropped key said = silent
+said_after (DraftDropped rows) key said = silent
 
 -- what the draft rows say of a key after changes
 abbrev pub row_after : List TimingChange → Key → Said → Said
@@ -61,21 +61,21 @@ timing_write (Committed change) = 1
 timing_write (DraftedNew change) = 0
 timing_write (Drafted change) = 0
 timing_write (DraftGone gone) = 0
-timing_write DraftDropped = 0
+timing_write (DraftDropped rows) = 0
 
 -- how many timing rows changes write
 abbrev pub timing_writes : List TimingChange → ℕ
 timing_writes [] = 0
 timing_writes (change ∷ changes) = timing_writes changes + timing_write change
 
--- how many draft rows a change writes; to drop them all is one write
+-- how many draft rows a change writes; to drop them all writes each
 abbrev pub draft_write : TimingChange → ℕ
 draft_write (CommittedNew row) = 0
 draft_write (Committed change) = 0
 draft_write (DraftedNew change) = 1
 draft_write (Drafted change) = 1
 draft_write (DraftGone gone) = 1
-draft_write DraftDropped = 1
+draft_write (DraftDropped rows) = rows
 
 -- how many draft rows changes write
 abbrev pub draft_writes : List TimingChange → ℕ
@@ -90,7 +90,7 @@ drafted_in (Committed change ∷ changes) = drafted_in changes
 drafted_in (DraftedNew change ∷ changes) = change ∷ drafted_in changes
 drafted_in (Drafted change ∷ changes) = change ∷ drafted_in changes
 drafted_in (DraftGone gone ∷ changes) = drafted_in changes
-drafted_in (DraftDropped ∷ changes) = drafted_in changes
+drafted_in (DraftDropped rows ∷ changes) = drafted_in changes
 
 -- ---- a move, and the timing side that it makes
 

@@ -30,7 +30,7 @@ IsNewAt (Committed change) key committed said = Unit {0}
 IsNewAt (DraftedNew change) key committed said = key ≡ changed_key change → said ≡ silent
 IsNewAt (Drafted change) key committed said = Unit {0}
 IsNewAt (DraftGone gone) key committed said = Unit {0}
-IsNewAt DraftDropped key committed said = Unit {0}
+IsNewAt (DraftDropped rows) key committed said = Unit {0}
 
 -- under a key, each row that the changes add is new when its turn comes
 abbrev pub AreNewAt : List TimingChange → Key → Option Row → Said → Type 0
@@ -51,7 +51,7 @@ AddsNone (Committed change) = Unit {0}
 AddsNone (DraftedNew change) = ⊥
 AddsNone (Drafted change) = Unit {0}
 AddsNone (DraftGone gone) = Unit {0}
-AddsNone DraftDropped = Unit {0}
+AddsNone (DraftDropped rows) = Unit {0}
 
 -- ROWS THAT ARE ADDED ARE NEW. A step that reads the plan adds a committed row only where no committed
 -- row stands under its key, and a draft row only where no draft row does, if it read the draft rows in

@@ -3,9 +3,11 @@ use Rattle.std.specs.Prelude.{◌≡◌, ◌≤◌, ℕ, Bool, true, List, [], �
 use Rattle.std.specs.Str.{bytes_eq}
 use Rattle.signal_records.specs.TimingSet.{Rows, after_changes}
 use Rattle.signal_records.specs.declared.record.Change.{Change}
+use Rattle.signal_records.specs.declared.state.DbState.{DbState}
+use Rattle.signal_records.specs.declared.state.DbState.TheVariants.{Normal}
 use Rattle.signal_records.specs.declared.state.Holder.{Holder}
 use Rattle.signal_records.specs.declared.state.Holding.{Holding}
-use Rattle.signal_records.specs.declared.state.Holding.TheVariants.{Begun, Kept, Dropped}
+use Rattle.signal_records.specs.declared.state.Holding.TheVariants.{Begun, Kept}
 use Rattle.signal_records.specs.declared.state.Stage.{Stage}
 use Rattle.signal_records.specs.declared.state.Stage.TheVariants.{Transaction, Verify, Done}
 use Rattle.signal_rules.specs.Violations.{violations_of}
@@ -15,7 +17,6 @@ use Rattle.draft_core.specs.DraftRows.{RowsByKey, Stands}
 use Rattle.draft_core.specs.Moves.{Follows, draft_writes, drafted_in, timing_writes}
 use Rattle.draft_core.specs.News.{AreInOrder, AreNew}
 use Rattle.draft_core.specs.Transaction.{Draft, TimingSide, table_line}
-use Rattle.draft_core.specs.Writes.{abandon_rows}
 use Rattle.draft_core.specs.declared.refusal.DraftRefusal.{DraftRefusal}
 use Rattle.draft_core.specs.declared.refusal.DraftRefusal.TheVariants.{NotOwner}
 use Rattle.draft_core.specs.declared.step.Step.{Step}
@@ -76,17 +77,17 @@ take_up (Some holder) clerk =
 
 -- ---- what it writes
 
--- how many rows are written: a commit writes one timing row for each change of the committed set and drops the draft rows, if there are any; else there is at most
--- one write of a draft row for each edit
-abbrev pub WritesRows : Holding → (delta edits settled : List Change) → List TimingChange → Type 0
-WritesRows Dropped delta edits settled written = (timing_writes written ≡ length settled) × (draft_writes written ≡ length (abandon_rows delta))
-WritesRows holding delta edits settled written = (timing_writes written ≡ 0) × (draft_writes written ≤ length edits)
+-- how many rows are written, by the state after it: a commit writes one timing row for each change of the committed set and drops each draft row; else there is
+-- at most one write of a draft row for each edit
+abbrev pub WritesRows : DbState → (delta edits settled : List Change) → List TimingChange → Type 0
+WritesRows Normal delta edits settled written = (timing_writes written ≡ length settled) × (draft_writes written ≡ length delta)
+WritesRows state delta edits settled written = (timing_writes written ≡ 0) × (draft_writes written ≤ length edits)
 
 -- a revision stores as draft rows only its edits, adds only rows that are new, and writes no more rows than it has to
 pub record RevisionWrites (timing : Timing) (edits settled : List Change) (move : Move) : Type 0 where
   pub news : AreInOrder timing.delta → AreInOrder settled → AreNew timing.committed timing.delta move.changes
   pub drafts : AreAmong (drafted_in move.changes) edits
-  pub rows : WritesRows move.holder timing.delta edits settled move.changes
+  pub rows : WritesRows move.state timing.delta edits settled move.changes
 
 -- A PLAN IS REVISED by edits of what a clerk goes on with, which make of it what `settled` makes of the committed set: the decision follows the lines of the
 -- steps of a revision, whatever the timing side, whose committed set breaks no rule

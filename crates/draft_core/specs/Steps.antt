@@ -86,7 +86,7 @@ abbrev pub most_committed : Step → ℕ → ℕ
 most_committed step.Commit rows = rows
 most_committed _ rows = 0
 
--- the most draft rows that a step writes, of a draft with so many rows; to drop them all is one write
+-- the most draft rows that a step writes, of a draft with so many rows
 abbrev pub most_drafted : Step → ℕ → ℕ
 most_drafted (step.Edit changes) rows = length changes
 most_drafted step.Commit rows = rows

@@ -1,5 +1,5 @@
 -- The rows that are written to abandon a draft, and to commit changes.
-use Rattle.std.specs.Prelude.{List, [], ◌∷◌, ◌++◌, map, Option, Some, None}
+use Rattle.std.specs.Prelude.{List, [], ◌∷◌, ◌++◌, length, map, Option, Some, None}
 use Rattle.std.specs.FinMap.{get}
 use Rattle.signal_records.specs.Row.{key_of}
 use Rattle.signal_records.specs.TimingSet.{Rows}
@@ -12,7 +12,7 @@ use Rattle.draft_core.specs.declared.timing.TimingChange.TheVariants.{CommittedN
 -- the change that drops the draft rows, where there are any
 abbrev pub abandon_rows : List Change → List TimingChange
 abandon_rows [] = []
-abandon_rows (change ∷ changes) = DraftDropped ∷ []
+abandon_rows (change ∷ changes) = DraftDropped (length (change ∷ changes)) ∷ []
 
 -- the change that puts a row over what is committed under its key; the row is new where nothing is
 abbrev pub put_over : Option Row → Row → TimingChange

@@ -2,6 +2,7 @@
 
 ghost use Rattle.std.specs.Prelude.{◌≡◌, [], Some, IfErr, IfOk, List, ℕ};
 ghost use Rattle.signal_records.specs.TimingSet.{after_changes};
+ghost use Rattle.signal_records.specs.declared.state.DbState.TheVariants as state;
 ghost use Rattle.signal_rules.specs.Violations.{violations_of};
 ghost use Rattle.draft_core.specs.Transaction.{TimingSide, Draft, committed_with};
 ghost use Rattle.draft_core.specs.Drafting.{KeepsOnlyChanges};
@@ -164,7 +165,7 @@ pub(crate) fn commit_settled(
         after_changes timing.now.committed settled.now ≡ draft.set →
         Follows rows side clerk result (committed_with side draft []) }
     ensures refuses { IfErr result IsUnsettled }
-    ensures holder { IfOk result (λ move. move.holder ≡ Holding.Dropped) }
+    ensures state { IfOk result (λ move. move.state ≡ state.Normal) }
     ensures writes { IfOk result (λ move.
         move.changes ≡ commit_rows timing.now.committed timing.now.delta settled.now) }
 {

@@ -42,8 +42,8 @@ pub enum TimingChange {
     Drafted(Change),
     /// The draft row under the key goes.
     DraftGone(Key),
-    /// All draft rows go.
-    DraftDropped,
+    /// All draft rows go, which are so many.
+    DraftDropped(usize),
 }
 
 /// Rows that a decision changes, in their order.

@@ -13,7 +13,7 @@ fn drop_rows(alloc: Global, changes: &[Change]) -> Result<Vec<TimingChange>, NoM
 {
     let mut made = Vec::new(alloc);
     if !changes.is_empty() {
-        made.push(TimingChange::DraftDropped)?;
+        made.push(TimingChange::DraftDropped(changes.len()))?;
     }
     Ok(made)
 }

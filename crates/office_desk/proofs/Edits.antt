@@ -7,7 +7,7 @@ use Rattle.office_machine.specs.Office.{Office}
 use Rattle.office_machine.specs.declared.{refusal.Refusal.TheVariants.Unavailable, reply.Reply.Reply, reply.Reply.TheVariants.Refused}
 use Rattle.office_machine.specs.declared.refusal.Refusal.TheVariants as refusal
 use Rattle.office_tables_decisions.specs.declared.decided.Decided.{Decided}
-use Rattle.office_tables_shelf.specs.{Change.changed_by, Content.Content, Counts.counts_after, Keeps.KeepsShelf}
+use Rattle.office_tables_shelf.specs.{Change.AddNew, Change.changed_by, Content.Content, Counts.counts_after, Keeps.KeepsShelf}
 use Rattle.office_tables_shelf.specs.declared.{rows.RowChange.RowChange, shelf.Shelf.Ghosts, shelf.ShelfFault.ShelfFault}
 use Rattle.office_tables_shelf.specs.declared.shelf.ShelfFault.TheVariants.{Damaged}
 use Rattle.office_desk_timing.specs.Decisions.{refusal_of}
@@ -15,7 +15,7 @@ use Rattle.office_desk_timing.specs.Revising.{AnswersAnyEdit, AnswersEdit, Edits
 use Rattle.office_desk_timing.specs.declared.revising.PlanEdit.{PlanEdit}
 use Rattle.office_desk_timing.proofs.Stands.{no_damage}
 use Rattle.office_desk.specs.{Changes.IsRefused, Damage.HasDamageIn}
-use Rattle.office_desk.specs.Editing.{AfterEdit, EditsPlan, IsEditAnswered, IsMoved, TellsUnavailable}
+use Rattle.office_desk.specs.Editing.{AfterEdit, EditsPlan, IsMoved, TellsUnavailable}
 
 -- ---- an edit as it was answered
 
@@ -24,28 +24,18 @@ unavailable_edit : (tables : Content) (id : ℕ) (clerk : List ℕ) (edit : Plan
 unavailable_edit tables id clerk edit office stands =
     record { next = office; step = inl (refl, refl); stand = stands }
 
-pub decided_edit : (is_honest : Type 0) (tables : Content) (id : ℕ) (clerk : List ℕ) (edit : PlanEdit)
-    (decided : Decided) → IsEditDecision is_honest tables id clerk edit decided
-    → IsEditAnswered is_honest tables id clerk edit decided
-decided_edit is_honest tables id clerk edit decided is = record {
-  step = is.step;
-  writes = is.writes;
-  made = is.made;
-  refused = is.refused;
-  damaged = λ told. absurd (is.undamaged told);
-}
-
 -- a fault of the shelf, answered as its refusal
 module _ (is_honest : Type 0) (tables : Content) (id : ℕ) (clerk : List ℕ) (edit : PlanEdit)
     (decided : Decided) (none : decided.changes.items ≡ []) where
   unavailable_answered : decided.reply ≡ Refused Unavailable
-      → IsEditAnswered is_honest tables id clerk edit decided
+      → IsEditDecision is_honest tables id clerk edit decided
   unavailable_answered is = record {
     step = λ honest. subst₂ (λ (reply : Reply) (rows : List RowChange).
         AnswersAnyEdit tables id clerk edit reply (changed_by tables rows))
         (sym is) (sym none) (unavailable_edit tables id clerk edit);
     writes = λ honest. subst₂ (λ (reply : Reply) (rows : List RowChange).
-        WritesForEdit tables id edit reply rows) (sym is) (sym none) (λ office i stands there. refl);
+        WritesForEdit tables id edit reply rows) (sym is) (sym none) (λ office stands. refl);
+    news = λ honest. subst (AddNew tables) (sym none) tt;
     made = λ went_on. absurd (subst IsMoved is went_on);
     refused = λ refused. none;
     damaged = λ told. absurd (let f : Refused Unavailable ≡ Refused refusal.Damaged = sym is ∙ told in cc);
@@ -54,12 +44,13 @@ module _ (is_honest : Type 0) (tables : Content) (id : ℕ) (clerk : List ℕ) (
   pub fault_edit : (fault : ShelfFault)
       → (fault ≡ Damaged → is_honest → HasDamageIn reach.Plan tables id)
       → decided.reply ≡ Refused (refusal_of fault)
-      → IsEditAnswered is_honest tables id clerk edit decided
+      → IsEditDecision is_honest tables id clerk edit decided
   fault_edit Damaged meets is = record {
     step = λ honest office stands.
         absurd (no_damage reach.Plan tables id (meets refl honest) office stands);
-    writes = λ honest office i stands.
+    writes = λ honest office stands.
         absurd (no_damage reach.Plan tables id (meets refl honest) office stands);
+    news = λ honest. subst (AddNew tables) (sym none) tt;
     made = λ went_on. absurd (subst IsMoved is went_on);
     refused = λ refused. none;
     damaged = λ told. meets refl;
@@ -87,7 +78,7 @@ accepted_edit office id clerk edit reply tables accepted answer =
 
 module _ {S : Type 0} (g : Ghosts S) (law : (s : S) → g.is_honest s → g.is_clean s) (id : ℕ)
     (clerk : List ℕ) (edit : PlanEdit) (decided : Decided) (old mid : S) (kept : KeepsShelf g old mid)
-    (is : IsEditAnswered (g.is_honest mid) (g.content old) id clerk edit decided)
+    (is : IsEditDecision (g.is_honest mid) (g.content old) id clerk edit decided)
     (clean_before : g.is_clean mid → g.is_clean old)
     (shut : g.is_clean mid → g.is_honest mid ⊎ TellsUnavailable decided) where
   abbrev made_of : Content → Content
@@ -192,7 +183,7 @@ module _ {S : Type 0} (g : Ghosts S) (law : (s : S) → g.is_honest s → g.is_c
       );
       refused = λ refused. stays;
       damaged = λ said. absurd (let f : Refused Unavailable ≡ Refused refusal.Damaged = said in cc);
-      rows = λ now. ([], λ office i stands there. refl, uncounted ∙ kept.same_counts);
+      rows = λ now. ([], λ office stands. refl, uncounted ∙ kept.same_counts);
       crash = left_by;
       settled = λ went_on. absurd went_on;
       still_open = λ went_on. absurd went_on;

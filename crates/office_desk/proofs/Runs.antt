@@ -242,6 +242,7 @@ module _ {S : Type 0} (g : Ghosts S) (law : (s : S) → g.is_honest s → g.is_c
     rows = record {
       most = λ clean. no_rise (g.content old) command _ _ kept.same_counts;
       none = λ refused. kept.same_counts;
+      query = λ asks. kept.same_counts;
       still_open = λ answered wrote. absurd (wrote kept.same_counts);
     };
     stop = record {
@@ -279,6 +280,7 @@ module _ {S : Type 0} (g : Ghosts S) (law : (s : S) → g.is_honest s → g.is_c
       rows = record {
         most = λ now. rise_at_most (g.content old) command decided.changes.items (g.written old) (g.written new) (is.writes (clean now)) (counted ∙ ap (λ counts. counts_after counts decided.changes.items) kept.same_counts);
         none = λ refused. absurd (some (is.refused refused));
+        query = λ asks. absurd (some (is.query asks));
         still_open = λ answered wrote. still_open;
       };
       stop = record { crash = left_by; settled = λ now answered changed. settled; made = λ answered wrote. settled };
@@ -305,6 +307,7 @@ module _ {S : Type 0} (g : Ghosts S) (law : (s : S) → g.is_honest s → g.is_c
       rows = record {
         most = λ now. no_rise (g.content old) command _ _ (uncounted ∙ kept.same_counts);
         none = λ refused. uncounted ∙ kept.same_counts;
+        query = λ asks. uncounted ∙ kept.same_counts;
         still_open = λ answered. absurd (answered refl);
       };
       stop = record { crash = left_by; settled = λ now answered. absurd (answered refl); made = λ answered. absurd (answered refl) };

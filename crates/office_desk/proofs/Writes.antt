@@ -1,10 +1,10 @@
--- The counts of writes rise by at most the changes of each table.
+-- The counts of writes rise by at most the rows that changes write of each table.
 use Rattle.std.proofs.Common.{◌≡◌, ℕ, ◌+◌, ◌≤◌, List, [], ◌∷◌, cond, refl, sym, subst, arith}
 use Rattle.std.proofs.lemmas.Bool.Decides.{nat_tests}
 use Rattle.cabinet_core.specs.declared.command.RecordCommand.{RecordCommand}
 use Rattle.cabinet_core.specs.declared.command.RecordCommand.TheVariants as register
 use Rattle.office_tables_shelf.specs.Counts.{count_of, count_at, next_count, counts_after, is_same_table, writes_in}
-use Rattle.office_tables_shelf.specs.{Change.table_of, Content.Content}
+use Rattle.office_tables_shelf.specs.{Change.row_writes, Change.table_of, Content.Content}
 use Rattle.office_tables_shelf.specs.declared.{counts.WriteCounts.WriteCounts, rows.RowChange.RowChange, rows.Table.Table}
 use Rattle.office_tables_shelf.specs.declared.rows.Table.TheVariants as table
 use Rattle.office_tables_decisions.specs.RecordBounds.{most_record_writes}
@@ -12,30 +12,30 @@ use Rattle.office_desk.specs.Changes.{RiseAtMost, most_import_writes, most_write
 use Rattle.office_machine.specs.declared.command.Command.{Command}
 use Rattle.office_machine.specs.declared.command.Command.TheVariants as command
 
-capped : (n : ℕ) → next_count n ≤ n + 1
-capped n = grind (arith, nat_tests)
+capped : (n rows : ℕ) → next_count n rows ≤ n + rows
+capped n rows = grind (arith, nat_tests)
 
 stays : (n : ℕ) → n ≤ n + 0
 stays n = omega arith
 
 -- a write raises the count of its table alone
-one_more : (counts : WriteCounts) (written other : Table) → count_of (count_at counts written) other ≤ count_of counts other + cond (is_same_table written other) 1 0
-one_more counts table.Intersection table.Intersection = capped counts.intersection
-one_more counts table.Timing table.Timing = capped counts.timing
-one_more counts table.Draft table.Draft = capped counts.draft
-one_more counts table.Inspection table.Inspection = capped counts.inspection
-one_more counts table.WorkOrder table.WorkOrder = capped counts.work_order
-one_more counts table.Part table.Part = capped counts.part
-one_more counts table.Delivery table.Delivery = capped counts.delivery
-one_more counts table.UsedPart table.UsedPart = capped counts.used_part
-one_more counts written other = stays (count_of counts other)
+one_more : (counts : WriteCounts) (written other : Table) (rows : ℕ) → count_of (count_at counts written rows) other ≤ count_of counts other + cond (is_same_table written other) rows 0
+one_more counts table.Intersection table.Intersection rows = capped counts.intersection rows
+one_more counts table.Timing table.Timing rows = capped counts.timing rows
+one_more counts table.Draft table.Draft rows = capped counts.draft rows
+one_more counts table.Inspection table.Inspection rows = capped counts.inspection rows
+one_more counts table.WorkOrder table.WorkOrder rows = capped counts.work_order rows
+one_more counts table.Part table.Part rows = capped counts.part rows
+one_more counts table.Delivery table.Delivery rows = capped counts.delivery rows
+one_more counts table.UsedPart table.UsedPart rows = capped counts.used_part rows
+one_more counts written other rows = stays (count_of counts other)
 
--- the counts rise at most by the changes that write each table
+-- the counts rise at most by the rows that changes write of each table
 pub rises : (changes : List RowChange) (counts : WriteCounts) (other : Table) → count_of (counts_after counts changes) other ≤ count_of counts other + writes_in other changes
 rises [] counts other = stays (count_of counts other)
 rises (change ∷ changes) counts other =
-    let first = one_more counts (table_of change) other in
-    let rest = rises changes (count_at counts (table_of change)) other in
+    let first = one_more counts (table_of change) other (row_writes change) in
+    let rest = rises changes (count_at counts (table_of change) (row_writes change)) other in
     omega (arith, first, rest)
 
 -- changes that write no more than a command may, applied where its content was read

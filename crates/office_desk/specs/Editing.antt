@@ -1,5 +1,5 @@
 -- What an edit of a plan promises, of the shelf before and after it.
-use Rattle.std.specs.Prelude.{◌≡◌, ◌≢◌, ◌⊎◌, ℕ, List, []}
+use Rattle.std.specs.Prelude.{◌≡◌, ◌⊎◌, ℕ, List, []}
 use Rattle.std.specs.FinMap.{get}
 use Rattle.draft_core.specs.declared.timing.Reach.TheVariants as reach
 use Rattle.office_desk.specs.Changes.{IsRefused}
@@ -7,14 +7,13 @@ use Rattle.office_desk.specs.Damage.{HasDamageIn}
 use Rattle.office_desk.specs.Running.{MakesTables, TellsTables}
 use Rattle.office_desk.specs.StandFor.{StandForSound}
 use Rattle.office_desk_timing.specs.Revising.{AnswersAnyEdit, EditsOffice, WritesForEdit}
-pub use Rattle.office_desk_timing.specs.Revising.{IsMoved}
+pub use Rattle.office_desk_timing.specs.Revising.{IsEditDecision, IsMoved}
 use Rattle.office_desk_timing.specs.declared.revising.PlanEdit.{PlanEdit}
 use Rattle.office_machine.specs.Office.{Office}
 use Rattle.office_machine.specs.declared.refusal.Refusal.TheVariants.{Damaged, Unavailable}
 use Rattle.office_machine.specs.declared.reply.Reply.{Reply}
 use Rattle.office_machine.specs.declared.reply.Reply.TheVariants.{Refused}
 use Rattle.office_tables_decisions.specs.declared.decided.Decided.{Decided}
-use Rattle.office_tables_shelf.specs.Change.{changed_by}
 use Rattle.office_tables_shelf.specs.Content.{Content}
 use Rattle.office_tables_shelf.specs.Counts.{counts_after}
 use Rattle.office_tables_shelf.specs.declared.counts.WriteCounts.{WriteCounts}
@@ -29,15 +28,6 @@ AfterEdit id clerk edit old found = (office : Office) → StandForSound old offi
 -- the counts rose by the rows that an edit writes which was answered so
 abbrev pub RiseForEdit : Content → ℕ → PlanEdit → Reply → (old new : WriteCounts) → Type 0
 RiseForEdit tables id edit reply old new = (changes : List RowChange) × WritesForEdit tables id edit reply changes × (new ≡ counts_after old changes)
-
--- An edit was decided, or a fault answered as its refusal: Unavailable, or Damaged where a row of the plan is no record. Of an open database, the reply and what the
--- rows make of the tables are those of an edit; some are written where the transaction went on, and none where the edit is refused.
-pub record IsEditAnswered (is_honest : Type 0) (tables : Content) (id : ℕ) (clerk : List ℕ) (edit : PlanEdit) (decided : Decided) : Type 0 where
-  pub step : is_honest → AnswersAnyEdit tables id clerk edit decided.reply (changed_by tables decided.changes.items)
-  pub writes : is_honest → WritesForEdit tables id edit decided.reply decided.changes.items
-  pub made : IsMoved decided.reply → decided.changes.items ≢ []
-  pub refused : IsRefused decided.reply → decided.changes.items ≡ []
-  pub damaged : decided.reply ≡ Refused Damaged → is_honest → HasDamageIn reach.Plan tables id
 
 -- Unavailable is told, and no row is written
 abbrev pub TellsUnavailable : Decided → Type 0

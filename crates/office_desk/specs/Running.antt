@@ -3,7 +3,7 @@ use Rattle.std.specs.Prelude.{◌≡◌, ◌≢◌, ◌⊎◌, ℕ, List, [], �
 use Rattle.office_tables_shelf.specs.Content.{Content}
 use Rattle.office_tables_shelf.specs.declared.shelf.Shelf.{Ghosts}
 use Rattle.office_desk.specs.Answers.{AnswersAny, EndsIn, StandsAfterStep}
-use Rattle.office_desk.specs.Changes.{IsRefused, RiseAtMost}
+use Rattle.office_desk.specs.Changes.{IsQueryCommand, IsRefused, RiseAtMost}
 use Rattle.office_desk.specs.Damage.{MeetsDamage}
 use Rattle.office_desk.specs.Deciding.{IsIdle}
 use Rattle.office_desk.specs.Named.{IsNamedFor}
@@ -51,11 +51,12 @@ pub record IsStepped {S : Type 0} (g : Ghosts S) (command : Command) (reply : Re
   pub named : IsNamedFor command reply
   pub damaged : reply ≡ Refused Damaged → TellsTables g old new (λ tables. MeetsDamage tables command)
 
--- The rows written are at most those that the command may write, and none where it is refused; where some were, and the reply is not Unavailable, the
--- database is still open.
+-- The rows written are at most those that the command may write, and none where it is refused or is a query; where some were, and the reply is not
+-- Unavailable, the database is still open.
 pub record IsWritten {S : Type 0} (g : Ghosts S) (command : Command) (reply : Reply) (old new : S) : Type 0 where
   pub most : g.is_clean new → RiseAtMost (g.content old) command (g.written old) (g.written new)
   pub none : IsRefused reply → g.written new ≡ g.written old
+  pub query : IsQueryCommand command → g.written new ≡ g.written old
   pub still_open : reply ≢ Refused Unavailable → g.written new ≢ g.written old → g.is_clean new → g.is_honest new
 
 -- A crash leaves what it could leave before the command, or the office after the command's own step. It leaves the tables of now alone, where the command

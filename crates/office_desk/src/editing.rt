@@ -1,6 +1,6 @@
 //! A clerk's edit of a plan, run on an office.
 ghost use Rattle.std.specs.Prelude.{◌⊎◌};
-ghost use Rattle.office_desk.specs.Editing.{EditsPlan, IsEditAnswered, TellsUnavailable};
+ghost use Rattle.office_desk.specs.Editing.{EditsPlan, IsEditDecision, TellsUnavailable};
 ghost use Rattle.office_tables_shelf.specs.Keeps.{KeepsShelf};
 
 use crate::deciding::shelf_refusal;
@@ -22,7 +22,7 @@ impl<S: Shelf> Office<S> {
         clerk: &Words<40>,
         edit: &PlanEdit,
     ) -> Decided
-        ensures answers { IsEditAnswered (S.is_honest self.new) (S.content self.old) id clerk.now
+        ensures answers { IsEditDecision (S.is_honest self.new) (S.content self.old) id clerk.now
             edit.now result }
         ensures clean { S.is_clean self.new → S.is_clean self.old }
         ensures shut { S.is_clean self.new → S.is_honest self.new ⊎ TellsUnavailable result }

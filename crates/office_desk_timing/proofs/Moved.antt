@@ -121,7 +121,7 @@ one_stays id (Committed (Remove k)) tables = with_timing id tables _ (gone_spare
 one_stays id (DraftedNew change) tables = with_drafts id tables _ (put_spares tables.draft id (changed_key change) (left_columns (left_by change)))
 one_stays id (Drafted change) tables = with_drafts id tables _ (put_spares tables.draft id (changed_key change) (left_columns (left_by change)))
 one_stays id (DraftGone k) tables = with_drafts id tables _ (gone_spares tables.draft id k)
-one_stays id DraftDropped tables = with_drafts id tables _ (dropped_spares tables.draft id)
+one_stays id (DraftDropped rows) tables = with_drafts id tables _ (dropped_spares tables.draft id)
 
 all_stay : (id : ℕ) (changes : List TimingChange) (tables : Content) → Stays id tables (changed_by tables (row_changes_of id changes))
 all_stay id [] tables = with_timing id tables tables.timing (none_changed id tables.timing)
@@ -183,7 +183,7 @@ module _ (id : ℕ) (tables : Content) (key : Key) (c : Option Row) (said : Said
     timing = h.timing;
     draft = get-gone tables.draft id k key ∙ ap (cond (eq_by_cmp key_cmp key k) None) h.draft ∙ gone_draft (eq_by_cmp key_cmp key k) said;
   }
-  holds_then DraftDropped = record { timing = h.timing; draft = dropped_here tables.draft id key }
+  holds_then (DraftDropped rows) = record { timing = h.timing; draft = dropped_here tables.draft id key }
 
 holds_after : (id : ℕ) (changes : List TimingChange) (tables : Content) (key : Key) (c : Option Row) (said : Said) → HoldsAt tables id key c said
     → HoldsAt (changed_by tables (row_changes_of id changes)) id key (committed_after changes key c) (row_after changes key said)
@@ -208,7 +208,7 @@ after_within (Drafted change ∷ changes) key said within before =
     (later_within key (said_at change key) said (said_at_within change key within.0) before)
 after_within (DraftGone k ∷ changes) key said within before =
     after_within changes key _ within (gone_within (eq_by_cmp key_cmp key k) key said before)
-after_within (DraftDropped ∷ changes) key said within before =
+after_within (DraftDropped rows ∷ changes) key said within before =
     after_within changes key silent within tt
 after_within (_ ∷ changes) key said within before = after_within changes key said within before
 

@@ -4,19 +4,19 @@ use Rattle.std.proofs.lemmas.Bool.Decides.{nat_tests}
 use Rattle.std.specs.Prelude.{◌==◌, ◌&&◌, is_none}
 use Rattle.std.proofs.Math.Path.{subst₂}
 use Rattle.std.proofs.lemmas.List.{length-map}
-use Rattle.std.specs.{Cmp.tied_itself, FinMap.get, FinMap.same_map, List.Sorted.IsStrictlySortedBy, Option.option_map, Ordering.is_eq}
+use Rattle.std.specs.{Cmp.tied_itself, FinMap.get, List.Sorted.IsStrictlySortedBy, Option.option_map, Ordering.is_eq}
 use Rattle.signal_plans.specs.Difference.{AreTold, Explains, change_of, difference_at, difference_changes, place_of}
 use Rattle.signal_plans.specs.declared.difference.Difference.{Difference}
 use Rattle.signal_plans.specs.declared.difference.Difference.TheVariants.{Added, Removed, Changed}
-use Rattle.signal_records.specs.{ChangedRows.changed_key, Key.key_cmp, KeyOrder.key_total, KeyOrder.key_exact, TimingSet.Rows, TimingSet.after_changes}
+use Rattle.signal_records.specs.{ChangedRows.changed_key, Key.key_cmp, KeyOrder.key_total, TimingSet.Rows, TimingSet.after_changes}
 use Rattle.signal_records.specs.declared.{record.Change.Change, record.Row.Row, state.Holder.Holder}
-use Rattle.draft_core.specs.DraftRows.{RowStands, RowsByKey, Stands, overlaid_row, row_at}
+use Rattle.draft_core.specs.DraftRows.{RowsByKey, Stands}
 use Rattle.draft_core.specs.News.{AreInOrder}
-use Rattle.draft_core.specs.Revising.{base_from, base_of}
+use Rattle.draft_core.specs.Revising.{base_of}
 use Rattle.draft_core.specs.Transaction.{Draft, TimingSide, holder_of}
 use Rattle.draft_core.specs.declared.timing.Reach.TheVariants as reach
 use Rattle.draft_core.specs.declared.timing.Timing.{Timing}
-use Rattle.draft_core.proofs.Overlaid.{draft_is, get-after_changes}
+use Rattle.draft_core.proofs.Overlaid.{base_is}
 use Rattle.office_desk_timing.specs.Planning.{AreChangesTo, PlansChanges, asks_nothing, base_read}
 use Rattle.office_desk_timing.specs.Revising.{IsCommittedAlready, plan_asked, plan_from}
 use Rattle.office_desk_timing.specs.declared.revising.PlanChanges.{PlanChanges}
@@ -86,22 +86,6 @@ no_holder (Some draft) e = absurd (let f : Some (holder_of draft) ≡ None = e i
 
 module _ {timing : Timing} {rows : RowsByKey} {side : TimingSide}
     (stands : Stands reach.Plan timing rows side) where
-  quiet_base : side.draft ≡ None → base_read timing ≡ side.committed
-  quiet_base free = same_map key_total key_exact _ _ (λ key.
-      get-after_changes timing.delta timing.committed key
-      ∙ ap (λ set. overlaid_row (get set key) (row_at timing.delta key)) stands.read.1
-      ∙ ap (overlaid_row (get side.committed key)) (stands.read.0 key
-      ∙ subst (λ held. RowStands (get side.committed key) (rows key) held key) free
-      (stands.draft key)))
-
-  base_is : base_read timing ≡ base_of side
-  base_is = go side.draft refl
-    where
-      go : (held : Option Draft) → side.draft ≡ held
-          → base_read timing ≡ base_from side.committed held
-      go None free = quiet_base free
-      go (Some draft) held = draft_is stands draft held
-
   is_free : timing.holder ≡ None → side.draft ≡ None
   is_free none = no_holder side.draft (sym stands.same_holder ∙ none)
 
@@ -109,10 +93,10 @@ module _ {timing : Timing} {rows : RowsByKey} {side : TimingSide}
 
   module _ {edit : PlanEdit} {planned : PlanChanges} (plans : PlansChanges timing edit planned) where
     plan_is : plan_from edit (base_read timing) ≡ plan_asked edit side
-    plan_is = ap (plan_from edit) base_is
+    plan_is = ap (plan_from edit) (base_is stands)
 
     pub edits_make : after_changes (base_of side) planned.edits ≡ plan_asked edit side
-    edits_make = ap (λ set. after_changes set planned.edits) (sym base_is) ∙ plans.edits.make ∙ plan_is
+    edits_make = ap (λ set. after_changes set planned.edits) (sym (base_is stands)) ∙ plans.edits.make ∙ plan_is
 
     pub settled_make : after_changes side.committed planned.settled.items ≡ plan_asked edit side
     settled_make = ap (λ set. after_changes set planned.settled.items) (sym stands.read.1)
@@ -120,7 +104,7 @@ module _ {timing : Timing} {rows : RowsByKey} {side : TimingSide}
 
     pub edits_told : AreTold (base_of side) (plan_asked edit side) plans.edits.found
     edits_told = subst₂ (λ first second. AreTold first second plans.edits.found)
-        base_is plan_is plans.edits.told
+        (base_is stands) plan_is plans.edits.told
 
     pub settled_told : AreTold side.committed (plan_asked edit side) plans.settled.found
     settled_told = subst₂ (λ first second. AreTold first second plans.settled.found)

@@ -6,7 +6,7 @@ use Rattle.std.specs.{FinMap.get, Int.IsInRange, Result.result_err, Str.bytes_eq
 use Rattle.signal_records.specs.{declared.record.Change.Change, declared.record.Change.TheVariants.Put}
 use Rattle.signal_values.specs.Words.{AreWords}
 use Rattle.signal_rules.specs.Violations.{violations_of}
-use Rattle.draft_core.specs.Moves.{Follows, Makes, drafted_in, timing_writes, draft_writes}
+use Rattle.draft_core.specs.Moves.{Follows, drafted_in, timing_writes, draft_writes}
 use Rattle.draft_core.specs.Steps.{first_refusal, reach_of, IsLater, IsUnsettled, StepWrites, RefusesFirst, ReliesOn, Takes, asked_changes, most_committed, most_drafted}
 use Rattle.draft_core.specs.{Transaction.TimingSide, Transaction.is_stage, Transaction.refused_by, Transaction.table_line, Within.AreChangesWithin, declared.refusal.DraftRefusal.DraftRefusal, declared.timing.Move.Move, declared.timing.TimingChange.TimingChange, declared.timing.TimingChange.TheVariants.Committed}
 use Rattle.signal_records.specs.declared.{state.Holder.Holder, state.Stage.Stage}
@@ -22,13 +22,13 @@ use Rattle.office_tables_decisions.specs.declared.decided.Decided.{Decided}
 use Rattle.office_desk_timing.specs.Reading.{FoundStands, FindsAny, ListsFound, drafts_at}
 use Rattle.office_desk_timing.specs.{Moving.WritesDecision, Moving.moved_row, Moving.row_changes_of, declared.reading.Found.Found}
 use Rattle.office_tables_decisions.specs.StandFor.{StandForSound}
-use Rattle.office_machine.specs.Step.{answered, transacted, moved, moved_to, refusal_of_draft, with_intersection}
+use Rattle.office_machine.specs.Step.{answered, transacted, moved, refusal_of_draft, with_intersection}
 use Rattle.office_machine.specs.Office.{Office, Intersection, IsSoundIntersection}
-use Rattle.office_machine.specs.declared.reply.Reply.TheVariants.{Moved, Refused}
+use Rattle.office_machine.specs.declared.reply.{Reply.Reply, Reply.TheVariants.Moved, Reply.TheVariants.Refused}
 use Rattle.office_machine.specs.declared.refusal.Refusal.TheVariants as refusal
 use Rattle.draft_core.proofs.OnlyChanges.{among_within}
 use Rattle.office_tables_decisions.proofs.Decisions.{accepted_decides, refuses_so, told_decides, unknown_decides}
-use Rattle.office_desk_timing.proofs.{AddedRows.move_news, Keeps.line_keeps, Keeps.side_sound, Keeps.sound_intersection, Stands.sound_with, Moved.move_stands, Moved.with_timing_side, Shown.found_none, Shown.found_there, Shown.sound_there}
+use Rattle.office_desk_timing.proofs.{AddedRows.move_news, Keeps.IsSoundSide, Keeps.line_keeps, Keeps.side_sound, Keeps.sound_intersection, Stands.sound_with, Moved.move_stands, Moved.with_timing_side, Shown.found_none, Shown.found_there, Shown.sound_there}
 
 -- ---- the step
 
@@ -44,31 +44,48 @@ pub answered_at : (step : Step) (office : Office) (id : ℕ) (clerk : List ℕ) 
     → answered office (asking_command id clerk step) ≡ moved office id i l
 answered_at step office id clerk i l there line = by_line step office id clerk ∙ ap (transacted office id (table_line step clerk)) there ∙ ap (moved office id i) line
 
+-- what comes of a line of the table: its reply, and the office, for which the tables then stand
+pub record FollowsLine (tables : Content) (office : Office) (id : ℕ) (i : Intersection) (line : Result TimingSide DraftRefusal) (reply : Reply) (changes : List RowChange) : Type 0 where
+  pub next : Office
+  pub is : moved office id i line ≡ (reply, next)
+  pub stand : StandForSound (changed_by tables changes) next
+
+module _ {reach : Reach} (tables : Content) (office : Office) (id : ℕ) (clerk : List ℕ) (i : Intersection) (found : Found)
+    (stands : StandForSound tables office) (there : get office.intersections id ≡ Some i)
+    (here : FoundStands reach (drafts_at stands.stand id) i found) where
+  pub goes : (move : Move) (line : Result TimingSide DraftRefusal) → AreChangesWithin (drafted_in move.changes)
+      → ((next : TimingSide) → line ≡ Ok next → IsSoundSide next) → Follows (drafts_at stands.stand id) i.timing clerk (Ok move) line
+      → FollowsLine tables office id i line (Moved move.revision move.state move.verdict) (rows_of_move id clerk found move)
+  goes move (Ok next) drafts keeps makes =
+      let after = with_intersection office id (with_timing_side i next) in
+      record {
+        next = after;
+        is = λ k. (Moved (sym makes.same_revision k) (sym makes.same_state k) (sym makes.same_verdict k), after);
+        stand = record {
+          stand = move_stands tables office id i found clerk move next stands.stand there here drafts makes;
+          sound = sound_with office id (with_timing_side i next) (subst (λ o. IfSome o (λ _. IsInRange 1 9999 id)) there (stands.sound.numbers id)) stands.sound
+              (sound_intersection i next (sound_there tables office id i stands there) (keeps next refl));
+        };
+      }
+  goes move (Err why) drafts keeps never = absurd never
+
+  pub refused_line : (why : DraftRefusal) (line : Result TimingSide DraftRefusal) → why ≢ draft.NoMemory → Follows (drafts_at stands.stand id) i.timing clerk (Err why) line
+      → FollowsLine tables office id i line (Refused (refusal_of_draft why)) []
+  refused_line why line ne (inl memory) = absurd (ne memory)
+  refused_line why line ne (inr same) = record { next = office; is = ap (moved office id i) same; stand = stands }
+
 -- one on an intersection that was found
 module _ (tables : Content) (office : Office) (id : ℕ) (clerk : List ℕ) (step : Step) (i : Intersection)
     (found : Found) (stands : StandForSound tables office) (there : get office.intersections id ≡ Some i)
     (sound : IsSoundIntersection i) (here : FoundStands (reach_of step) (drafts_at stands.stand id) i found)
     (words : AreWords 40 clerk) (within : AreChangesWithin (asked_changes step)) where
-  accepted : (move : Move) (next : TimingSide) → AreChangesWithin (drafted_in move.changes) → table_line step clerk i.timing ≡ Ok next
-      → Makes (drafts_at stands.stand id) i.timing clerk move next
-      → Answers office (asking_command id clerk step) (Moved move.revision move.state move.verdict) (changed_by tables (rows_of_move id clerk found move))
-  accepted move next drafts line makes =
-      let told : Moved move.revision move.state move.verdict ≡ moved_to next = λ k. Moved (makes.same_revision k) (makes.same_state k) (makes.same_verdict k) in
-      let after = with_intersection office id (with_timing_side i next) in
-      record {
-        next = after;
-        step = inr (answered_at step office id clerk i (Ok next) there line ∙ (λ k. (sym told k, after)));
-        stand = record {
-          stand = move_stands tables office id i found clerk move next stands.stand there here drafts makes;
-          sound = sound_with office id (with_timing_side i next) (subst (λ o. IfSome o (λ _. IsInRange 1 9999 id)) there (stands.sound.numbers id)) stands.sound (sound_intersection i next sound (line_keeps step clerk i.timing next words within (side_sound i sound) line));
-        };
-      }
-
   moves : (move : Move) (l : Result TimingSide DraftRefusal) → AreChangesWithin (drafted_in move.changes) → table_line step clerk i.timing ≡ l
       → Follows (drafts_at stands.stand id) i.timing clerk (Ok move) l
       → Answers office (asking_command id clerk step) (Moved move.revision move.state move.verdict) (changed_by tables (rows_of_move id clerk found move))
-  moves move (Ok next) drafts line makes = accepted move next drafts line makes
-  moves move (Err why) drafts line never = absurd never
+  moves move l drafts line follows =
+      let it = goes tables office id clerk i found stands there here move l drafts
+      (λ next is. line_keeps step clerk i.timing next words within (side_sound i sound) (line ∙ is)) follows in
+      record { next = it.next; step = inr (answered_at step office id clerk i l there line ∙ it.is); stand = it.stand }
 
   refuses : (why : DraftRefusal) → why ≢ draft.NoMemory → Follows (drafts_at stands.stand id) i.timing clerk (Err why) (table_line step clerk i.timing)
       → answered office (asking_command id clerk step) ≡ (Refused (refusal_of_draft why), office)

@@ -23,7 +23,7 @@ row_change_of id (Committed (Remove key)) = RemoveTiming id key
 row_change_of id (DraftedNew change) = AddDraft id change
 row_change_of id (Drafted change) = PutDraft id change
 row_change_of id (DraftGone key) = RemoveDraft id key
-row_change_of id DraftDropped = DropDraft id
+row_change_of id (DraftDropped rows) = DropDraft id rows
 
 -- changes of the committed rows or of the draft of an intersection's timing, as changes of rows, in their order
 abbrev pub row_changes_of : ℕ → List TimingChange → List RowChange

@@ -1,5 +1,5 @@
 -- How a clerk's edit of a plan is answered: as a run of the steps of a revision by the office machine, all of them or none.
-use Rattle.std.specs.Prelude.{◌≡◌, ◌≢◌, ◌⊎◌, ◌≤◌, ℕ, min, List, [], ◌∷◌, length, map, if◌then◌else◌, Option, Some, None, Result, Ok, Err}
+use Rattle.std.specs.Prelude.{◌≡◌, ◌≢◌, ◌⊎◌, ◌≤◌, ℕ, List, [], ◌∷◌, length, map, if◌then◌else◌, Option, Some, None, Result, Ok, Err}
 use Rattle.std.specs.FinMap.{empty, get}
 use Rattle.draft_core.specs.Revising.{base_of, revision_steps}
 use Rattle.draft_core.specs.Transaction.{TimingSide}
@@ -7,7 +7,7 @@ use Rattle.draft_core.specs.Within.{AreChangesWithin}
 use Rattle.draft_core.specs.declared.step.Step.{Step}
 use Rattle.draft_core.specs.declared.timing.Reach.TheVariants as reach
 use Rattle.office_desk_timing.specs.declared.revising.PlanEdit.{PlanEdit}
-use Rattle.office_machine.specs.Office.{Intersection, Office}
+use Rattle.office_machine.specs.Office.{Intersection, Office, side_at}
 use Rattle.office_machine.specs.Step.{answered}
 use Rattle.office_machine.specs.declared.command.Command.{Command}
 use Rattle.office_machine.specs.declared.refusal.Refusal.TheVariants.{Damaged, Unavailable, UnknownIntersection}
@@ -34,23 +34,17 @@ use Rattle.signal_records.specs.declared.state.DbState.TheVariants.{Normal}
 
 -- ---- commands, all of them or none
 
--- a refusal ends a run of commands; any other reply goes on
-abbrev pub unless_refused : Reply → Office → (Office → Reply → Reply × Office) → Reply × Office
-unless_refused (Refused why) next more = (Refused why, next)
-unless_refused reply next more = more next reply
+-- a refusal ends a run of commands, and the office is as it was before the first; any other reply goes on
+abbrev pub unless_refused : (before : Office) → Reply → (more : Reply × Office) → Reply × Office
+unless_refused before (Refused why) more = (Refused why, before)
+unless_refused before reply more = more
 
--- commands in turn, each answered by the office that the one before it left, up to the first that is refused: the last reply, and the office then
-abbrev pub in_turn : Office → (last : Reply) → List Command → Reply × Office
-in_turn office last [] = (last, office)
-in_turn office last (asked ∷ more) = unless_refused (answered office asked).0 (answered office asked).1 (λ next reply. in_turn next reply more)
-
--- a run that ended with a refusal leaves the office as it was
-abbrev pub ended_from : Office → Reply × Office → Reply × Office
-ended_from office ended = unless_refused ended.0 office (λ before reply. (reply, ended.1))
-
--- ALL OR NONE: the last reply and the office after these commands; or the first refusal, and the office as it was; Same where there is none to run
-abbrev pub all_or_none : Office → List Command → Reply × Office
-all_or_none office commands = ended_from office (in_turn office Same commands)
+-- ALL OR NONE: the last reply and the office after these commands, each answered by the office that the one before it left; or the first refusal, and the
+-- office before the first command
+abbrev pub all_or_none : (before now : Office) → (last : Reply) → List Command → Reply × Office
+all_or_none before now last [] = (last, now)
+all_or_none before now last (asked ∷ more) =
+    unless_refused before (answered now asked).0 (all_or_none before (answered now asked).1 (answered now asked).0 more)
 
 -- ---- what an edit asks for
 
@@ -78,12 +72,13 @@ AreStepsOf edit side steps =
     (IsCommittedAlready edit side × (steps ≡ []))
     ⊎ ((IsCommittedAlready edit side → ⊥) × (edits : List Change) × AreEdits edit side edits × (steps ≡ revision_steps side edits edit.commits))
 
--- AN EDIT, of an intersection that is there or not: the reply and the next office are those of its steps, as commands of the clerk, all or none
+-- AN EDIT, of an intersection that is there or not: the reply and the next office are those of its steps, as commands of the clerk, all or none; Same where
+-- there is none
 abbrev pub EditsOffice : Office → ℕ → (clerk : List ℕ) → PlanEdit → Option Intersection → Reply → Office → Type 0
 EditsOffice office id clerk edit None reply next = (reply ≡ Refused UnknownIntersection) × (next ≡ office)
 EditsOffice office id clerk edit (Some i) reply next =
     (steps : List Step) × AreStepsOf edit i.timing steps
-    × (all_or_none office (map (asking_command id clerk) steps) ≡ (reply, next))
+    × (all_or_none office office Same (map (asking_command id clerk) steps) ≡ (reply, next))
 
 -- ---- over tables
 
@@ -97,23 +92,23 @@ pub record AnswersEdit (office : Office) (id : ℕ) (clerk : List ℕ) (edit : P
 abbrev pub AnswersAnyEdit : Content → ℕ → (clerk : List ℕ) → PlanEdit → Reply → Content → Type 0
 AnswersAnyEdit old id clerk edit reply new = (office : Office) → StandForSound old office → AnswersEdit office id clerk edit reply new
 
--- How many rows an edit writes that was answered so. A commit writes a timing row for each key at which the plan differs from the committed set, and one change
--- drops the draft rows, if there are any; a draft that stays open has at most one write for each key at which the plan differs from it; either writes the
+-- How many rows an edit writes that was answered so. A commit writes a timing row for each key at which the plan differs from the committed set, and drops each
+-- draft row; a draft that stays open has at most one write for each key at which the plan differs from it; either writes the
 -- intersection's row once. Any other answer writes none.
 abbrev pub EditWrites : Content → ℕ → PlanEdit → TimingSide → Reply → List RowChange → Type 0
 EditWrites tables id edit side (Moved revision Normal verdict) changes =
     (found : List Difference) × AreTold side.committed (plan_asked edit side) found
     × (writes_in table.Intersection changes ≡ 1) × (writes_in table.Timing changes ≡ length found)
-    × (writes_in table.Draft changes ≡ min 1 (length (rows_of id tables.draft)))
+    × (writes_in table.Draft changes ≡ length (rows_of id tables.draft))
 EditWrites tables id edit side (Moved revision state verdict) changes =
     (found : List Difference) × AreTold (base_of side) (plan_asked edit side) found
     × (writes_in table.Intersection changes ≡ 1) × (writes_in table.Timing changes ≡ 0) × (writes_in table.Draft changes ≤ length found)
 EditWrites tables id edit side reply changes = changes ≡ []
 
--- in each sound office that the tables stand for, an edit of an intersection that is there writes so many rows
+-- in each sound office that the tables stand for, an edit writes so many rows
 abbrev pub WritesForEdit : Content → ℕ → PlanEdit → Reply → List RowChange → Type 0
 WritesForEdit tables id edit reply changes =
-    (office : Office) (i : Intersection) → StandForSound tables office → get office.intersections id ≡ Some i → EditWrites tables id edit i.timing reply changes
+    (office : Office) → StandForSound tables office → EditWrites tables id edit (side_at office id) reply changes
 
 -- the reply says that the transaction went on
 abbrev pub IsMoved : Reply → Type 0
@@ -121,14 +116,14 @@ IsMoved (Moved revision state verdict) = Unit {0}
 IsMoved reply = ⊥
 
 -- The reply and what the rows make of the tables are one edit; where a row is added, none stands under its key; some are written where the transaction went on,
--- and none where the edit is refused; and a row that is no record is reported as a fault, never as a reply.
+-- and none where the edit is refused; and Damaged is told only where the intersection's row or a row of its plan is no record.
 pub record IsEditDecision (is_honest : Type 0) (tables : Content) (id : ℕ) (clerk : List ℕ) (edit : PlanEdit) (decided : Decided) : Type 0 where
   pub step : is_honest → AnswersAnyEdit tables id clerk edit decided.reply (changed_by tables decided.changes.items)
   pub writes : is_honest → WritesForEdit tables id edit decided.reply decided.changes.items
   pub news : is_honest → AddNew tables decided.changes.items
   pub made : IsMoved decided.reply → decided.changes.items ≢ []
   pub refused : IsRefused decided.reply → decided.changes.items ≡ []
-  pub undamaged : decided.reply ≢ Refused Damaged
+  pub damaged : decided.reply ≡ Refused Damaged → is_honest → HasDamageIn reach.Plan tables id
 
 -- The edit is decided, or a fault is reported: Damaged only where the intersection's row or a row of its plan is no record.
 abbrev pub DecidesEdit : Type 0 → Content → ℕ → (clerk : List ℕ) → PlanEdit → Result Decided ShelfFault → Type 0

@@ -25,7 +25,7 @@ fn row_change(id: InterId, change: TimingChange) -> RowChange
         TimingChange::DraftedNew(change) => RowChange::AddDraft(id, change),
         TimingChange::Drafted(change) => RowChange::PutDraft(id, change),
         TimingChange::DraftGone(key) => RowChange::RemoveDraft(id, key),
-        TimingChange::DraftDropped => RowChange::DropDraft(id),
+        TimingChange::DraftDropped(rows) => RowChange::DropDraft(id, rows),
     }
 }
 

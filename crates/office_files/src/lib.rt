@@ -35,5 +35,5 @@ pub use records::read_records;
 pub use sheet::timing_sheet;
 pub use states::state_word;
 pub use timing::timing_csv;
-pub use violations::{explained_text, violation_text};
+pub use violations::violation_text;
 pub use writing::csv_file;

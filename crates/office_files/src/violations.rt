@@ -1,10 +1,10 @@
-//! The violations of a timing set as a text, with their reasons or without.
+//! The violations of a timing set as a text.
 
 ghost use Rattle.std.specs.Prelude.{◌≡◌, IfOk};
 ghost use Rattle.office_files.specs.Violations.{violations_text};
 
 use signal_records::NoMemory;
-use signal_rules::{Explained, Violation};
+use signal_rules::Violation;
 use std::alloc::Global;
 use std::fmt::Write;
 
@@ -18,20 +18,6 @@ pub fn violation_text(alloc: Global, violations: &[Violation]) -> Result<Vec<u8>
         writeln!(text, "{violation}")?;
     }
     if violations.is_empty() {
-        text.push_str("no violations\n")?;
-    }
-    Ok(text.into_bytes())
-}
-
-/// A line for each violation with its reason, in order, as `pattern 1 V10: offset 60 s, cycle 60
-/// s`, or the one line `no violations`. Each line ends in a line feed. `NoMemory` means that a
-/// growth was refused.
-pub fn explained_text(alloc: Global, found: &[Explained]) -> Result<Vec<u8>, NoMemory> {
-    let mut text = String::new(alloc);
-    for explained in found {
-        writeln!(text, "{explained}")?;
-    }
-    if found.is_empty() {
         text.push_str("no violations\n")?;
     }
     Ok(text.into_bytes())

@@ -1,3 +1,5 @@
+pub mod AwayLemmas
+pub mod CutLaws
 pub mod ListeningLemmas
 pub mod MachineLemmas
 pub mod ServedLemmas

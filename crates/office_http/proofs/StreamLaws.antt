@@ -5,7 +5,7 @@ use Rattle.office_machine.specs.{Office.IsSound, Office.Office, Step.AreSound, S
 use Rattle.office_machine.specs.declared.reply.Reply.TheVariants.{Refused}
 use Rattle.office_desk.proofs.{RegisterLaws.runs_register, Repeats.runs_repeat, Street.keeps_the_street, TimingLaw.runs_timing}
 use Rattle.office_tables_shelf.specs.{Content.Content, declared.counts.WriteCounts.WriteCounts}
-use Rattle.office_http.specs.Laws.{Serves, TellsRead, TellsReplies, asked_in, command_read}
+use Rattle.office_http.specs.Laws.{KeepsLaws, Serves, TellsRead, TellsReplies, asked_in, command_read}
 use Rattle.office_http.specs.Protocol.{AnswersRead, office_protocol, office_storage, read_of}
 use Rattle.office_http_requests.specs.declared.fault.AskFault.{AskFault}
 use Rattle.office_http_framing.specs.Front.{PlainRequest}
@@ -15,11 +15,25 @@ use Rattle.office_http_responses.specs.Unavailable.{unavailable_bytes}
 use Rattle.office_http_requests.specs.declared.command.Asked.{Asked}
 
 -- the replies of a run that the answers tell
-record Told (before : Office) (requests : List PlainRequest) (answers : List (List ℕ)) (after : Office) : Type 0 where
-  replies : List Reply
-  run : Run before (asked_in requests) replies after
-  sound : AreSound before (asked_in requests) replies after run
-  tells : TellsReplies requests replies answers
+pub record Told (before : Office) (requests : List PlainRequest) (answers : List (List ℕ)) (after : Office) : Type 0 where
+  pub replies : List Reply
+  pub run : Run before (asked_in requests) replies after
+  pub sound : AreSound before (asked_in requests) replies after run
+  pub tells : TellsReplies requests replies answers
+
+-- such a run, between sound offices, keeps the laws of the office machine
+pub keeps_laws : (before after : Office) (requests : List PlainRequest) (answers : List (List ℕ)) → IsSound before → IsSound after → Told before requests answers after
+    → KeepsLaws before requests answers after
+keeps_laws before after requests answers first last it = record {
+  replies = it.replies;
+  run = it.run;
+  tells = it.tells;
+  sound = it.sound;
+  street = keeps_the_street after last;
+  running = λ id. runs_timing id _ (asked_in requests) it.replies before after it.run refl;
+  register = runs_register (asked_in requests) it.replies before after it.run first last;
+  repeats = runs_repeat (asked_in requests) it.replies before after it.run;
+}
 
 -- the answer to one request, before those to the rest
 one_more : (read : Result Asked AskFault) (before mid after : Office) (answer : List ℕ) (commands : List Command) (replies : List Reply)
@@ -61,18 +75,8 @@ module _ {Shelf : Type 0} (is_honest : Shelf → Type 0) (content : Shelf → Co
   pub serves : (may : Content → Type 0) (first : Moment storage) (last : Shelf) (kept : Content) (after : Office) → IsSound first.state
       → (requests : List PlainRequest) (answers : List (List ℕ)) → Ran office_protocol storage may first last kept after requests answers
       → Serves storage may first last kept after requests answers
-  serves may first last kept after sound requests answers ran =
-      let all = told may first (moment_of storage last kept after) requests answers (may_leave last) sound ran.leaves in
-      record {
-        ran = ran;
-        laws = record {
-          replies = all.replies;
-          run = all.run;
-          tells = all.tells;
-          sound = all.sound;
-          street = keeps_the_street after ran.keeps.stands.sound;
-          running = λ id. runs_timing id _ (asked_in requests) all.replies first.state after all.run refl;
-          register = runs_register (asked_in requests) all.replies first.state after all.run sound ran.keeps.stands.sound;
-          repeats = runs_repeat (asked_in requests) all.replies first.state after all.run;
-        };
-      }
+  serves may first last kept after sound requests answers ran = record {
+    ran = ran;
+    laws = keeps_laws first.state after requests answers sound ran.keeps.stands.sound
+        (told may first (moment_of storage last kept after) requests answers (may_leave last) sound ran.leaves);
+  }

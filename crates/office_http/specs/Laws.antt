@@ -12,6 +12,7 @@ use Rattle.office_machine.specs.declared.reply.Reply.{Reply}
 use Rattle.office_machine.specs.declared.reply.Reply.TheVariants.{Refused}
 use Rattle.office_http_requests.specs.declared.fault.AskFault.{AskFault}
 use Rattle.office_http_framing.specs.Front.{PlainRequest}
+use Rattle.office_http_framing.specs.Laws.{RunsJoin}
 use Rattle.office_http_framing.specs.Stops.{Moment, Ran, Storage}
 use Rattle.office_tables_shelf.specs.Content.{Content}
 use Rattle.office_http.specs.Protocol.{office_protocol, read_of}
@@ -92,3 +93,12 @@ pub record Serves
     (requests : List PlainRequest) (answers : List (List ℕ)) : Type 0 where
   pub ran : Ran office_protocol storage may first last kept after requests answers
   pub laws : KeepsLaws first.state requests answers after
+
+-- Requests were run, and then more of them from the office that the first ones left: one after the
+-- other, they are a run that keeps the laws of a whole one.
+abbrev pub LawsJoin : Type 0
+LawsJoin =
+    (before middle after : Office)
+    → RunsJoin (λ requests answers. KeepsLaws before requests answers middle)
+    (λ requests answers. KeepsLaws middle requests answers after)
+    (λ requests answers. KeepsLaws before requests answers after)

@@ -1,3 +1,4 @@
+pub mod Away
 pub mod Laws
 pub mod Listening
 pub mod Protocol

@@ -1,26 +1,31 @@
-//! The reader of a connection, which gives way to the next client between two requests.
+//! The reader of a connection, which waits for its client, and sees meanwhile whether the
+//! connection is to be left.
 
 ghost use Rattle.std.specs.Prelude.{◌≡◌, ◌<◌, length};
 ghost use Rattle.std.specs.Io.{ReadsAtMost};
 ghost use Rattle.office_http_framing.specs.Ends.{no_calls};
 
+use crate::asking::Asking;
 use libc::net as c;
 use libc::types::pollfd;
-use office_http_framing::ends::{Counts, Source};
+use office_http_framing::ends::{Counts, NextStep, Source, Wait};
 use office_http_framing::giving_way::{Ready, gives_way};
 use std::io;
 use std::io::{ErrorKind, Read};
 use std::net::{Shutdown, TcpStream};
 use std::os::fd::{AsRawFd, RawFd};
 
-/// How many milliseconds a connection may wait for its next request.
+/// How many milliseconds a connection may wait for its next bytes.
 const LONGEST_WAIT: i32 = 30_000;
 
 /// How many milliseconds a new connection has for its first bytes, even while another client waits.
 const FIRST_WAIT: i32 = 100;
 
+/// How many milliseconds are waited at a time, where someone may want the file of the office.
+pub(crate) const SLICE: i32 = 20;
+
 /// A question to the system, for `poll`: whether a read of this socket returns at once.
-fn readiness(socket: RawFd) -> pollfd {
+pub(crate) fn readiness(socket: RawFd) -> pollfd {
     pollfd {
         fd: socket,
         events: c::POLLIN,
@@ -28,56 +33,22 @@ fn readiness(socket: RawFd) -> pollfd {
     }
 }
 
-/// Waits for the first bytes of a new connection, at most `FIRST_WAIT`, and says whether it can be
-/// read.
-fn begins_soon(stream: &TcpStream) -> bool {
-    c::poll(&mut [readiness(stream.as_raw_fd())], FIRST_WAIT) > 0
-}
-
-/// Waits until the connection can be read or another client waits at the listener, at most
-/// `LONGEST_WAIT`, and says which is so. The error is `Interrupted` where the wait itself failed.
-fn await_either(stream: &TcpStream, listener: RawFd) -> io::Result<Ready> {
-    let mut both = [readiness(stream.as_raw_fd()), readiness(listener)];
-    if c::poll(&mut both, LONGEST_WAIT) < 0 {
-        return Err(io::Error::from(ErrorKind::Interrupted));
-    }
-    Ok(Ready {
-        is_readable: both[0].revents != 0,
-        is_awaited: both[1].revents != 0,
-    })
-}
-
-/// Reads the first bytes of the next request, or answers 0 bytes where the connection gives way to
-/// another client. The error is `TimedOut` where for `LONGEST_WAIT` there was nothing to read and
-/// no other client.
-fn read_or_give_way(
-    stream: &mut TcpStream,
-    listener: RawFd,
-    is_new: bool,
-    buf: &mut [u8],
-) -> io::Result<usize>
-    ensures { ReadsAtMost result buf.new }
-{
-    if is_new && begins_soon(stream) {
-        return stream.read(buf);
-    }
-    let ready = await_either(stream, listener)?;
-    if gives_way(ready) {
-        return Ok(0);
-    }
-    if ready.is_readable {
-        return stream.read(buf);
-    }
-    Err(io::Error::from(ErrorKind::TimedOut))
-}
-
-/// The reader of a connection. Between two requests it ends where another client waits at the
-/// listener; a request that has begun is read whole.
+/// The reader of a connection. Between two requests it gives way to another client that waits at
+/// the listener; and it pauses, also within a request, where someone waits for the file of the
+/// office.
 #[derive(Drop)]
 pub struct ConnectionReader {
     stream: TcpStream,
     /// The listener that accepted the connection, and lives longer.
     listener: RawFd,
+    /// The turn in which the connection is served.
+    asking: Asking,
+    /// What was to be done next when that was last asked.
+    next: NextStep,
+    /// How many milliseconds the next bytes were waited for.
+    waited: i32,
+    /// Why the next read fails, where the wait before it did.
+    failure: Option<ErrorKind>,
     pub counts: Counts,
 }
 
@@ -89,8 +60,26 @@ impl ConnectionReader {
         ConnectionReader {
             stream,
             listener,
+            asking: Asking::never(),
+            next: NextStep::ReadNext,
+            waited: 0,
+            failure: None,
             counts: Counts::default(),
         }
+    }
+
+    /// Begins a part of the connection in this turn.
+    pub(crate) fn begin(&mut self, asking: Asking)
+        ensures { self.new.counts ≡ self.old.counts }
+    {
+        self.asking = asking;
+    }
+
+    /// Ends a part of the connection, and hands its turn back.
+    pub(crate) fn pause(&mut self) -> Asking
+        ensures { self.new.counts ≡ self.old.counts }
+    {
+        self.asking.take()
     }
 
     /// Ends the sending side, so that the client sees the end after the last answer, and gives the
@@ -100,6 +89,97 @@ impl ConnectionReader {
         let _ = stream.shutdown(Shutdown::Write);
         stream
     }
+
+    /// Waits for the connection, or between two requests for another client too, for at most so
+    /// many milliseconds, and says which is so; `None` where the wait itself failed.
+    fn ready_within(&mut self, is_next: bool, longest: i32) -> Option<Ready>
+        ensures { self.new.counts ≡ self.old.counts }
+    {
+        let mut both = [readiness(self.stream.as_raw_fd()), readiness(self.listener)];
+        let found = if is_next {
+            c::poll(&mut both, longest)
+        } else {
+            c::poll(&mut both[..1], longest)
+        };
+        if found == 0 {
+            self.waited = self.waited.saturating_add(longest);
+        }
+        if found < 0 {
+            return None;
+        }
+        Some(Ready {
+            is_readable: both[0].revents != 0,
+            is_awaited: both[1].revents != 0,
+        })
+    }
+
+    /// How many milliseconds it waits before it looks whether the connection is to be left; and
+    /// whether other clients are looked at meanwhile.
+    fn slice(&self, is_next: bool) -> (i32, bool) {
+        let is_first = self.counts.calls == 0 && self.waited < FIRST_WAIT;
+        let longest = if is_first { FIRST_WAIT } else { LONGEST_WAIT };
+        let left = longest.saturating_sub(self.waited).max(0);
+        let slice = if self.asking.may_be() {
+            left.min(SLICE)
+        } else {
+            left
+        };
+        (slice, is_next && !is_first)
+    }
+
+    /// Waits until the connection can be read, or is to be left. Where that takes longer than
+    /// `LONGEST_WAIT`, or the wait fails, the next read fails.
+    fn await_bytes(&mut self, is_next: bool) -> Wait
+        ensures { self.new.counts ≡ self.old.counts }
+    {
+        for _ in 0..LONGEST_WAIT {
+            let (slice, looks_at_others) = self.slice(is_next);
+            let Some(ready) = self.ready_within(looks_at_others, slice) else {
+                self.failure = Some(ErrorKind::Interrupted);
+                return Wait::GoOn;
+            };
+            if ready.is_readable {
+                self.waited = 0;
+                return Wait::GoOn;
+            }
+            if gives_way(ready) {
+                return Wait::GiveWay;
+            }
+            if self.waited >= LONGEST_WAIT {
+                break;
+            }
+            if self.asking.looks() {
+                return Wait::Pause;
+            }
+        }
+        self.failure = Some(ErrorKind::TimedOut);
+        Wait::GoOn
+    }
+
+    /// Waits, while the file of the office is someone else's, until it is needed for the next step.
+    /// The time counts as time in which nothing came.
+    pub(crate) fn await_need(&mut self)
+        ensures { self.new.counts ≡ self.old.counts }
+    {
+        let is_next = match self.next {
+            NextStep::Answer => return,
+            NextStep::ReadNext => true,
+            NextStep::ReadMore => false,
+        };
+        let left = LONGEST_WAIT.saturating_sub(self.waited).max(0);
+        let _ = self.ready_within(is_next, left);
+    }
+
+    /// Reads some bytes, or fails as the wait before it did.
+    fn read_or_fail(&mut self, buf: &mut [u8]) -> io::Result<usize>
+        ensures bound { ReadsAtMost result buf.new }
+        ensures counts { self.new.counts ≡ self.old.counts }
+    {
+        match self.failure.take() {
+            Some(kind) => Err(io::Error::from(kind)),
+            None => self.stream.read(buf),
+        }
+    }
 }
 
 impl Source for ConnectionReader {
@@ -108,15 +188,24 @@ impl Source for ConnectionReader {
     ghost told = { λ s. record { bytes = None; counts = s.counts } };
 
     fn read(&mut self, buf: &mut [u8]) -> io::Result<usize> {
-        let outcome = self.stream.read(buf);
+        let outcome = self.read_or_fail(buf);
         self.counts.count(&outcome);
         outcome
     }
 
-    fn read_next(&mut self, buf: &mut [u8]) -> io::Result<usize> {
-        let is_new = self.counts.calls == 0;
-        let outcome = read_or_give_way(&mut self.stream, self.listener, is_new, buf);
-        self.counts.count_next(&outcome);
-        outcome
+    fn wait(&mut self, next: NextStep) -> Wait {
+        self.next = next;
+        match next {
+            NextStep::Answer if self.asking.looks_in_time() => Wait::Pause,
+            NextStep::Answer => Wait::GoOn,
+            NextStep::ReadNext => self.await_bytes(true),
+            // Where nobody can want the file, the read waits itself.
+            NextStep::ReadMore if !self.asking.may_be() => Wait::GoOn,
+            NextStep::ReadMore => self.await_bytes(false),
+        }
+    }
+
+    fn note_unavailable(&mut self) {
+        self.asking.note_failure();
     }
 }

@@ -1,17 +1,27 @@
 //! The connections of a listener of the system.
 
-ghost use Rattle.std.specs.Prelude.{◌≡◌, IfOk, List};
+ghost use Rattle.std.specs.Prelude.{◌≡◌, None, IfOk, List};
 ghost use Rattle.office_machine.specs.Office.{Office as OfficeState};
 ghost use Rattle.office_tables_shelf.specs.Content.{Content};
-ghost use Rattle.office_http_framing.specs.Ends.{no_calls};
 ghost use Rattle.office_http_framing.specs.Stops.{KeepsState};
 ghost use Rattle.office_http.specs.Protocol.{office_storage};
-ghost use Rattle.office_http.specs.Listening.{Connected, Listens, ServesAsMany, no_listening};
+ghost use Rattle.office_http.specs.Listening.{
+  Connected,
+  IsNew,
+  Listens,
+  ServesAsMany,
+  listen_counts_after,
+  no_listening,
+  system_listening,
+  system_state,
+};
 
-use crate::connection_reader::ConnectionReader;
+use crate::asking::Asking;
+use crate::connection_reader::{ConnectionReader, SLICE, readiness};
 use crate::ended::Ended;
-use crate::listening::{Connection, Listen, ListenCounts, ServeStop, serve_each};
+use crate::listening::{Connection, Listen, ListenCounts, ServeStop, TurnEnd, serve_each};
 use crate::waiting::WaitsOnce;
+use libc::net as c;
 use office_desk::office::Office;
 use office_http_framing::ends::ToWrite;
 use office_tables_shelf::shelf::Shelf;
@@ -25,52 +35,107 @@ use std::time::Duration;
 /// How many seconds one read or one write of a connection may wait. After that it has failed.
 const LONGEST_WAIT: u64 = 30;
 
-/// A listener of the system, which counts its calls. Clauses see it as these counts, which no other
-/// module can set.
+/// A connection of a listener of the system.
+type Accepted = Connection<ConnectionReader, ToWrite<WaitsOnce<TcpStream>>>;
+
+/// A listener of the system, which counts its calls. Clauses see it as these counts and the
+/// connection that it keeps, which no other module can set.
 #[derive(Drop)]
 pub struct FromListener {
     listener: TcpListener,
     counts: ListenCounts,
     ended: Ended,
+    /// The turn in which connections are served; the reader of one has it while it is served.
+    asking: Asking,
+    /// The connection that was not served to its end.
+    kept: Option<Accepted>,
 }
 
 impl Model for FromListener {
-    ghost use Rattle.office_http.specs.declared.listening.ListenCounts.{ListenCounts};
+    ghost use Rattle.std.specs.Option.{option_map};
+    ghost use Rattle.office_http.specs.Listening.{Listening, system_listening, system_state};
 
-    ghost Value = { ListenCounts };
+    ghost Value = { Listening };
 
-    ghost view = { λ s. s.counts };
+    ghost view = { λ s. system_listening s.counts (option_map system_state s.kept) };
 }
 
 impl FromListener {
     /// The listener before its first counted call.
     pub fn new(listener: TcpListener) -> FromListener
-        ensures { result ≡ no_listening }
+        ensures { result ≡ system_listening no_listening None }
     {
         FromListener {
             listener,
             counts: ListenCounts::default(),
             ended: Ended::new(),
+            asking: Asking::never(),
+            kept: None,
         }
     }
 
     /// How the calls went so far.
     pub fn counts(&self) -> ListenCounts
-        ensures { result ≡ self.now }
+        ensures { result ≡ self.now.counts }
     {
         self.counts
     }
+
+    /// Begins a turn, for which the file of the office was opened: until it ends someone else may
+    /// want the file.
+    pub fn begin_turn(&mut self, asking: Asking)
+        ensures { self.new ≡ self.old }
+    {
+        self.asking = asking;
+        self.asking.begin();
+    }
+
+    /// Goes on while the file of the office can't be had: it gives no connection for which it would
+    /// have to wait.
+    pub fn go_away(&mut self)
+        ensures { self.new ≡ self.old }
+    {
+        self.asking = Asking::away();
+    }
+
+    /// Waits, while the file of the office is someone else's, until it is needed: the connection
+    /// that is kept has sent something, or has waited long enough, or another client waits.
+    pub fn await_need(&mut self) {
+        match &mut self.kept {
+            Some(kept) => kept.reader.await_need(),
+            None => {
+                let _ = c::poll(&mut [readiness(self.listener.as_raw_fd())], -1);
+            }
+        }
+    }
 }
 
-/// The two ends of a connection that this listener accepted. No read and no write waits longer than
-/// `LONGEST_WAIT`. Each answer is sent at once, however short; where the system refuses that, it
-/// may hold an answer back for a moment. The error is the system's, which set no wait or gave no
+/// Waits for a client of this listener in this turn, and says whether one is there; if not, the
+/// turn is to end.
+fn await_client(listener: &TcpListener, asking: &mut Asking) -> bool {
+    if !asking.may_be() {
+        return true;
+    }
+    if asking.looks_in_time() {
+        return false;
+    }
+    for _ in 0..u64::MAX {
+        if c::poll(&mut [readiness(listener.as_raw_fd())], SLICE) != 0 {
+            return true;
+        }
+        if asking.looks() {
+            return false;
+        }
+    }
+    true
+}
+
+/// The connection of this stream that this listener accepted. No read and no write waits longer
+/// than `LONGEST_WAIT`. Each answer is sent at once, however short; where the system refuses that,
+/// it may hold an answer back for a moment. The error is the system's, which set no wait or gave no
 /// second handle.
-fn open_ends(
-    stream: TcpStream,
-    listener: RawFd,
-) -> io::Result<Connection<ConnectionReader, ToWrite<WaitsOnce<TcpStream>>>>
-    ensures { IfOk result (λ c. (c.reader.counts ≡ no_calls) × (c.writer.counts ≡ no_calls)) }
+fn open_ends(stream: TcpStream, listener: RawFd) -> io::Result<Accepted>
+    ensures { IfOk result (λ it. IsNew (system_state it)) }
 {
     let wait = Duration::from_secs(LONGEST_WAIT);
     stream.set_read_timeout(Some(wait))?;
@@ -78,39 +143,59 @@ fn open_ends(
     let _ = stream.set_nodelay(true);
     let writer = ToWrite::new(WaitsOnce::new(stream.try_clone()?));
     let reader = ConnectionReader::new(stream, listener);
-    Ok(Connection { reader, writer })
+    Ok(Connection::new(reader, writer))
+}
+
+/// Accepts a connection of this listener, which counts as a call.
+fn accept_new(listener: &TcpListener, counts: &mut ListenCounts) -> io::Result<Accepted>
+    ensures new { IfOk result (λ it. IsNew (system_state it)) }
+    ensures counts { counts.new ≡ listen_counts_after result counts.old }
+{
+    let outcome = match listener.accept() {
+        Ok((stream, _)) => open_ends(stream, listener.as_raw_fd()),
+        Err(error) => Err(error),
+    };
+    counts.count(&outcome);
+    outcome
 }
 
 impl Listen for FromListener {
-    ghost use Rattle.std.specs.Prelude.{◌≡◌, None, [], ◌∷◌};
-    ghost use Rattle.office_http_framing.specs.Serve.{ends_of};
-    ghost use Rattle.office_http.specs.Listening.{GrewBy, counts_alone};
+    ghost use Rattle.std.specs.Prelude.{[], ◌∷◌, Some};
+    ghost use Rattle.office_http.specs.Listening.{ListenerMoves, system_state};
 
     type Reader = ConnectionReader;
 
     type Writer = ToWrite<WaitsOnce<TcpStream>>;
 
-    ghost told = { counts_alone };
+    ghost told = { λ s. s };
 
-    fn accept(
-        &mut self,
-    ) -> io::Result<Connection<ConnectionReader, ToWrite<WaitsOnce<TcpStream>>>> {
-        let outcome = match self.listener.accept() {
-            Ok((stream, _)) => open_ends(stream, self.listener.as_raw_fd()),
-            Err(error) => Err(error),
-        };
-        self.counts.count(&outcome);
-        outcome
+    fn accept(&mut self) -> io::Result<Option<Accepted>> {
+        if let Some(mut kept) = self.kept.take() {
+            kept.reader.begin(self.asking.take());
+            return Ok(Some(kept));
+        }
+        if !await_client(&self.listener, &mut self.asking) {
+            return Ok(None);
+        }
+        let mut connection = accept_new(&self.listener, &mut self.counts)?;
+        connection.reader.begin(self.asking.take());
+        Ok(Some(connection))
     }
 
-    fn take_back(&mut self, connection: Connection<ConnectionReader, ToWrite<WaitsOnce<TcpStream>>>)
-        ensures counts { self.new ≡ self.old }
-        ensures given { GrewBy None None [] }
-        ensures returned { GrewBy None None (ends_of
-            (record { bytes = None; counts = connection.reader.counts })
-            (record { bytes = None; counts = connection.writer.counts }) ∷ []) }
+    fn keep(&mut self, mut connection: Accepted)
+        ensures { ListenerMoves self.old self.new self.old.counts [] []
+            (Some (system_state connection)) }
     {
-        let Connection { reader, writer } = connection;
+        self.asking = connection.reader.pause();
+        self.kept = Some(connection);
+    }
+
+    fn take_back(&mut self, mut connection: Accepted)
+        ensures { ListenerMoves self.old self.new self.old.counts []
+            ((system_state connection).ends ∷ []) self.old.kept }
+    {
+        self.asking = connection.reader.pause();
+        let Connection { reader, writer, .. } = connection;
         drop(writer);
         self.ended.add(reader.end());
     }
@@ -129,13 +214,18 @@ pub fn serve_on<S: Shelf>(
     ensures clean { S.is_clean office.new → S.is_clean office.old }
     ensures honest { S.is_honest office.new → S.is_honest office.old }
     ensures did { let storage = office_storage S.is_honest S.content S.written S.may_leave in
-        S.is_clean office.new →
+        (served : List Connected) × ServesAsMany count served result
+        × (S.is_clean office.new →
         (before : OfficeState) (tables : Content) → KeepsState storage office.old tables before →
-        (served : List Connected) × Listens storage office.old tables before office.new served
-        × ServesAsMany count served result }
+        Listens storage office.old tables before office.new served) }
 {
     let Ok(listener) = listener.try_clone() else {
         return Err(ServeStop::Accept);
     };
-    serve_each(alloc, &mut FromListener::new(listener), count, office)
+    let mut left = count;
+    match serve_each(alloc, &mut FromListener::new(listener), &mut left, office)? {
+        TurnEnd::Served => Ok(()),
+        // Nobody can want a file of which this listener knows nothing.
+        TurnEnd::Asked => Err(ServeStop::Accept),
+    }
 }

@@ -5,6 +5,8 @@
 //! are handed on here.
 #![tactic(auto)]
 
+mod asking;
+mod away;
 mod connection_reader;
 mod ended;
 mod from_listener;
@@ -13,15 +15,19 @@ mod machine;
 mod service;
 mod waiting;
 
+pub use asking::Asking;
 pub use connection_reader::ConnectionReader;
 pub use from_listener::{FromListener, serve_on};
-pub use listening::{Connection, Listen, ListenCounts, ServeStop, serve_each};
-pub use office_http_framing::ends::{
-    Counts, FromRead, Sink, Source, ToWrite, WriteFailed, write_all,
+pub use listening::{
+    Connection, Listen, ListenCounts, ServeStop, TurnEnd, answer_away, serve_each,
 };
-pub use office_http_framing::engine::{ServeFault, Served};
+pub use office_http_framing::buffer::Buffer;
+pub use office_http_framing::ends::{
+    Counts, FromRead, NextStep, Sink, Source, ToWrite, Wait, WriteFailed, write_all,
+};
+pub use office_http_framing::engine::{Part, PartEnd, ServeFault, Served};
 pub use office_http_framing::front::{Fault, Front, Request, next_request};
 pub use office_http_requests::{AskFault, Asked, Field, Form, command_of};
-pub use office_http_responses::{More, answer_of, fault_answer, unavailable_answer};
-pub use service::serve;
+pub use office_http_responses::{More, answer_of, fault_answer, unavailable};
+pub use service::{serve, serve_buffered};
 pub use waiting::WaitsOnce;

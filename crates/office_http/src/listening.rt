@@ -1,25 +1,34 @@
-//! The office served to the connections of a listener, one after another.
+//! The office served to the connections of a listener, one after another, turn by turn.
 
-ghost use Rattle.std.specs.Prelude.{◌≡◌, ◌↔◌, List, Err, IsTrue, IfOk, OnOk, OnErr};
+ghost use Rattle.std.specs.Prelude.{◌≡◌, List, None, IfOk, OnErr};
 ghost use Rattle.office_machine.specs.Office.{Office as OfficeState};
 ghost use Rattle.office_tables_shelf.specs.Content.{Content};
-ghost use Rattle.office_http_framing.specs.Ends.{no_calls};
-ghost use Rattle.office_http_framing.specs.Serve.{ends_of};
+ghost use Rattle.office_http_framing.specs.Serve.{as_served, told_requests};
 ghost use Rattle.office_http_framing.specs.Stops.{KeepsState};
+ghost use Rattle.office_http.specs.Away.{AnswersAway};
 ghost use Rattle.office_http.specs.Protocol.{office_storage};
 ghost use Rattle.office_http.specs.Listening.{
   Connected,
   EndsListening,
   Listens,
+  ListensBy,
   ServesConnection,
+  bytes_in,
   connection_between,
+  connection_limit,
+  has_paused,
   listen_counts_after,
+  ran_by,
+  connection_state,
 };
 
-use crate::service::serve;
+use crate::away::Away;
+use crate::machine::StreamTools;
 use office_desk::office::Office;
+use office_http_framing::buffer::Buffer;
 use office_http_framing::ends::{Sink, Source};
-use office_http_framing::engine::{ServeFault, Served};
+use office_http_framing::engine::{Part, PartEnd, ServeFault, serve_buffered};
+use office_http_framing::machine::Machine;
 use office_tables_shelf::shelf::Shelf;
 use std::alloc::{AllocError, Global};
 use std::io;
@@ -30,7 +39,7 @@ const CONNECTION_LIMIT: u32 = 10_000;
 /// How the calls of a listener went. Each count stays at `u64::MAX` once it is there.
 #[derive(Clone, Copy, Default)]
 pub struct ListenCounts {
-    /// How many calls gave a connection.
+    /// How many calls gave a new connection.
     pub accepted: u64,
     /// How many calls failed.
     pub failures: u64,
@@ -48,48 +57,77 @@ impl ListenCounts {
     }
 }
 
-/// The two ends of a connection, which can't be dropped, but is given back to its listener.
+/// A connection that is served in parts: its two ends, and what is kept from one part to the next.
+/// It is given back to its listener.
+#[derive(Drop)]
 pub struct Connection<R, W> {
     pub reader: R,
     pub writer: W,
+    /// What was read of requests that were not answered yet, once a part was served.
+    pub buffer: Option<Buffer>,
+    /// How many requests may still come.
+    pub left: u32,
 }
 
-/// Where connections come from, seen as the counts of its calls and, where they are known, the ends
-/// of the connections that it gave and of those that it got back, as they were then.
+impl<R, W> Connection<R, W> {
+    /// A connection of these ends before its first part.
+    pub fn new(reader: R, writer: W) -> Connection<R, W>
+        ensures reader { result.reader ≡ reader }
+        ensures writer { result.writer ≡ writer }
+        ensures buffer { result.buffer ≡ None }
+        ensures left { result.left ≡ connection_limit }
+    {
+        Connection {
+            reader,
+            writer,
+            buffer: None,
+            left: CONNECTION_LIMIT,
+        }
+    }
+}
+
+/// How a turn of serving connections ended.
+#[derive(Clone, Copy)]
+pub enum TurnEnd {
+    /// As many connections were served as were asked for.
+    Served,
+    /// Someone else waits for the file of the office. A connection that was not served to its end
+    /// is kept.
+    Asked,
+}
+
+/// Where connections come from, seen as the counts of its calls, as the connection that it keeps
+/// from one turn to the next and, where they are known, as the ends of the connections that it gave
+/// and of those that it got back, as they were then.
 pub trait Listen {
-    ghost use Rattle.std.specs.Prelude.{[], ◌∷◌, MatchResult};
-    ghost use Rattle.office_http_framing.specs.Ends.{no_calls};
-    ghost use Rattle.office_http_framing.specs.Serve.{ends_of};
-    ghost use Rattle.office_http.specs.Listening.{GrewBy, Listening, listen_counts_after};
+    ghost use Rattle.std.specs.Prelude.{[], ◌∷◌, Some};
+    ghost use Rattle.office_http.specs.Listening.{ListenerMoves, Gives, Listening, connection_state};
 
     type Reader: Source;
 
     type Writer: Sink;
 
-    // How the listener's calls went so far, and what it gave and got back.
+    // How the listener's calls went so far, what it gave and got back, and what it keeps.
     ghost told: { Self → Listening };
 
-    /// Waits for the next connection, of which nothing was read or written yet. An error means that
-    /// none could be accepted, and counts as a failure.
-    fn accept(&mut self) -> io::Result<Connection<Self::Reader, Self::Writer>>
-        ensures counts { (told self.new).counts
-            ≡ listen_counts_after result (told self.old).counts }
-        ensures given { MatchResult result
-            (λ c. GrewBy (told self.old).given (told self.new).given
-            (ends_of (Self.Reader.told c.reader) (Self.Writer.told c.writer) ∷ []))
-            (λ _. GrewBy (told self.old).given (told self.new).given []) }
-        ensures fresh { IfOk result (λ c. ((Self.Reader.told c.reader).counts ≡ no_calls)
-            × ((Self.Writer.told c.writer).counts ≡ no_calls)) }
-        ensures returned { GrewBy (told self.old).returned (told self.new).returned [] };
+    /// Gives the connection that was kept, or waits for a new one, of which nothing was read or
+    /// written yet. There is none where someone else waits for the file of the office. An error
+    /// means that none could be accepted, and counts as a failure.
+    fn accept(&mut self) -> io::Result<Option<Connection<Self::Reader, Self::Writer>>>
+        ensures { Gives (connection_state Self.Reader.told Self.Writer.told) result
+            (told self.old) (told self.new) };
+
+    /// Keeps a connection for the next turn.
+    fn keep(&mut self, connection: Connection<Self::Reader, Self::Writer>)
+        ensures { ListenerMoves (told self.old) (told self.new) (told self.old).counts [] []
+            (Some (connection_state Self.Reader.told Self.Writer.told connection)) };
 
     /// Takes a connection back and ends it. It may stay open for a while for what its client still
     /// sends.
     fn take_back(&mut self, connection: Connection<Self::Reader, Self::Writer>)
-        ensures counts { (told self.new).counts ≡ (told self.old).counts }
-        ensures given { GrewBy (told self.old).given (told self.new).given [] }
-        ensures returned { GrewBy (told self.old).returned (told self.new).returned
-            (ends_of (Self.Reader.told connection.reader)
-            (Self.Writer.told connection.writer) ∷ []) };
+        ensures { ListenerMoves (told self.old) (told self.new) (told self.old).counts []
+            ((connection_state Self.Reader.told Self.Writer.told connection).ends ∷ [])
+            (told self.old).kept };
 }
 
 /// Why a listener was not served to the last connection.
@@ -101,80 +139,167 @@ pub enum ServeStop {
     NoMemory,
 }
 
-/// Whether the buffer of a connection was refused.
-fn wants_memory(outcome: &Result<Served, ServeFault>) -> bool
-    ensures { IsTrue result ↔ (outcome.now ≡ Err ServeFault.NoMemory) }
+/// Whether a part of a connection paused, so that it is to be served on.
+fn pauses(outcome: &Result<Part, ServeFault>) -> bool
+    ensures { result ≡ has_paused outcome.now }
 {
-    matches!(outcome, Err(ServeFault::NoMemory))
+    match outcome {
+        Ok(part) => matches!(part.end, PartEnd::Paused),
+        Err(_) => false,
+    }
 }
 
-/// Serves one connection, from its first call on, at most `CONNECTION_LIMIT` requests. Where its
-/// ends fail it ends, which is no error. The error means that its buffer was refused.
-fn serve_connection<S: Shelf, R: Source, W: Sink>(
+/// How many requests were dealt with in a part of a connection.
+fn requests_of(outcome: &Result<Part, ServeFault>) -> u32
+    ensures { result ≡ told_requests (as_served outcome.now) }
+{
+    match outcome {
+        Ok(part) => part.requests,
+        Err(ServeFault::Read { requests }) => *requests,
+        Err(ServeFault::Write { requests }) => *requests,
+        Err(ServeFault::NoMemory) => 0,
+    }
+}
+
+/// Takes the buffer of a connection out of its place; it is made if there is none yet.
+fn take_buffer(alloc: Global, place: &mut Option<Buffer>) -> Result<Buffer, AllocError>
+    ensures taken { IfOk result (λ buffer. buffer ≡ bytes_in place.old) }
+    ensures kept { OnErr result (place.new ≡ place.old) }
+{
+    match place.take() {
+        Some(buffer) => Ok(buffer),
+        None => Buffer::new(alloc),
+    }
+}
+
+/// Serves a part of a connection by a machine: on from what is buffered, and at most as many
+/// requests as are left. Where its ends fail it ends, which is no error. Says whether it goes on
+/// with another part. The error means that its buffer was refused.
+fn serve_connection<Tools, M: Machine<Tools>, R: Source, W: Sink>(
     alloc: Global,
-    office: &mut Office<S>,
+    machine: &mut M,
+    tools: &mut Tools,
     connection: &mut Connection<R, W>,
-) -> Result<(), AllocError>
-    requires reader { (R.told connection.old.reader).counts ≡ no_calls }
-    requires writer { (W.told connection.old.writer).counts ≡ no_calls }
-    ensures clean { S.is_clean office.new → S.is_clean office.old }
-    ensures honest { S.is_honest office.new → S.is_honest office.old }
-    ensures did { let storage = office_storage S.is_honest S.content S.written S.may_leave in
-        S.is_clean office.new →
-        (before : OfficeState) (tables : Content) → KeepsState storage office.old tables before →
-        OnOk result ((after : OfficeState) × (kept : Content)
-        × ServesConnection storage office.old tables before office.new kept after
-        (connection_between
-        (ends_of (R.told connection.old.reader) (W.told connection.old.writer))
-        (ends_of (R.told connection.new.reader) (W.told connection.new.writer)))) }
+) -> Result<bool, AllocError>
+    ensures clean { M.is_clean machine.new → M.is_clean machine.old }
+    ensures honest { M.storage.is_honest machine.new → M.storage.is_honest machine.old }
+    ensures did { M.is_clean machine.new →
+        (before : M.State) (held : M.Stored) → KeepsState M.storage machine.old held before →
+        IfOk result (λ goes_on. (after : M.State) × (kept : M.Stored)
+        × ServesConnection M.protocol (ran_by M.protocol M.storage)
+        machine.old held before machine.new kept after
+        (connection_between goes_on (connection_state R.told W.told connection.old)
+        (connection_state R.told W.told connection.new))) }
     // Where its buffer was refused, nothing was touched.
     ensures untouched { OnErr result (
-        (ends_of (R.told connection.new.reader) (W.told connection.new.writer)
-        ≡ ends_of (R.told connection.old.reader) (W.told connection.old.writer))
-        × (office.new ≡ office.old)) }
+        (connection_state R.told W.told connection.new
+        ≡ connection_state R.told W.told connection.old)
+        × (machine.new ≡ machine.old)) }
 {
+    let mut buffer = take_buffer(alloc, &mut connection.buffer)?;
     let reader = &mut connection.reader;
     let writer = &mut connection.writer;
-    let outcome = serve(alloc, office, reader, writer, CONNECTION_LIMIT);
-    if wants_memory(&outcome) {
-        return Err(AllocError);
-    }
-    Ok(())
+    let left = connection.left;
+    let outcome = serve_buffered(
+        alloc,
+        machine,
+        tools,
+        &mut buffer,
+        reader,
+        writer,
+        left,
+        true,
+    );
+    connection.buffer = Some(buffer);
+    connection.left = left.saturating_sub(requests_of(&outcome));
+    Ok(pauses(&outcome))
 }
 
-/// Serves `count` connections, one after the other, each at most 10,000 requests. A connection
-/// whose ends fail counts too, and the next one follows it. `Accept` where the next connection
-/// could not be accepted, `NoMemory` where the buffer of one was refused.
+/// Serves `left` connections by a machine, one after the other, each at most 10,000 requests, and
+/// counts `left` down. A connection whose ends fail counts too, and the next one follows it. It
+/// stops where the listener gives none, or a connection pauses: that one is kept by the listener.
+/// `Accept` where the next connection could not be accepted, `NoMemory` where the buffer of one was
+/// refused.
+fn serve_by<Tools, M: Machine<Tools>, L: Listen>(
+    alloc: Global,
+    listener: &mut L,
+    left: &mut u32,
+    machine: &mut M,
+    tools: &mut Tools,
+) -> Result<TurnEnd, ServeStop>
+    ensures clean { M.is_clean machine.new → M.is_clean machine.old }
+    ensures honest { M.storage.is_honest machine.new → M.storage.is_honest machine.old }
+    ensures did { (served : List Connected)
+        × EndsListening left.old left.new (L.told listener.old) (L.told listener.new) served result
+        × (M.is_clean machine.new →
+        (before : M.State) (held : M.Stored) → KeepsState M.storage machine.old held before →
+        ListensBy M.protocol M.storage (ran_by M.protocol M.storage)
+        machine.old held before machine.new served) }
+{
+    while *left > 0 {
+        let Ok(next) = listener.accept() else {
+            return Err(ServeStop::Accept);
+        };
+        let Some(mut connection) = next else {
+            return Ok(TurnEnd::Asked);
+        };
+        match serve_connection(alloc, machine, tools, &mut connection) {
+            Ok(true) => {
+                listener.keep(connection);
+                return Ok(TurnEnd::Asked);
+            }
+            Ok(false) => {
+                listener.take_back(connection);
+                *left -= 1;
+            }
+            Err(_) => {
+                listener.take_back(connection);
+                return Err(ServeStop::NoMemory);
+            }
+        }
+    }
+    Ok(TurnEnd::Served)
+}
+
+/// Serves `left` connections in a turn, one after the other, each at most 10,000 requests, and
+/// counts `left` down. A connection whose ends fail counts too, and the next one follows it. The
+/// turn ends where someone else waits for the file of the office. A connection that is not at its
+/// end then is kept by the listener, and the next turn serves it on from there, also within a
+/// request. `Accept` where the next connection could not be accepted, `NoMemory` where the buffer
+/// of one was refused.
 pub fn serve_each<S: Shelf, L: Listen>(
     alloc: Global,
     listener: &mut L,
-    count: u32,
+    left: &mut u32,
     office: &mut Office<S>,
-) -> Result<(), ServeStop>
+) -> Result<TurnEnd, ServeStop>
     ensures clean { S.is_clean office.new → S.is_clean office.old }
     ensures honest { S.is_honest office.new → S.is_honest office.old }
 
-    // Each connection that the listener gave was served once, as `serve` does, from its first call
-    // to its being given back, and no other one.
+    // Each connection that the listener gave was served part by part, as `serve_buffered` does,
+    // from its first call to its being given back, and no other one; and the listener tells how
+    // many it gave and got back, which one it keeps, and a failure where it is the reason.
     ensures did { let storage = office_storage S.is_honest S.content S.written S.may_leave in
-        S.is_clean office.new →
+        (served : List Connected)
+        × EndsListening left.old left.new (L.told listener.old) (L.told listener.new) served result
+        × (S.is_clean office.new →
         (before : OfficeState) (tables : Content) → KeepsState storage office.old tables before →
-        (served : List Connected) × Listens storage office.old tables before office.new served
-        × EndsListening count (L.told listener.old) (L.told listener.new) served result }
-    // The listener tells how many connections it gave and got back, and a failure where it is the
-    // reason.
-    ensures told { (served : List Connected)
-        × EndsListening count (L.told listener.old) (L.told listener.new) served result }
+        Listens storage office.old tables before office.new served) }
 {
-    for _ in 0..count {
-        let Ok(mut connection) = listener.accept() else {
-            return Err(ServeStop::Accept);
-        };
-        let outcome = serve_connection(alloc, office, &mut connection);
-        listener.take_back(connection);
-        if outcome.is_err() {
-            return Err(ServeStop::NoMemory);
-        }
-    }
-    Ok(())
+    let mut tools = StreamTools::new();
+    serve_by(alloc, listener, left, office, &mut tools)
+}
+
+/// Answers the requests of connections while the file of the office can't be had: each that it is
+/// unavailable. Connections are given, counted and kept as by `serve_each`.
+pub fn answer_away<L: Listen>(
+    alloc: Global,
+    listener: &mut L,
+    left: &mut u32,
+) -> Result<TurnEnd, ServeStop>
+    ensures { (served : List Connected)
+        × EndsListening left.old left.new (L.told listener.old) (L.told listener.new) served result
+        × AnswersAway served }
+{
+    serve_by(alloc, listener, left, &mut Away, &mut ())
 }

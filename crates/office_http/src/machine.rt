@@ -14,9 +14,7 @@ use office_desk::office::Office;
 use office_http_framing::front::{Fault, Request};
 use office_http_framing::machine::{Answer, Machine, Unavailable};
 use office_http_requests::{AskFault, Asked, Form, RouteCache};
-use office_http_responses::{
-    answer_of, ask_fault_answer, damaged, framing_fault_answer, unavailable_answer,
-};
+use office_http_responses::{answer_of, ask_fault_answer, damaged, framing_fault_answer};
 use office_machine::refusal::Refusal;
 use office_machine::reply::Reply;
 use office_tables_shelf::shelf::Shelf;
@@ -26,6 +24,14 @@ use std::alloc::{AllocError, Global};
 #[derive(Drop)]
 pub(crate) struct StreamTools {
     pub(crate) routes: RouteCache,
+}
+
+impl StreamTools {
+    pub(crate) fn new() -> StreamTools {
+        StreamTools {
+            routes: RouteCache::new(),
+        }
+    }
 }
 
 /// The whole HTTP answer that tells a reply of the office, in this form; `Unavailable` where memory
@@ -116,6 +122,6 @@ impl<S: Shelf> Machine<StreamTools> for Office<S> {
     }
 
     fn unavailable() -> &'static [u8] {
-        unavailable_answer()
+        office_http_responses::unavailable()
     }
 }

@@ -1,22 +1,22 @@
 //! The office served over a stream of bytes.
 
-ghost use Rattle.std.specs.Prelude.{◌≡◌, ◌+◌, ◌*◌, ◌≤◌, IfErr};
+ghost use Rattle.std.specs.Prelude.{◌≡◌, ◌+◌, ◌*◌, ◌≤◌, length, IfErr};
 ghost use Rattle.office_machine.specs.Office.{Office as OfficeState};
 ghost use Rattle.office_desk.specs.Running.{KeepsTheStreet};
 ghost use Rattle.office_tables_shelf.specs.Content.{Content};
-ghost use Rattle.office_http_framing.specs.Asks.{OnlyAsks};
+ghost use Rattle.office_http_framing.specs.Asks.{OnlyAsks, OnlyAsksAfter};
 ghost use Rattle.office_http_framing.specs.Limits.{longest_request};
-ghost use Rattle.office_http_framing.specs.Serve.{Did, TellsFault, Untouched, ends_of};
+ghost use Rattle.office_http_framing.specs.Serve.{Did, DidPart, TellsFault, TellsPart, Untouched, ends_of};
 ghost use Rattle.office_http_framing.specs.Stops.{KeepsState, moment_of};
 ghost use Rattle.office_http.specs.Laws.{Serves};
 ghost use Rattle.office_http.specs.Protocol.{office_protocol, office_storage};
 
 use crate::machine::StreamTools;
 use office_desk::office::Office;
+use office_http_framing::buffer::Buffer;
 use office_http_framing::ends::{Sink, Source};
 use office_http_framing::engine;
-use office_http_framing::engine::{ServeFault, Served};
-use office_http_requests::RouteCache;
+use office_http_framing::engine::{Part, ServeFault, Served};
 use office_tables_shelf::shelf::Shelf;
 use std::alloc::Global;
 
@@ -26,7 +26,8 @@ use std::alloc::Global;
 /// shows it, though a crash may leave its step.
 ///
 /// The error is `Read` where the reader failed, `Write` where the writer failed or took no byte,
-/// and `NoMemory` where the buffer was refused, which is taken before anything is read.
+/// and `NoMemory` where the buffer was refused, which is taken before anything is read. The reader
+/// is not asked to wait: a stream of which this is all is never left before its end.
 pub fn serve<S: Shelf, R: Source, W: Sink>(
     alloc: Global,
     office: &mut Office<S>,
@@ -69,8 +70,60 @@ pub fn serve<S: Shelf, R: Source, W: Sink>(
     ensures reads { (R.told reader.new).counts.calls
         ≤ (R.told reader.old).counts.calls + longest_request * (max_requests + 1) + 1 }
 {
-    let mut tools = StreamTools {
-        routes: RouteCache::new(),
-    };
+    let mut tools = StreamTools::new();
     engine::serve(alloc, office, &mut tools, reader, writer, max_requests)
+}
+
+/// Serves a part of a stream, of which the buffer holds what was read before and not answered, as
+/// `serve` does. Before each answer and each read the reader is asked whether the stream is left
+/// there: it pauses, and the buffer keeps what was read and not answered; or it gives way to
+/// another client, between two requests. What follows is served by another call, over the same
+/// buffer, by an office that may have been closed and opened in between.
+///
+/// The error is `Read` or `Write`, as of `serve`, and never `NoMemory`.
+pub fn serve_buffered<S: Shelf, R: Source, W: Sink>(
+    alloc: Global,
+    office: &mut Office<S>,
+    buffer: &mut Buffer,
+    reader: &mut R,
+    writer: &mut W,
+    max_requests: u32,
+) -> Result<Part, ServeFault>
+    ensures clean { S.is_clean office.new → S.is_clean office.old }
+    ensures honest { S.is_honest office.new → S.is_honest office.old }
+
+    // What `serve` says of its stream, of a part that begins with the bytes that are buffered. If
+    // the stream was left, all requests of the part were answered whole, and the buffer keeps what
+    // follows them; if it gave way, that is nothing.
+    ensures did { let storage = office_storage S.is_honest S.content S.written S.may_leave in
+        S.is_clean office.new →
+        (before : OfficeState) (tables : Content) → KeepsState storage office.old tables before →
+        (after : OfficeState) × (kept : Content) × DidPart office_protocol
+        (Serves storage (S.may_leave office.old) (moment_of storage office.old tables before)
+        office.new kept after)
+        max_requests buffer.old buffer.new (ends_of (R.told reader.old) (W.told writer.old))
+        (ends_of (R.told reader.new) (W.told writer.new)) result }
+
+    // No call of an end failed or moved no byte but the last one of that end, as the result says,
+    // and none where the stream was left.
+    ensures fault { TellsPart (ends_of (R.told reader.old) (W.told writer.old))
+        (ends_of (R.told reader.new) (W.told writer.new)) result }
+    ensures asks { OnlyAsksAfter R.told max_requests buffer.old reader.old reader.new }
+    // Each read but one gives a byte at least.
+    ensures reads { (R.told reader.new).counts.calls + length buffer.old
+        ≤ (R.told reader.old).counts.calls + longest_request * max_requests
+        + length buffer.new + 1 }
+    ensures bound { length buffer.old ≤ longest_request → length buffer.new ≤ longest_request }
+{
+    let mut tools = StreamTools::new();
+    engine::serve_buffered(
+        alloc,
+        office,
+        &mut tools,
+        buffer,
+        reader,
+        writer,
+        max_requests,
+        true,
+    )
 }

@@ -1,5 +1,6 @@
 pub mod AskLemmas
 pub mod BufferLemmas
+pub mod CutLemmas
 pub mod EndLemmas
 pub mod FieldLemmas
 pub mod FrontLemmas

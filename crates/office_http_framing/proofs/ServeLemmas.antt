@@ -1,31 +1,31 @@
 -- How far a stream has been served, and what each step adds.
-use Rattle.std.proofs.Common.{◌≡◌, inl, ℕ, suc, ◌+◌, ◌<◌, List, [], ◌∷◌, ◌++◌, length, drop, refl, sym, ap, subst, ◌∙◌, arith, append_assoc}
-use Rattle.std.specs.Prelude.{Option, Some, None, Result, Ok, Err, MatchResult, true, false, nat_lt, if◌then◌else◌}
+use Rattle.std.proofs.Common.{◌≡◌, ℕ, suc, ◌+◌, ◌<◌, List, [], ◌∷◌, ◌++◌, length, drop, refl, sym, ap, subst, ◌∙◌, arith, append_assoc}
+use Rattle.std.specs.Prelude.{Bool, Option, Some, None, Result, Ok, Err, IfOk, MatchResult, true, false}
 use Rattle.std.specs.{Result.is_err, List.concat, Io.KnownBytes.Appends, Io.KnownBytes.Consumes, Io.KnownBytes.Keeps}
 use Rattle.std.proofs.KnownBytes.{Consumes-nil, Consumes-trans, Appends-nil, Appends-trans}
 use Rattle.std.proofs.lemmas.List.{append-nil, length-append, take-append-le, take_all}
-use Rattle.office_http_framing.specs.{declared.engine.Served.Served, declared.engine.ServeFault.ServeFault, Ends.AppendsPart, Ends.NoneStops, Ends.Told, Ends.raised_count, Front.PlainRequest, Front.BeginsWithRequest, Front.IsIncomplete, Protocol.Protocol, Stream.left_after, Stream.unfinished, Stream.AreRequests, Stream.BeginsWith}
+use Rattle.office_http_framing.specs.{declared.engine.Part.Part, declared.engine.PartEnd.PartEnd, declared.engine.Served.Served, declared.engine.ServeFault.ServeFault, Ends.AppendsPart, Ends.NoneStops, Ends.Told, Ends.raised_count, Front.PlainRequest, Front.BeginsWithRequest, Front.IsIncomplete, Protocol.Protocol, Stream.left_after, Stream.unfinished, Stream.AreRequests, Stream.BeginsWith}
 use Rattle.office_http_framing.specs.Asks.{Asks, OwesNoAnswer}
-use Rattle.office_http_framing.specs.Serve.{BreaksOff, Did, Ends, EndsBy, Runs, SinkTook, ends_of, told_requests}
+use Rattle.office_http_framing.specs.Serve.{BreaksOff, Deed, Did, DidPart, Ends, EndsBy, EndsPart, EndsPartBy, IsLeft, MayBeLeft, Runs, SinkTook, Tail, TellsEnd, TellsFault, TellsPart, as_served, ends_of, told_requests}
+use Rattle.office_http_framing.specs.declared.engine.PartEnd.TheVariants as part
 use Rattle.office_http_framing.specs.declared.engine.ServeFault.TheVariants as stop
-use Rattle.office_http_framing.proofs.AskLemmas.{asks-weaker, begins-between}
-use Rattle.office_http_framing.proofs.StreamLemmas.{BeginsWith-append, BeginsWith-next}
+use Rattle.office_http_framing.proofs.AskLemmas.{asks-weaker}
+use Rattle.office_http_framing.proofs.StreamLemmas.{BeginsWith-more, BeginsWith-next}
 
--- The source gave bytes that begin with so many requests and then `held`; the machine ran over them;
--- the sink took their answers, each before the next call of the source; and so many more requests may
--- come.
-pub record Progress (runs : Runs) (limit count left : ℕ) (held : List ℕ) (start now : Ends) : Type 0 where
+-- Some bytes had come before, and the source gave more: together they begin with so many requests and then `held`; the machine
+-- ran over them; the sink took their answers, each before the next call of the source; and so many more requests may come.
+pub record Progress (runs : Runs) (limit count left : ℕ) (come held : List ℕ) (start now : Ends) : Type 0 where
   pub given : List ℕ
   pub requests : List PlainRequest
   pub answers : List (List ℕ)
   pub reads : Consumes start.source.bytes now.source.bytes given
-  pub begins : BeginsWith limit given requests held left
+  pub begins : BeginsWith limit (come ++ given) requests held left
   pub ran : runs requests answers
   pub count_is : count ≡ length requests
   pub as_many : length answers ≡ length requests
   pub writes : Appends start.sink.bytes now.sink.bytes (concat answers)
   pub calls : ℕ
-  pub asks : Asks (λ told. told) limit (OwesNoAnswer limit requests answers start.sink.bytes now.sink.bytes) start.source calls given now.source
+  pub asks : Asks (λ piece. OwesNoAnswer limit requests answers start.sink.bytes now.sink.bytes (come ++ piece)) start.source calls given now.source
 
 concat-push : (xs : List (List ℕ)) (x : List ℕ) → concat (xs ++ x ∷ []) ≡ concat xs ++ x
 concat-push [] x = append-nil x
@@ -37,13 +37,13 @@ GoesOn runs runs' request answer =
     (requests : List PlainRequest) (answers : List (List ℕ)) → runs requests answers → runs' (requests ++ request ∷ []) (answers ++ answer ∷ [])
 
 -- nothing was read yet
-pub Progress-start : (runs : Runs) (limit : ℕ) (ends : Ends) → runs [] [] → Progress runs limit 0 limit [] ends ends
-Progress-start runs limit ends ran = record {
+pub Progress-start : (runs : Runs) (limit : ℕ) (come : List ℕ) (ends : Ends) → runs [] [] → Progress runs limit 0 limit come come ends ends
+Progress-start runs limit come ends ran = record {
   given = [];
   requests = [];
   answers = [];
   reads = Consumes-nil ends.source.bytes;
-  begins = (refl, refl);
+  begins = (append-nil come, refl);
   ran = ran;
   count_is = refl;
   as_many = refl;
@@ -92,20 +92,19 @@ owes-none-now limit left requests answers old new given held as_many begins some
   goes_on = Appends-nil new;
 }
 
-module _ (runs : Runs) (limit count left : ℕ) (held : List ℕ) (start now : Ends) (so_far : Progress runs limit count left held start now) where
+module _ (runs : Runs) (limit count left : ℕ) (come held : List ℕ) (start now : Ends) (so_far : Progress runs limit count left come held start now) where
   -- the source was called while a request was awaited, and gave these bytes
   pub Progress-more : (source' : Told) (piece held' : List ℕ) → 0 < left → IsIncomplete held → NoneStops start.source.counts now.source.counts
       → Consumes now.source.bytes source'.bytes piece → source'.counts.calls ≡ raised_count now.source.counts.calls
-      → source'.counts.next_reads ≡ (if nat_lt 0 (length held) then now.source.counts.next_reads else raised_count now.source.counts.next_reads)
-      → held' ≡ held ++ piece → Progress runs limit count left held' start (ends_of source' now.sink)
-  Progress-more source' piece held' some incomplete none_stops reads counts next_reads same_held =
-      subst (λ h. Progress runs limit count left h start (ends_of source' now.sink)) (sym same_held)
+      → held' ≡ held ++ piece → Progress runs limit count left come held' start (ends_of source' now.sink)
+  Progress-more source' piece held' some incomplete none_stops reads counts same_held =
+      subst (λ h. Progress runs limit count left come h start (ends_of source' now.sink)) (sym same_held)
       (record {
         given = so_far.given ++ piece;
         requests = so_far.requests;
         answers = so_far.answers;
         reads = Consumes-trans start.source.bytes now.source.bytes source'.bytes so_far.given piece so_far.reads reads;
-        begins = BeginsWith-append limit so_far.given piece so_far.requests held left so_far.begins;
+        begins = BeginsWith-more limit come so_far.given piece so_far.requests held left so_far.begins;
         ran = so_far.ran;
         count_is = so_far.count_is;
         as_many = so_far.as_many;
@@ -116,41 +115,43 @@ module _ (runs : Runs) (limit count left : ℕ) (held : List ℕ) (start now : E
           so_far.given,
           piece,
           so_far.asks,
-          owes-none-now limit left so_far.requests so_far.answers start.sink.bytes now.sink.bytes so_far.given held so_far.as_many so_far.begins some incomplete so_far.writes,
+          owes-none-now limit left so_far.requests so_far.answers start.sink.bytes now.sink.bytes (come ++ so_far.given) held so_far.as_many so_far.begins some incomplete so_far.writes,
           none_stops,
           record { reads = reads; calls = counts },
           refl,
-          begins-between limit left so_far.given held so_far.requests now.source.counts source'.counts so_far.begins next_reads,
         );
       })
 
   next_count : (request : PlainRequest) → count + 1 ≡ length (so_far.requests ++ request ∷ [])
   next_count request = omega (arith, so_far.count_is, length-append so_far.requests (request ∷ []))
 
+  as_many-next : (request : PlainRequest) (answer : List ℕ) → length (so_far.answers ++ answer ∷ []) ≡ length (so_far.requests ++ request ∷ [])
+  as_many-next request answer = omega (arith, so_far.as_many, length-append so_far.requests (request ∷ []), length-append so_far.answers (answer ∷ []))
+
   -- the calls so far, after the sink took more of the answer to one request more
   asks-answered : (request : PlainRequest) (answer text : List ℕ) (sink' : Option (List ℕ)) → Appends now.sink.bytes sink' text
-      → Asks (λ told. told) limit (OwesNoAnswer limit (so_far.requests ++ request ∷ []) (so_far.answers ++ answer ∷ []) start.sink.bytes sink') start.source so_far.calls so_far.given now.source
+      → Asks (λ piece. OwesNoAnswer limit (so_far.requests ++ request ∷ []) (so_far.answers ++ answer ∷ []) start.sink.bytes sink' (come ++ piece)) start.source so_far.calls so_far.given now.source
   asks-answered request answer text sink' written =
-      asks-weaker (λ (told : Told). told) limit
-      (OwesNoAnswer limit so_far.requests so_far.answers start.sink.bytes now.sink.bytes)
-      (OwesNoAnswer limit (so_far.requests ++ request ∷ []) (so_far.answers ++ answer ∷ []) start.sink.bytes sink')
-      (λ given is. owes-none-next limit so_far.requests so_far.answers request answer start.sink.bytes sink' so_far.as_many given
-      (owes-none-later limit so_far.requests so_far.answers start.sink.bytes now.sink.bytes sink' text written given is))
+      asks-weaker
+      (λ piece. OwesNoAnswer limit so_far.requests so_far.answers start.sink.bytes now.sink.bytes (come ++ piece))
+      (λ piece. OwesNoAnswer limit (so_far.requests ++ request ∷ []) (so_far.answers ++ answer ∷ []) start.sink.bytes sink' (come ++ piece))
+      (λ piece is. owes-none-next limit so_far.requests so_far.answers request answer start.sink.bytes sink' so_far.as_many (come ++ piece)
+      (owes-none-later limit so_far.requests so_far.answers start.sink.bytes now.sink.bytes sink' text written (come ++ piece) is))
       start.source so_far.calls so_far.given now.source so_far.asks
 
   -- a request was answered, and its answer written
   pub Progress-next : (runs' : Runs) (request : PlainRequest) (len : ℕ) (answer : List ℕ) (sink' : Told)
       → 0 < left → BeginsWithRequest held request len → GoesOn runs runs' request answer → Appends now.sink.bytes sink'.bytes answer
-      → Progress runs' limit (count + 1) (left_after left request) (drop len held) start (ends_of now.source sink')
+      → Progress runs' limit (count + 1) (left_after left request) come (drop len held) start (ends_of now.source sink')
   Progress-next runs' request len answer sink' some whole goes_on written = record {
     given = so_far.given;
     requests = so_far.requests ++ request ∷ [];
     answers = so_far.answers ++ answer ∷ [];
     reads = so_far.reads;
-    begins = BeginsWith-next limit so_far.given so_far.requests held left request len so_far.begins some whole;
+    begins = BeginsWith-next limit (come ++ so_far.given) so_far.requests held left request len so_far.begins some whole;
     ran = goes_on so_far.requests so_far.answers so_far.ran;
     count_is = next_count request;
-    as_many = omega (arith, so_far.as_many, length-append so_far.requests (request ∷ []), length-append so_far.answers (answer ∷ []));
+    as_many = as_many-next request answer;
     writes = subst (Appends start.sink.bytes sink'.bytes) (sym (concat-push so_far.answers answer)) (Appends-trans start.sink.bytes now.sink.bytes sink'.bytes (concat so_far.answers) answer so_far.writes written);
     calls = so_far.calls;
     asks = asks-answered request answer answer sink'.bytes written;
@@ -189,13 +190,13 @@ one_more_begun old middle new answers answer taken broken = record {
   taken = Appends-trans old middle new (concat answers) broken.part taken broken.taken;
 }
 
-module _ {State : Type 0} (protocol : Protocol State) (runs : Runs) (limit count left : ℕ) (held : List ℕ) (start now : Ends) (so_far : Progress runs limit count left held start now) where
+module _ (runs : Runs) (limit count left : ℕ) (come held : List ℕ) (start now : Ends) (so_far : Progress runs limit count left come held start now) where
   -- no request follows, and the sink took this text at last
-  pub Did-ended : (result : Result Served ServeFault) (closing : List (List ℕ)) (sink' : Told) (text : List ℕ) → Appends now.sink.bytes sink'.bytes text
-      → told_requests result ≡ count → EndsBy protocol result (record { rest = held; left = left; closing = closing }) start (ends_of now.source sink')
-      → ((answers : List (List ℕ)) → Appends start.sink.bytes now.sink.bytes (concat answers) → SinkTook result start.sink.bytes sink'.bytes (answers ++ closing))
-      → Did protocol runs limit start (ends_of now.source sink') result
-  Did-ended result closing sink' text written counted ends writes = record {
+  pub Deed-ended : (outcome : Result Served ServeFault) (EndsWith : Tail → Type 0) (closing : List (List ℕ)) (sink' : Told) (text : List ℕ) → Appends now.sink.bytes sink'.bytes text
+      → told_requests outcome ≡ count → EndsWith (record { rest = held; left = left; closing = closing })
+      → ((answers : List (List ℕ)) → Appends start.sink.bytes now.sink.bytes (concat answers) → SinkTook outcome start.sink.bytes sink'.bytes (answers ++ closing))
+      → Deed runs limit come start (ends_of now.source sink') outcome EndsWith
+  Deed-ended outcome EndsWith closing sink' text written counted ends writes = record {
     given = so_far.given;
     requests = so_far.requests;
     answers = so_far.answers;
@@ -203,35 +204,52 @@ module _ {State : Type 0} (protocol : Protocol State) (runs : Runs) (limit count
     reads = so_far.reads;
     begins = so_far.begins;
     ran = so_far.ran;
+    as_many = so_far.as_many;
     counted = counted ∙ so_far.count_is;
     ends = ends;
     writes = writes so_far.answers so_far.writes;
     calls = so_far.calls;
-    asks = asks-weaker (λ (told : Told). told) limit
-        (OwesNoAnswer limit so_far.requests so_far.answers start.sink.bytes now.sink.bytes)
-        (OwesNoAnswer limit so_far.requests so_far.answers start.sink.bytes sink'.bytes)
-        (owes-none-later limit so_far.requests so_far.answers start.sink.bytes now.sink.bytes sink'.bytes text written)
+    asks = asks-weaker
+        (λ piece. OwesNoAnswer limit so_far.requests so_far.answers start.sink.bytes now.sink.bytes (come ++ piece))
+        (λ piece. OwesNoAnswer limit so_far.requests so_far.answers start.sink.bytes sink'.bytes (come ++ piece))
+        (λ piece. owes-none-later limit so_far.requests so_far.answers start.sink.bytes now.sink.bytes sink'.bytes text written (come ++ piece))
         start.source so_far.calls so_far.given now.source so_far.asks;
   }
 
   -- a request was answered, and its answer written up to some place
-  pub Did-broken : (runs' : Runs) (request : PlainRequest) (len : ℕ) (answer : List ℕ) (sink' : Told) → 0 < left → BeginsWithRequest held request len → GoesOn runs runs' request answer
-      → AppendsPart now.sink.bytes sink'.bytes answer → Did protocol runs' limit start (ends_of now.source sink') (Err (stop.Write (count + 1)))
-  Did-broken runs' request len answer sink' some whole goes_on broken = record {
+  pub Deed-broken : (runs' : Runs) (request : PlainRequest) (len : ℕ) (answer : List ℕ) (sink' : Told) (EndsWith : Tail → Type 0) → 0 < left → BeginsWithRequest held request len → GoesOn runs runs' request answer
+      → AppendsPart now.sink.bytes sink'.bytes answer → EndsWith (record { rest = drop len held; left = left_after left request; closing = [] })
+      → Deed runs' limit come start (ends_of now.source sink') (Err (stop.Write (count + 1))) EndsWith
+  Deed-broken runs' request len answer sink' EndsWith some whole goes_on broken ends = record {
     given = so_far.given;
     requests = so_far.requests ++ request ∷ [];
     answers = so_far.answers ++ answer ∷ [];
     tail = record { rest = drop len held; left = left_after left request; closing = [] };
     reads = so_far.reads;
-    begins = BeginsWith-next limit so_far.given so_far.requests held left request len so_far.begins some whole;
+    begins = BeginsWith-next limit (come ++ so_far.given) so_far.requests held left request len so_far.begins some whole;
     ran = goes_on so_far.requests so_far.answers so_far.ran;
-    counted = next_count runs limit count left held start now so_far request;
-    ends = inl refl;
+    as_many = as_many-next runs limit count left come held start now so_far request answer;
+    counted = next_count runs limit count left come held start now so_far request;
+    ends = ends;
     writes = subst (BreaksOff start.sink.bytes sink'.bytes) (sym (append-nil (so_far.answers ++ answer ∷ [])))
         (one_more_begun start.sink.bytes now.sink.bytes sink'.bytes so_far.answers answer so_far.writes broken);
     calls = so_far.calls;
-    asks = asks-answered runs limit count left held start now so_far request answer broken.part sink'.bytes broken.taken;
+    asks = asks-answered runs limit count left come held start now so_far request answer broken.part sink'.bytes broken.taken;
   }
+
+-- how a stream ended that was left
+pub ends_left : {State : Type 0} (protocol : Protocol State) (end : PartEnd) (is_empty : Bool) (count : ℕ) (kept : List ℕ) (tail : Tail) (start now : Ends)
+    → MayBeLeft end is_empty → (is_empty ≡ true → kept ≡ []) → IsLeft kept tail → EndsPart end protocol count kept tail start now
+ends_left protocol part.Ended is_empty count kept tail start now may none is_left = absurd may
+ends_left protocol part.GaveWay is_empty count kept tail start now may none is_left = (is_left, none may)
+ends_left protocol part.Paused is_empty count kept tail start now may none is_left = is_left
+
+-- and that no call of it failed or moved no byte
+pub tells_left : (end : PartEnd) (is_empty : Bool) (start now : Ends) → MayBeLeft end is_empty
+    → NoneStops start.source.counts now.source.counts → NoneStops start.sink.counts now.sink.counts → TellsEnd end start now
+tells_left part.Ended is_empty start now may source sink = absurd may
+tells_left part.GaveWay is_empty start now may source sink = (source, sink)
+tells_left part.Paused is_empty start now may source sink = (source, sink)
 
 -- nothing was begun
 pub Did-nothing : {State : Type 0} (protocol : Protocol State) (runs : Runs) (limit : ℕ) (ends : Ends) → runs [] [] → Did protocol runs limit ends ends (Err stop.NoMemory)
@@ -243,6 +261,7 @@ Did-nothing protocol runs limit ends ran = record {
   reads = Consumes-nil ends.source.bytes;
   begins = (refl, refl);
   ran = ran;
+  as_many = refl;
   counted = refl;
   ends = (refl, refl);
   writes = Appends-nil ends.sink.bytes;
@@ -260,18 +279,28 @@ Consumes-from_Keeps None b keeps = tt
 Consumes-from_Keeps (Some xs) None keeps = absurd keeps
 Consumes-from_Keeps (Some xs) (Some ys) keeps = sym keeps
 
--- the same, as the code holds it
-pub Progress-as : (runs : Runs) (limit count left : ℕ) (held : List ℕ) (start now : Ends) (left' : ℕ) (held' : List ℕ)
-    → left ≡ left' → held ≡ held' → Progress runs limit count left held start now → Progress runs limit count left' held' start now
-Progress-as runs limit count left held start now left' held' same_left same_held so_far =
-    subst (λ h. Progress runs limit count left' h start now) same_held
-    (subst (λ l. Progress runs limit count l held start now) same_left so_far)
+-- a source that waited tells the same
+pub Progress-waited : (runs : Runs) (limit count left : ℕ) (come held : List ℕ) (start : Ends) (source source' sink : Told) → source' ≡ source
+    → Progress runs limit count left come held start (ends_of source sink) → Progress runs limit count left come held start (ends_of source' sink)
+Progress-waited runs limit count left come held start source source' sink same so_far =
+    subst (λ s. Progress runs limit count left come held start (ends_of s sink)) (sym same) so_far
 
--- where less is said of the requests and their answers
-pub Did-weaker : {State : Type 0} (protocol : Protocol State) (runs runs' : Runs) (limit : ℕ) (start end : Ends) (result : Result Served ServeFault)
+pub none-waited : (first source source' : Told) → source' ≡ source → NoneStops first.counts source.counts → NoneStops first.counts source'.counts
+none-waited first source source' same none = subst (λ (s : Told). NoneStops first.counts s.counts) (sym same) none
+
+-- the same, as the code holds it
+pub Progress-as : (runs : Runs) (limit count left : ℕ) (come held : List ℕ) (start now : Ends) (left' : ℕ) (held' : List ℕ)
+    → left ≡ left' → held ≡ held' → Progress runs limit count left come held start now → Progress runs limit count left' come held' start now
+Progress-as runs limit count left come held start now left' held' same_left same_held so_far =
+    subst (λ h. Progress runs limit count left' come h start now) same_held
+    (subst (λ l. Progress runs limit count l come held start now) same_left so_far)
+
+-- where less is said of the requests and their answers, and of the end
+pub Deed-weaker : (runs runs' : Runs) (limit : ℕ) (come : List ℕ) (start end : Ends) (outcome : Result Served ServeFault) (EndsWith EndsSo : Tail → Type 0)
     → ((requests : List PlainRequest) (answers : List (List ℕ)) → runs requests answers → runs' requests answers)
-    → Did protocol runs limit start end result → Did protocol runs' limit start end result
-Did-weaker protocol runs runs' limit start end result weaker did = record {
+    → ((tail : Tail) → EndsWith tail → EndsSo tail)
+    → Deed runs limit come start end outcome EndsWith → Deed runs' limit come start end outcome EndsSo
+Deed-weaker runs runs' limit come start end outcome EndsWith EndsSo weaker ends did = record {
   given = did.given;
   requests = did.requests;
   answers = did.answers;
@@ -279,9 +308,54 @@ Did-weaker protocol runs runs' limit start end result weaker did = record {
   reads = did.reads;
   begins = did.begins;
   ran = weaker did.requests did.answers did.ran;
+  as_many = did.as_many;
   counted = did.counted;
-  ends = did.ends;
+  ends = ends did.tail did.ends;
   writes = did.writes;
   calls = did.calls;
   asks = did.asks;
 }
+
+-- where less is said of the requests and their answers
+pub Did-weaker : {State : Type 0} (protocol : Protocol State) (runs runs' : Runs) (limit : ℕ) (start end : Ends) (result : Result Served ServeFault)
+    → ((requests : List PlainRequest) (answers : List (List ℕ)) → runs requests answers → runs' requests answers)
+    → Did protocol runs limit start end result → Did protocol runs' limit start end result
+Did-weaker protocol runs runs' limit start end result weaker did =
+    Deed-weaker runs runs' limit [] start end result (λ tail. EndsBy protocol result tail start end) (λ tail. EndsBy protocol result tail start end) weaker (λ tail ends. ends) did
+
+pub DidPart-weaker : {State : Type 0} (protocol : Protocol State) (runs runs' : Runs) (limit : ℕ) (come kept : List ℕ) (start end : Ends) (result : Result Part ServeFault)
+    → ((requests : List PlainRequest) (answers : List (List ℕ)) → runs requests answers → runs' requests answers)
+    → DidPart protocol runs limit come kept start end result → DidPart protocol runs' limit come kept start end result
+DidPart-weaker protocol runs runs' limit come kept start end result weaker did =
+    Deed-weaker runs runs' limit come start end (as_served result) (λ tail. EndsPartBy protocol result kept tail start end) (λ tail. EndsPartBy protocol result kept tail start end)
+    weaker (λ tail ends. ends) did
+
+-- ---- a stream that is one part
+
+-- the outcome of a part that is the last of its stream
+abbrev pub IsLast : Result Part ServeFault → Type 0
+IsLast result = IfOk result (λ it. it.end ≡ part.Ended)
+
+ends_whole : {State : Type 0} (protocol : Protocol State) (result : Result Part ServeFault) (kept : List ℕ) (start end : Ends) → IsLast result
+    → (tail : Tail) → EndsPartBy protocol result kept tail start end → EndsBy protocol (as_served result) tail start end
+ends_whole protocol (Ok it) kept start end last tail ends = subst (λ e. EndsPart e protocol it.requests kept tail start end) last ends
+ends_whole protocol (Err (stop.Read requests)) kept start end last tail ends = ends
+ends_whole protocol (Err (stop.Write requests)) kept start end last tail ends = ends
+ends_whole protocol (Err stop.NoMemory) kept start end last tail ends = absurd ends
+
+pub Did-whole : {State : Type 0} (protocol : Protocol State) (runs : Runs) (limit : ℕ) (come kept : List ℕ) (start end : Ends) (result : Result Part ServeFault)
+    → come ≡ [] → IsLast result → DidPart protocol runs limit come kept start end result → Did protocol runs limit start end (as_served result)
+Did-whole protocol runs limit come kept start end result none last did =
+    Deed-weaker runs runs limit [] start end (as_served result) (λ tail. EndsPartBy protocol result kept tail start end) (λ tail. EndsBy protocol (as_served result) tail start end)
+    (λ requests answers ran. ran) (ends_whole protocol result kept start end last)
+    (subst (λ c. Deed runs limit c start end (as_served result) (λ tail. EndsPartBy protocol result kept tail start end)) none did)
+
+pub tells_whole : (result : Result Part ServeFault) (start end : Ends) → IsLast result → TellsPart start end result → TellsFault start end (as_served result)
+tells_whole (Ok it) start end last tells = subst (λ e. TellsEnd e start end) last tells
+tells_whole (Err (stop.Read requests)) start end last tells = tells
+tells_whole (Err (stop.Write requests)) start end last tells = tells
+tells_whole (Err stop.NoMemory) start end last tells = absurd tells
+
+-- the buffer of a part is not refused
+pub has_buffer : (why : ServeFault) (start end : Ends) → TellsPart start end (Err why) → why ≡ stop.NoMemory → ⊥
+has_buffer why start end tells none = subst (λ w. TellsPart start end (Err w)) none tells

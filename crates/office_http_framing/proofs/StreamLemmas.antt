@@ -1,5 +1,5 @@
 -- The requests of bytes that more bytes follow.
-use Rattle.std.proofs.Common.{◌≡◌, ℕ, ◌+◌, ◌-◌, ◌<◌, ◌≤◌, List, [], ◌∷◌, ◌++◌, length, take, drop, sym, ap, subst, ◌∙◌, inl, inr, arith}
+use Rattle.std.proofs.Common.{◌≡◌, ℕ, ◌+◌, ◌-◌, ◌<◌, ◌≤◌, Bool, true, false, cond, List, [], ◌∷◌, ◌++◌, length, take, drop, sym, ap, subst, ◌∙◌, inl, inr, arith, append_assoc}
 use Rattle.std.specs.Prelude.{slice_range, Result, Ok}
 use Rattle.std.proofs.{Math.Seq.take-append_seam, Math.Seq.take-append-add, lemmas.Bool.cases_lt}
 use Rattle.std.proofs.lemmas.List.{length-append, take-append-le, drop-append-le, length-take, append-nil, take_all}
@@ -69,6 +69,32 @@ BeginsWith-append limit bytes more (request ∷ requests) rest left begins = (
   subst (λ t. BeginsWith (left_after limit request) t requests (rest ++ more) left) (sym (drop-append-le begins.0 bytes more begins.2.whole))
       (BeginsWith-append (left_after limit request) (drop begins.0 bytes) more requests rest left begins.3),
 )
+
+-- more bytes come behind those that begin with the requests, some of which had come before
+pub BeginsWith-more : (limit : ℕ) (come given more : List ℕ) (requests : List PlainRequest) (rest : List ℕ) (left : ℕ)
+    → BeginsWith limit (come ++ given) requests rest left → BeginsWith limit (come ++ (given ++ more)) requests (rest ++ more) left
+BeginsWith-more limit come given more requests rest left begins =
+    subst (λ bytes. BeginsWith limit bytes requests (rest ++ more) left) (append_assoc come given more) (BeginsWith-append limit (come ++ given) more requests rest left begins)
+
+-- requests, and those of what they leave
+pub BeginsWith-join : (limit : ℕ) (bytes : List ℕ) (requests : List PlainRequest) (middle : List ℕ) (between : ℕ) (more : List PlainRequest) (rest : List ℕ) (left : ℕ)
+    → BeginsWith limit bytes requests middle between → BeginsWith between middle more rest left → BeginsWith limit bytes (requests ++ more) rest left
+BeginsWith-join limit bytes [] middle between more rest left begins later =
+    subst (λ n. BeginsWith n bytes more rest left) (sym begins.1) (subst (λ t. BeginsWith between t more rest left) (sym begins.0) later)
+BeginsWith-join limit bytes (request ∷ requests) middle between more rest left begins later =
+    (begins.0, begins.1, begins.2, BeginsWith-join (left_after limit request) (drop begins.0 bytes) requests middle between more rest left begins.3 later)
+
+-- where more may come, none of the requests was the last one, and each took one off the limit
+pub BeginsWith-left : (limit : ℕ) (bytes : List ℕ) (requests : List PlainRequest) (rest : List ℕ) (left : ℕ)
+    → BeginsWith limit bytes requests rest left → 0 < left → left + length requests ≡ limit
+BeginsWith-left limit bytes [] rest left begins some = omega (arith, begins.1)
+BeginsWith-left limit bytes (request ∷ requests) rest left begins some =
+    let later = BeginsWith-left (left_after limit request) (drop begins.0 bytes) requests rest left begins.3 some in
+    omega (arith, by_last request.last later begins.1)
+  where
+    by_last : (last : Bool) → left + length requests ≡ cond last 0 (limit - 1) → 0 < limit → left + length requests + 1 ≡ limit
+    by_last true later more = omega (arith, later, some)
+    by_last false later more = omega (arith, later, more)
 
 -- one more request, at the front of what is left
 pub BeginsWith-next : (limit : ℕ) (bytes : List ℕ) (requests : List PlainRequest) (rest : List ℕ) (left : ℕ) (request : PlainRequest) (len : ℕ)

@@ -1,11 +1,10 @@
 -- When the source is asked for bytes: only while a request is awaited, and so never after the last one.
-use Rattle.std.specs.Prelude.{◌≡◌, ℕ, zero, suc, ◌≤◌, ◌⊎◌, List, [], ◌++◌, length, take, Option}
+use Rattle.std.specs.Prelude.{◌≡◌, ℕ, zero, suc, ◌≤◌, List, [], ◌++◌, length, take, Option}
 use Rattle.std.specs.List.{concat}
 use Rattle.std.specs.Io.KnownBytes.{Appends, Consumes}
 use Rattle.office_http_framing.specs.Ends.{NoneStops, Told, raised_count}
-use Rattle.office_http_framing.specs.declared.ends.Counts.{Counts}
 use Rattle.office_http_framing.specs.Front.{PlainRequest}
-use Rattle.office_http_framing.specs.Stream.{unfinished, AreRequests, BeginsWith}
+use Rattle.office_http_framing.specs.Stream.{unfinished, AreRequests}
 
 -- a request is awaited after these bytes: they hold fewer requests than the limit, none of which ends the stream, and no fault
 abbrev pub IsAwaited : ℕ → List ℕ → Type 0
@@ -25,29 +24,25 @@ pub record OwesNoAnswer
   pub goes_on : Appends at new later
 
 -- one call of the source, which counts it, gave these bytes; none where it failed or is at its end
-pub record OneRead {Source : Type 0} (told : Source → Told) (old new : Source) (piece : List ℕ) : Type 0 where
-  pub reads : Consumes (told old).bytes (told new).bytes piece
-  pub calls : (told new).counts.calls ≡ raised_count (told old).counts.calls
-
--- the bytes that were given are whole requests, one after another, and no byte more
-abbrev pub IsBetween : ℕ → List ℕ → Type 0
-IsBetween limit given = (requests : List PlainRequest) × (left : ℕ) × BeginsWith limit given requests [] left
-
--- a read that may give way to another client, which the source counts as one of a next request, is made only between two requests, so that none is cut
-abbrev pub GivesWayBetween : ℕ → List ℕ → Counts → Counts → Type 0
-GivesWayBetween limit held old new = (new.next_reads ≡ old.next_reads) ⊎ IsBetween limit held
+pub record OneRead (old new : Told) (piece : List ℕ) : Type 0 where
+  pub reads : Consumes old.bytes new.bytes piece
+  pub calls : new.counts.calls ≡ raised_count old.counts.calls
 
 -- So many calls of the source, one after the other from the first on, gave these bytes. At each, no
 -- call before it had failed or given no byte, and `IsDue` holds of the bytes given so far.
-abbrev pub Asks : {Source : Type 0} → (Source → Told) → ℕ → (List ℕ → Type 0) → Source → ℕ → List ℕ → Source → Type 0
-Asks told limit IsDue first zero given source = (given ≡ []) × (source ≡ first)
-Asks {Source} told limit IsDue first (suc calls) given source =
-    (before : Source) × (held piece : List ℕ) × Asks told limit IsDue first calls held before
-    × IsDue held × NoneStops (told first).counts (told before).counts
-    × OneRead told before source piece × (given ≡ held ++ piece)
-    × GivesWayBetween limit held (told before).counts (told source).counts
+abbrev pub Asks : (List ℕ → Type 0) → Told → ℕ → List ℕ → Told → Type 0
+Asks IsDue first zero given source = (given ≡ []) × (source ≡ first)
+Asks IsDue first (suc calls) given source =
+    (before : Told) × (held piece : List ℕ) × Asks IsDue first calls held before
+    × IsDue held × NoneStops first.counts before.counts
+    × OneRead before source piece × (given ≡ held ++ piece)
 
--- the source was called only while a request was awaited, and not again after a call that failed or gave no byte
+-- where these bytes had come before: the source was called only while a request was awaited, and not again after a call that failed or gave no byte
+abbrev pub OnlyAsksAfter : {Source : Type 0} → (Source → Told) → ℕ → List ℕ → Source → Source → Type 0
+OnlyAsksAfter told limit come first source =
+    (calls : ℕ) × (given : List ℕ)
+    × Asks (λ piece. IsAwaited limit (come ++ piece)) (told first) calls given (told source)
+
+-- the source was called, from the first byte of a stream on, only while a request was awaited, and not again after a call that failed or gave no byte
 abbrev pub OnlyAsks : {Source : Type 0} → (Source → Told) → ℕ → Source → Source → Type 0
-OnlyAsks told limit first source =
-    (calls : ℕ) × (given : List ℕ) × Asks told limit (IsAwaited limit) first calls given source
+OnlyAsks told limit first source = OnlyAsksAfter told limit [] first source

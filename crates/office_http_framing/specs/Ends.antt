@@ -27,21 +27,11 @@ call_counts_after outcome c = record {
   calls = raised_count c.calls;
   failures = if is_failure outcome then raised_count c.failures else c.failures;
   empties = if is_empty outcome then raised_count c.empties else c.empties;
-  next_reads = c.next_reads;
-}
-
--- the counts after a read of a request with this outcome; a read of a next request, of which no byte is buffered, is counted as such too
-abbrev pub tallied_at : {E : Type 0} → (is_begun : Bool) → Result ℕ E → Counts → Counts
-tallied_at is_begun outcome c = record {
-  calls = raised_count c.calls;
-  failures = if is_failure outcome then raised_count c.failures else c.failures;
-  empties = if is_empty outcome then raised_count c.empties else c.empties;
-  next_reads = if is_begun then c.next_reads else raised_count c.next_reads;
 }
 
 -- the counts before the first call
 abbrev pub no_calls : Counts
-no_calls = record { calls = 0; failures = 0; empties = 0; next_reads = 0 }
+no_calls = record { calls = 0; failures = 0; empties = 0 }
 
 -- a count rose, or it stands at its largest value and tells nothing
 abbrev pub Rose : ℕ → ℕ → Type 0

@@ -1,9 +1,12 @@
--- What one call of `serve` did to the machine, which answers requests, to the source of the
--- requests and to the sink of the answers.
-use Rattle.std.specs.Prelude.{◌≡◌, ℕ, ◌⊎◌, List, [], ◌∷◌, ◌++◌, length, Option, Result, Ok, Err, ⊤}
+-- What one serving did to the machine, which answers requests, to the source of the requests and to
+-- the sink of the answers: of a whole stream, or of a part of one.
+use Rattle.std.specs.Prelude.{◌≡◌, ℕ, ◌<◌, ◌⊎◌, List, [], ◌∷◌, ◌++◌, length, Bool, true, Option, Result, Ok, Err, ⊤}
 use Rattle.std.specs.List.{concat}
 use Rattle.std.specs.Io.KnownBytes.{Appends, Consumes}
 use Rattle.office_http_framing.specs.declared.front.Fault.{Fault}
+use Rattle.office_http_framing.specs.declared.engine.Part.{Part}
+use Rattle.office_http_framing.specs.declared.engine.PartEnd.{PartEnd}
+use Rattle.office_http_framing.specs.declared.engine.PartEnd.TheVariants as part
 use Rattle.office_http_framing.specs.declared.engine.Served.{Served}
 use Rattle.office_http_framing.specs.declared.engine.ServeFault.{ServeFault}
 use Rattle.office_http_framing.specs.declared.engine.ServeFault.TheVariants as stop
@@ -81,27 +84,78 @@ SinkTook (Err (stop.Read n)) old new texts = Appends old new (concat texts)
 SinkTook (Err (stop.Write n)) old new texts = BreaksOff old new texts
 SinkTook (Err stop.NoMemory) old new texts = Appends old new (concat texts)
 
--- THE SERVING. The source gave bytes, which begin with the requests; the machine ran over these;
--- and the sink took the answers to them, in order, and then that to a fault, if one follows them:
--- all or a part, as the outcome tells. At each call of the source the sink had taken whole the
--- answers to all requests given until then.
-pub record Did
-    {State : Type 0} (protocol : Protocol State) (runs : Runs) (limit : ℕ) (start end : Ends)
-    (result : Result Served ServeFault) : Type 0 where
+-- THE SERVING. Some bytes had come before, and the source gave more: together they begin with the
+-- requests; the machine ran over these; and the sink took the answers to them, in order, and then
+-- that to a fault, if one follows them: all or a part, as the outcome tells. At each call of the
+-- source the sink had taken whole the answers to all requests given until then.
+pub record Deed
+    (runs : Runs) (limit : ℕ) (come : List ℕ) (start end : Ends) (outcome : Result Served ServeFault)
+    (EndsWith : Tail → Type 0) : Type 0 where
   pub given : List ℕ
   pub requests : List PlainRequest
   pub answers : List (List ℕ)
   pub tail : Tail
   pub reads : Consumes start.source.bytes end.source.bytes given
-  pub begins : BeginsWith limit given requests tail.rest tail.left
+  pub begins : BeginsWith limit (come ++ given) requests tail.rest tail.left
   pub ran : runs requests answers
-  pub counted : told_requests result ≡ length requests
-  pub ends : EndsBy protocol result tail start end
-  pub writes : SinkTook result start.sink.bytes end.sink.bytes (answers ++ tail.closing)
+  pub as_many : length answers ≡ length requests
+  pub counted : told_requests outcome ≡ length requests
+  pub ends : EndsWith tail
+  pub writes : SinkTook outcome start.sink.bytes end.sink.bytes (answers ++ tail.closing)
   pub calls : ℕ
-  pub asks : Asks (λ told. told) limit
-      (OwesNoAnswer limit requests answers start.sink.bytes end.sink.bytes)
+  pub asks : Asks
+      (λ piece. OwesNoAnswer limit requests answers start.sink.bytes end.sink.bytes (come ++ piece))
       start.source calls given end.source
+
+-- a stream was served from its first byte to its end
+abbrev pub Did : {State : Type 0} →
+    Protocol State → Runs → ℕ → Ends → Ends → Result Served ServeFault → Type 0
+Did protocol runs limit start end result =
+    Deed runs limit [] start end result (λ tail. EndsBy protocol result tail start end)
+
+-- ---- a part of a stream
+
+-- The stream was left before its end: more requests may come, no text follows the answers, and what
+-- follows the requests is kept.
+pub record IsLeft (kept : List ℕ) (tail : Tail) : Type 0 where
+  pub some : 0 < tail.left
+  pub closes : tail.closing ≡ []
+  pub kept_is : kept ≡ tail.rest
+
+-- the end of a part at which a stream may be left: to give way to another client, only where no byte is kept
+abbrev pub MayBeLeft : PartEnd → (is_empty : Bool) → Type 0
+MayBeLeft part.Ended is_empty = ⊥
+MayBeLeft part.GaveWay is_empty = is_empty ≡ true
+MayBeLeft part.Paused is_empty = ⊤
+
+-- how a part of a stream ended that was served without a fault: as the stream; or it was left, and
+-- if it gave way to another client, between two requests, so that none is cut
+abbrev pub EndsPart : {State : Type 0} →
+    PartEnd → Protocol State → ℕ → (kept : List ℕ) → Tail → Ends → Ends → Type 0
+EndsPart part.Ended protocol requests kept tail start end =
+    EndsBy protocol (Ok (record { requests = requests })) tail start end
+EndsPart part.GaveWay protocol requests kept tail start end = IsLeft kept tail × (kept ≡ [])
+EndsPart part.Paused protocol requests kept tail start end = IsLeft kept tail
+
+-- how a part of a stream ended; its buffer was there before, and is not refused
+abbrev pub EndsPartBy : {State : Type 0} →
+    Protocol State → Result Part ServeFault → (kept : List ℕ) → Tail → Ends → Ends → Type 0
+EndsPartBy protocol (Ok it) kept tail start end =
+    EndsPart it.end protocol it.requests kept tail start end
+EndsPartBy protocol (Err stop.NoMemory) kept tail start end = ⊥
+EndsPartBy protocol (Err why) kept tail start end = EndsBy protocol (Err why) tail start end
+
+-- the outcome of a part, as that of a stream
+abbrev pub as_served : Result Part ServeFault → Result Served ServeFault
+as_served (Ok it) = Ok (record { requests = it.requests })
+as_served (Err why) = Err why
+
+-- a part of a stream was served, of which some bytes had come before; in the end these are kept
+abbrev pub DidPart : {State : Type 0} → Protocol State → Runs → ℕ → (come kept : List ℕ)
+    → Ends → Ends → Result Part ServeFault → Type 0
+DidPart protocol runs limit come kept start end result =
+    Deed runs limit come start end (as_served result)
+    (λ tail. EndsPartBy protocol result kept tail start end)
 
 -- nothing was read, written or changed
 pub record Untouched {Machine : Type 0} (start end : Ends) (old new : Machine) : Type 0 where
@@ -121,3 +175,19 @@ TellsFault start end (Err (stop.Write requests)) =
     NoneStops start.source.counts end.source.counts
     × (OneFails start.sink.counts end.sink.counts ⊎ OneIsEmpty start.sink.counts end.sink.counts)
 TellsFault start end (Err stop.NoMemory) = ⊤
+
+-- How the calls of the two ends went in a part of a stream that was served without a fault: where
+-- the stream was left, none failed or moved no byte.
+abbrev pub TellsEnd : PartEnd → Ends → Ends → Type 0
+TellsEnd part.Ended start end = TellsFault start end (Ok (record { requests = 0 }))
+TellsEnd part.GaveWay start end =
+    NoneStops start.source.counts end.source.counts × NoneStops start.sink.counts end.sink.counts
+TellsEnd part.Paused start end =
+    NoneStops start.source.counts end.source.counts × NoneStops start.sink.counts end.sink.counts
+
+-- how the calls of the two ends went in a part of a stream, whose buffer was there before and is not
+-- refused
+abbrev pub TellsPart : Ends → Ends → Result Part ServeFault → Type 0
+TellsPart start end (Ok it) = TellsEnd it.end start end
+TellsPart start end (Err stop.NoMemory) = ⊥
+TellsPart start end (Err why) = TellsFault start end (Err why)

@@ -1,9 +1,8 @@
 //! The buffer of a stream: the bytes that were read and are not yet dealt with.
 
-ghost use Rattle.std.specs.Prelude.{◌≡◌, ◌<◌, ◌≤◌, ◌-◌, ◌++◌, ℕ, List, [], length, drop, take, slice_range, vec_len, nat_lt, IfOk, MatchResult};
-ghost use Rattle.std.specs.Io.{ReadsAtMost};
-ghost use Rattle.std.specs.Io.KnownBytes.{Consumes, Keeps, ReadConsumes};
-ghost use Rattle.office_http_framing.specs.Ends.{tallied_at};
+ghost use Rattle.std.specs.Prelude.{◌≡◌, ◌<◌, ◌≤◌, ◌-◌, ◌++◌, ℕ, List, [], length, drop, take, slice_range, vec_len, IfOk, MatchResult};
+ghost use Rattle.std.specs.Io.KnownBytes.{Consumes, Keeps};
+ghost use Rattle.office_http_framing.specs.Ends.{call_counts_after};
 
 use crate::ends::Source;
 use std::alloc::{AllocError, Global};
@@ -14,9 +13,10 @@ use std::marker::Model;
 pub const BUFFER_LEN: usize = 270_336;
 
 /// The bytes that were read and are not yet dealt with: those from `start` to `end`, which is not
-/// included. Contracts see them as a list.
+/// included. Contracts see them as a list. A stream that is served in parts keeps its buffer from
+/// one part to the next.
 #[derive(Drop)]
-pub(crate) struct Buffer {
+pub struct Buffer {
     bytes: Vec<u8>,
     start: usize,
     end: usize,
@@ -46,24 +46,9 @@ fn move_to_front(bytes: &mut Vec<u8>, start: usize, end: usize)
     }
 }
 
-/// One read of the source: of a request of which bytes are buffered already, or of the next one.
-fn read_from<R: Source>(source: &mut R, buf: &mut [u8], is_begun: bool) -> io::Result<usize>
-    requires { 0 < length buf.old }
-    ensures bound { ReadsAtMost result buf.new }
-    ensures bytes { ReadConsumes (R.told source.old).bytes (R.told source.new).bytes result
-        buf.new }
-    ensures counts { (R.told source.new).counts
-        ≡ tallied_at is_begun result (R.told source.old).counts }
-{
-    if is_begun {
-        source.read(buf)
-    } else {
-        source.read_next(buf)
-    }
-}
-
 impl Buffer {
-    pub(crate) fn new(alloc: Global) -> Result<Buffer, AllocError>
+    /// An empty buffer. The error means that its `BUFFER_LEN` bytes were refused.
+    pub fn new(alloc: Global) -> Result<Buffer, AllocError>
         ensures { IfOk result (λ buffer. buffer ≡ []) }
     {
         Ok(Buffer {
@@ -73,7 +58,8 @@ impl Buffer {
         })
     }
 
-    pub(crate) fn content(&self) -> &[u8]
+    /// The bytes that are buffered.
+    pub fn content(&self) -> &[u8]
         ensures bytes { result.now ≡ self.now }
         ensures bound { length self.now ≤ BUFFER_LEN }
     {
@@ -89,8 +75,7 @@ impl Buffer {
     }
 
     /// Makes one read of the source, adds its bytes after those that are buffered, and says how
-    /// many came: 0 at the end of the stream, or where the source gives way to another client. An
-    /// error is the source's, and adds none.
+    /// many came: 0 at the end of the stream. An error is the source's, and adds none.
     pub(crate) fn fill<R: Source>(&mut self, source: &mut R) -> io::Result<usize>
         requires { length self.old < BUFFER_LEN }
         ensures bytes { MatchResult result
@@ -100,13 +85,12 @@ impl Buffer {
             × Keeps (R.told source.old).bytes (R.told source.new).bytes) }
         ensures bound { length self.new ≤ BUFFER_LEN }
         ensures counts { (R.told source.new).counts
-            ≡ tallied_at (nat_lt 0 (length self.old)) result (R.told source.old).counts }
+            ≡ call_counts_after result (R.told source.old).counts }
     {
         move_to_front(&mut self.bytes, self.start, self.end);
         self.end -= self.start;
         self.start = 0;
-        let is_begun = self.end > 0;
-        match read_from(source, &mut self.bytes[self.end..], is_begun) {
+        match source.read(&mut self.bytes[self.end..]) {
             Ok(n) => {
                 self.end += n;
                 Ok(n)

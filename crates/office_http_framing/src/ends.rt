@@ -15,22 +15,10 @@ pub struct Counts {
     pub failures: u64,
     /// How many calls answered 0 bytes.
     pub empties: u64,
-    /// How many calls were reads of a next request, at which a source may give way:
-    /// `Source::read_next`.
-    pub next_reads: u64,
 }
 
 impl Counts {
-    ghost use Rattle.office_http_framing.specs.Ends.{call_counts_after, tallied_at};
-    ghost use Rattle.std.specs.Prelude.{false};
-
-    /// Counts one more read of a next request, by its outcome.
-    pub fn count_next(&mut self, outcome: &io::Result<usize>)
-        ensures { self.new ≡ tallied_at false outcome.now self.old }
-    {
-        self.count(outcome);
-        self.next_reads = self.next_reads.saturating_add(1);
-    }
+    ghost use Rattle.office_http_framing.specs.Ends.{call_counts_after};
 
     /// Counts one more call, by its outcome.
     pub fn count(&mut self, outcome: &io::Result<usize>)
@@ -45,10 +33,32 @@ impl Counts {
     }
 }
 
+/// What is done next with a stream that is served in parts, if its source lets that go on.
+#[derive(Clone, Copy)]
+pub enum NextStep {
+    /// A request, or a fault, that has come whole is answered.
+    Answer,
+    /// A next request is read, of which no byte has come.
+    ReadNext,
+    /// More is read of a request of which a part has come.
+    ReadMore,
+}
+
+/// What a source says before the next step of a stream that is served in parts.
+#[derive(Clone, Copy)]
+pub enum Wait {
+    /// The step is taken.
+    GoOn,
+    /// The stream is left here, to be served on later. What was read and not answered is kept.
+    Pause,
+    /// The stream ends here for another client. Where a byte of a request has come, this is
+    /// `GoOn`.
+    GiveWay,
+}
+
 /// Where the bytes of a stream come from, seen as those bytes and as the counts of its calls.
 pub trait Source {
-    ghost use Rattle.std.specs.Prelude.{false};
-    ghost use Rattle.office_http_framing.specs.Ends.{Told, call_counts_after, tallied_at};
+    ghost use Rattle.office_http_framing.specs.Ends.{Told, call_counts_after};
 
     // The bytes that reads will give from here on, where they are known, and the counts.
     ghost told: { Self → Told };
@@ -61,15 +71,20 @@ pub trait Source {
         ensures bytes { ReadConsumes (told self.old).bytes (told self.new).bytes result buf.new }
         ensures counts { (told self.new).counts ≡ call_counts_after result (told self.old).counts };
 
-    /// Reads the first bytes of the next request, none of which is buffered, to the front of the
-    /// slice, which is not empty, and says how many: none at the end, or where the source gives way
-    /// to another client. An interrupted read is a failure.
-    fn read_next(&mut self, buf: &mut [u8]) -> io::Result<usize>
-        requires { 0 < length buf.old }
-        ensures bound { ReadsAtMost result buf.new }
-        ensures bytes { ReadConsumes (told self.old).bytes (told self.new).bytes result buf.new }
-        ensures counts { (told self.new).counts
-            ≡ tallied_at false result (told self.old).counts };
+    /// Waits until the next step of a stream that is served in parts can be taken, and says whether
+    /// it is to be: always, if a source does not say otherwise. It takes no byte and counts as no
+    /// call. A stream that is served as a whole does not ask.
+    fn wait(&mut self, _next: NextStep) -> Wait
+        ensures { told self.new ≡ told self.old }
+    {
+        Wait::GoOn
+    }
+
+    /// Hears that a request was answered as unavailable: memory or the store was refused. It takes
+    /// no byte and counts as no call.
+    fn note_unavailable(&mut self)
+        ensures { told self.new ≡ told self.old }
+    {}
 }
 
 /// Where the answers go, seen as the bytes that it took and as the counts of its calls.
@@ -88,7 +103,7 @@ pub trait Sink {
         ensures counts { (told self.new).counts ≡ call_counts_after result (told self.old).counts };
 }
 
-/// A source over any reader, which counts its calls. It never gives way.
+/// A source over any reader, which counts its calls.
 #[derive(Drop)]
 pub struct FromRead<R> {
     pub reader: R,
@@ -114,12 +129,6 @@ impl<R: Read> Source for FromRead<R> {
     fn read(&mut self, buf: &mut [u8]) -> io::Result<usize> {
         let outcome = self.reader.read(buf);
         self.counts.count(&outcome);
-        outcome
-    }
-
-    fn read_next(&mut self, buf: &mut [u8]) -> io::Result<usize> {
-        let outcome = self.reader.read(buf);
-        self.counts.count_next(&outcome);
         outcome
     }
 }

@@ -1,16 +1,16 @@
 //! The engine: it serves the requests of a stream, one after another.
 
-ghost use Rattle.std.specs.Prelude.{◌≡◌, ◌+◌, ◌-◌, ◌*◌, ◌≤◌, ℕ, List, IfErr, if◌then◌else◌};
-ghost use Rattle.office_http_framing.specs.Asks.{OnlyAsks};
+ghost use Rattle.std.specs.Prelude.{◌≡◌, ◌+◌, ◌-◌, ◌*◌, ◌≤◌, ℕ, List, length, true, false, IfOk, IfSome, IfErr, if◌then◌else◌};
+ghost use Rattle.office_http_framing.specs.Asks.{OnlyAsks, OnlyAsksAfter};
 ghost use Rattle.office_http_framing.specs.Ends.{StopsAtOnce, WritesOrBreaksOff};
 ghost use Rattle.office_http_framing.specs.Front.{plain};
 ghost use Rattle.office_http_framing.specs.Limits.{longest_request};
 ghost use Rattle.office_http_framing.specs.Protocol.{AnswersFault};
-ghost use Rattle.office_http_framing.specs.Serve.{Did, TellsFault, Untouched, ends_of};
+ghost use Rattle.office_http_framing.specs.Serve.{Did, DidPart, MayBeLeft, TellsFault, TellsPart, Untouched, ends_of};
 ghost use Rattle.office_http_framing.specs.Stops.{Deals, How, KeepsState, Ran, moment_of};
 
 use crate::buffer::Buffer;
-use crate::ends::{Sink, Source, WriteFailed, write_all};
+use crate::ends::{NextStep, Sink, Source, Wait, WriteFailed, write_all};
 use crate::front::{Fault, Front, Request, next_request};
 use crate::machine::Machine;
 use std::alloc::Global;
@@ -20,6 +20,26 @@ use std::alloc::Global;
 pub struct Served {
     /// How many whole requests were answered.
     pub requests: u32,
+}
+
+/// How a part of a stream ended.
+#[derive(Clone, Copy, PartialEq)]
+pub enum PartEnd {
+    /// The stream was served to its end.
+    Ended,
+    /// The source gave way to another client, between two requests: nothing is buffered.
+    GaveWay,
+    /// The source has the stream left here for now: the buffer keeps what was read of the requests
+    /// that were not answered.
+    Paused,
+}
+
+/// A part of a stream was served.
+#[derive(Clone, Copy, PartialEq)]
+pub struct Part {
+    /// How many whole requests were answered.
+    pub requests: u32,
+    pub end: PartEnd,
 }
 
 /// Why a stream was not served to its end.
@@ -34,13 +54,14 @@ pub enum ServeFault {
     NoMemory,
 }
 
-/// Answers one request, and writes the answer, or where that was refused the text that says so. The
-/// error means that not all of it was written.
-fn serve_request<Tools, M: Machine<Tools>, W: Sink>(
+/// Answers one request, and writes the answer, or where that was refused the text that says so, of
+/// which the reader hears. The error means that not all of it was written.
+fn serve_request<Tools, M: Machine<Tools>, R: Source, W: Sink>(
     alloc: Global,
     machine: &mut M,
     tools: &mut Tools,
     request: &Request<'_>,
+    reader: &mut R,
     writer: &mut W,
 ) -> Result<(), WriteFailed>
     ensures clean { M.is_clean machine.new → M.is_clean machine.old }
@@ -52,10 +73,14 @@ fn serve_request<Tools, M: Machine<Tools>, W: Sink>(
         (moment_of M.storage machine.old held before) (moment_of M.storage machine.new kept after)
         × WritesOrBreaksOff result (W.told writer.old) (W.told writer.new) answer }
     ensures stops { StopsAtOnce result (W.told writer.old).counts (W.told writer.new).counts }
+    ensures told { R.told reader.new ≡ R.told reader.old }
 {
     match machine.answer(alloc, tools, request) {
         Ok(answer) => write_all(writer, answer.as_bytes()),
-        Err(_) => write_all(writer, M::unavailable()),
+        Err(_) => {
+            reader.note_unavailable();
+            write_all(writer, M::unavailable())
+        }
     }
 }
 
@@ -84,9 +109,111 @@ fn left_after(left: u32, last: bool) -> u32
     if last { 0 } else { left.saturating_sub(1) }
 }
 
+/// How a stream is left before the next step, if it may be and its source has it left there.
+/// `front` is what stands at the front of its buffer.
+fn left_before<R: Source>(
+    reader: &mut R,
+    front: Front<'_>,
+    is_empty: bool,
+    may_leave: bool,
+) -> Option<PartEnd>
+    ensures told { R.told reader.new ≡ R.told reader.old }
+    ensures left { IfSome result (λ end. (may_leave ≡ true) × MayBeLeft end is_empty) }
+{
+    if !may_leave {
+        return None;
+    }
+    let next = match front {
+        Front::More if is_empty => NextStep::ReadNext,
+        Front::More => NextStep::ReadMore,
+        _ => NextStep::Answer,
+    };
+    match reader.wait(next) {
+        Wait::Pause => Some(PartEnd::Paused),
+        Wait::GiveWay if is_empty => Some(PartEnd::GaveWay),
+        _ => None,
+    }
+}
+
+/// Serves the requests of a stream, one after another, of which the buffer holds what came before:
+/// until the source ends, or a fault or the last request was answered, or `max_requests` were. It
+/// reads only while it holds no whole request and no fault. If `may_leave`, it asks the source
+/// before each answer and each read whether the stream is left there: it pauses, and the buffer
+/// keeps what was read and not answered; or it gives way to another client. `NoMemory` is never the
+/// error.
+pub fn serve_buffered<Tools, M: Machine<Tools>, R: Source, W: Sink>(
+    alloc: Global,
+    machine: &mut M,
+    tools: &mut Tools,
+    buffer: &mut Buffer,
+    reader: &mut R,
+    writer: &mut W,
+    max_requests: u32,
+    may_leave: bool,
+) -> Result<Part, ServeFault>
+    ensures clean { M.is_clean machine.new → M.is_clean machine.old }
+    ensures honest { M.storage.is_honest machine.new → M.storage.is_honest machine.old }
+
+    // What `serve` says of its stream, of a part that begins with the bytes that are buffered. If
+    // the stream was left, all requests of the part were answered whole, and the buffer keeps what
+    // follows them; if it gave way, that is nothing.
+    ensures did { M.is_clean machine.new →
+        (before : M.State) (held : M.Stored) → KeepsState M.storage machine.old held before →
+        (after : M.State) × (kept : M.Stored) × DidPart M.protocol
+        (Ran M.protocol M.storage (M.storage.may_leave machine.old)
+        (moment_of M.storage machine.old held before) machine.new kept after)
+        max_requests buffer.old buffer.new (ends_of (R.told reader.old) (W.told writer.old))
+        (ends_of (R.told reader.new) (W.told writer.new)) result }
+    ensures fault { TellsPart (ends_of (R.told reader.old) (W.told writer.old))
+        (ends_of (R.told reader.new) (W.told writer.new)) result }
+    ensures whole { may_leave ≡ false → IfOk result (λ part. part.end ≡ PartEnd.Ended) }
+    ensures asks { OnlyAsksAfter R.told max_requests buffer.old reader.old reader.new }
+    // Each read but one gives a byte at least.
+    ensures reads { (R.told reader.new).counts.calls + length buffer.old
+        ≤ (R.told reader.old).counts.calls + longest_request * max_requests
+        + length buffer.new + 1 }
+    ensures bound { length buffer.old ≤ longest_request → length buffer.new ≤ longest_request }
+{
+    let end = PartEnd::Ended;
+    let mut requests = 0;
+    let mut left = max_requests;
+    while left > 0 {
+        let held = buffer.content();
+        let front = next_request(held);
+        let is_empty = held.is_empty();
+        if let Some(end) = left_before(reader, front, is_empty, may_leave) {
+            return Ok(Part { requests, end });
+        }
+        match front {
+            Front::Whole { request, length } => {
+                let last = request.last;
+                requests += 1;
+                if serve_request(alloc, machine, tools, &request, reader, writer).is_err() {
+                    return Err(ServeFault::Write { requests });
+                }
+                buffer.consume(length);
+                left = left_after(left, last);
+            }
+            Front::Bad(fault) => {
+                if serve_fault::<Tools, M, W>(alloc, fault, writer).is_err() {
+                    return Err(ServeFault::Write { requests });
+                }
+                return Ok(Part { requests, end });
+            }
+            Front::More => match buffer.fill(reader) {
+                Ok(0) => return Ok(Part { requests, end }),
+                Ok(_) => {}
+                Err(_) => return Err(ServeFault::Read { requests }),
+            },
+        }
+    }
+    Ok(Part { requests, end })
+}
+
 /// Serves the requests that the source gives, one after another, until the source ends, or a fault
 /// or the last request was answered, or `max_requests` were. It reads only while it holds no whole
-/// request and no fault.
+/// request and no fault, and does not ask the source to wait: a stream of its own is never left
+/// before its end.
 pub fn serve<Tools, M: Machine<Tools>, R: Source, W: Sink>(
     alloc: Global,
     machine: &mut M,
@@ -126,31 +253,20 @@ pub fn serve<Tools, M: Machine<Tools>, R: Source, W: Sink>(
     let Ok(mut buffer) = Buffer::new(alloc) else {
         return Err(ServeFault::NoMemory);
     };
-    let mut requests = 0;
-    let mut left = max_requests;
-    while left > 0 {
-        match next_request(buffer.content()) {
-            Front::Whole { request, length } => {
-                let last = request.last;
-                requests += 1;
-                if serve_request(alloc, machine, tools, &request, writer).is_err() {
-                    return Err(ServeFault::Write { requests });
-                }
-                buffer.consume(length);
-                left = left_after(left, last);
-            }
-            Front::Bad(fault) => {
-                if serve_fault::<Tools, M, W>(alloc, fault, writer).is_err() {
-                    return Err(ServeFault::Write { requests });
-                }
-                return Ok(Served { requests });
-            }
-            Front::More => match buffer.fill(reader) {
-                Ok(0) => return Ok(Served { requests }),
-                Ok(_) => {}
-                Err(_) => return Err(ServeFault::Read { requests }),
-            },
-        }
+    let buffer = &mut buffer;
+    match serve_buffered(
+        alloc,
+        machine,
+        tools,
+        buffer,
+        reader,
+        writer,
+        max_requests,
+        false,
+    ) {
+        Ok(part) => Ok(Served {
+            requests: part.requests,
+        }),
+        Err(fault) => Err(fault),
     }
-    Ok(Served { requests })
 }

@@ -2,7 +2,7 @@
 //! by a machine. Of the machine it knows only what the trait `Machine` says.
 #![tactic(auto)]
 
-mod buffer;
+pub mod buffer;
 pub mod ends;
 pub mod engine;
 mod fields;

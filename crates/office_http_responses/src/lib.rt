@@ -6,12 +6,12 @@ mod cabinet;
 mod csv_text;
 mod day;
 mod fault;
+mod fixed_answer;
 mod head;
 mod lists;
 mod reply;
-mod unavailable;
 mod writing;
 
 pub use answer::{answer_of, damaged};
 pub use fault::{More, ask_fault_answer, fault_answer, framing_fault_answer};
-pub use unavailable::unavailable_answer;
+pub use fixed_answer::unavailable;

@@ -1,5 +1,5 @@
 -- A FILE'S WHOLE LIFE: runs over it in turn, each from the tables that the run before it left.
-use Rattle.std.specs.Prelude.{◌≡◌, ◌⊎◌, ℕ, List, [], ◌∷◌, Result, Err, IsTrue}
+use Rattle.std.specs.Prelude.{◌≡◌, ◌⊎◌, ℕ, List, [], ◌∷◌, Some, Result, Err, IsTrue}
 use Rattle.sqlite.specs.Recovery.{Image}
 use Rattle.sqlite.specs.Tree.{Trees}
 use Rattle.sqlite_disk.specs.declared.Disk.{Ghosts as Disk}
@@ -8,7 +8,9 @@ use Rattle.sqlite_store.specs.FileStore.{view}
 use Rattle.office_machine.specs.Office.{Office, version_1}
 use Rattle.office_tables.specs.Stored.{content_of}
 use Rattle.office_tables.specs.Migration.{StandAnew}
+use Rattle.office_tables_shelf.specs.Cells.{Cell}
 use Rattle.office_tables_shelf.specs.Content.{Content}
+use Rattle.office_tables_sql.specs.Version.{current_version, first_version, version_in}
 use Rattle.office_tables_decisions.specs.StandFor.{StandForSoundIn}
 use Rattle.office_http_framing.specs.Serve.{Ends}
 use Rattle.office_http_framing.specs.declared.engine.Served.{Served}
@@ -34,15 +36,16 @@ pub data Lived : Type 1 where
   command : (does : Content → Content → Type 0) → Lived
   -- a command was begun, and then the run was stopped, at whichever of its calls on the disk, or the file could not be closed, or the disk failed
   command_to_a_stop : (leaves : Content → Content → Type 0) → Lived
-  -- the tables of version 1 were brought to today's, and the file was closed
-  migrated : Lived
+  -- the tables, which were stored under this version, were brought to today's, and the file was closed
+  migrated : (version : List Cell) → Lived
   -- the file was refused, or nothing was changed
   refused : Lived
 
--- the tables in the files hold this content, whatever their version
-pub record HoldFormerly (image : Image) (tables : Content) : Type 0 where
+-- the tables in the files hold this content, and are stored under this version
+pub record HoldFormerly (image : Image) (version : List Cell) (tables : Content) : Type 0 where
   pub trees : Trees
   pub those : AreThoseOf image trees
+  pub stored : version_in trees ≡ Some version
   pub content : content_of trees ≡ tables
 
 module _ {D : Type 0} (g : Disk D) where
@@ -53,7 +56,9 @@ module _ {D : Type 0} (g : Disk D) where
   Made (unclosed limit start end) old new = ∥ (new ≡ old) ⊎ ((outcome : Result Served ServeFault) × IsServedToAStop limit start end old outcome new) ∥₁
   Made (command does) old new = does old new
   Made (command_to_a_stop leaves) old new = ∥ leaves old new ∥₁
-  Made migrated old new = (new ≡ old) ⊎ ((before : Office) → StandForSoundIn version_1 old before → StandAnew new before)
+  Made (migrated version) old new =
+      ((version ≡ current_version) × (new ≡ old))
+      ⊎ ((version ≡ first_version) × ((before : Office) → StandForSoundIn version_1 old before → StandAnew new before))
   Made refused old new = new ≡ old
 
   -- these runs in turn, each from the tables that the one before it left, lead from the old tables to the last ones

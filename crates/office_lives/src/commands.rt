@@ -33,14 +33,14 @@ fn done_once<D: Disk + Drop, Given: Drop, T: OfficeTask<Given>, W: Sink>(
     rt: &HostRuntime,
     alloc: Global,
     files: Files<D>,
-    task: &T,
+    task: &mut T,
     out: &mut W,
 ) -> Option<(Result<Given, Fault>, Files<D>)>
     ensures clean { IfSome result (λ it. AreClean D.Disk it.1.log it.1.db →
         AreClean D.Disk files.log files.db) }
     ensures made { IfSome result (λ it. AreClean D.Disk it.1.log it.1.db →
         (old : Content) × (new : Content) × HoldIn (image_of D.Disk files) old
-        × (T.effect task.now).does old it.0 new
+        × (T.effect task.old task.new).does old it.0 new
         × KeepTables D.Disk it.1 new) }
 {
     let ended = done_in(rt, alloc, files, Options::new(1), task, out);
@@ -56,7 +56,7 @@ pub fn served_around<D: Disk + Drop, Given: Drop, T: OfficeTask<Given>, R: Sourc
     files: Files<D>,
     first_reader: &mut R,
     first_writer: &mut W,
-    task: &T,
+    task: &mut T,
     out: &mut W,
     second_reader: &mut R,
     second_writer: &mut W,
@@ -66,7 +66,7 @@ pub fn served_around<D: Disk + Drop, Given: Drop, T: OfficeTask<Given>, R: Sourc
         × Life D.Disk old (in_order MOST
         (ends_of (R.told first_reader.old) (W.told first_writer.old))
         (ends_of (R.told first_reader.new) (W.told first_writer.new)) it.first
-        ∷ command (λ found made. (T.effect task.now).does found it.done made)
+        ∷ command (λ found made. (T.effect task.old task.new).does found it.done made)
         ∷ in_order MOST
         (ends_of (R.told second_reader.old) (W.told second_writer.old))
         (ends_of (R.told second_reader.new) (W.told second_writer.new)) it.second

@@ -42,14 +42,14 @@ pub fn served_after_a_command<
     rt: &HostRuntime,
     alloc: Global,
     files: Files<D>,
-    task: &T,
+    task: &mut T,
     out: &mut W,
     reader: &mut R,
     writer: &mut W,
 ) -> Option<CutShort<D, Given>>
     ensures { IfSome result (λ it. AreClean D.Disk it.files.log it.files.db →
         (old : Content) × (last : Content) × HoldIn (image_of D.Disk files) old
-        × Life D.Disk old (command_to_a_stop (T.effect task.now).leaves ∷ in_order MOST
+        × Life D.Disk old (command_to_a_stop (T.effect task.old task.new).leaves ∷ in_order MOST
         (ends_of (R.told reader.old) (W.told writer.old))
         (ends_of (R.told reader.new) (W.told writer.new)) it.outcome
         ∷ []) last × KeepTables D.Disk it.files last) }
@@ -73,14 +73,14 @@ pub fn done_unclosed<D: Disk + Drop, Given: Drop, T: OfficeTask<Given>, W: Sink>
     rt: &HostRuntime,
     alloc: Global,
     files: Files<D>,
-    task: &T,
+    task: &mut T,
     out: &mut W,
 ) -> Option<FileLeft<D>>
     ensures databases { IfSome result (λ left. IsCleanFile left → LeavesDatabases left) }
     ensures made { IfSome result (λ left. IsCleanFile left →
         (old : Content) × HoldIn (image_of D.Disk files) old
         × ((found : Content) → ∥ MayLeaveOf left found ∥₁ →
-        Made D.Disk (command_to_a_stop (T.effect task.now).leaves) old found)) }
+        Made D.Disk (command_to_a_stop (T.effect task.old task.new).leaves) old found)) }
 {
     let ended = done_in(rt, alloc, files, Options::new(1), task, out);
     left_after(ended)

@@ -1,11 +1,12 @@
 //! Two runs over the same files: two streams, with the files closed or the first run stopped in
 //! between; or a migration and a stream.
 
-ghost use Rattle.std.specs.Prelude.{◌∷◌, [], IfSome};
+ghost use Rattle.std.specs.Prelude.{◌∷◌, [], IfSome, List};
 ghost use Rattle.sqlite.specs.Files.{image_of};
 ghost use Rattle.sqlite.specs.WalReads.{AreClean};
 ghost use Rattle.office_http_framing.specs.Serve.{ends_of};
 ghost use Rattle.office_tables.specs.Content.{Content};
+ghost use Rattle.office_tables_shelf.specs.Cells.{Cell};
 ghost use Rattle.signal_office_file.specs.Files.{HoldIn, KeepTables};
 ghost use Rattle.office_lives.specs.Life.{HoldFormerly, Life, Made, in_order, migrated, to_a_stop};
 
@@ -17,8 +18,8 @@ use sqlite::Options;
 use sqlite_disk::{Crash, Disk, Files};
 use std::alloc::Global;
 
-/// The most requests of one run.
-pub const MOST: u32 = 1_000;
+/// The most requests of one run, as the program serves of one stream.
+pub const MOST: u32 = 1_000_000;
 
 /// How a stream ended.
 pub type Outcome = Result<Served, ServeFault>;
@@ -129,8 +130,9 @@ pub fn served_after_a_stop<D: Crash + Drop, R: Source, W: Sink>(
 /// files or the migration were refused, or that the files could not be closed.
 fn brought_today<D: Disk + Drop>(alloc: Global, files: Files<D>) -> Option<Files<D>>
     ensures { IfSome result (λ back. AreClean D.Disk back.log back.db →
-        (old : Content) × (new : Content) × HoldFormerly (image_of D.Disk files) old
-        × Made D.Disk migrated old new × KeepTables D.Disk back new) }
+        (version : List Cell) × (old : Content) × (new : Content)
+        × HoldFormerly (image_of D.Disk files) version old
+        × Made D.Disk (migrated version) old new × KeepTables D.Disk back new) }
 {
     match migrate_file(alloc, files, Options::new(1)) {
         Ended::Closed(Ok(_), files) => Some(files),
@@ -148,8 +150,9 @@ pub fn migrated_and_served<D: Disk + Drop, R: Source, W: Sink>(
     writer: &mut W,
 ) -> Option<(Outcome, Files<D>)>
     ensures { IfSome result (λ it. AreClean D.Disk it.1.log it.1.db →
-        (old : Content) × (last : Content) × HoldFormerly (image_of D.Disk files) old
-        × Life D.Disk old (migrated ∷ in_order MOST
+        (version : List Cell) × (old : Content) × (last : Content)
+        × HoldFormerly (image_of D.Disk files) version old
+        × Life D.Disk old (migrated version ∷ in_order MOST
         (ends_of (R.told reader.old) (W.told writer.old))
         (ends_of (R.told reader.new) (W.told writer.new)) it.0 ∷ []) last
         × KeepTables D.Disk it.1 last) }

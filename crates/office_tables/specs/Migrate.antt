@@ -1,6 +1,6 @@
 -- What bringing version 1 of the tables to today's version makes of a database, and what it leaves
 -- where it refuses.
-use Rattle.std.specs.Prelude.{◌≡◌, ◌≢◌, ◌⊎◌, ℤ, pos, true, false, List, [], ◌∷◌, codes, Some, Result, Err, IfOk, OnOk}
+use Rattle.std.specs.Prelude.{◌≡◌, ◌≢◌, ◌⊎◌, ℤ, pos, true, false, List, [], ◌∷◌, Some, Result, Err, IfOk, OnOk}
 use Rattle.std.specs.List.{AllByRecursion}
 use Rattle.sqlite.specs.declared.types.Value.TheVariants.{Int}
 use Rattle.sqlite.specs.Held.{Held, state}
@@ -8,6 +8,7 @@ use Rattle.sqlite.specs.Order.{Row, column}
 use Rattle.sqlite.specs.State.{State, HasCleanDisk, Shown}
 use Rattle.sqlite.specs.Tree.{Trees}
 use Rattle.sqlite_trees.specs.declared.store.Store.{Ghosts}
+use Rattle.sqlite_schema.specs.Names.{same_name}
 use Rattle.sqlite_schema.specs.declared.schema.Table.{Table}
 use Rattle.office_tables_shelf.specs.Change.{changed_by}
 use Rattle.office_tables_shelf.specs.Content.{Content}
@@ -18,6 +19,7 @@ use Rattle.office_tables_statements.specs.Calls.{IsHonest, IsReady}
 use Rattle.office_tables_statements.specs.Stored.{content_now, content_of}
 use Rattle.office_tables.specs.Rewritten.{HasNoFormer, HasNoFormerRow}
 use Rattle.office_tables.specs.Migration.{IsMigrated, StandAnew}
+use Rattle.office_tables.specs.declared.found.TheConstants.{KEEPER}
 use Rattle.office_tables.specs.declared.rewritten.Migrated.{Migrated}
 use Rattle.office_tables.specs.declared.open.OpenFault.{OpenFault}
 use Rattle.office_tables.specs.declared.open.OpenFault.TheVariants as fault
@@ -56,9 +58,9 @@ pub record IsAnew (old new : Trees) (count : Migrated) : Type 0 where
 abbrev pub IsBrought : Trees → Trees → Migrated → Type 0
 IsBrought old new count = IsToday old new count ⊎ IsAnew old new count
 
--- none of these tables is named `office_version`
+-- none of these tables is named `office_version`, as SQL compares names
 abbrev pub KeepNoVersion : List Table → Type 0
-KeepNoVersion tables = AllByRecursion (λ t. t.name ≢ codes "office_version") tables
+KeepNoVersion tables = AllByRecursion (λ t. same_name t.name KEEPER.now ≡ false) tables
 
 -- neither today's version is stored nor version 1
 pub record HasNeitherVersion (trees : Trees) : Type 0 where

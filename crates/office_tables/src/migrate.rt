@@ -21,17 +21,19 @@ use office_tables_statements::schema::is_office;
 use office_tables_statements::statement::SqlFault;
 use signal_records::NoMemory;
 use sqlite::{Alter, Connection, Row as SqlRow, Transaction, params};
+use sqlite_schema::names::same_name;
 use sqlite_schema::schema::Table;
 use std::alloc::Global;
 
-/// Whether one of the tables is named `office_version`, and so keeps the version.
+/// Whether one of the tables is named `office_version`, as SQL compares names, and so keeps the
+/// version.
 fn keep_version(tables: &[Table]) -> bool
     ensures { ¬ IsTrue result → KeepNoVersion tables.now }
 {
     let Some((table, tables)) = tables.split_first() else {
         return false;
     };
-    table.name.as_slice() == KEEPER.as_bytes() || keep_version(tables)
+    same_name(table.name.as_slice(), KEEPER.as_bytes()) || keep_version(tables)
 }
 
 /// The changes of the first list, and then those of the second.

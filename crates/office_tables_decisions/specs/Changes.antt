@@ -41,10 +41,17 @@ most_draft_writes tables (command.Commit id clerk) = length (rows_of id tables.d
 most_draft_writes tables (command.Abandon id clerk) = length (rows_of id tables.draft)
 most_draft_writes tables _ = 0
 
--- the most rows of an intersection that a command writes: one, and a command of the register none
+-- the most rows of an intersection that a command writes: one, and a command of the register or a query none
 abbrev pub most_intersection_writes : Command → ℕ
 most_intersection_writes (command.Record c) = 0
 most_intersection_writes (command.Import records) = 0
+most_intersection_writes (command.State id) = 0
+most_intersection_writes (command.Timing id) = 0
+most_intersection_writes (command.Draft id) = 0
+most_intersection_writes (command.Cabinet id) = 0
+most_intersection_writes (command.OpenOrders id) = 0
+most_intersection_writes command.Stock = 0
+most_intersection_writes (command.Overdue day) = 0
 most_intersection_writes _ = 1
 
 -- the most rows of a table of the register that the records of an import write together

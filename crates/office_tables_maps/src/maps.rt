@@ -106,7 +106,7 @@ impl Maps {
             RowChange::AddDraft(id, change) => put_draft(&mut self.draft, *id, change)?,
             RowChange::PutDraft(id, change) => put_draft(&mut self.draft, *id, change)?,
             RowChange::RemoveDraft(id, key) => remove_draft(&mut self.draft, *id, *key),
-            RowChange::DropDraft(id) => drop_drafts(&mut self.draft, *id),
+            RowChange::DropDraft(id, _) => drop_drafts(&mut self.draft, *id),
             RowChange::AddInspection(id, found) => put(&mut self.inspection, *id, found.clone()?)?,
             RowChange::AddOrder(id, order) => put(&mut self.work_order, *id, order.clone()?)?,
             RowChange::PutOrder(id, order) => put(&mut self.work_order, *id, order.clone()?)?,

@@ -3,13 +3,13 @@ use Rattle.std.proofs.Common.{◌≡◌, ℕ, ◌<◌, true, cond, List, map, fi
 use Rattle.std.proofs.lemmas.List.Elements.{All-from_recursion}
 use Rattle.std.specs.FinMap as finite
 use Rattle.std.specs.{FinMap.get, FinMap.entries, FinMap.get-entries, FinMap.Entries.find-where_key, FinMap.Entries.where_key, List.AllByRecursion}
-use Rattle.cabinet_core.specs.Within.{IsInspectionWithin, IsOrderWithin, IsUsedLineWithin}
-use Rattle.cabinet_core.specs.{declared.record.Inspection.Inspection, declared.record.Order.Order, declared.record.UsedLine.UsedLine}
+use Rattle.cabinet_core.specs.Within.{IsInspectionWithin}
+use Rattle.cabinet_core.specs.declared.record.Inspection.{Inspection}
 use Rattle.office_tables_shelf.proofs.CellLemmas.{cells_exact, find_entry, is_under, tied}
 use Rattle.office_tables_shelf.proofs.ListLemmas.{IsIn, all_in, found_has, in_index, stands, where_all}
-use Rattle.office_tables_shelf.specs.CabinetReads.{HasDamagedInspection, HasDamagedOrder, HasDamagedPart, HasDamagedUsed, IsPartWithin, ListsInspections, ListsOrders, ListsParts, ListsUsed}
-use Rattle.office_tables_shelf.specs.CabinetRows.{inspection_columns, inspection_key, order_columns, order_key, part_columns, part_key}
-use Rattle.office_tables_shelf.specs.{CabinetRows.used_columns, CabinetRows.used_key, Cells.Cell, Cells.TableRows, Cells.cells_cmp, Content.Content, Content.rows_at, Damage.HasAnyDamagedIntersection, Rows.intersection_columns, Rows.intersection_key}
+use Rattle.office_tables_shelf.specs.CabinetReads.{HasDamagedInspection, ListsInspections}
+use Rattle.office_tables_shelf.specs.CabinetRows.{inspection_columns, inspection_key}
+use Rattle.office_tables_shelf.specs.{Cells.Cell, Cells.TableRows, Cells.cells_cmp, Content.Content, Content.rows_at, Damage.HasAnyDamagedIntersection, Rows.intersection_columns, Rows.intersection_key}
 use Rattle.office_tables_shelf.specs.Reads.{is_among, HasDamagedRow}
 use Rattle.office_tables_shelf.specs.Shelf.{IsIntersectionWithin, IsThere, ListsIntersections}
 use Rattle.office_tables_shelf.specs.declared.rows.Table.{Table}
@@ -70,26 +70,6 @@ pub inspections_whole : (tables : Content) (id : ℕ) (list : List Inspection)
 inspections_whole tables id =
     listed_whole table.Inspection IsInspectionWithin (λ x. inspection_key id x.number)
     inspection_columns tables (Some id)
-
-pub orders_whole : (tables : Content) (id : ℕ) (list : List Order) → ListsOrders tables id list
-    → AllByRecursion IsOrderWithin list → ¬ HasDamagedOrder tables id
-orders_whole tables id =
-    listed_whole table.WorkOrder IsOrderWithin (λ x. order_key id x.number) order_columns tables
-    (Some id)
-
-pub lines_whole : (tables : Content) (id : ℕ) (list : List UsedLine) → ListsUsed tables id list
-    → AllByRecursion IsUsedLineWithin list → ¬ HasDamagedUsed tables id
-lines_whole tables id =
-    listed_whole table.UsedPart IsUsedLineWithin (λ x. used_key id x.order x.line) used_columns
-    tables (Some id)
-
-pub parts_whole : (tables : Content) (list : List (List ℕ × ℕ)) → ListsParts tables list
-    → AllByRecursion IsPartWithin list → ¬ HasDamagedPart tables
-parts_whole tables list lists within damaged =
-    let is = table_row (λ part. part_key part.0) (λ part. part_columns part.1)
-    IsPartWithin tables.part list damaged.key damaged.columns
-    lists within damaged.stored in
-    damaged.no_row is.0 is.1 is.2 is.3
 
 pub intersections_whole : (tables : Content) (rows : List (ℕ × IntersectionRow))
     → ListsIntersections tables rows → AllByRecursion IsIntersectionWithin rows

@@ -1,5 +1,5 @@
 -- What a change of a row makes of the tables, and of the count of writes.
-use Rattle.std.specs.Prelude.{◌≡◌, List, [], ◌∷◌, None}
+use Rattle.std.specs.Prelude.{◌≡◌, ℕ, List, [], ◌∷◌, None}
 use Rattle.std.specs.FinMap.{get}
 use Rattle.signal_records.specs.Row.{key_of}
 use Rattle.office_tables_shelf.specs.Cells.{Cell}
@@ -22,7 +22,7 @@ changed tables (RemoveTiming id key) = remove_in tables table.Timing (timing_key
 changed tables (AddDraft id change) = put_in tables table.Draft (draft_key id change) (draft_columns change)
 changed tables (PutDraft id change) = put_in tables table.Draft (draft_key id change) (draft_columns change)
 changed tables (RemoveDraft id key) = remove_in tables table.Draft (timing_key id key)
-changed tables (DropDraft id) = drop_in tables table.Draft id
+changed tables (DropDraft id rows) = drop_in tables table.Draft id
 changed tables (AddInspection id inspection) = put_in tables table.Inspection (inspection_key id inspection.number) (inspection_columns inspection)
 changed tables (AddOrder id order) = put_in tables table.WorkOrder (order_key id order.number) (order_columns order)
 changed tables (PutOrder id order) = put_in tables table.WorkOrder (order_key id order.number) (order_columns order)
@@ -45,13 +45,18 @@ table_of (RemoveTiming id key) = table.Timing
 table_of (AddDraft id change) = table.Draft
 table_of (PutDraft id change) = table.Draft
 table_of (RemoveDraft id key) = table.Draft
-table_of (DropDraft id) = table.Draft
+table_of (DropDraft id rows) = table.Draft
 table_of (AddInspection id inspection) = table.Inspection
 table_of (AddOrder id order) = table.WorkOrder
 table_of (PutOrder id order) = table.WorkOrder
 table_of (AddLine id line) = table.UsedPart
 table_of (PutPart code hand) = table.Part
 table_of (AddDelivery delivery) = table.Delivery
+
+-- how many rows of its table a change writes: one, and to drop a draft as many as it names
+abbrev pub row_writes : RowChange → ℕ
+row_writes (DropDraft id rows) = rows
+row_writes _ = 1
 
 -- ---- rows that are added
 

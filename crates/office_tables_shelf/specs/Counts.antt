@@ -1,18 +1,18 @@
--- How often the rows of each table were written.
+-- How many rows of each table were written.
 use Rattle.std.specs.Prelude.{ℕ, ◌+◌, ◌-◌, ◌^◌, min, cond, List, [], ◌∷◌, refl}
 use Rattle.std.specs.Coded.{Coded, code_by, coded×, coded_ℕ}
-use Rattle.office_tables_shelf.specs.Change.{table_of}
+use Rattle.office_tables_shelf.specs.Change.{row_writes, table_of}
 pub use Rattle.office_tables_shelf.specs.Content.{is_same_table}
 use Rattle.office_tables_shelf.specs.declared.counts.WriteCounts.{WriteCounts}
 use Rattle.office_tables_shelf.specs.declared.rows.RowChange.{RowChange}
 use Rattle.office_tables_shelf.specs.declared.rows.Table.{Table}
 use Rattle.office_tables_shelf.specs.declared.rows.Table.TheVariants as table
 
--- no table was written to
+-- no row was written
 abbrev pub no_writes : WriteCounts
 no_writes = record { intersection = 0; timing = 0; draft = 0; inspection = 0; work_order = 0; part = 0; delivery = 0; used_part = 0 }
 
--- how often a table was written to
+-- how many rows of a table were written
 abbrev pub count_of : WriteCounts → Table → ℕ
 count_of counts table.Intersection = counts.intersection
 count_of counts table.Timing = counts.timing
@@ -23,30 +23,30 @@ count_of counts table.Part = counts.part
 count_of counts table.Delivery = counts.delivery
 count_of counts table.UsedPart = counts.used_part
 
--- a count after one more; at its largest value, 2 ^ 64 - 1, it stays
-abbrev pub next_count : ℕ → ℕ
-next_count n = min (n + 1) (2 ^ 64 - 1)
+-- a count after some more rows; at its largest value, 2 ^ 64 - 1, it stays
+abbrev pub next_count : ℕ → (rows : ℕ) → ℕ
+next_count n rows = min (n + rows) (2 ^ 64 - 1)
 
--- the counts after one more write of a table
-abbrev pub count_at : WriteCounts → Table → WriteCounts
-count_at counts table.Intersection = record counts { intersection = next_count counts.intersection }
-count_at counts table.Timing = record counts { timing = next_count counts.timing }
-count_at counts table.Draft = record counts { draft = next_count counts.draft }
-count_at counts table.Inspection = record counts { inspection = next_count counts.inspection }
-count_at counts table.WorkOrder = record counts { work_order = next_count counts.work_order }
-count_at counts table.Part = record counts { part = next_count counts.part }
-count_at counts table.Delivery = record counts { delivery = next_count counts.delivery }
-count_at counts table.UsedPart = record counts { used_part = next_count counts.used_part }
+-- the counts after a write of some rows of a table
+abbrev pub count_at : WriteCounts → Table → (rows : ℕ) → WriteCounts
+count_at counts table.Intersection rows = record counts { intersection = next_count counts.intersection rows }
+count_at counts table.Timing rows = record counts { timing = next_count counts.timing rows }
+count_at counts table.Draft rows = record counts { draft = next_count counts.draft rows }
+count_at counts table.Inspection rows = record counts { inspection = next_count counts.inspection rows }
+count_at counts table.WorkOrder rows = record counts { work_order = next_count counts.work_order rows }
+count_at counts table.Part rows = record counts { part = next_count counts.part rows }
+count_at counts table.Delivery rows = record counts { delivery = next_count counts.delivery rows }
+count_at counts table.UsedPart rows = record counts { used_part = next_count counts.used_part rows }
 
--- the counts after changes, each of which is one write of its table
+-- the counts after changes, each of which writes so many rows of its table
 abbrev pub counts_after : WriteCounts → List RowChange → WriteCounts
 counts_after counts [] = counts
-counts_after counts (change ∷ changes) = counts_after (count_at counts (table_of change)) changes
+counts_after counts (change ∷ changes) = counts_after (count_at counts (table_of change) (row_writes change)) changes
 
--- how many of the changes write a table
+-- how many rows of a table the changes write
 abbrev pub writes_in : Table → List RowChange → ℕ
 writes_in table [] = 0
-writes_in table (change ∷ changes) = cond (is_same_table (table_of change) table) 1 0 + writes_in table changes
+writes_in table (change ∷ changes) = cond (is_same_table (table_of change) table) (row_writes change) 0 + writes_in table changes
 
 -- ---- how the logic stores counts
 

@@ -1,4 +1,4 @@
-//! How often the rows of each table were written.
+//! How many rows of each table were written.
 ghost use Rattle.std.specs.Prelude.{◌≡◌};
 ghost use Rattle.office_tables_shelf.specs.Counts.{no_writes, count_of, count_at, counts_after};
 
@@ -50,28 +50,28 @@ impl WriteCounts {
         }
     }
 
-    /// Counts one more write of a table.
-    fn count(&mut self, table: Table)
-        ensures { self.new ≡ count_at self.old table }
+    /// Counts some more rows of a table.
+    fn count(&mut self, table: Table, rows: u64)
+        ensures { self.new ≡ count_at self.old table rows }
     {
         match table {
-            Table::Intersection => self.intersection = self.intersection.saturating_add(1),
-            Table::Timing => self.timing = self.timing.saturating_add(1),
-            Table::Draft => self.draft = self.draft.saturating_add(1),
-            Table::Inspection => self.inspection = self.inspection.saturating_add(1),
-            Table::WorkOrder => self.work_order = self.work_order.saturating_add(1),
-            Table::Part => self.part = self.part.saturating_add(1),
-            Table::Delivery => self.delivery = self.delivery.saturating_add(1),
-            Table::UsedPart => self.used_part = self.used_part.saturating_add(1),
+            Table::Intersection => self.intersection = self.intersection.saturating_add(rows),
+            Table::Timing => self.timing = self.timing.saturating_add(rows),
+            Table::Draft => self.draft = self.draft.saturating_add(rows),
+            Table::Inspection => self.inspection = self.inspection.saturating_add(rows),
+            Table::WorkOrder => self.work_order = self.work_order.saturating_add(rows),
+            Table::Part => self.part = self.part.saturating_add(rows),
+            Table::Delivery => self.delivery = self.delivery.saturating_add(rows),
+            Table::UsedPart => self.used_part = self.used_part.saturating_add(rows),
         }
     }
 
-    /// Counts one more write for each change, of the table that it writes.
+    /// Counts the rows that each change writes, of its table.
     pub fn count_all(&mut self, changes: &[RowChange])
         ensures { self.new ≡ counts_after self.old changes.now }
     {
         for change in changes {
-            self.count(change.table());
+            self.count(change.table(), change.rows() as u64);
         }
     }
 }

@@ -1,7 +1,7 @@
 //! The rows of the tables with their types, and changes of them.
 
 ghost use Rattle.std.specs.Prelude.{◌≡◌};
-ghost use Rattle.office_tables_shelf.specs.Change.{table_of};
+ghost use Rattle.office_tables_shelf.specs.Change.{row_writes, table_of};
 
 use cabinet_core::{Delivery, Hand, Inspection, Order, PartCode, UsedLine};
 use signal_records::revision::Revision;
@@ -56,8 +56,8 @@ pub enum RowChange {
     AddDraft(InterId, Change),
     PutDraft(InterId, Change),
     RemoveDraft(InterId, Key),
-    /// All draft rows of the intersection are removed.
-    DropDraft(InterId),
+    /// All draft rows of the intersection are removed, which are so many.
+    DropDraft(InterId, usize),
     /// An inspection of the intersection's cabinet, under its number.
     AddInspection(InterId, Inspection),
     /// An order on the intersection, under its number.
@@ -100,6 +100,16 @@ impl RowChange {
             RowChange::AddLine(..) => Table::UsedPart,
             RowChange::PutPart(..) => Table::Part,
             RowChange::AddDelivery(..) => Table::Delivery,
+        }
+    }
+
+    /// How many rows of its table the change writes: one, and to drop a draft as many as it names.
+    pub fn rows(&self) -> usize
+        ensures { result ≡ row_writes self.now }
+    {
+        match self {
+            RowChange::DropDraft(_, rows) => *rows,
+            _ => 1,
         }
     }
 }

@@ -332,7 +332,9 @@ pub trait Shelf {
         ensures settled { OnOk result (changes.now ≢ [] →
             (tables : Content) → may_leave self.new tables → tables ≡ content self.new) };
 
-    /// The row writes of a table so far; the count stays at `u64::MAX` once it is there.
+    /// The row writes of a table so far: one for each row that an accepted `apply` added, put or
+    /// removed, and for a draft that was dropped as many as the change names. The count stays at
+    /// `u64::MAX` once it is there.
     fn writes(&self, table: Table) -> u64
         ensures { result ≡ count_of (written self.now) table };
 

@@ -38,7 +38,7 @@ fn change_row<S: Alter>(
         RowChange::AddDraft(id, change) => stored_row::add(alloc, tx, *id, change),
         RowChange::PutDraft(id, change) => stored_row::put(alloc, tx, *id, change),
         RowChange::RemoveDraft(id, key) => stored_row::remove::<Change, S>(tx, *id, key),
-        RowChange::DropDraft(id) => draft::drop_all(tx, *id),
+        RowChange::DropDraft(id, _) => draft::drop_all(tx, *id),
         RowChange::AddInspection(id, found) => stored_row::add(alloc, tx, *id, found),
         RowChange::AddOrder(id, found) => stored_row::add(alloc, tx, *id, found),
         RowChange::PutOrder(id, found) => stored_row::put(alloc, tx, *id, found),

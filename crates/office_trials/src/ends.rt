@@ -3,7 +3,10 @@
 
 use crate::asking::Bench;
 use office_desk::office::Office;
-use office_http::{FromRead, ServeFault, Served, ToWrite, serve};
+use office_http::{
+    Buffer, FromRead, NextStep, Part, PartEnd, ServeFault, Served, Source, ToWrite, Wait, serve,
+    serve_buffered,
+};
 use office_tables_shelf::shelf::Shelf;
 use std::cell::Cell;
 use std::io;
@@ -111,4 +114,72 @@ pub(crate) fn serve_ends<S: Shelf>(
     let is_right = sink.writer.calls == sink.counts.calls;
     assert!(rt; is_right, "the calls of a writer");
     (ended, sink.writer.bytes)
+}
+
+/// A source that pauses before each second step.
+#[derive(Drop)]
+struct Pausing<'a> {
+    source: FromRead<Feed<'a>>,
+    has_paused: bool,
+}
+
+impl Source for Pausing<'_> {
+    ghost use Rattle.std.specs.Prelude.{None};
+
+    ghost told = { λ s. record { bytes = None; counts = s.source.counts } };
+
+    fn read(&mut self, buf: &mut [u8]) -> io::Result<usize> {
+        self.source.read(buf)
+    }
+
+    fn wait(&mut self, _next: NextStep) -> Wait {
+        self.has_paused = !self.has_paused;
+        if self.has_paused {
+            Wait::Pause
+        } else {
+            Wait::GoOn
+        }
+    }
+}
+
+/// Serves a stream in parts, by reads of so many bytes at most, with a pause before each step.
+/// Tells how many requests were answered, how often it paused and was read, and what a writer took.
+pub(crate) fn serve_in_parts<S: Shelf>(
+    rt: &Bench<impl Abort>,
+    office: &mut Office<S>,
+    bytes: &[u8],
+    most: usize,
+) -> ((u32, u64, u64), Vec<u8>) {
+    let taken = Cell::new(0);
+    let mut source = Pausing {
+        source: FromRead::new(Feed {
+            bytes,
+            most,
+            after: END,
+            taken: &taken,
+            calls: 0,
+        }),
+        has_paused: false,
+    };
+    let mut sink = ToWrite::new(Taker {
+        bytes: Vec::new(rt.1),
+        room: ANY,
+        taken: &taken,
+        calls: 0,
+    });
+    let mut buffer = Buffer::new(rt.1).expect(rt, "memory");
+    let mut counts: (u32, u64) = (0, 0);
+    for _ in 0..10_000 {
+        let part = serve_buffered(rt.1, office, &mut buffer, &mut source, &mut sink, 10_000);
+        let Ok(Part { requests, end }) = part else {
+            break;
+        };
+        counts.0 = counts.0.saturating_add(requests);
+        if end != PartEnd::Paused {
+            break;
+        }
+        counts.1 = counts.1.saturating_add(1);
+    }
+    let reads = source.source.counts.calls;
+    ((counts.0, counts.1, reads), sink.writer.bytes)
 }

@@ -2,9 +2,9 @@
 //! full, wait or never stop, and connections.
 
 use crate::asking::{Bench, bytes_of, bytes_of_answers, in_maps, requests, same};
-use crate::ends::{ANY, END, FAILURE, serve_ends};
+use crate::ends::{ANY, END, FAILURE, serve_ends, serve_in_parts};
 use office_desk::office::Office;
-use office_http::{FromListener, serve_each, serve_on};
+use office_http::{FromListener, TurnEnd, serve_each, serve_on};
 use office_http_framing::laws::{one_front, one_list_of_requests};
 use office_tables_shelf::shelf::Shelf;
 use std::io;
@@ -101,6 +101,23 @@ fn ends_fail_and_wait(host: HostRuntime) {
     }
 }
 
+/// A stream that is left before each answer and each read, and served on from its buffer, has the
+/// answers of the whole: seven requests, by reads of all their bytes, of 100 at most, and of one.
+#[test]
+fn a_stream_is_served_in_parts(host: HostRuntime) {
+    let rt = (&host, host.alloc());
+    let bytes = bytes_of(&rt, &requests(&rt, 7));
+    let bytes = bytes.as_bytes();
+    let answers = bytes_of_answers(&rt, &ANSWERS);
+    for most in [usize::MAX, 100, 1] {
+        let (counts, taken) = serve_in_parts(&rt, &mut in_maps(&rt), bytes, most);
+        same(&rt, "a stream in parts", answers.as_bytes(), &taken);
+        let (requests, pauses, reads) = counts;
+        let is_right = requests == 7 && pauses == reads.saturating_add(7);
+        assert!(rt; is_right, "{requests} requests, {pauses} pauses");
+    }
+}
+
 /// Sends these bytes to the listener, and closes the sending side.
 fn send(rt: &HostRuntime, listener: &TcpListener, bytes: &[u8]) -> io::Result<TcpStream> {
     let mut wire = TcpStream::connect(rt, listener.local_addr()?)?;
@@ -113,7 +130,9 @@ fn send(rt: &HostRuntime, listener: &TcpListener, bytes: &[u8]) -> io::Result<Tc
 fn serve_two<S: Shelf>(rt: &Bench<impl Abort>, listener: TcpListener, office: &mut Office<S>) {
     assert!(rt; serve_on(rt.1, &listener, 1, office).is_ok());
     let mut listener = FromListener::new(listener);
-    assert!(rt; serve_each(rt.1, &mut listener, 1, office).is_ok());
+    let mut left = 1;
+    let ended = serve_each(rt.1, &mut listener, &mut left, office);
+    assert!(rt; matches!(ended, Ok(TurnEnd::Served)) && left == 0);
     let counts = listener.counts();
     assert!(rt; counts.accepted == 1 && counts.failures == 0);
 }

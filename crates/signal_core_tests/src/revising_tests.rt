@@ -19,7 +19,7 @@ const SHORT: &str = "split,1,2,34,2,1";
 
 /// The revision and the clerk who handed over a draft, if there is one; the draft rows, Ann's edits
 /// and what they make of the committed set; whether she commits; and what comes of it.
-const CASES: [(u32, &str, [&str; 3], bool, &str); 10] = [
+const CASES: [(u32, &str, [&str; 3], bool, &str); 11] = [
     (4, "", ["", SECOND, SECOND], true, "5 Normal: new row;"),
     (4, "", ["", SECOND, SECOND], false, "4 open: new draft row;"),
     (4, "", ["", SHORT, SHORT], true, "4 open: new draft row;"),
@@ -28,7 +28,7 @@ const CASES: [(u32, &str, [&str; 3], bool, &str); 10] = [
         "ann",
         [SECOND, THIRD, BOTH],
         true,
-        "5 Normal: drafts gone;new row;new row;",
+        "5 Normal: a draft row gone;new row;new row;",
     ),
     (
         4,
@@ -42,7 +42,14 @@ const CASES: [(u32, &str, [&str; 3], bool, &str); 10] = [
         "ann",
         [SHORT, "split,1,2,35,2,1", ""],
         true,
-        "5 Normal: drafts gone;",
+        "5 Normal: a draft row gone;",
+    ),
+    (
+        4,
+        "ann",
+        [BOTH, "", BOTH],
+        true,
+        "5 Normal: two draft rows gone;new row;new row;",
     ),
     (4, "bob", [SECOND, THIRD, BOTH], true, "NotOwner"),
     (4, "bob", [SECOND, THIRD, BOTH], false, "NotOwner"),
@@ -82,7 +89,9 @@ fn describe(change: &TimingChange) -> &'static str {
         TimingChange::DraftedNew(_) => "new draft row",
         TimingChange::Drafted(_) => "draft row",
         TimingChange::DraftGone(_) => "draft row gone",
-        TimingChange::DraftDropped => "drafts gone",
+        TimingChange::DraftDropped(1) => "a draft row gone",
+        TimingChange::DraftDropped(2) => "two draft rows gone",
+        TimingChange::DraftDropped(_) => "draft rows gone",
     }
 }
 

@@ -3,11 +3,13 @@
 ghost use Rattle.std.specs.Prelude.{◌↔◌, ◌<◌, ◌^◌, IfOk, IsSome};
 ghost use Rattle.signal_rules.specs.Lookup.{pattern_at};
 
+use crate::chart::{lanes_of, longest};
 use crate::picture::{Picture, Sizing, picture_of};
 use crate::svg::{draw_shapes, put, top_of};
-use crate::words::{draw_head, draw_warnings};
+use crate::words::{PlanOf, draw_head, draw_owner, draw_warnings};
 use safe_markup::Markup;
 use signal_records::{NoMemory, PatternNo, TimingSet};
+use signal_rules::pattern_at;
 use std::alloc::Global;
 use std::fmt;
 
@@ -36,9 +38,15 @@ fn open_figure(svg: &mut Markup, n: PatternNo, width: u64, height: u64) -> fmt::
 }
 
 /// Draws a picture: its opening and white ground, what stands above its lanes, the lanes, and the
-/// warnings below them.
-fn draw_picture(svg: &mut Markup, sizing: Sizing, picture: &Picture) -> fmt::Result {
-    let seconds = picture.seconds;
+/// warnings below them. It has room for so many seconds, or for its own, if these are more.
+fn draw_picture(
+    svg: &mut Markup,
+    sizing: Sizing,
+    picture: &Picture,
+    room: u16,
+    of: Option<&PlanOf<'_>>,
+) -> fmt::Result {
+    let seconds = picture.seconds.max(room);
     let width = 180 + (10 * u64::from(seconds)).max(900);
     let bottom = top_of(picture.lanes) + 60;
     let height = bottom.saturating_add(22u64.saturating_mul(picture.warnings.len() as u64));
@@ -48,6 +56,7 @@ fn draw_picture(svg: &mut Markup, sizing: Sizing, picture: &Picture) -> fmt::Res
     }
     svg.own(" font-family='sans-serif' font-size='20'>\n")?;
     svg.own("<rect width='100%' height='100%' fill='white'/>\n")?;
+    draw_owner(svg, of)?;
     draw_head(svg, picture)?;
     draw_shapes(svg, &picture.shapes)?;
     draw_warnings(svg, bottom, &picture.warnings)?;
@@ -60,6 +69,8 @@ fn svg_of(
     sizing: Sizing,
     set: &TimingSet,
     number: PatternNo,
+    room: u16,
+    of: Option<&PlanOf<'_>>,
 ) -> Result<Option<Markup>, NoMemory>
     ensures { IfOk result (λ shown. IsSome shown ↔ IsSome (pattern_at set.now number)) }
 {
@@ -67,31 +78,53 @@ fn svg_of(
         return Ok(None);
     };
     let mut svg = Markup::new(alloc);
-    match draw_picture(&mut svg, sizing, &picture) {
+    match draw_picture(&mut svg, sizing, &picture, room, of) {
         Ok(()) => Ok(Some(svg)),
         Err(fmt::Error) => Err(NoMemory),
     }
 }
 
-/// The picture of a pattern for a sheet, which prints on one page, landscape: an SVG text in ASCII,
-/// or nothing, where the set has no such pattern. `NoMemory` means that a growth was refused.
+/// The most seconds that a picture of a pattern of a set has; 0 if the set has no pattern. With room
+/// for them all pictures of the set have one scale. `NoMemory` means that a growth was refused.
+pub fn most_seconds(alloc: Global, set: &TimingSet) -> Result<u16, NoMemory> {
+    let mut most = 0;
+    for n in PatternNo::all() {
+        if let Some(pattern) = pattern_at(set, n) {
+            let lanes = lanes_of(alloc, set, &pattern)?;
+            most = longest(most.max(pattern.cycle.get() as u16), &lanes);
+        }
+    }
+    Ok(most)
+}
+
+/// The picture of a pattern for a sheet, which prints on one page, landscape, with whose plan it
+/// is, if that is given: an SVG text in UTF-8, or nothing, where the set has no such pattern.
+/// `NoMemory` means that a growth was refused.
 pub fn diagram(
     alloc: Global,
     set: &TimingSet,
     number: PatternNo,
+    of: Option<&PlanOf<'_>>,
 ) -> Result<Option<Vec<u8>>, NoMemory>
     ensures { IfOk result (λ shown. IsSome shown ↔ IsSome (pattern_at set.now number)) }
 {
-    match svg_of(alloc, Sizing::Sheet, set, number)? {
+    let room = most_seconds(alloc, set)?;
+    match svg_of(alloc, Sizing::Sheet, set, number, room, of)? {
         Some(svg) => Ok(Some(svg.into_bytes())),
         None => Ok(None),
     }
 }
 
-/// The picture of a pattern for a page of HTML, which may scale it: markup in ASCII, or nothing,
-/// where the set has no such pattern. `NoMemory` means that a growth was refused.
-pub fn figure(alloc: Global, set: &TimingSet, number: PatternNo) -> Result<Option<Markup>, NoMemory>
+/// The picture of a pattern for a page of HTML, which may scale it, with room for so many seconds:
+/// markup in ASCII, or nothing, where the set has no such pattern. `NoMemory` means that a growth
+/// was refused.
+pub fn figure(
+    alloc: Global,
+    set: &TimingSet,
+    number: PatternNo,
+    room: u16,
+) -> Result<Option<Markup>, NoMemory>
     ensures { IfOk result (λ shown. IsSome shown ↔ IsSome (pattern_at set.now number)) }
 {
-    svg_of(alloc, Sizing::Figure, set, number)
+    svg_of(alloc, Sizing::Figure, set, number, room, None)
 }

@@ -14,6 +14,7 @@ mod shapes;
 mod svg;
 mod words;
 
-pub use document::{diagram, figure};
+pub use document::{diagram, figure, most_seconds};
 pub use picture::{Picture, Sizing, picture_of};
 pub use shapes::{Band, Shape};
+pub use words::PlanOf;

@@ -5,13 +5,48 @@ use crate::shapes::Band;
 use crate::svg::{draw_line, draw_rect, draw_wedge, open_words, put};
 use safe_markup::Markup;
 use signal_plans::Warning;
-use signal_records::{Pattern, PatternNo};
+use signal_records::{InterId, Pattern, PatternNo};
 use std::fmt;
+use unicode_width::UnicodeWidthStr;
+
+/// Whose plan a picture shows.
+#[derive(Clone, Copy)]
+pub struct PlanOf<'a> {
+    /// The number of the intersection.
+    pub id: InterId,
+    /// The name of the intersection.
+    pub name: &'a str,
+    /// How often a plan of the intersection was committed.
+    pub revision: u32,
+}
+
+/// The longest name that is drawn beside its number and revision at its usual width, in columns of
+/// a terminal; a longer one is drawn narrower.
+const LONGEST_NAME: usize = 60;
+
+/// Writes whose plan it is, above the title, in letters so small that a name of usual length fits a
+/// picture of the least width; nothing, where that is not given.
+pub(crate) fn draw_owner(svg: &mut Markup, of: Option<&PlanOf<'_>>) -> fmt::Result {
+    let Some(of) = of else {
+        return Ok(());
+    };
+    svg.own("<text x='120' y='14' font-size='16'")?;
+    if of.name.width() > LONGEST_NAME {
+        svg.own(" textLength='940' lengthAdjust='spacingAndGlyphs'")?;
+    }
+    svg.enclose(
+        ">Intersection ",
+        &of.id.get(),
+        ": <tspan unicode-bidi='isolate'>",
+    )?;
+    svg.enclose("", &of.name, "</tspan>, revision ")?;
+    svg.enclose("", &of.revision, "</text>\n")
+}
 
 /// Writes the title: the pattern's number, its cycle and offset in seconds, its split and its
 /// sequence.
 fn draw_title(svg: &mut Markup, n: PatternNo, pattern: &Pattern) -> fmt::Result {
-    svg.own("<text x='120' y='36' font-size='28'>")?;
+    svg.own("<text x='120' y='44' font-size='28'>")?;
     put(svg, "Pattern ", u64::from(n.get()))?;
     put(svg, ": cycle ", u64::from(pattern.cycle.get()))?;
     put(svg, " s, offset ", u64::from(pattern.offset))?;

@@ -6,9 +6,10 @@ use Rattle.office_machine.specs.declared.reply.Reply.{Reply}
 use Rattle.office_tables_shelf.specs.Content.{Content}
 use Rattle.signal_office.specs.declared.asking.Outcome.{Outcome}
 use Rattle.signal_office.specs.declared.asking.Outcome.TheVariants as outcome
-use Rattle.signal_office_commands.specs.Changing.{AfterImporting, AfterStep, Changes, Imports}
+use Rattle.signal_office_commands.specs.Changing.{AfterImporting, AfterStep, Changes, Drops, Imports}
 use Rattle.signal_office_commands.specs.Editing.{AfterEditing, Edits}
-use Rattle.signal_office_commands.specs.declared.editing.Revised.{Revised}
+use Rattle.signal_office_commands.specs.declared.editing.Edited.{Edited}
+use Rattle.signal_office_faults.specs.declared.done.Done.{Done}
 use Rattle.signal_office_faults.specs.declared.fault.Fault.{Fault}
 use Rattle.signal_office_file.specs.Task.{Effect}
 use Rattle.signal_office_file.specs.Stopping.{SameOr}
@@ -20,10 +21,15 @@ abbrev pub IsReplied : Result Reply Fault → Result Outcome Fault → Type 0
 IsReplied (Ok reply) result = result ≡ Ok (outcome.Replied reply)
 IsReplied (Err why) result = result ≡ Err why
 
--- what became of a plan, or why it was not edited, is given as the outcome
-abbrev pub IsRevised : Result Revised Fault → Result Outcome Fault → Type 0
-IsRevised (Ok plan) result = result ≡ Ok (outcome.Revised plan)
-IsRevised (Err why) result = result ≡ Err why
+-- an edit of a plan, or why it was not made, is given as the outcome
+abbrev pub IsEditedPlan : Result Edited Fault → Result Outcome Fault → Type 0
+IsEditedPlan (Ok edited) result = result ≡ Ok (outcome.Edited edited)
+IsEditedPlan (Err why) result = result ≡ Err why
+
+-- what is printed, or the fault that is told in its place, is given as the outcome
+abbrev pub IsPrinted : Result Done Fault → Result Outcome Fault → Type 0
+IsPrinted (Ok done) result = result ≡ Ok (outcome.Printed done)
+IsPrinted (Err why) result = result ≡ Err why
 
 -- what looks at the tables leaves them as they were, whatever it gives, also after a stop
 abbrev pub look_effect : Effect Outcome
@@ -47,5 +53,5 @@ effect_of (request.Fill dir folder) text = look_effect
 effect_of (request.Add id interval name) text = command_effect (command.AddIntersection id interval name)
 effect_of (request.Import csv until true) text = look_effect
 effect_of (request.Import csv until false) text = change_effect IsReplied (Imports text) (AfterImporting text)
-effect_of (request.Edit edit) text = change_effect IsRevised (Edits text edit) (AfterEditing text edit)
-effect_of (request.Abandon id clerk) text = command_effect (command.Abandon id clerk)
+effect_of (request.Edit edit) text = change_effect IsEditedPlan (Edits text edit) (AfterEditing text edit)
+effect_of (request.Abandon id clerk) text = change_effect IsPrinted (Drops id clerk) (AfterStep (command.Abandon id clerk))

@@ -1,17 +1,19 @@
 //! What is asked of the office of a file, and what is told of it once the file is closed.
 
 ghost use Rattle.office_desk.specs.Asks.{KeepsOffice};
-ghost use Rattle.signal_office.specs.Requests.{IsReplied, IsRevised};
+ghost use Rattle.signal_office.specs.Requests.{IsEditedPlan, IsPrinted, IsReplied};
 
-use crate::reading::read_for;
+use crate::reading::{check_tried, read_for};
+use crate::record_notes::note_records;
+use crate::refusal_notes::note_refused;
 use office_desk::office::Office;
-use office_http::{Sink, Source};
+use office_http::{Sink, Source, write_all};
 use office_machine::reply::Reply;
 use office_tables_shelf::shelf::Shelf;
 use signal_office_commands::{
-    Revised, abandon, add, check, edit, fill, import, report, tell_revised, told,
+    Edited, abandon, add, check, edit, fill, import, report, tell_edited, told,
 };
-use signal_office_faults::{Done, Fault, SystemFolder, is_missing, print_done};
+use signal_office_faults::{Done, Fault, SystemFolder, find_office, print_done};
 use signal_office_file::{OfficeTask, do_task};
 use signal_office_line::{Folder as FolderKind, OfficeFile, Path, Request};
 use std::alloc::Global;
@@ -19,12 +21,12 @@ use std::alloc::Global;
 /// What an office gave for a request.
 #[derive(Drop)]
 pub(crate) enum Outcome {
-    /// What was seen of the office, to be printed.
-    Seen(Done),
+    /// What is printed: what was seen of the office, or what is told of a draft that was dropped.
+    Printed(Done),
     /// The reply to a command.
     Replied(Reply),
-    /// What became of the plan that was edited.
-    Revised(Revised),
+    /// A plan was edited.
+    Edited(Edited),
 }
 
 /// A request, with the text of the CSV file that was read for it, and the lines of that file on
@@ -36,10 +38,12 @@ struct Asked<'a> {
     lines: &'a [usize],
 }
 
-/// What was seen of an office, as the outcome.
-fn look_outcome(done: Result<Done, Fault>) -> Result<Outcome, Fault> {
+/// What is printed, as the outcome.
+fn print_outcome(done: Result<Done, Fault>) -> Result<Outcome, Fault>
+    ensures { IsPrinted done result }
+{
     match done {
-        Ok(done) => Ok(Outcome::Seen(done)),
+        Ok(done) => Ok(Outcome::Printed(done)),
         Err(fault) => Err(fault),
     }
 }
@@ -54,12 +58,12 @@ fn reply_outcome(reply: Result<Reply, Fault>) -> Result<Outcome, Fault>
     }
 }
 
-/// What became of the plan that was edited, as the outcome.
-fn edit_outcome(plan: Result<Revised, Fault>) -> Result<Outcome, Fault>
-    ensures { IsRevised plan result }
+/// An edit of a plan, as the outcome.
+fn edit_outcome(edited: Result<Edited, Fault>) -> Result<Outcome, Fault>
+    ensures { IsEditedPlan edited result }
 {
-    match plan {
-        Ok(plan) => Ok(Outcome::Revised(plan)),
+    match edited {
+        Ok(edited) => Ok(Outcome::Edited(edited)),
         Err(fault) => Err(fault),
     }
 }
@@ -84,10 +88,10 @@ fn fill_folder<S: Shelf>(
 impl OfficeTask<Outcome> for Asked<'_> {
     ghost use Rattle.signal_office.specs.Requests.{effect_of};
 
-    ghost effect = { λ asked. effect_of asked.request.now asked.text.now };
+    ghost effect = { λ asked _. effect_of asked.request.now asked.text.now };
 
     fn done_with<S: Shelf, W: Sink>(
-        &self,
+        &mut self,
         rt: &HostRuntime,
         alloc: Global,
         office: &mut Office<S>,
@@ -95,41 +99,54 @@ impl OfficeTask<Outcome> for Asked<'_> {
     ) -> Result<Outcome, Fault> {
         let (text, lines) = (self.text, self.lines);
         match self.request {
-            Request::Show(shown) => look_outcome(report(alloc, office, shown, text)),
+            Request::Show(shown) => print_outcome(report(alloc, office, shown, text)),
             Request::Fill { dir, folder } => {
-                look_outcome(fill_folder(rt, alloc, office, dir, folder))
+                print_outcome(fill_folder(rt, alloc, office, dir, folder))
             }
             Request::Add { id, interval, name } => {
                 reply_outcome(add(alloc, office, *id, *interval, name))
             }
             Request::Import { check: tried, .. } => {
+                note_records(rt, alloc, office, text);
                 if *tried {
-                    look_outcome(check(alloc, office, text, lines))
+                    print_outcome(check(alloc, office, text, lines))
                 } else {
                     reply_outcome(import(alloc, office, text))
                 }
             }
-            Request::Edit(it) => edit_outcome(edit(alloc, office, it, text, lines)),
-            Request::Abandon { id, clerk } => reply_outcome(abandon(alloc, office, *id, clerk)),
+            Request::Edit(it) => edit_outcome(edit(alloc, office, it, text)),
+            Request::Abandon { id, clerk } => print_outcome(abandon(alloc, office, *id, clerk)),
         }
     }
 }
 
-/// What is printed of a plan that was edited, and the status. Only an edit revises a plan.
-fn tell_plan(alloc: Global, request: &Request<'_>, plan: &Revised) -> Result<Done, Fault> {
+/// What is printed of a plan that was edited, and the status; notes on it are said on standard
+/// error before. Only an edit edits a plan.
+fn tell_plan<E: Sink>(
+    alloc: Global,
+    request: &Request<'_>,
+    edited: &Edited,
+    err: &mut E,
+) -> Result<Done, Fault> {
+    let _ = write_all(err, edited.notes.as_bytes());
     match request {
-        Request::Edit(edit) => tell_revised(alloc, edit, plan),
+        Request::Edit(edit) => tell_edited(alloc, edit, edited),
         _ => Err(Fault::Store),
     }
 }
 
 /// What is printed of an outcome, and the status. Of a change that was made no want of memory is
 /// told.
-fn tell(alloc: Global, request: &Request<'_>, outcome: Outcome) -> Result<Done, Fault> {
+fn tell<E: Sink>(
+    alloc: Global,
+    request: &Request<'_>,
+    outcome: Outcome,
+    err: &mut E,
+) -> Result<Done, Fault> {
     match outcome {
-        Outcome::Seen(done) => Ok(done),
+        Outcome::Printed(done) => Ok(done),
         Outcome::Replied(reply) => Ok(told(&reply)),
-        Outcome::Revised(plan) => tell_plan(alloc, request, &plan),
+        Outcome::Edited(edited) => tell_plan(alloc, request, &edited, err),
     }
 }
 
@@ -153,14 +170,23 @@ pub(crate) fn ask<R: Source, W: Sink, E: Sink>(
 ) -> Result<u8, Fault> {
     let csv = read_for(rt, alloc, request, source, err)?;
     let path = db.path.as_str();
-    if !makes_file(request) && is_missing(rt, alloc, path)? {
-        return Err(Fault::File);
+    if !makes_file(request) {
+        find_office(rt, alloc, path, Fault::File)?;
     }
-    let asked = Asked {
+    let mut asked = Asked {
         request: &*request, // lent again, for a shorter time
         text: &csv.text,
         lines: &csv.lines,
     };
-    let outcome = do_task(rt, alloc, path, db.wait, &asked, out)?;
-    print_done(tell(alloc, request, outcome), out)
+    match do_task(rt, alloc, path, db.wait, &mut asked, out) {
+        Ok(outcome) => {
+            let status = print_done(tell(alloc, request, outcome, err), out)?;
+            check_tried(alloc, request, &csv.text)?;
+            Ok(status)
+        }
+        Err(fault) => {
+            note_refused(rt, path, request, fault);
+            Err(fault)
+        }
+    }
 }

@@ -1,37 +1,48 @@
 //! The office of a file, copied into another file.
 
+use crate::copy_place::find_room;
 use office_http::{Sink, ToWrite};
-use signal_office_faults::{Done, Fault, is_missing, print_done};
+use signal_office_faults::{Done, Fault, find_office, note_system, print_done};
 use signal_office_file::copy_at;
 use signal_office_line::{OfficeFile, Path};
 use std::alloc::Global;
 use std::fs::{File, OpenOptions};
+use std::io::Write;
 use std::os::unix::fs::{MetadataExt, OpenOptionsExt};
 use std::{fs, io};
 
-/// Whether there is a file at the path that has a byte. Where the system does not tell, the answer
-/// is no.
-fn has_bytes(rt: &HostRuntime, path: &str) -> bool {
-    match fs::metadata(rt, path) {
-        Ok(found) => found.len() > 0,
-        Err(_) => false,
+/// The new file of a copy. Why the system refuses a write to it is said on standard error.
+#[derive(Drop)]
+struct CopyFile<'a> {
+    rt: &'a HostRuntime,
+    path: &'a str,
+    file: File,
+}
+
+impl Write for CopyFile<'_> {
+    fn write(&mut self, buf: &[u8]) -> io::Result<usize> {
+        let outcome = self.file.write(buf);
+        if let Err(error) = outcome {
+            note_system(self.rt, self.path, error);
+        }
+        outcome
+    }
+
+    fn flush(&mut self) -> io::Result<()> {
+        self.file.flush()
     }
 }
 
-/// Finds out whether a copy may be put at a path: not beside a log, which would bring another
-/// office back, nor beside a copy that was not finished (`.part`); over a file only by `force`. The
-/// fault is Exists if not, and Memory where memory for the names of what may stand beside it was
-/// refused.
-fn find_room(rt: &HostRuntime, alloc: Global, path: &str, force: bool) -> Result<(), Fault> {
-    let log = format!(in alloc; "{path}-wal")?;
-    let part = format!(in alloc; "{path}.part")?;
-    let is_taken = has_bytes(rt, log.as_str())
-        || fs::symlink_metadata(rt, part.as_str()).is_ok()
-        || (!force && fs::symlink_metadata(rt, path).is_ok());
-    if is_taken {
-        return Err(Fault::Exists);
+/// What came of a call of the system on a file. If it was refused, that is said, and the fault is
+/// Write.
+fn or_write_fault<T>(rt: &HostRuntime, path: &str, outcome: io::Result<T>) -> Result<T, Fault> {
+    match outcome {
+        Ok(value) => Ok(value),
+        Err(error) => {
+            note_system(rt, path, error);
+            Err(Fault::Write)
+        }
     }
-    Ok(())
 }
 
 /// Makes a new file with the permissions of another one, as far as the system grants them. Where
@@ -61,10 +72,7 @@ fn put_copy(
     to: &str,
 ) -> Result<(), Fault> {
     copied?;
-    match put_in_place(rt, file, part, to) {
-        Ok(()) => Ok(()),
-        Err(_) => Err(Fault::Write),
-    }
+    or_write_fault(rt, to, put_in_place(rt, file, part, to))
 }
 
 /// Copies the office of a file into a new file, `.part` beside the path `to`, and puts that there.
@@ -78,12 +86,14 @@ fn copy_to(
 ) -> Result<(), Fault> {
     let (path, to) = (db.path.as_str(), to.as_str());
     let part = format!(in alloc; "{to}.part")?;
-    let Ok(file) = make_like(rt, path, part.as_str()) else {
-        return Err(Fault::Write);
-    };
-    let mut sink = ToWrite::new(file);
+    let file = or_write_fault(rt, part.as_str(), make_like(rt, path, part.as_str()))?;
+    let mut sink = ToWrite::new(CopyFile {
+        rt,
+        path: part.as_str(),
+        file,
+    });
     let copied = copy_at(rt, alloc, path, db.wait, &mut sink);
-    let put = put_copy(rt, &sink.writer, copied, part.as_str(), to);
+    let put = put_copy(rt, &sink.writer.file, copied, part.as_str(), to);
     if put.is_err() {
         let _ = fs::remove_file(rt, part.as_str());
     }
@@ -101,10 +111,9 @@ pub(crate) fn backup<W: Sink>(
     force: bool,
     out: &mut W,
 ) -> Result<u8, Fault> {
-    if is_missing(rt, alloc, db.path.as_str())? {
-        return Err(Fault::File);
-    }
-    find_room(rt, alloc, to.as_str(), force)?;
+    let path = db.path.as_str();
+    find_office(rt, alloc, path, Fault::File)?;
+    find_room(rt, alloc, path, to.as_str(), force)?;
     copy_to(rt, alloc, db, to)?;
     print_done(Ok(Done::telling("copied\n")), out)
 }

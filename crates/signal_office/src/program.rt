@@ -3,16 +3,19 @@
 use crate::asking::ask;
 use crate::backup::backup;
 use crate::memory::{open_in_memory, serve_new_office};
-use crate::reading::read_plan;
-use crate::serving::{Serving, serve_port};
+use crate::reading::{INPUT, read_plan};
+use crate::refusal_notes::note_pattern;
+use crate::serving::Serving;
 use crate::version::VERSION;
 use arrayvec::ArrayString;
 use clap::error::ErrorKind;
 use office_http::{Sink, Source};
 use signal_office_commands::{compare_files, show_plan};
-use signal_office_faults::{Done, Fault, is_missing, print_done, print_text, report};
-use signal_office_file::{answer_stream, do_task, migrate_at};
-use signal_office_line::{BadWord, CsvFile, Job, JobFault, OfficeFile, PlanShown, job_of};
+use signal_office_faults::{Done, Fault, find_office, note, print_done, print_text, report};
+use signal_office_file::{answer_stream, do_in_turns, migrate_at};
+use signal_office_line::{
+    BadWord, CsvFile, Job, JobFault, OfficeFile, PlanShown, Request, Shown, job_of,
+};
 use std::alloc::Global;
 use std::fmt::Write;
 
@@ -52,16 +55,10 @@ fn serve<W: Sink>(
     db: &Option<OfficeFile<'_>>,
     out: &mut W,
 ) -> Result<u8, Fault> {
+    let mut task = Serving::new(port, count);
     match db {
-        None => {
-            let mut office = open_in_memory(alloc);
-            let (_, served) = serve_port(rt, alloc, &mut office, port, count, out);
-            served?;
-        }
-        Some(db) => {
-            let task = Serving { port, count };
-            do_task(rt, alloc, db.path.as_str(), db.wait, &task, out)?;
-        }
+        None => task.serve_port(rt, alloc, &mut open_in_memory(alloc), out)?,
+        Some(db) => do_in_turns(rt, alloc, db.path.as_str(), db.wait, &mut task, out)?,
     }
     Ok(0)
 }
@@ -76,16 +73,29 @@ fn migrate<W: Sink>(
     out: &mut W,
 ) -> Result<u8, Fault> {
     let path = db.path.as_str();
-    if is_missing(rt, alloc, path)? {
-        return Err(Fault::Version);
-    }
+    find_office(rt, alloc, path, Fault::Version)?;
     let rows = migrate_at(rt, alloc, path, db.wait)?;
     let mut line = ArrayString::new();
     let _ = writeln!(line, "migrated {rows} rows"); // has room for any number
     print_done(Ok(Done::line(line)), out)
 }
 
-/// Prints what the plans of two CSV files differ in.
+/// Prints what is shown of the office of a file.
+fn show_office<R: Source, W: Sink, E: Sink>(
+    rt: &HostRuntime,
+    alloc: Global,
+    db: &OfficeFile<'_>,
+    shown: Shown<'_>,
+    source: &mut R,
+    out: &mut W,
+    err: &mut E,
+) -> Result<u8, Fault> {
+    let request = Request::Show(shown);
+    ask(rt, alloc, db, &request, source, out, err)
+}
+
+/// Prints what the plans of two CSV files differ in. Of two that are both the input of the run, the
+/// fault is File, after a note.
 fn compare<R: Source, W: Sink, E: Sink>(
     rt: &HostRuntime,
     alloc: Global,
@@ -95,6 +105,15 @@ fn compare<R: Source, W: Sink, E: Sink>(
     out: &mut W,
     err: &mut E,
 ) -> Result<u8, Fault> {
+    if files.0.path.as_str() == INPUT && files.1.path.as_str() == INPUT {
+        note(
+            rt,
+            "",
+            INPUT,
+            " is standard input, which is read once; name another file",
+        );
+        return Err(Fault::File);
+    }
     let first = read_plan(rt, alloc, files.0, false, source, err)?;
     let second = read_plan(rt, alloc, files.1, true, source, err)?;
     let done = compare_files(alloc, &first.text, &second.text, csv);
@@ -112,7 +131,11 @@ fn show<R: Source, W: Sink, E: Sink>(
     err: &mut E,
 ) -> Result<u8, Fault> {
     let plan = read_plan(rt, alloc, file, false, source, err)?;
-    print_done(show_plan(alloc, &plan.text, &plan.lines, shown), out)
+    let done = show_plan(alloc, file.path.as_str(), &plan.text, shown);
+    if let (Err(Fault::UnknownPattern), PlanShown::Diagram { pattern }) = (&done, shown) {
+        note_pattern(rt, file.path.as_str(), pattern);
+    }
+    print_done(done, out)
 }
 
 /// Prints help or the version on standard output, with status 0, and why words are refused on
@@ -147,7 +170,7 @@ fn fault_of_word(bad: BadWord) -> Fault {
 /// Does what the words ask for, and gives the status: 0 done, 1 a fault, 2 the words were refused,
 /// 3 a plan breaks a rule, 4 two plans differ. The first word is the name under which the program
 /// was called.
-pub(crate) fn run_words<R: Source, W: Sink, E: Sink>(
+pub fn run_words<R: Source, W: Sink, E: Sink>(
     rt: &HostRuntime,
     alloc: Global,
     words: &[&str],
@@ -158,6 +181,38 @@ pub(crate) fn run_words<R: Source, W: Sink, E: Sink>(
     let done = match &job_of(alloc, words) {
         Ok(Job::Batch { db }) => batch(rt, alloc, db, source, out),
         Ok(Job::Serve { port, count, db }) => serve(rt, alloc, *port, *count, db, out),
+        Ok(Job::Sheet { db, id }) => {
+            let sheet = Shown::Sheet { id: *id };
+            show_office(rt, alloc, db, sheet, source, out, err)
+        }
+        Ok(
+            Job::Overdue {
+                db,
+                day,
+                most,
+                form,
+            },
+        ) => {
+            let overdue = Shown::Overdue {
+                day: *day,
+                most: *most,
+                form: *form,
+            };
+            show_office(rt, alloc, db, overdue, source, out, err)
+        }
+        Ok(
+            Job::VerifyFile {
+                csv,
+                explain,
+                advise,
+            },
+        ) => {
+            let violations = PlanShown::Violations {
+                explain: *explain,
+                advise: *advise,
+            };
+            show(rt, alloc, csv, violations, source, out, err)
+        }
         Ok(Job::Office { db, request }) => ask(rt, alloc, db, request, source, out, err),
         Ok(Job::Migrate { db }) => migrate(rt, alloc, db, out),
         Ok(Job::Backup { db, to, force }) => backup(rt, alloc, db, to, *force, out),
@@ -165,8 +220,8 @@ pub(crate) fn run_words<R: Source, W: Sink, E: Sink>(
             compare(rt, alloc, (first, second), *csv, source, out, err)
         }
         Ok(Job::ShowPlan { csv, shown }) => show(rt, alloc, csv, *shown, source, out, err),
+        Ok(Job::ReportBadWord(bad)) => Err(fault_of_word(*bad)),
         Err(JobFault::Refused(error)) => refuse(alloc, error, out, err),
-        Err(JobFault::Bad(bad)) => Err(fault_of_word(*bad)),
         Err(JobFault::NoMemory) => Err(Fault::Memory),
     };
     match done {

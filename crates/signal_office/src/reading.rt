@@ -3,12 +3,18 @@
 use cabinet_core::Day;
 use office_http_framing::ends::{Sink, Source, write_all};
 use signal_office_commands::check_days;
-use signal_office_faults::{Fault, notes_in, read_file, record_lines, unpadded_csv};
+use signal_office_faults::{
+    CsvKind, Fault, MOST_BYTES, TooLong, bad_records_text, check_length, notes_in, read_file,
+    record_lines, unpadded_csv, unpadded_lines,
+};
 use signal_office_line::{CsvFile, Request, Shown};
 use std::alloc::Global;
 
 /// The path that stands for the input of the run.
-const INPUT: &str = "-";
+pub(crate) const INPUT: &str = "-";
+
+/// What a note calls it.
+const INPUT_NAME: &str = "standard input";
 
 /// How many bytes of the input are read at a time, at most.
 const PIECE_LEN: usize = 4096;
@@ -20,12 +26,19 @@ pub(crate) struct CsvText {
     pub(crate) lines: Vec<usize>,
 }
 
-/// All the bytes that the input gives, up to its end. The fault is Read where the input failed, and
-/// Memory where a growth was refused; some bytes may be taken by then.
-fn read_input<R: Source>(alloc: Global, source: &mut R) -> Result<Vec<u8>, Fault> {
+/// All the bytes that the input gives, up to its end. The fault is Read if the input failed, File if
+/// it has more than 64 MiB, and Memory if a growth was refused; some bytes may be taken by then.
+fn read_input<R: Source>(
+    rt: &HostRuntime,
+    alloc: Global,
+    source: &mut R,
+) -> Result<Vec<u8>, Fault> {
     let mut bytes = Vec::new(alloc);
     let mut piece = [0; PIECE_LEN];
     loop {
+        if bytes.len() > MOST_BYTES {
+            return Err(TooLong::File.told(rt, INPUT_NAME));
+        }
         match source.read(&mut piece) {
             Ok(0) => return Ok(bytes),
             Ok(n) => bytes.extend_from_slice(&piece[..n])?,
@@ -34,19 +47,22 @@ fn read_input<R: Source>(alloc: Global, source: &mut R) -> Result<Vec<u8>, Fault
     }
 }
 
-/// The bytes of a file, or of the input of the run where the path is `-`. The fault is Read where
-/// the input failed, File where the system did not give them, or Memory.
+/// The bytes of a CSV file, or of the input of the run where the path is `-`. The fault is Read
+/// where the input failed, File where the system did not give them or they are too many, which a
+/// note says, or Memory.
 fn read_bytes<R: Source>(
     rt: &HostRuntime,
     alloc: Global,
     path: &str,
     source: &mut R,
 ) -> Result<Vec<u8>, Fault> {
-    if path == INPUT {
-        read_input(alloc, source)
+    let (name, bytes) = if path == INPUT {
+        (INPUT_NAME, read_input(rt, alloc, source)?)
     } else {
-        read_file(rt, path)
-    }
+        (path, read_file(rt, path)?)
+    };
+    check_length(rt, name, &bytes)?;
+    Ok(bytes)
 }
 
 /// Reads a CSV file, and drops the padding of its records if they may be padded.
@@ -58,16 +74,35 @@ fn read_csv<R: Source>(
 ) -> Result<CsvText, Fault> {
     let bytes = read_bytes(rt, alloc, file.path.as_str(), source)?;
     let lines = record_lines(alloc, &bytes)?;
-    let text = if file.padded {
-        unpadded_csv(alloc, &bytes)?
-    } else {
-        bytes
-    };
-    Ok(CsvText { text, lines })
+    if !file.padded {
+        return Ok(CsvText { text: bytes, lines });
+    }
+    Ok(CsvText {
+        text: unpadded_csv(alloc, &bytes)?,
+        lines: unpadded_lines(alloc, &bytes, &lines)?,
+    })
 }
 
-/// Reads the CSV file of a plan, and says the notes on it on standard error: a line for each record
-/// that puts or removes a key again. `other` says that the plan is the second of two.
+/// Says each bad record of a CSV file on standard error, if that is asked for. `other` says that
+/// the file is the second of two.
+fn explain<E: Sink>(
+    alloc: Global,
+    file: &CsvFile<'_>,
+    csv: &CsvText,
+    kind: CsvKind,
+    other: bool,
+    err: &mut E,
+) -> Result<(), Fault> {
+    if file.explain {
+        let text = bad_records_text(alloc, &csv.text, &csv.lines, kind, other)?;
+        let _ = write_all(err, text.as_str().as_bytes());
+    }
+    Ok(())
+}
+
+/// Reads the CSV file of a plan, and says the notes on it on standard error: a line for each bad
+/// record, if that is asked for, and for each record that puts or removes a key again. `other` says
+/// that the plan is the second of two.
 pub(crate) fn read_plan<R: Source, E: Sink>(
     rt: &HostRuntime,
     alloc: Global,
@@ -77,21 +112,37 @@ pub(crate) fn read_plan<R: Source, E: Sink>(
     err: &mut E,
 ) -> Result<CsvText, Fault> {
     let csv = read_csv(rt, alloc, file, source)?;
+    explain(alloc, file, &csv, CsvKind::Plan, other, err)?;
     let notes = notes_in(alloc, other, &csv.text)?;
     let _ = write_all(err, notes.as_str().as_bytes());
     Ok(csv)
 }
 
-/// Reads the CSV file of records of cabinets. The fault is Late where one is of a later day than
-/// `until`.
-fn read_records<R: Source>(
+/// Finds out whether a record that was only tried is of a later day than an import takes: the fault
+/// is Late then.
+pub(crate) fn check_tried(alloc: Global, request: &Request<'_>, csv: &[u8]) -> Result<(), Fault> {
+    match request {
+        Request::Import {
+            until,
+            check: true,
+            ..
+        } => check_days(alloc, csv, *until),
+        _ => Ok(()),
+    }
+}
+
+/// Reads the CSV file of records of cabinets, and says each bad one on standard error, if that is
+/// asked for. The fault is Late where one is of a later day than `until`.
+fn read_records<R: Source, E: Sink>(
     rt: &HostRuntime,
     alloc: Global,
     file: &CsvFile<'_>,
     until: Option<Day>,
     source: &mut R,
+    err: &mut E,
 ) -> Result<CsvText, Fault> {
     let csv = read_csv(rt, alloc, file, source)?;
+    explain(alloc, file, &csv, CsvKind::Register, false, err)?;
     check_days(alloc, &csv.text, until)?;
     Ok(csv)
 }
@@ -105,8 +156,9 @@ pub(crate) fn read_for<R: Source, E: Sink>(
     err: &mut E,
 ) -> Result<CsvText, Fault> {
     let plan = match request {
-        Request::Import { csv, until, .. } => {
-            return read_records(rt, alloc, csv, *until, source);
+        Request::Import { csv, until, check } => {
+            let until = if *check { None } else { *until };
+            return read_records(rt, alloc, csv, until, source, err);
         }
         Request::Edit(edit) => edit.csv.as_ref(),
         Request::Show(Shown::CompareRunning { plan, .. }) => Some(plan),

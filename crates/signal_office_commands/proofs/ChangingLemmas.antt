@@ -1,6 +1,8 @@
 -- Changes of an office, and calls after them that only ask it.
 use Rattle.std.proofs.Common.{◌≡◌, ◌∙◌, inl, inr, Result, subst}
+use Rattle.office_desk.proofs.Looks.{still_held}
 use Rattle.office_desk.specs.{Answers.StandsAfterStep, Asks.OnlyLooks, Running.IsRun}
+use Rattle.office_desk.proofs.Looks.{still_held}
 use Rattle.office_machine.specs.declared.{command.Command.Command, reply.Reply.Reply}
 use Rattle.office_tables_shelf.specs.{Content.Content, declared.shelf.Shelf.Ghosts}
 use Rattle.signal_office_commands.specs.Changing.{AfterStep, Changes, ChangesShelf, RunsCommand, accept_reply}
@@ -36,6 +38,31 @@ module _ {S : Type 0} {g : Ghosts S} where
         let made = first.makes (rest.clean clean) tables held in
         (made.0, (made.1, rest.tells clean made.0 made.2), λ honest. rest.kept.same_content honest ∙ made.2 (rest.kept.honest_before honest));
     stop = λ clean tables held found may. first.stop (rest.clean clean) tables held found (rest.kept.same_outcomes found may);
+  }
+
+  -- the office was asked before it
+  pub looks_first : {old mid new : S} {Says : Content → Type 0} {Made After : Content → Content → Type 0} → OnlyLooks g old mid Says → ChangesShelf g mid new Made After
+      → ChangesShelf g old new (λ tables made. Says tables × Made tables made) After
+  looks_first {old} {mid} first rest = record {
+    clean = λ clean. first.clean (rest.clean clean);
+    honest = λ honest. first.kept.honest_before (rest.honest honest);
+    makes = λ clean tables held.
+        let made = rest.makes clean tables (still_held g old mid tables first.kept held) in
+        (made.0, (first.tells (rest.clean clean) tables held, made.1), made.2);
+    stop = λ clean tables held found may. elim (rest.stop clean tables (still_held g old mid tables first.kept held) found may) [
+      | inl was ↦ inl (first.kept.same_outcomes found was)
+      | inr after ↦ inr after
+    ];
+  }
+
+  -- the office was only asked
+  pub only_asks : {old new : S} {Says : Content → Type 0} {Made After : Content → Content → Type 0} → OnlyLooks g old new Says → ((tables : Content) → Says tables → Made tables tables)
+      → ChangesShelf g old new Made After
+  only_asks {old} {new} it so = record {
+    clean = it.clean;
+    honest = it.kept.honest_before;
+    makes = λ clean tables held. (tables, so tables (it.tells clean tables held), still_held g old new tables it.kept held);
+    stop = λ clean tables held found may. inl (it.kept.same_outcomes found may);
   }
 
   -- a command was run, and its reply is taken so

@@ -13,6 +13,7 @@ use Rattle.office_machine.specs.declared.reply.Reply.TheVariants as reply
 use Rattle.office_tables_shelf.specs.Content.{Content}
 use Rattle.office_tables_shelf.specs.declared.shelf.Shelf.{Ghosts}
 use Rattle.signal_office_commands.specs.Refused.{IsUnread, fault_of}
+use Rattle.signal_office_faults.specs.declared.done.Done.{Done}
 use Rattle.signal_office_faults.specs.declared.fault.Fault.{Fault}
 use Rattle.signal_office_faults.specs.declared.fault.Fault.TheVariants as told
 
@@ -52,6 +53,15 @@ RunsCommand asked old new result = (given : Reply) × Answered old asked given n
 -- A CHANGE of one command: it was run; or memory was refused before it, and nothing was changed.
 abbrev pub Changes : Command → Content → Content → Result Reply Fault → Type 0
 Changes asked old new result = RunsCommand asked old new result ⊎ ((result ≡ Err told.Memory) × (new ≡ old))
+
+-- a reply is told, or the fault of a refusal
+abbrev pub TellsDrop : Result Reply Fault → Result Done Fault → Type 0
+TellsDrop (Ok reply) result = (done : Done) × (result ≡ Ok done)
+TellsDrop (Err why) result = result ≡ Err why
+
+-- the draft of an intersection was dropped, and that is told
+abbrev pub Drops : ℕ → (clerk : List ℕ) → Content → Content → Result Done Fault → Type 0
+Drops id clerk old new result = (given : Result Reply Fault) × Changes (command.Abandon id clerk) old new given × TellsDrop given result
 
 -- The records of a file were read, and the import of all of them was run; or why they were not read is told, and nothing was changed.
 abbrev pub Imports : (csv : List ℕ) → Content → Content → Result Reply Fault → Type 0

@@ -1,5 +1,5 @@
 -- A plan that is edited by a CSV file: what becomes of the tables, and what is told of it.
-use Rattle.std.specs.Prelude.{◌≡◌, ◌⊎◌, ℕ, Bool, true, List, Option, Some, None, Result, Ok, Err, ⊤}
+use Rattle.std.specs.Prelude.{◌≡◌, ◌⊎◌, ◌==◌, ℕ, Bool, true, if◌then◌else◌, List, Option, Some, None, Result, Ok, Err, ⊤}
 use Rattle.draft_core.specs.declared.timing.Reach.TheVariants as reach
 use Rattle.office_desk.specs.Asks.{IsReply, reply_to}
 use Rattle.office_desk.specs.Damage.{HasDamageIn}
@@ -16,6 +16,7 @@ use Rattle.office_machine.specs.declared.reply.Reply.TheVariants as reply
 use Rattle.office_machine.specs.declared.reply.RunningTiming.{RunningTiming}
 use Rattle.office_tables_shelf.specs.Content.{Content}
 use Rattle.signal_office_commands.specs.Refused.{IsUnread, fault_of}
+use Rattle.signal_office_commands.specs.declared.editing.Edited.{Edited}
 use Rattle.signal_office_commands.specs.declared.editing.Revised.{Revised}
 use Rattle.signal_office_commands.specs.declared.editing.Revised.TheVariants.{Same, Open, Committed}
 use Rattle.signal_office_faults.specs.declared.fault.Fault.{Fault}
@@ -61,20 +62,56 @@ TellsEdit id (reply.Moved revision state verdict) tables result = TellsMove id s
 TellsEdit id (reply.Refused why) tables result = result ≡ Err (fault_of why)
 TellsEdit id other tables result = result ≡ Err fault.Store
 
--- WHAT A FILE MAKES OF A PLAN: the edit that it asks for is answered, and that is told; or the file is not read, or memory is refused, and nothing is changed
-abbrev pub RevisesPlan : (csv : List ℕ) → Edit → Content → Content → Result Revised Fault → Type 0
-RevisesPlan csv edit old new result =
-    ((asked : PlanEdit) × (given : Reply) × AsksFor csv edit asked × EditAnswered edit.id edit.clerk asked old given new × TellsEdit edit.id given new result)
-    ⊎ ((why : Fault) × (result ≡ Err why) × (IsUnread (changes_of csv) why ⊎ (why ≡ fault.Memory)) × (new ≡ old))
+-- WHAT AN EDIT MAKES OF A PLAN: it is answered, and that is told; or memory is refused, and nothing is changed
+abbrev pub RevisesPlan : PlanEdit → Edit → Content → Content → Result Revised Fault → Type 0
+RevisesPlan asked edit old new result =
+    ((given : Reply) × EditAnswered edit.id edit.clerk asked old given new × TellsEdit edit.id given new result)
+    ⊎ ((result ≡ Err fault.Memory) × (new ≡ old))
 
 -- what is told is given as it is; but where that is asked for, a fault may be explained
 abbrev pub IsExplained : (told : Result Revised Fault) → (explain : Bool) → (result : Result Revised Fault) → Type 0
 IsExplained (Err why) true result = (explained : Fault) × (result ≡ Err explained)
 IsExplained told explain result = result ≡ told
 
--- AN EDIT of a plan by a file makes that of it, and tells it
-abbrev pub Edits : (csv : List ℕ) → Edit → Content → Content → Result Revised Fault → Type 0
-Edits csv edit old new result = (told : Result Revised Fault) × RevisesPlan csv edit old new told × IsExplained told edit.explain result
+-- an edit is made, and what became of the plan is told
+abbrev pub EditsNow : PlanEdit → Edit → Content → Content → Result Revised Fault → Type 0
+EditsNow asked edit old new result = (told : Result Revised Fault) × RevisesPlan asked edit old new told × IsExplained told edit.explain result
+
+-- what became of the plan is given with the set that ran before and with notes; a fault as it is
+abbrev pub IsEdited : Result Revised Fault → Result Edited Fault → Type 0
+IsEdited (Ok revised) result = (edited : Edited) × (result ≡ Ok edited) × (edited.revised ≡ revised)
+IsEdited (Err why) result = result ≡ Err why
+
+-- an edit is made, and what became of the plan is given with what ran before
+abbrev pub EditsFrom : PlanEdit → Edit → Content → Content → Result Edited Fault → Type 0
+EditsFrom asked edit old new result = (told : Result Revised Fault) × EditsNow asked edit old new told × IsEdited told result
+
+-- the set that runs, where its revision is the one that is asked for, or none is
+abbrev pub check_revision : Option ℕ → RunningTiming → Result RunningTiming Fault
+check_revision None before = Ok before
+check_revision (Some revision) before = if before.revision == revision then Ok before else Err (fault.OtherRevision before.revision)
+
+-- the set that runs before an edit, of the revision that is asked for; or the fault of another revision, or of a refused read
+abbrev pub before_edit : Option ℕ → Result RunningTiming Refusal → Result RunningTiming Fault
+before_edit asked (Ok before) = check_revision asked before
+before_edit asked (Err why) = Err (fault_of why)
+
+-- what is told of the set that runs before an edit is what the office shows, if that has the revision that the edit asks for
+abbrev pub ShowsBefore : Edit → Content → Result RunningTiming Fault → Type 0
+ShowsBefore edit tables result =
+    (read : Result RunningTiming Refusal) × IsReply tables (command.Timing edit.id) (reply_to (λ it. reply.Timing it) read) × (result ≡ before_edit edit.revision read)
+
+-- A PLAN IS EDITED ONLY WHERE THE COMMITTED REVISION IS THE ONE THAT IS ASKED FOR; else, or where that can't be read, the fault is told, and nothing is changed
+abbrev pub EditsFound : PlanEdit → Edit → Content → Content → Result Edited Fault → Type 0
+EditsFound asked edit old new result =
+    ((before : RunningTiming) × ShowsBefore edit old (Ok before) × EditsFrom asked edit old new result)
+    ⊎ ((why : Fault) × (result ≡ Err why) × ShowsBefore edit old (Err why) × (new ≡ old))
+
+-- AN EDIT of a plan by a file is the one that the file asks for; or why the file is not read is told, and nothing is changed
+abbrev pub Edits : (csv : List ℕ) → Edit → Content → Content → Result Edited Fault → Type 0
+Edits csv edit old new result =
+    ((asked : PlanEdit) × AsksFor csv edit asked × EditsFound asked edit old new result)
+    ⊎ ((why : Fault) × (result ≡ Err why) × IsUnread (changes_of csv) why × (new ≡ old))
 
 -- tables after the whole edit that a file asks for, whether or not it was answered
 abbrev pub AfterEditing : (csv : List ℕ) → Edit → Content → Content → Type 0

@@ -1,19 +1,24 @@
 //! Commands that change an office: an intersection is added, records are imported, a draft is
-//! dropped. Each gives what the office replied, or the fault of a refusal.
+//! dropped. Each gives what the office replied, or what is told of that, or the fault of a refusal.
+#![tactic(auto, using(office_desk::proofs::Looks::keeps, office_desk::proofs::Looks::keeps_then))]
 
 ghost use Rattle.std.specs.Prelude.{◌≡◌};
-ghost use Rattle.signal_office_commands.specs.Changing.{AfterImporting, AfterStep, Changes, ChangesShelf, Imports, RunsCommand, accept_reply};
+ghost use Rattle.office_desk.specs.Asks.{KeepsOffice};
+ghost use Rattle.signal_office_commands.specs.Changing.{AfterImporting, AfterStep, Changes, ChangesShelf, Drops, Imports, RunsCommand, accept_reply};
 
+use crate::counting::push_counts;
 use crate::reading::records_in;
+use crate::reads::or_fault;
 use crate::refused::fault_of;
 use office_desk::office::Office;
 use office_machine::command::Command;
 use office_machine::records::Records;
 use office_machine::reply::Reply;
 use office_tables_shelf::shelf::Shelf;
-use signal_office_faults::Fault;
+use signal_office_faults::{Done, Fault};
 use signal_office_line::Name;
-use signal_records::{InterId, Interval};
+use signal_plans::compare;
+use signal_records::{InterId, Interval, NoMemory, TimingSet, Words};
 use std::alloc::Global;
 
 /// Takes a reply as it is, but of a refusal the fault.
@@ -56,9 +61,41 @@ pub fn add<S: Shelf>(
     )
 }
 
-/// Drops the draft of an intersection, whoever holds it; the clerk is who asks. Out of memory is
-/// told only where nothing was changed.
-pub fn abandon<S: Shelf>(
+/// The line of a draft that is dropped: whose it was, and how many rows it changed.
+fn dropped_text(
+    alloc: Global,
+    owner: &Words<40>,
+    committed: &TimingSet,
+    draft: &TimingSet,
+) -> Result<Vec<u8>, NoMemory> {
+    let owner = owner.as_str();
+    let mut text = format!(in alloc; "abandoned the draft of {owner}: ")?;
+    push_counts(&mut text, &compare(alloc, committed, draft)?)?;
+    text.push_str("\n")?;
+    Ok(text.into_bytes())
+}
+
+/// What is told of the draft of an intersection once it is dropped; the fault where it can't be
+/// read.
+fn tell_dropped<S: Shelf>(alloc: Global, office: &mut Office<S>, id: InterId) -> Result<Done, Fault>
+    ensures { KeepsOffice S.Shelf office.old office.new }
+{
+    let timing = or_fault(office.timing(alloc, id))?;
+    let draft = or_fault(office.draft(alloc, id))?;
+    let text = dropped_text(alloc, &draft.owner, &timing.rows, &draft.rows)?;
+    Ok(Done::with(text))
+}
+
+/// What is told of a dropped draft; a fixed line where that could not be read.
+fn or_plain(told: Result<Done, Fault>) -> Done {
+    match told {
+        Ok(told) => told,
+        Err(_) => Done::telling("abandoned\n"),
+    }
+}
+
+/// Drops the draft of an intersection.
+fn drop_draft<S: Shelf>(
     alloc: Global,
     office: &mut Office<S>,
     id: InterId,
@@ -70,6 +107,26 @@ pub fn abandon<S: Shelf>(
 {
     let clerk = clerk.to_words(alloc)?;
     change(alloc, office, Command::Abandon { id, clerk })
+}
+
+/// Drops the draft of an intersection, whoever holds it, and tells whose it was and how many rows
+/// it changed, as far as that could be read before; the clerk is who asks. Out of memory is told
+/// only where nothing was changed.
+pub fn abandon<S: Shelf>(
+    alloc: Global,
+    office: &mut Office<S>,
+    id: InterId,
+    clerk: &Name<'_, 40>,
+) -> Result<Done, Fault>
+    ensures { ChangesShelf S.Shelf office.old office.new
+        (λ old new. Drops id clerk.now old new result)
+        (AfterStep (Command.Abandon id clerk.now)) }
+{
+    let told = or_plain(tell_dropped(alloc, office, id));
+    match drop_draft(alloc, office, id, clerk) {
+        Ok(_reply) => Ok(told),
+        Err(why) => Err(why),
+    }
 }
 
 /// Takes the records of a CSV file into the register in turn, each after those before it: all of

@@ -4,9 +4,11 @@ ghost use Rattle.std.specs.Prelude.{◌≡◌, IfErr, IfOk};
 ghost use Rattle.office_desk.specs.Asks.{OnlyLooks};
 ghost use Rattle.office_files.specs.Changes.{changes_of};
 ghost use Rattle.signal_office_commands.specs.Changing.{ChangesShelf};
-ghost use Rattle.signal_office_commands.specs.Editing.{AfterEditing, AsksFor, Edits, RevisesPlan, ShowsRunning, TellsEdit, TellsMove, open_draft};
+ghost use Rattle.office_desk.specs.Editing.{AfterEdit};
+ghost use Rattle.signal_office_commands.specs.Editing.{AfterEditing, AsksFor, Edits, EditsFound, EditsFrom, EditsNow, RevisesPlan, ShowsBefore, ShowsRunning, TellsEdit, TellsMove, before_edit, check_revision, open_draft};
 ghost use Rattle.signal_office_commands.specs.Refused.{IsUnread};
 
+use crate::edit_notes::edit_notes;
 use crate::explained::refused_edit;
 use crate::reading::changes_in;
 use crate::refused::fault_of;
@@ -28,9 +30,19 @@ pub enum Revised {
     Same,
     /// The draft stays open: no commit was asked for, or it breaks a rule.
     Open(OpenDraft),
-    /// The plan was committed. With `advise` the set that runs now; without, or where that read was
-    /// refused, none.
+    /// The plan was committed, and this set runs now; none where that read was refused.
     Committed(Option<RunningTiming>),
+}
+
+/// An edit of a plan that was made.
+#[derive(Drop)]
+pub struct Edited {
+    /// The set that ran before.
+    pub before: RunningTiming,
+    /// What became of the plan.
+    pub revised: Revised,
+    /// Notes on it, a line for each.
+    pub notes: String,
 }
 
 /// The edit that a plan's CSV file asks for.
@@ -46,7 +58,45 @@ fn plan_edit(alloc: Global, edit: &Edit<'_>, csv: &[u8]) -> Result<PlanEdit, Fau
     })
 }
 
-/// The set that runs after a commit, if its warnings are asked for; none where the read is refused.
+/// The set that runs before an edit, if its revision is the one that is asked for, or none is.
+fn check_revision(asked: Option<u32>, before: RunningTiming) -> Result<RunningTiming, Fault>
+    ensures { result ≡ check_revision asked before }
+{
+    let found = before.revision.get();
+    match asked {
+        Some(revision) if found != revision => Err(Fault::OtherRevision(found)),
+        _ => Ok(before),
+    }
+}
+
+/// The set that runs before an edit which asks for this revision, or for any; or the fault of
+/// another revision, or of the read.
+fn before_edit(
+    asked: Option<u32>,
+    read: Result<RunningTiming, Refusal>,
+) -> Result<RunningTiming, Fault>
+    ensures { result ≡ before_edit asked read }
+{
+    match read {
+        Ok(before) => check_revision(asked, before),
+        Err(why) => Err(fault_of(why)),
+    }
+}
+
+/// Reads the set that runs before an edit. The fault is OtherRevision where the edit asks for
+/// another revision, or that of the read.
+fn read_before<S: Shelf>(
+    alloc: Global,
+    office: &mut Office<S>,
+    edit: &Edit<'_>,
+) -> Result<RunningTiming, Fault>
+    ensures { OnlyLooks S.Shelf office.old office.new
+        (λ tables. ShowsBefore edit.now tables result) }
+{
+    before_edit(edit.revision, office.timing(alloc, edit.id))
+}
+
+/// The set that runs after a commit; none where the read is refused.
 fn read_running<S: Shelf>(
     alloc: Global,
     office: &mut Office<S>,
@@ -55,9 +105,6 @@ fn read_running<S: Shelf>(
     ensures { OnlyLooks S.Shelf office.old office.new
         (λ tables. ShowsRunning tables edit.now.id result) }
 {
-    if !edit.advise {
-        return None;
-    }
     match office.timing(alloc, edit.id) {
         Ok(timing) => Some(timing),
         Err(_) => None,
@@ -112,38 +159,98 @@ fn revised_by<S: Shelf>(
     }
 }
 
-/// Revises a plan as its CSV file asks, and tells what became of it, or the fault.
+/// Revises a plan as an edit asks, and tells what became of it, or the fault.
 fn revise_plan<S: Shelf>(
     alloc: Global,
     office: &mut Office<S>,
     edit: &Edit<'_>,
-    csv: &[u8],
+    asked: &PlanEdit,
 ) -> Result<Revised, Fault>
     ensures { ChangesShelf S.Shelf office.old office.new
-        (λ old new. RevisesPlan csv.now edit.now old new result) (AfterEditing csv.now edit.now) }
+        (λ old new. RevisesPlan asked.now edit.now old new result)
+        (AfterEdit edit.now.id edit.now.clerk asked.now) }
 {
-    let asked = plan_edit(alloc, edit, csv)?;
     let clerk = edit.clerk.to_words(alloc)?;
-    let reply = office.revise(alloc, edit.id, &clerk, &asked);
+    let reply = office.revise(alloc, edit.id, &clerk, asked);
     revised_by(alloc, office, edit, &reply)
 }
 
-/// Edits an intersection's plan by a CSV file, whose records begin on these lines, in one step of
-/// the office: the draft of the clerk is begun or opened again, and changed, and committed where
-/// that is asked for and it breaks no rule. A fault tells why the edit is refused, and then nothing
-/// was changed; but where the draft that was left open can't be read, it is the fault of that.
+/// Revises a plan as an edit asks, and tells what became of it; or the fault, explained if the edit
+/// asks for that.
+fn edit_now<S: Shelf>(
+    alloc: Global,
+    office: &mut Office<S>,
+    edit: &Edit<'_>,
+    asked: &PlanEdit,
+) -> Result<Revised, Fault>
+    ensures { ChangesShelf S.Shelf office.old office.new
+        (λ old new. EditsNow asked.now edit.now old new result)
+        (AfterEdit edit.now.id edit.now.clerk asked.now) }
+{
+    match revise_plan(alloc, office, edit, asked) {
+        Ok(revised) => Ok(revised),
+        Err(why) => Err(refused_edit(alloc, office, edit, why)),
+    }
+}
+
+/// Edits a plan of which this set runs, and makes notes on what became of it.
+fn edit_from<S: Shelf>(
+    alloc: Global,
+    office: &mut Office<S>,
+    edit: &Edit<'_>,
+    csv: &[u8],
+    asked: &PlanEdit,
+    before: RunningTiming,
+) -> Result<Edited, Fault>
+    ensures { ChangesShelf S.Shelf office.old office.new
+        (λ old new. EditsFrom asked.now edit.now old new result)
+        (AfterEdit edit.now.id edit.now.clerk asked.now) }
+{
+    match edit_now(alloc, office, edit, asked) {
+        Ok(revised) => {
+            let notes = edit_notes(alloc, office, edit, csv, &before.rows, &revised);
+            Ok(Edited {
+                before,
+                revised,
+                notes,
+            })
+        }
+        Err(why) => Err(why),
+    }
+}
+
+/// Edits a plan whose committed revision is the one that the edit asks for.
+fn edit_found<S: Shelf>(
+    alloc: Global,
+    office: &mut Office<S>,
+    edit: &Edit<'_>,
+    csv: &[u8],
+    asked: &PlanEdit,
+) -> Result<Edited, Fault>
+    ensures { ChangesShelf S.Shelf office.old office.new
+        (λ old new. EditsFound asked.now edit.now old new result)
+        (AfterEdit edit.now.id edit.now.clerk asked.now) }
+{
+    match read_before(alloc, office, edit) {
+        Ok(before) => edit_from(alloc, office, edit, csv, asked, before),
+        Err(why) => Err(why),
+    }
+}
+
+/// Edits an intersection's plan by a CSV file, in one step of the office: the draft of the clerk is
+/// begun or opened again, and changed, and committed where that is asked for and it breaks no rule.
+/// A fault tells why the edit is refused, and then nothing was changed: also where another revision
+/// is committed than the edit asks for; but where the draft that was left open can't be read, it is
+/// the fault of that.
 pub fn edit<S: Shelf>(
     alloc: Global,
     office: &mut Office<S>,
     edit: &Edit<'_>,
     csv: &[u8],
-    lines: &[usize],
-) -> Result<Revised, Fault>
+) -> Result<Edited, Fault>
     ensures { ChangesShelf S.Shelf office.old office.new
         (λ old new. Edits csv.now edit.now old new result) (AfterEditing csv.now edit.now) }
 {
-    match revise_plan(alloc, office, edit, csv) {
-        Ok(revised) => Ok(revised),
-        Err(why) => Err(refused_edit(alloc, office, edit, csv, lines, why)),
-    }
+    let asked = plan_edit(alloc, edit, csv)?;
+    edit_found(alloc, office, edit, csv, &asked)
 }

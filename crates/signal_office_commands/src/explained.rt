@@ -1,5 +1,5 @@
-//! A fault as `--explain` tells it: of a bad record also its line and what is wrong there, and of a
-//! draft that another clerk owns also that clerk.
+//! The fault of a refused edit as `--explain` tells it: of a draft that another clerk owns that
+//! clerk.
 #![tactic(auto, using(office_desk::proofs::Looks::keeps, office_desk::proofs::Looks::keeps_none))]
 
 ghost use Rattle.std.specs.Prelude.{◌≡◌, false};
@@ -9,33 +9,12 @@ use crate::refused::fault_of;
 use arrayvec::ArrayString;
 use draft_core::refusal::DraftRefusal;
 use office_desk::office::Office;
-use office_files::{BadRow, CsvFault};
 use office_machine::refusal::Refusal;
 use office_tables_shelf::shelf::Shelf;
-use signal_office_faults::{Fault, hint_of, line_of_record};
+use signal_office_faults::Fault;
 use signal_office_line::Edit;
 use signal_records::{InterId, Words};
 use std::alloc::Global;
-
-/// A bad record of a plan's CSV file, with its line and what is wrong there, if there is a hint at
-/// that; or `Memory`, where memory for the hint is refused.
-fn explained_row(alloc: Global, csv: &[u8], lines: &[usize], bad: BadRow) -> Fault {
-    let line = line_of_record(lines, bad.at);
-    match hint_of(alloc, csv, bad) {
-        Ok(Some(hint)) => Fault::Explained { bad, line, hint },
-        Ok(None) => Fault::Csv(CsvFault::Row(bad)),
-        Err(_) => Fault::Memory,
-    }
-}
-
-/// Why a plan's CSV file is not taken: of a bad record also its line, of `lines`, and what is wrong
-/// there; any other fault as it is.
-pub(crate) fn explained_file(alloc: Global, csv: &[u8], lines: &[usize], why: Fault) -> Fault {
-    match why {
-        Fault::Csv(CsvFault::Row(bad)) => explained_row(alloc, csv, lines, bad),
-        why => why,
-    }
-}
 
 /// The name of a clerk, which has at most 40 bytes.
 fn name_of(clerk: &Words<40>) -> ArrayString<40> {
@@ -63,14 +42,12 @@ fn owner_told<S: Shelf>(alloc: Global, office: &mut Office<S>, id: InterId) -> F
     }
 }
 
-/// Why an edit is refused, explained if the edit asks for that: who owns the draft, or the line of
-/// a bad record and what is wrong there; any other fault as it is.
+/// Why an edit is refused, and if the edit asks for that, who owns the draft; any other fault as it
+/// is.
 pub(crate) fn refused_edit<S: Shelf>(
     alloc: Global,
     office: &mut Office<S>,
     edit: &Edit<'_>,
-    csv: &[u8],
-    lines: &[usize],
     why: Fault,
 ) -> Fault
     ensures looks { KeepsOffice S.Shelf office.old office.new }
@@ -83,6 +60,6 @@ pub(crate) fn refused_edit<S: Shelf>(
         Fault::Refused(Refusal::Draft(DraftRefusal::NotOwner)) => {
             owner_told(alloc, office, edit.id)
         }
-        why => explained_file(alloc, csv, lines, why),
+        why => why,
     }
 }

@@ -16,7 +16,7 @@ use office_desk::office::Office;
 use office_machine::intersections::ListedIntersection;
 use office_tables_shelf::shelf::Shelf;
 use signal_office_faults::{Fault, Folder};
-use signal_office_line::{Folder as FolderKind, Shown, View};
+use signal_office_line::{Folder as FolderKind, ListForm, Shown, View};
 use signal_plans::warnings;
 use signal_records::InterId;
 use std::alloc::Global;
@@ -119,14 +119,18 @@ fn put_records<S: Shelf, D: Folder>(
     put_report(
         alloc,
         office,
-        &Shown::List { csv: true },
+        &Shown::List {
+            form: ListForm::Csv,
+        },
         "intersections.csv",
         folder,
     )?;
     put_report(
         alloc,
         office,
-        &Shown::Stock { csv: true },
+        &Shown::Stock {
+            form: ListForm::Csv,
+        },
         "stock.csv",
         folder,
     )?;

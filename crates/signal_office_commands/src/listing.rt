@@ -1,4 +1,4 @@
-//! Lists of an office: intersections, stock, orders, used parts, late inspections.
+//! Lists of an office: intersections, stock, orders, used parts, what was done, late inspections.
 #![tactic(auto, using(office_desk::proofs::Looks::keeps, office_desk::proofs::Looks::keeps_then, office_desk::proofs::Looks::keeps_none, crate::proofs::LookLemmas::keeps_shelf))]
 
 ghost use Rattle.office_desk.specs.Asks.{KeepsOffice};
@@ -9,29 +9,45 @@ use cabinet_core::{Day, Order, OverdueRow, PartCode};
 use office_desk::office::Office;
 use office_files::overdue_text;
 use office_machine::intersections::ListedIntersection;
-use office_machine::orders::{add_named, add_named_orders, add_open_orders};
+use office_machine::orders::{NamedOrder, add_named, add_named_orders, add_open_orders};
 use office_machine::reply::CabinetShown;
 use office_tables_shelf::shelf::Shelf;
 use office_views::{
-    UsedPart, add_used, intersections_list, orders_list, orders_text, overdue_csv, stock_list,
-    used_list,
+    DayWork, Days, ListStyle, UsedPart, add_used, add_work, intersections_list, orders_by_age,
+    orders_list, orders_text, overdue_csv, stock_list, used_list, work_list,
 };
 use signal_office_faults::Fault;
-use signal_office_line::Part;
+use signal_office_line::{Between, ListForm, Part};
 use signal_records::{InterId, NoMemory, Words};
 use std::alloc::Global;
 use std::collections::BTreeMap;
 
+/// How a list is printed that is asked for so.
+fn style_of(form: ListForm) -> ListStyle {
+    match form {
+        ListForm::Lines => ListStyle::Lines,
+        ListForm::Csv => ListStyle::Csv,
+        ListForm::HeadedCsv => ListStyle::HeadedCsv,
+    }
+}
+
+/// The days from one on to another.
+fn days_of(between: &Between) -> Days {
+    Days {
+        first: between.from,
+        last: between.to,
+    }
+}
+
 fn overdue_list(
     alloc: Global,
     day: Day,
-    csv: bool,
+    form: ListForm,
     rows: &[OverdueRow],
 ) -> Result<Vec<u8>, NoMemory> {
-    if csv {
-        overdue_csv(alloc, rows)
-    } else {
-        overdue_text(alloc, day, rows)
+    match form {
+        ListForm::Lines => overdue_text(alloc, day, rows),
+        _ => overdue_csv(alloc, style_of(form), rows),
     }
 }
 
@@ -41,26 +57,26 @@ pub(crate) fn overdue<S: Shelf>(
     office: &mut Office<S>,
     day: Day,
     most: usize,
-    csv: bool,
+    form: ListForm,
 ) -> Report
     ensures { KeepsOffice S.Shelf office.old office.new }
 {
     let rows = or_fault(office.overdue_first(alloc, day, most))?;
-    report_of(overdue_list(alloc, day, csv, &rows))
+    report_of(overdue_list(alloc, day, form, &rows))
 }
 
-pub(crate) fn list<S: Shelf>(alloc: Global, office: &mut Office<S>, csv: bool) -> Report
+pub(crate) fn list<S: Shelf>(alloc: Global, office: &mut Office<S>, form: ListForm) -> Report
     ensures { KeepsOffice S.Shelf office.old office.new }
 {
     let listed = read_intersections(alloc, office)?;
-    report_of(intersections_list(alloc, csv, &listed))
+    report_of(intersections_list(alloc, style_of(form), &listed))
 }
 
-pub(crate) fn stock<S: Shelf>(alloc: Global, office: &mut Office<S>, csv: bool) -> Report
+pub(crate) fn stock<S: Shelf>(alloc: Global, office: &mut Office<S>, form: ListForm) -> Report
     ensures { KeepsOffice S.Shelf office.old office.new }
 {
     let parts = or_fault(office.stock(alloc))?;
-    report_of(stock_list(alloc, csv, parts.as_slice()))
+    report_of(stock_list(alloc, style_of(form), parts.as_slice()))
 }
 
 /// The orders that a map has for an intersection, none where it has no entry.
@@ -71,27 +87,48 @@ fn orders_in(orders: &BTreeMap<InterId, Vec<Order>>, id: InterId) -> &[Order] {
     }
 }
 
-/// The list of the open orders that a map has for the intersections of a list, each with the number
-/// and the name of its intersection.
-fn named_list(
+/// The open orders that a map has for the intersections of a list, each with the number and the
+/// name of its intersection.
+fn named_in(
     alloc: Global,
     listed: &[ListedIntersection],
     orders: &BTreeMap<InterId, Vec<Order>>,
-    csv: bool,
-) -> Result<Vec<u8>, NoMemory> {
+) -> Result<Vec<NamedOrder>, NoMemory> {
     let mut found = Vec::new(alloc);
     for one in listed {
         add_named(&mut found, &one.name, one.id, orders_in(orders, one.id))?;
     }
-    orders_list(alloc, csv, &found)
+    Ok(found)
 }
 
-fn orders_of_all<S: Shelf>(alloc: Global, office: &mut Office<S>, csv: bool) -> Report
+fn named_of_all<S: Shelf>(alloc: Global, office: &mut Office<S>) -> Result<Vec<NamedOrder>, Fault>
     ensures { KeepsOffice S.Shelf office.old office.new }
 {
     let listed = read_intersections(alloc, office)?;
     let orders = or_fault(office.open_orders(alloc))?;
-    report_of(named_list(alloc, &listed, &orders, csv))
+    Ok(named_in(alloc, &listed, &orders)?)
+}
+
+fn named_of(
+    alloc: Global,
+    name: &Words<120>,
+    cabinet: &CabinetShown,
+) -> Result<Vec<NamedOrder>, NoMemory> {
+    let mut found = Vec::new(alloc);
+    add_named_orders(&mut found, name, cabinet)?;
+    Ok(found)
+}
+
+fn named_on<S: Shelf>(
+    alloc: Global,
+    office: &mut Office<S>,
+    id: InterId,
+) -> Result<Vec<NamedOrder>, Fault>
+    ensures { KeepsOffice S.Shelf office.old office.new }
+{
+    let state = or_fault(office.state(alloc, id))?;
+    let cabinet = or_fault(office.cabinet(alloc, id))?;
+    Ok(named_of(alloc, &state.name, &cabinet)?)
 }
 
 fn open_text(alloc: Global, cabinet: &CabinetShown) -> Result<Vec<u8>, NoMemory> {
@@ -107,33 +144,59 @@ fn orders_on<S: Shelf>(alloc: Global, office: &mut Office<S>, id: InterId) -> Re
     report_of(open_text(alloc, &cabinet))
 }
 
-fn open_csv(alloc: Global, name: &Words<120>, cabinet: &CabinetShown) -> Result<Vec<u8>, NoMemory> {
-    let mut found = Vec::new(alloc);
-    add_named_orders(&mut found, name, cabinet)?;
-    orders_list(alloc, true, &found)
-}
-
-fn orders_csv_on<S: Shelf>(alloc: Global, office: &mut Office<S>, id: InterId) -> Report
+/// The open orders of an intersection, or of all, each with the name of its intersection.
+fn orders_with_names<S: Shelf>(
+    alloc: Global,
+    office: &mut Office<S>,
+    id: Option<InterId>,
+) -> Result<Vec<NamedOrder>, Fault>
     ensures { KeepsOffice S.Shelf office.old office.new }
 {
-    let state = or_fault(office.state(alloc, id))?;
-    let cabinet = or_fault(office.cabinet(alloc, id))?;
-    report_of(open_csv(alloc, &state.name, &cabinet))
+    match id {
+        None => named_of_all(alloc, office),
+        Some(id) => named_on(alloc, office, id),
+    }
 }
 
-/// The open orders of an intersection, or of all.
+/// A list of open orders, in their order or by their age on a day.
+fn named_list(
+    alloc: Global,
+    orders: Vec<NamedOrder>,
+    by_age: Option<Day>,
+    form: ListForm,
+) -> Result<Vec<u8>, NoMemory> {
+    match by_age {
+        None => orders_list(alloc, style_of(form), &orders),
+        Some(day) => orders_by_age(alloc, style_of(form), day, orders),
+    }
+}
+
+fn orders_named<S: Shelf>(
+    alloc: Global,
+    office: &mut Office<S>,
+    id: Option<InterId>,
+    by_age: Option<Day>,
+    form: ListForm,
+) -> Report
+    ensures { KeepsOffice S.Shelf office.old office.new }
+{
+    let orders = orders_with_names(alloc, office, id)?;
+    report_of(named_list(alloc, orders, by_age, form))
+}
+
+/// The open orders of an intersection, or of all; by their age, where a day is given.
 pub(crate) fn orders<S: Shelf>(
     alloc: Global,
     office: &mut Office<S>,
     id: Option<InterId>,
-    csv: bool,
+    by_age: Option<Day>,
+    form: ListForm,
 ) -> Report
     ensures { KeepsOffice S.Shelf office.old office.new }
 {
-    match (id, csv) {
-        (None, csv) => orders_of_all(alloc, office, csv),
-        (Some(id), true) => orders_csv_on(alloc, office, id),
-        (Some(id), false) => orders_on(alloc, office, id),
+    match (id, by_age, form) {
+        (Some(id), None, ListForm::Lines) => orders_on(alloc, office, id),
+        _ => orders_named(alloc, office, id, by_age, form),
     }
 }
 
@@ -143,26 +206,29 @@ fn add_used_on<S: Shelf>(
     office: &mut Office<S>,
     id: InterId,
     part: &Option<PartCode>,
+    days: &Option<Days>,
     found: &mut Vec<UsedPart>,
 ) -> Result<(), Fault>
     ensures { KeepsOffice S.Shelf office.old office.new }
 {
     let cabinet = or_fault(office.cabinet(alloc, id))?;
-    Ok(add_used(found, part, &cabinet)?)
+    Ok(add_used(found, part, days, &cabinet)?)
 }
 
-/// What was used of all parts, or of one, for the orders of all intersections, closed ones too.
-fn used_parts<S: Shelf>(
+/// What was used of all parts, or of one, for the orders of all intersections, closed ones too; on
+/// some days, where these are given.
+pub(crate) fn used_parts<S: Shelf>(
     alloc: Global,
     office: &mut Office<S>,
     part: &Option<PartCode>,
+    days: &Option<Days>,
 ) -> Result<Vec<UsedPart>, Fault>
     ensures { KeepsOffice S.Shelf office.old office.new }
 {
     let listed = read_intersections(alloc, office)?;
     let mut found = Vec::new(alloc);
     for one in &listed {
-        add_used_on(alloc, office, one.id, part, &mut found)?;
+        add_used_on(alloc, office, one.id, part, days, &mut found)?;
     }
     Ok(found)
 }
@@ -179,11 +245,56 @@ pub(crate) fn used<S: Shelf>(
     alloc: Global,
     office: &mut Office<S>,
     part: &Option<Part<'_>>,
-    csv: bool,
+    between: &Option<Between>,
+    form: ListForm,
 ) -> Report
     ensures { KeepsOffice S.Shelf office.old office.new }
 {
     let part = code_of(alloc, part)?;
-    let found = used_parts(alloc, office, &part)?;
-    report_of(used_list(alloc, csv, &found))
+    let days = between.as_ref().map(days_of);
+    let found = used_parts(alloc, office, &part, &days)?;
+    report_of(used_list(alloc, style_of(form), &found))
+}
+
+/// Adds what was done in the cabinet of an intersection on some days.
+fn add_work_on<S: Shelf>(
+    alloc: Global,
+    office: &mut Office<S>,
+    id: InterId,
+    days: &Days,
+    found: &mut Vec<DayWork>,
+) -> Result<(), Fault>
+    ensures { KeepsOffice S.Shelf office.old office.new }
+{
+    let cabinet = or_fault(office.cabinet(alloc, id))?;
+    Ok(add_work(alloc, found, days, &cabinet)?)
+}
+
+/// What was done in all intersections on some days, one intersection after the other.
+fn work_of_all<S: Shelf>(
+    alloc: Global,
+    office: &mut Office<S>,
+    days: &Days,
+) -> Result<Vec<DayWork>, Fault>
+    ensures { KeepsOffice S.Shelf office.old office.new }
+{
+    let listed = read_intersections(alloc, office)?;
+    let mut found = Vec::new(alloc);
+    for one in &listed {
+        add_work_on(alloc, office, one.id, days, &mut found)?;
+    }
+    Ok(found)
+}
+
+/// What was done in all intersections on some days, by day.
+pub(crate) fn work<S: Shelf>(
+    alloc: Global,
+    office: &mut Office<S>,
+    between: &Between,
+    form: ListForm,
+) -> Report
+    ensures { KeepsOffice S.Shelf office.old office.new }
+{
+    let found = work_of_all(alloc, office, &days_of(between))?;
+    report_of(work_list(alloc, style_of(form), found))
 }

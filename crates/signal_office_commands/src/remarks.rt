@@ -1,6 +1,7 @@
 //! What is told of a plan: the rules that it breaks, and what an engineer is warned of in it.
 
-use office_files::{explained_text, violation_text};
+use office_files::violation_text;
+use office_views::reasons_text;
 use signal_plans::{warnings, warnings_text};
 use signal_records::{NoMemory, TimingSet};
 use signal_rules::{Violation, reasons};
@@ -27,7 +28,7 @@ fn broken_text(
     explain: bool,
 ) -> Result<Vec<u8>, NoMemory> {
     if explain {
-        explained_text(alloc, &reasons(alloc, plan)?)
+        reasons_text(alloc, plan, &reasons(alloc, plan)?)
     } else {
         violation_text(alloc, violations)
     }

@@ -6,14 +6,16 @@ ghost use Rattle.office_desk.specs.Asks.{KeepsOffice};
 
 use crate::comparing::{compare_draft, compare_running};
 use crate::index::index;
-use crate::listing::{list, orders, overdue, stock, used};
+use crate::listing::{list, orders, overdue, stock, used, work};
 use crate::page::page;
+use crate::parts::report_part;
 use crate::reads::or_fault;
 use office_desk::office::Office;
 use office_files::{records_csv, timing_csv, timing_sheet};
+use office_machine::reply::RunningTiming;
 use office_tables_shelf::shelf::Shelf;
 use office_views::cabinet_text;
-use signal_diagram::diagram;
+use signal_diagram::{PlanOf, diagram};
 use signal_office_faults::{Done, Fault};
 use signal_office_line::{Shown, View};
 use signal_records::{InterId, NoMemory, PatternNo};
@@ -73,6 +75,19 @@ fn export<S: Shelf>(alloc: Global, office: &mut Office<S>, id: InterId, view: Vi
     }
 }
 
+/// The picture of a pattern of a committed plan, which names its intersection and revision.
+fn draw_running(alloc: Global, id: InterId, timing: &RunningTiming, pattern: PatternNo) -> Report {
+    let of = PlanOf {
+        id,
+        name: timing.name.as_str(),
+        revision: timing.revision.get(),
+    };
+    match diagram(alloc, &timing.rows, pattern, Some(&of))? {
+        Some(text) => Ok(Done::with(text)),
+        None => Err(Fault::UnknownPattern),
+    }
+}
+
 fn picture<S: Shelf>(
     alloc: Global,
     office: &mut Office<S>,
@@ -82,10 +97,7 @@ fn picture<S: Shelf>(
     ensures { KeepsOffice S.Shelf office.old office.new }
 {
     let timing = or_fault(office.timing(alloc, id))?;
-    match diagram(alloc, &timing.rows, pattern)? {
-        Some(text) => Ok(Done::with(text)),
-        None => Err(Fault::UnknownPattern),
-    }
+    draw_running(alloc, id, &timing, pattern)
 }
 
 /// What is printed of an office, which stays as it is; `plan` is the text of the CSV file that
@@ -102,11 +114,17 @@ pub fn report<S: Shelf>(
 {
     match shown {
         Shown::Sheet { id } => sheet(alloc, office, *id),
-        Shown::Overdue { day, most, csv } => overdue(alloc, office, *day, *most, *csv),
-        Shown::List { csv } => list(alloc, office, *csv),
-        Shown::Stock { csv } => stock(alloc, office, *csv),
-        Shown::Orders { id, csv } => orders(alloc, office, *id, *csv),
-        Shown::Used { part, csv } => used(alloc, office, part, *csv),
+        Shown::Overdue { day, most, form } => overdue(alloc, office, *day, *most, *form),
+        Shown::List { form } => list(alloc, office, *form),
+        Shown::Stock { form } => stock(alloc, office, *form),
+        Shown::Part { part } => report_part(alloc, office, part),
+        Shown::Orders { id, by_age, form } => orders(alloc, office, *id, *by_age, *form),
+        Shown::Used {
+            part,
+            between,
+            form,
+        } => used(alloc, office, part, between, *form),
+        Shown::Work { between, form } => work(alloc, office, between, *form),
         Shown::Cabinet { id } => cabinet(alloc, office, *id),
         Shown::Export { id, view } => export(alloc, office, *id, *view),
         Shown::Diagram { id, pattern } => picture(alloc, office, *id, *pattern),

@@ -1,8 +1,7 @@
 //! What is shown of the plan in a CSV file.
 
-use crate::explained::explained_file;
 use crate::remarks::{checked_status, remarks_text};
-use office_files::{CsvFault, read_plan_csv};
+use office_files::read_plan_csv;
 use office_views::plan_page;
 use signal_diagram::diagram;
 use signal_office_faults::{Done, Fault};
@@ -26,41 +25,35 @@ fn show_remarks(
 
 /// The picture of a pattern of a plan; `UnknownPattern` says that the plan does not have it.
 fn draw(alloc: Global, plan: &TimingSet, pattern: PatternNo) -> Result<Done, Fault> {
-    match diagram(alloc, plan, pattern)? {
+    match diagram(alloc, plan, pattern, None)? {
         Some(text) => Ok(Done::with(text)),
         None => Err(Fault::UnknownPattern),
     }
 }
 
-/// What is shown of a plan: the rules that it breaks, the picture of a pattern, or its page.
-fn show(alloc: Global, plan: &TimingSet, shown: PlanShown) -> Result<Done, Fault> {
+/// The name of a plan's file on its page.
+fn file_name(path: &str) -> &str {
+    if *path == *"-" {
+        "standard input"
+    } else {
+        path
+    }
+}
+
+/// What is shown of the plan of a file: the rules that it breaks, the picture of a pattern, or its
+/// page.
+fn show(alloc: Global, path: &str, plan: &TimingSet, shown: PlanShown) -> Result<Done, Fault> {
     match shown {
         PlanShown::Violations { explain, advise } => show_remarks(alloc, plan, explain, advise),
         PlanShown::Diagram { pattern } => draw(alloc, plan, pattern),
-        PlanShown::Page => Ok(Done::with(plan_page(alloc, plan)?)),
+        PlanShown::Page => Ok(Done::with(plan_page(alloc, file_name(path), plan)?)),
     }
 }
 
-/// Why the file of a plan is not taken. Where rules are shown with reasons, a bad record is told
-/// with its line and what is wrong there.
-fn refused_plan(alloc: Global, csv: &[u8], lines: &[usize], shown: PlanShown, why: Fault) -> Fault {
-    match shown {
-        PlanShown::Violations { explain: true, .. } => explained_file(alloc, csv, lines, why),
-        _ => why,
-    }
-}
-
-/// Shows the plan in a CSV file, whose records begin on these lines, with status 3 if its rules are
-/// shown and it breaks one. A fault is its first bad record, explained where rules are shown with
-/// reasons; a pattern that the plan lacks; or want of memory.
-pub fn show_plan(
-    alloc: Global,
-    csv: &[u8],
-    lines: &[usize],
-    shown: PlanShown,
-) -> Result<Done, Fault> {
-    match read_plan_csv(alloc, csv) {
-        Ok(plan) => show(alloc, &plan, shown),
-        Err(why) => Err(refused_plan(alloc, csv, lines, shown, Fault::Csv(why))),
-    }
+/// Shows the plan in the CSV file at a path (`-` for standard input). The status is 3 if its rules
+/// are shown and it breaks one. A fault is its first bad record, a pattern that the plan lacks, or
+/// refused memory.
+pub fn show_plan(alloc: Global, path: &str, csv: &[u8], shown: PlanShown) -> Result<Done, Fault> {
+    let plan = read_plan_csv(alloc, csv)?;
+    show(alloc, path, &plan, shown)
 }

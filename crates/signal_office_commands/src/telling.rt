@@ -1,12 +1,14 @@
 //! What is printed of a change, once it was made.
 
-use crate::editing::Revised;
+use crate::counting::{first_text, push_counts};
+use crate::editing::{Edited, Revised};
 use crate::remarks::{advice_text, checked_status, remarks_text};
 use arrayvec::ArrayString;
 use office_machine::reply::{OpenDraft, Reply, RunningTiming};
 use signal_office_faults::{Done, Fault, LINE_ROOM};
 use signal_office_line::Edit;
-use signal_records::{NoMemory, TimingSet};
+use signal_plans::{Difference, compare};
+use signal_records::{InterId, NoMemory};
 use std::alloc::Global;
 use std::fmt::Write;
 
@@ -14,7 +16,11 @@ use std::fmt::Write;
 const NOT_COMMITTED: &str =
     "not committed: the draft stays open; go on with edit, or drop it with abandon\n";
 
-/// What is told of a draft that was committed, if memory for its warnings was refused.
+/// What is printed of a commit if the set that runs could not be read, or memory for the rest was
+/// refused.
+const COMMITTED: &str = "no violations\ncommitted\n";
+
+/// What is told of it where warnings were asked for.
 const UNREAD_WARNINGS: &str = "no violations\ncommitted\nits warnings could not be read\n";
 
 /// The line that tells how many records of an import were new, and were there: `added 5, same 2`.
@@ -24,14 +30,13 @@ fn imported_line(added: usize, same: usize) -> ArrayString<LINE_ROOM> {
     line
 }
 
-/// What is printed of the reply to `add`, `import` or `abandon`. It needs no memory, so that what
-/// was done is never told as a fault. They get no other reply than these.
+/// What is printed of the reply to `add` or `import`. It needs no memory, so that what was done is
+/// never told as a fault. They get no other reply than these.
 pub fn told(reply: &Reply) -> Done {
     match *reply {
         Reply::Added => Done::telling("added\n"),
         Reply::Same => Done::telling("same\n"),
         Reply::Imported { added, same } => Done::line(imported_line(added, same)),
-        Reply::Moved { .. } => Done::telling("abandoned\n"),
         _ => Done::telling(""),
     }
 }
@@ -58,33 +63,68 @@ fn open_line(alloc: Global, draft: &OpenDraft) -> Result<String, NoMemory> {
     )?)
 }
 
-/// What is told of a draft that was committed, with a line for each of its warnings.
-fn committed_text(alloc: Global, plan: &TimingSet) -> Result<Vec<u8>, NoMemory> {
+/// The line of a commit: the revision, the intersection with its name, and how many rows differ
+/// from those before.
+fn committed_line(
+    alloc: Global,
+    id: InterId,
+    running: &RunningTiming,
+    differences: &[Difference],
+) -> Result<String, NoMemory> {
+    let (revision, id, name) = (running.revision.get(), id.get(), running.name.as_str());
+    let mut line = format!(in alloc; "committed revision {revision} of {id} {name}: ")?;
+    push_counts(&mut line, differences)?;
+    line.push_str("\n")?;
+    Ok(line)
+}
+
+/// What is told of a draft that was committed: its warnings, where those are asked for; its line;
+/// and where reasons are asked for, what it changed of the set before.
+fn committed_text(
+    alloc: Global,
+    edit: &Edit<'_>,
+    before: &RunningTiming,
+    running: &RunningTiming,
+) -> Result<Vec<u8>, NoMemory> {
+    let differences = compare(alloc, &before.rows, &running.rows)?;
     let mut text = Vec::new(alloc);
     text.extend_from_slice(b"no violations\n")?;
-    text.extend_from_slice(&advice_text(alloc, plan)?)?;
-    text.extend_from_slice(b"committed\n")?;
+    if edit.advise {
+        text.extend_from_slice(&advice_text(alloc, &running.rows)?)?;
+    }
+    let line = committed_line(alloc, edit.id, running, &differences)?;
+    text.extend_from_slice(line.as_bytes())?;
+    if edit.explain {
+        text.extend_from_slice(&first_text(alloc, &differences)?)?;
+    }
     Ok(text)
 }
 
-/// Tells of a commit whose warnings are asked for: with them; or, if the set that runs could not be
-/// read, or memory for them is refused, that they could not be read.
-fn tell_advised(alloc: Global, running: &Option<RunningTiming>) -> Done {
-    let Some(timing) = running else {
-        return Done::telling(UNREAD_WARNINGS);
-    };
-    match committed_text(alloc, &timing.rows) {
-        Ok(text) => Done::with(text),
-        Err(_) => Done::telling(UNREAD_WARNINGS),
+/// Tells of a commit, of the set before and of the one that runs now, if that could be read. Where
+/// it could not, or memory is refused, it is told in a fixed line.
+fn tell_committed(
+    alloc: Global,
+    edit: &Edit<'_>,
+    before: &RunningTiming,
+    running: &Option<RunningTiming>,
+) -> Done {
+    if let Some(running) = running {
+        if let Ok(text) = committed_text(alloc, edit, before, running) {
+            return Done::with(text);
+        }
     }
+    Done::telling(if edit.advise {
+        UNREAD_WARNINGS
+    } else {
+        COMMITTED
+    })
 }
 
 /// Tells what became of a plan. Only of a draft that stays open may it fail, for want of memory.
-pub fn tell_revised(alloc: Global, edit: &Edit<'_>, revised: &Revised) -> Result<Done, Fault> {
-    match revised {
+pub fn tell_edited(alloc: Global, edit: &Edit<'_>, edited: &Edited) -> Result<Done, Fault> {
+    match &edited.revised {
         Revised::Same => Ok(Done::telling("no changes\n")),
         Revised::Open(draft) => tell_open(alloc, edit, draft),
-        Revised::Committed(running) if edit.advise => Ok(tell_advised(alloc, running)),
-        Revised::Committed(_) => Ok(Done::telling("no violations\ncommitted\n")),
+        Revised::Committed(running) => Ok(tell_committed(alloc, edit, &edited.before, running)),
     }
 }

@@ -10,7 +10,7 @@ use Rattle.cabinet_core.specs.declared.command.RecordCommand.{RecordCommand}
 use Rattle.cabinet_core.specs.declared.command.RecordCommand.TheVariants as command
 use Rattle.office_files.proofs.{ChangesLemmas.change_laws, FileLaws.AreRowLaws, RecordLaws.record_laws, SpellingLemmas.rows_from-found, WritingLemmas.HasField, WritingLemmas.read_rows}
 use Rattle.office_files.specs.{Changes.changes_of, Csv.csv_records, Csv.csv_text, CsvRow.csv_rows, Records.commands_of, RecordReading.record_at, RecordSpelling.record_spelling}
-use Rattle.signal_office_faults.specs.Padded.{is_blank, unpadded, unpadded_text}
+use Rattle.signal_office_faults.specs.Padded.{are_blank, is_blank, unpadded, unpadded_rows, unpadded_text}
 use Rattle.signal_records.specs.{Reading.change_at, Spelling.change_spelling, Spelling.spelling, Within.current_limits, Within.IsAnyPedWithin, Within.IsChangeWithin, Within.IsRowWithin}
 use Rattle.signal_records.specs.declared.fault.RowFault.{RowFault}
 use Rattle.signal_records.specs.declared.key.Key.TheVariants as key
@@ -18,9 +18,9 @@ use Rattle.signal_records.specs.declared.record.{Change.Change, Ped.Ped, Phase.P
 use Rattle.signal_records.specs.declared.record.Change.TheVariants.{Put, Remove}
 use Rattle.signal_records.specs.declared.record.Row.TheVariants as row
 
--- a record that is not padded, and has a field
+-- a record that is not padded, and has a field that is not empty
 abbrev Stays : List (List ℕ) → Type 0
-Stays fields = (unpadded fields ≡ fields) × HasField fields
+Stays fields = (unpadded fields ≡ fields) × HasField fields × (are_blank fields ≡ false)
 
 -- a number is no empty field
 something : (text : List ℕ) → 0 < length text → is_blank text ≡ false
@@ -35,24 +35,24 @@ phase_stays p phase (Some ped) is within =
     rw (is, walk) refl
 
 row_stays : (r : Row) → IsRowWithin current_limits r → Stays (spelling current_limits r)
-row_stays (row.Phase p phase) within = (phase_stays p phase phase.ped refl within.ped, omega arith)
-row_stays (row.Seq n ring r) within = (refl, omega arith)
-row_stays (row.Split n p split) within = (refl, omega arith)
-row_stays (row.Pattern n pattern) within = (refl, omega arith)
+row_stays (row.Phase p phase) within = (phase_stays p phase phase.ped refl within.ped, omega arith, refl)
+row_stays (row.Seq n ring r) within = (refl, omega arith, refl)
+row_stays (row.Split n p split) within = (refl, omega arith, refl)
+row_stays (row.Pattern n pattern) within = (refl, omega arith, refl)
 
 change_stays : (c : Change) → IsChangeWithin current_limits c → Stays (change_spelling current_limits c)
 change_stays (Put r) within = row_stays r within
-change_stays (Remove (key.Phase p)) within = (refl, omega arith)
-change_stays (Remove (key.Seq n ring)) within = (refl, omega arith)
-change_stays (Remove (key.Split n p)) within = (refl, omega arith)
-change_stays (Remove (key.Pattern n)) within = (refl, omega arith)
+change_stays (Remove (key.Phase p)) within = (refl, omega arith, refl)
+change_stays (Remove (key.Seq n ring)) within = (refl, omega arith, refl)
+change_stays (Remove (key.Split n p)) within = (refl, omega arith, refl)
+change_stays (Remove (key.Pattern n)) within = (refl, omega arith, refl)
 
 command_stays : (c : RecordCommand) → IsRecordWithin c → Stays (record_spelling c)
-command_stays (command.Inspect id r) within = (refl, omega arith)
-command_stays (command.OpenOrder id r) within = (refl, omega arith)
-command_stays (command.UsePart id r) within = (refl, omega arith)
-command_stays (command.CloseOrder id order r) within = (refl, omega arith)
-command_stays (command.Receive r) within = (refl, omega arith)
+command_stays (command.Inspect id r) within = (refl, omega arith, refl)
+command_stays (command.OpenOrder id r) within = (refl, omega arith, refl)
+command_stays (command.UsePart id r) within = (refl, omega arith, refl)
+command_stays (command.CloseOrder id order r) within = (refl, omega arith, refl)
+command_stays (command.Receive r) within = (refl, omega arith, refl)
 
 without_mark : (text : List ℕ) → strip_bom (0xEF ∷ 0xBB ∷ 0xBF ∷ text) ≡ text
 unfolding strip_bom
@@ -65,12 +65,12 @@ read_marked rows full =
 
 module _ {T : Type 0} (reading : List (List ℕ) → Result T RowFault) (spelling : T → List (List ℕ)) (IsWithin : T → Type 0) (laws : AreRowLaws reading spelling IsWithin)
     (stays : (x : T) → IsWithin x → Stays (spelling x)) where
-  all_stay : (rows : List T) → All IsWithin rows → (map unpadded (map spelling rows) ≡ map spelling rows) × All HasField (map spelling rows)
+  all_stay : (rows : List T) → All IsWithin rows → (unpadded_rows (map spelling rows) ≡ map spelling rows) × All HasField (map spelling rows)
   all_stay [] within = (refl, All-nil HasField)
   all_stay (x ∷ rows) within =
       let one = stays x (All-head IsWithin x rows within) in
       let rest = all_stay rows (All-tail IsWithin x rows within) in
-      (rw (one.0, rest.0) refl, All-cons HasField (spelling x) (map spelling rows) one.1 rest.1)
+      (rw (one.2, one.0, rest.0) refl, All-cons HasField (spelling x) (map spelling rows) one.1 rest.1)
 
   good_rows : (text padded : List ℕ) (rows : List T) → padded ≡ unpadded_text text
       → csv_rows reading (csv_records text) ≡ Ok rows → csv_rows reading (csv_records padded) ≡ Ok rows
@@ -78,7 +78,7 @@ module _ {T : Type 0} (reading : List (List ℕ) → Result T RowFault) (spellin
       let found = rows_from-found reading spelling IsWithin laws.found 1 (csv_records text) rows read in
       let spelled = all_stay rows found.1 in
       let reads : csv_records padded ≡ map spelling rows =
-      ap csv_records is ∙ ap (λ rs. csv_records (0xEF ∷ 0xBB ∷ 0xBF ∷ csv_text rs)) (ap (map unpadded) found.0 ∙ spelled.0)
+      ap csv_records is ∙ ap (λ rs. csv_records (0xEF ∷ 0xBB ∷ 0xBF ∷ csv_text rs)) (ap unpadded_rows found.0 ∙ spelled.0)
       ∙ read_marked (map spelling rows) spelled.1
       in ap (csv_rows reading) (reads ∙ sym found.0) ∙ read
 

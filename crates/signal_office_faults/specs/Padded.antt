@@ -1,5 +1,5 @@
 -- The empty fields with which a spreadsheet pads records at their end, and the records without them.
-use Rattle.std.specs.Prelude.{ℕ, Bool, true, false, if◌then◌else◌, List, [], ◌∷◌, codes, drop, map, take, Option, Some, None}
+use Rattle.std.specs.Prelude.{ℕ, Bool, true, false, if◌then◌else◌, not, List, [], ◌∷◌, codes, drop, filter, map, take, Option, Some, None}
 use Rattle.std.specs.List.{list_all}
 use Rattle.std.specs.Str.{bytes_eq}
 use Rattle.office_files.specs.Csv.{csv_records, csv_text}
@@ -84,7 +84,14 @@ kept_by (Some width) fields = if are_blank (drop width fields) then take width f
 abbrev pub unpadded : List (List ℕ) → List (List ℕ)
 unpadded fields = kept_by (width_of fields) fields
 
--- the file of the records without their padding, behind a byte order mark, so that a reader takes off that mark and nothing of the
--- first field
+-- the records but those of empty fields alone, each without its padding
+abbrev pub unpadded_rows : List (List (List ℕ)) → List (List (List ℕ))
+unpadded_rows rows = map unpadded (filter (λ fields. not (are_blank fields)) rows)
+
+-- the file of records behind a byte order mark, so that a reader takes off that mark and nothing of the first field
+abbrev pub marked_text : List (List (List ℕ)) → List ℕ
+marked_text rows = 0xEF ∷ 0xBB ∷ 0xBF ∷ csv_text rows
+
+-- the file of the records of a file, without their padding
 abbrev pub unpadded_text : List ℕ → List ℕ
-unpadded_text text = 0xEF ∷ 0xBB ∷ 0xBF ∷ csv_text (map unpadded (csv_records text))
+unpadded_text text = marked_text (unpadded_rows (csv_records text))

@@ -1,6 +1,5 @@
 //! The faults with which the program ends, and how they are told.
 
-use crate::hints::Hint;
 use arrayvec::ArrayString;
 use office_files::{BadRow, CsvFault};
 use office_http_framing::ends::{Sink, WriteFailed, write_all};
@@ -34,6 +33,8 @@ pub enum Fault {
     UnknownIntersection,
     /// The plan has no such pattern.
     UnknownPattern,
+    /// The committed revision is this one, and another was asked for.
+    OtherRevision(u32),
     /// A word of the command line spells no day from 1970-01-01 to 2199-12-31.
     Day,
     /// A word of the command line is no clerk's name: 1 to 40 bytes without control characters.
@@ -47,24 +48,12 @@ pub enum Fault {
     /// The office refused a command.
     Refused(Refusal),
     /// The office refused a record of the CSV file, counted from 1.
-    Record {
-        at: usize,
-        refusal: Refusal,
-    },
+    Record { at: usize, refusal: Refusal },
     /// A record of the CSV file, counted from 1, has a later day than an import takes.
-    Late {
-        at: usize,
-    },
+    Late { at: usize },
     /// A record of the CSV file, or of the first of two that are compared, spells nothing; or a
     /// growth was refused as the file was read.
     Csv(CsvFault),
-    /// A record of the CSV file spells nothing: its number and fault, the line of the file on which
-    /// it begins, counted from 1, and what is wrong there.
-    Explained {
-        bad: BadRow,
-        line: usize,
-        hint: Hint,
-    },
     /// The office refused what only the owner of a draft may do, and this clerk owns it.
     HeldBy(ArrayString<40>),
     /// A record of the second of two CSV files spells nothing.
@@ -99,6 +88,7 @@ impl fmt::Display for Fault {
             Fault::Exists => f.write_str("fault: exists"),
             Fault::UnknownIntersection => f.write_str("fault: unknown intersection"),
             Fault::UnknownPattern => f.write_str("fault: unknown pattern"),
+            Fault::OtherRevision(found) => write!(f, "fault: revision: {found} is committed"),
             Fault::Day => f.write_str("fault: day"),
             Fault::Clerk => f.write_str("fault: clerk"),
             Fault::Name => f.write_str("fault: name"),
@@ -107,9 +97,6 @@ impl fmt::Display for Fault {
             Fault::Record { at, refusal } => write!(f, "fault: record {at}: {}", refusal.name()),
             Fault::Late { at } => write!(f, "fault: record {at}: Late"),
             Fault::Csv(fault) => write!(f, "fault: {fault}"),
-            Fault::Explained { bad, line, hint } => {
-                write!(f, "fault: {bad}\nline {line}, {hint}")
-            }
             Fault::HeldBy(clerk) => write!(f, "fault: NotOwner\nheld by {clerk}"),
             Fault::OtherCsv(bad) => write!(f, "fault: other {bad}"),
             Fault::Words => f.write_str("the command line is not UTF-8"),

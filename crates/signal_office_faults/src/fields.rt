@@ -1,122 +1,118 @@
-//! The fields of a record of a plan: their names, and what they may be.
+//! The fields of the records of a CSV file: their names, and what they may be.
 
 use crate::kinds::{RecordKind, RowKind};
 
-/// What a field with a list of phases may be, as a hint shows it.
+/// What a field with a list of phases may be.
 const PHASE_LIST: &str = "phases 1 to 32, each once, one space between two";
 
-/// A field of the records of a plan.
+/// A field of a record: its name, and what it may be, numbers with their unit.
 #[derive(Clone, Copy)]
-pub enum Field {
-    Phase,
-    Ring,
-    MinimumGreen,
-    Passage,
-    Maximum,
-    Yellow,
-    Red,
-    Mates,
-    Walk,
-    Clearance,
-    Width,
-    Setback,
-    Short,
-    Lead,
-    Sequence,
-    Phases,
-    Split,
-    Time,
-    Mode,
-    Coordinated,
-    Pattern,
-    Cycle,
-    Offset,
-}
+pub(crate) struct Field(pub(crate) &'static str, pub(crate) &'static str);
 
-impl Field {
-    /// The field's name, and what it may be, as a hint shows them: numbers with their unit, or
-    /// phases.
-    pub(crate) fn about(self) -> (&'static str, &'static str) {
-        match self {
-            Field::Phase => ("phase", "1 to 32"),
-            Field::Ring => ("ring", "1 to 8"),
-            Field::MinimumGreen => ("minimum green", "0 to 255 seconds"),
-            Field::Passage => ("passage", "0 to 255 tenths of a second"),
-            Field::Maximum => ("maximum 1", "0 to 255 seconds"),
-            Field::Yellow => ("yellow", "0 to 255 tenths of a second"),
-            Field::Red => ("red", "0 to 255 tenths of a second"),
-            Field::Mates => ("mates", PHASE_LIST),
-            Field::Walk => ("walk", "0 to 255 seconds"),
-            Field::Clearance => ("pedestrian clearance", "0 to 255 seconds"),
-            Field::Width => ("width", "0 to 9999 tenths of a foot"),
-            Field::Setback => ("setback", "0 to 999 tenths of a foot"),
-            Field::Short => ("short", "0 or 1"),
-            Field::Lead => ("lead", "0 to 10 seconds"),
-            Field::Sequence => ("sequence", "1 to 20"),
-            Field::Phases => ("phases", PHASE_LIST),
-            Field::Split => ("split", "1 to 20"),
-            Field::Time => ("time", "0 to 255 seconds"),
-            Field::Mode => ("mode", "2 to 7"),
-            Field::Coordinated => ("coordinated", "0 or 1"),
-            Field::Pattern => ("pattern", "1 to 48"),
-            Field::Cycle => ("cycle", "1 to 255 seconds"),
-            Field::Offset => ("offset", "0 to 255 seconds"),
-        }
-    }
-}
+const PHASE: Field = Field("phase", "1 to 32");
+
+const RING: Field = Field("ring", "1 to 8");
+
+const SEQUENCE: Field = Field("sequence", "1 to 20");
+
+const SPLIT: Field = Field("split", "1 to 20");
+
+const PATTERN: Field = Field("pattern", "1 to 48");
 
 const PHASE_FIELDS: &[Field] = &[
-    Field::Phase,
-    Field::Ring,
-    Field::MinimumGreen,
-    Field::Passage,
-    Field::Maximum,
-    Field::Yellow,
-    Field::Red,
-    Field::Mates,
-    Field::Walk,
-    Field::Clearance,
-    Field::Width,
-    Field::Setback,
-    Field::Short,
-    Field::Lead,
+    PHASE,
+    RING,
+    Field("minimum green", "0 to 255 seconds"),
+    Field("passage", "0 to 255 tenths of a second"),
+    Field("maximum 1", "0 to 255 seconds"),
+    Field("yellow", "0 to 255 tenths of a second"),
+    Field("red", "0 to 255 tenths of a second"),
+    Field("mates", PHASE_LIST),
+    Field("walk", "0 to 255 seconds"),
+    Field("pedestrian clearance", "0 to 255 seconds"),
+    Field("width", "0 to 9999 tenths of a foot"),
+    Field("setback", "0 to 999 tenths of a foot"),
+    Field("short", "0 or 1"),
+    Field("lead", "0 to 10 seconds"),
 ];
 
 const SPLIT_FIELDS: &[Field] = &[
-    Field::Split,
-    Field::Phase,
-    Field::Time,
-    Field::Mode,
-    Field::Coordinated,
+    SPLIT,
+    PHASE,
+    Field("time", "0 to 255 seconds"),
+    Field("mode", "2 to 7"),
+    Field("coordinated", "0 or 1"),
 ];
 
 const PATTERN_FIELDS: &[Field] = &[
-    Field::Pattern,
-    Field::Cycle,
-    Field::Offset,
-    Field::Split,
-    Field::Sequence,
+    PATTERN,
+    Field("cycle", "1 to 255 seconds"),
+    Field("offset", "0 to 255 seconds"),
+    SPLIT,
+    SEQUENCE,
 ];
 
-/// The fields of a record behind its kind, in their order; of a removal those of the key.
-fn fields_behind(of: RecordKind) -> &'static [Field] {
+const INTERSECTION: Field = Field("intersection", "1 to 9999");
+
+const NUMBER: Field = Field("number", "1 to 999999");
+
+const ORDER: Field = Field("order", "1 to 999999");
+
+const DAY: Field = Field("day", "YYYY-MM-DD");
+
+const CLERK: Field = Field("clerk", "1 to 40 bytes without control characters");
+
+const PART: Field = Field("part", "1 to 20 of A to Z, 0 to 9 and -");
+
+const COUNT: Field = Field("count", "1 to 999999999");
+
+const TEXT: Field = Field("text", "1 to 500 bytes without control characters");
+
+/// The fields of a record of a plan behind its kind, in their order; of a removal those of the key.
+fn plan_fields(of: RecordKind) -> &'static [Field] {
     match (of.removes, of.kind) {
         (false, RowKind::Phase) => PHASE_FIELDS,
-        (false, RowKind::Seq) => &[Field::Sequence, Field::Ring, Field::Phases],
+        (false, RowKind::Seq) => &[SEQUENCE, RING, Field("phases", PHASE_LIST)],
         (false, RowKind::Split) => SPLIT_FIELDS,
         (false, RowKind::Pattern) => PATTERN_FIELDS,
-        (true, RowKind::Phase) => &[Field::Phase],
-        (true, RowKind::Seq) => &[Field::Sequence, Field::Ring],
-        (true, RowKind::Split) => &[Field::Split, Field::Phase],
-        (true, RowKind::Pattern) => &[Field::Pattern],
+        (true, RowKind::Phase) => &[PHASE],
+        (true, RowKind::Seq) => &[SEQUENCE, RING],
+        (true, RowKind::Split) => &[SPLIT, PHASE],
+        (true, RowKind::Pattern) => &[PATTERN],
         (_, RowKind::Other) => &[],
     }
 }
 
-/// The field of a record at a place, counted from 1; none at the place of its kind and behind its
-/// last field.
-pub(crate) fn field_at(of: RecordKind, place: u8) -> Option<Field> {
-    let first: u8 = if of.removes { 3 } else { 2 };
-    let behind = place.checked_sub(first)?;
-    fields_behind(of).get(usize::from(behind)).copied()
+/// The fields of a record of the register behind its kind, in their order.
+fn register_fields(kind: &[u8]) -> &'static [Field] {
+    if kind == b"inspection".as_slice() || kind == b"order".as_slice() {
+        &[INTERSECTION, NUMBER, DAY, CLERK, TEXT]
+    } else if kind == b"use".as_slice() {
+        &[INTERSECTION, ORDER, Field("line", "1 to 99"), PART, COUNT]
+    } else if kind == b"close".as_slice() {
+        &[INTERSECTION, ORDER, DAY, CLERK]
+    } else if kind == b"delivery".as_slice() {
+        &[PART, NUMBER, DAY, COUNT]
+    } else {
+        &[]
+    }
+}
+
+/// The fields of a record behind its kind, of a plan or of the register; none of an unknown kind.
+pub(crate) fn fields_behind(of: RecordKind, kind: &[u8]) -> &'static [Field] {
+    match of.kind {
+        RowKind::Other if !of.removes => register_fields(kind),
+        _ => plan_fields(of),
+    }
+}
+
+/// How many fields the records of a kind have, as a text.
+pub(crate) fn widths_of(of: RecordKind, kind: &[u8]) -> &'static str {
+    match (of.removes, of.kind, fields_behind(of, kind).len()) {
+        (false, RowKind::Phase, _) => "9 or 15",
+        (true, _, 1) => "3",
+        (true, _, _) | (false, _, 3) => "4",
+        (false, _, 4) => "5",
+        _ => "6",
+    }
 }

@@ -1,8 +1,9 @@
 //! Folders, into which files are put by their names.
 
 use crate::fault::Fault;
+use crate::standard_error::note_system;
 use std::alloc::Global;
-use std::fs;
+use std::{fs, io};
 
 /// A folder, into which files are put.
 pub trait Folder {
@@ -30,24 +31,37 @@ fn holds(rt: &HostRuntime, path: &str, text: &[u8]) -> bool {
     is_as_long && matches!(fs::read(rt, path), Ok(held) if held.as_slice() == text)
 }
 
-/// Makes a folder where there is none. The fault is `Write` where that fails.
+/// Says why the system refuses to make a folder or to write a file, and gives the fault.
+fn write_fault(rt: &HostRuntime, path: &str, error: io::Error) -> Fault {
+    note_system(rt, path, error);
+    Fault::Write
+}
+
+/// Makes a folder where there is none. The fault is `Write` where that fails, after a note.
 fn make(rt: &HostRuntime, path: &str) -> Result<(), Fault> {
     match fs::create_dir(rt, path) {
         Ok(()) => Ok(()),
         Err(_) if matches!(fs::metadata(rt, path), Ok(found) if found.is_dir()) => Ok(()),
-        Err(_) => Err(Fault::Write),
+        Err(error) => Err(write_fault(rt, path, error)),
     }
 }
 
+/// Writes a file under the name `part`, and then gives it the name `path`.
+fn put_beside(rt: &HostRuntime, part: &str, path: &str, text: &[u8]) -> io::Result<()> {
+    fs::write(rt, part, text)?;
+    fs::rename(rt, part, path)
+}
+
 /// Writes a file under the name `part`, and then gives it the name `path`. Where that fails, the
-/// fault is `Write`, and the file `part` is removed, if the system lets it.
+/// fault is `Write`, after a note, and the file `part` is removed, if the system lets it.
 fn write_beside(rt: &HostRuntime, part: &str, path: &str, text: &[u8]) -> Result<(), Fault> {
-    let written = fs::write(rt, part, text).is_ok() && fs::rename(rt, part, path).is_ok();
-    if !written {
-        let _ = fs::remove_file(rt, part);
-        return Err(Fault::Write);
+    match put_beside(rt, part, path, text) {
+        Ok(()) => Ok(()),
+        Err(error) => {
+            let _ = fs::remove_file(rt, part);
+            Err(write_fault(rt, path, error))
+        }
     }
-    Ok(())
 }
 
 impl<'a> SystemFolder<'a> {

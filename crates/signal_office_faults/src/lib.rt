@@ -3,9 +3,10 @@
 //! CSV files come as spreadsheets leave them, with records that are padded with empty fields; their
 //! users look for the line of a record, for what is wrong with a bad one, and for the records of a
 //! plan that put or remove a key again. A file of the system is read here, or looked for, and files
-//! are put into a folder by their names.
+//! are put into a folder by their names; what the system refuses of them is said on standard error.
 #![tactic(auto)]
 
+mod bad_records;
 mod done;
 mod fault;
 mod fields;
@@ -13,18 +14,21 @@ mod files;
 mod folder;
 mod hints;
 mod kinds;
+mod limits;
 mod lines;
 mod notes;
 mod padded;
+mod standard_error;
 mod width;
 
+pub use bad_records::bad_records_text;
 pub use done::{Done, LINE_ROOM, print_done, print_text};
 pub use fault::{Fault, report};
-pub use fields::Field;
-pub use files::{is_missing, read_file};
+pub use files::{find_office, is_missing, read_file};
 pub use folder::{Folder, SystemFolder};
-pub use hints::{Hint, hint_of};
-pub use kinds::{RecordKind, RowKind};
+pub use hints::CsvKind;
+pub use limits::{MOST_BYTES, TooLong, check_length};
 pub use lines::{line_of_record, record_lines};
 pub use notes::notes_in;
-pub use padded::unpadded_csv;
+pub use padded::{unpadded_csv, unpadded_lines};
+pub use standard_error::{note, note_system, note_text};

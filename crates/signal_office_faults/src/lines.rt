@@ -5,7 +5,7 @@ use std::alloc::Global;
 
 /// Where a reader of CSV stands.
 #[derive(Clone, Copy)]
-enum Reading {
+pub(crate) enum Reading {
     /// Between two records.
     Between,
     /// At the start of a field.
@@ -19,7 +19,7 @@ enum Reading {
 }
 
 /// Where a reader stands after a byte, by where it stood before.
-fn after_byte(reading: Reading, byte: u8) -> Reading {
+pub(crate) fn after_byte(reading: Reading, byte: u8) -> Reading {
     match (reading, byte) {
         (Reading::Quoted, b'"') => Reading::Closed,
         (Reading::Quoted, _) => Reading::Quoted,
@@ -31,10 +31,19 @@ fn after_byte(reading: Reading, byte: u8) -> Reading {
 }
 
 /// The bytes of a file, without the mark that a file in UTF-8 may begin with.
-fn unmarked(csv: &[u8]) -> &[u8] {
+pub(crate) fn unmarked(csv: &[u8]) -> &[u8] {
     match csv {
         [0xEF, 0xBB, 0xBF, rest @ ..] => rest,
         _ => csv,
+    }
+}
+
+/// The line on which a byte stands, by the byte before it and that one's line.
+pub(crate) fn line_after(line: usize, last: u8, byte: u8) -> usize {
+    if last == b'\n' || (last == b'\r' && byte != b'\n') {
+        line.saturating_add(1)
+    } else {
+        line
     }
 }
 
@@ -48,9 +57,7 @@ pub fn record_lines(alloc: Global, csv: &[u8]) -> Result<Vec<usize>, NoMemory> {
     let mut before = b' ';
     for byte in unmarked(csv) {
         let byte = *byte;
-        if before == b'\n' || (before == b'\r' && byte != b'\n') {
-            line = line.saturating_add(1);
-        }
+        line = line_after(line, before, byte);
         if matches!(reading, Reading::Between) && byte != b'\n' && byte != b'\r' {
             lines.push(line)?;
         }

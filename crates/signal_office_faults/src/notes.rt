@@ -6,6 +6,9 @@ use std::alloc::{AllocError, Global};
 use std::collections::BTreeMap;
 use std::fmt::Write;
 
+/// How many records are noted, at most; of more their number is told.
+const MOST_NOTES: usize = 100;
+
 /// Appends a key, as `split 3 phase 4`.
 fn push_key(text: &mut String, key: Key) -> Result<(), AllocError> {
     match key {
@@ -38,22 +41,39 @@ fn push_note(
     writeln!(text, " again, after record {earlier}")
 }
 
+/// Appends the note that so many more records put or remove a key again.
+fn push_rest(text: &mut String, other: bool, more: usize) -> Result<(), AllocError> {
+    let records = if other { "other records" } else { "records" };
+    writeln!(
+        text,
+        "note: {more} more {records} put or remove a key again"
+    )
+}
+
 /// The notes on changes, which are numbered from 1, in their order. On the way, the number of the
 /// latest change of each key is kept.
 fn notes_on(alloc: Global, other: bool, changes: &[Change]) -> Result<String, NoMemory> {
     let mut text = String::new(alloc);
     let mut latest = BTreeMap::new(alloc);
+    let mut count: usize = 0;
     for (place, change) in changes.iter().enumerate() {
         if let Some(earlier) = latest.insert(changed_key(change), place + 1)? {
-            push_note(&mut text, other, place + 1, change, earlier)?;
+            count = count.saturating_add(1);
+            if count <= MOST_NOTES {
+                push_note(&mut text, other, place + 1, change, earlier)?;
+            }
         }
+    }
+    if count > MOST_NOTES {
+        push_rest(&mut text, other, count - MOST_NOTES)?;
     }
     Ok(text)
 }
 
 /// A line for each record of a plan's CSV file that puts or removes a key that an earlier record
-/// has, with the latest such record; none for a file that is no plan. `other` says that the file is
-/// the second of two. `NoMemory` means that a growth was refused.
+/// has, with the latest such record, for the first hundred of them, and one with the number of the
+/// others; none for a file that is no plan. `other` says that the file is the second of two.
+/// `NoMemory` means that a growth was refused.
 pub fn notes_in(alloc: Global, other: bool, csv: &[u8]) -> Result<String, NoMemory> {
     match read_timing_csv(alloc, csv) {
         Ok(changes) => notes_on(alloc, other, &changes),

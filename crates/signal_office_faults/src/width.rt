@@ -18,7 +18,7 @@ fn front<'f, 'a>(fields: &'f [&'a [u8]], width: usize) -> &'f [&'a [u8]]
 }
 
 /// Whether all fields are empty.
-fn are_blank(fields: &[&[u8]]) -> bool
+pub(crate) fn are_blank(fields: &[&[u8]]) -> bool
     ensures { result ≡ are_blank (texts fields.now) }
 {
     match fields {

@@ -5,25 +5,22 @@
 use crate::copying::copied_in;
 use crate::ended::Ended;
 use crate::migrating::migrate_file;
-use crate::notes::note_content;
+use crate::noting::CallNotes;
 use crate::task::OfficeTask;
 use crate::waiting::files_at;
 use crate::work::{answered_in, done_in};
 use office_http::{ServeFault, Served, Sink, Source};
 use signal_office_faults::Fault;
-use sqlite::{FileFrom, Wary};
+use sqlite_disk::Disk;
 use std::alloc::Global;
 
-/// What came of work over the file at `path`, or the fault of a file that was refused or could not
-/// be closed. If it was refused with `Store`, a note on standard error says what it holds. Reading
-/// it may give up its lock, which no write needs any more.
-fn told_at<T: Drop>(
-    rt: &HostRuntime,
-    path: &str,
-    ended: Ended<T, FileFrom<Wary>>,
-) -> Result<T, Fault> {
+/// What came of work over the files at a path, or the fault of files that were refused or could not
+/// be closed. If they were refused with `Store` though the system refused no call, a note on
+/// standard error says what the file holds. Reading it may give up its lock, which no write needs
+/// any more.
+fn told_at<T: Drop, D: Disk + Drop>(notes: &CallNotes<'_>, ended: Ended<T, D>) -> Result<T, Fault> {
     if matches!(ended, Ended::Refused(Fault::Store, _)) {
-        note_content(rt, path);
+        notes.say_content();
     }
     ended.told()
 }
@@ -36,11 +33,13 @@ pub fn do_task<Outcome: Drop, T: OfficeTask<Outcome>, W: Sink>(
     alloc: Global,
     path: &str,
     wait: u32,
-    task: &T,
+    task: &mut T,
     out: &mut W,
 ) -> Result<Outcome, Fault> {
     let (files, options) = files_at(rt, path, wait)?;
-    told_at(rt, path, done_in(rt, alloc, files, options, task, out))?
+    let notes = CallNotes::new(rt, path);
+    let ended = done_in(rt, alloc, notes.on(files), options, task, out);
+    told_at(&notes, ended)?
 }
 
 /// Answers at most `max_requests` requests of the source over the tables of the file at `path`,
@@ -56,15 +55,17 @@ pub fn answer_stream<R: Source, W: Sink>(
     max_requests: u32,
 ) -> Result<Result<Served, ServeFault>, Fault> {
     let (files, options) = files_at(rt, path, wait)?;
-    let ended = answered_in(alloc, files, options, source, out, max_requests);
-    told_at(rt, path, ended)
+    let notes = CallNotes::new(rt, path);
+    let ended = answered_in(alloc, notes.on(files), options, source, out, max_requests);
+    told_at(&notes, ended)
 }
 
 /// Brings the tables of the file at `path` to today's version, closes the file, and gives how many
 /// rows were written anew. With a fault, the tables of a file that was closed are as they were.
 pub fn migrate_at(rt: &HostRuntime, alloc: Global, path: &str, wait: u32) -> Result<u128, Fault> {
     let (files, options) = files_at(rt, path, wait)?;
-    told_at(rt, path, migrate_file(alloc, files, options))?
+    let notes = CallNotes::new(rt, path);
+    told_at(&notes, migrate_file(alloc, notes.on(files), options))?
 }
 
 /// Opens the office in the file at `path` and closes it, so that its log is copied into the file,
@@ -79,5 +80,6 @@ pub fn copy_at<W: Sink>(
     out: &mut W,
 ) -> Result<(), Fault> {
     let (files, options) = files_at(rt, path, wait)?;
-    told_at(rt, path, copied_in(alloc, files, options, out))?
+    let notes = CallNotes::new(rt, path);
+    told_at(&notes, copied_in(alloc, notes.on(files), options, out))?
 }

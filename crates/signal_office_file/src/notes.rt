@@ -1,32 +1,27 @@
 //! What is said on standard error, beside the fault, of a file in which no office can be opened,
 //! and of one that another run has open. A note that can't be written is passed over.
 
+use signal_office_faults::{Fault, note, note_system};
 use sqlite_std_file::OpenError;
 use std::fs::{self, File};
-use std::io::{self, ErrorKind, Read, Write};
+use std::io::{self, ErrorKind, Read};
 use std::os::unix::fs::MetadataExt;
 
 /// The first 16 bytes of each database file of SQLite that is not empty.
 const HEAD: &[u8] = b"SQLite format 3\0";
-
-/// Says a line on standard error: `note: `, then a path, with its special characters escaped,
-/// between two texts.
-fn note(rt: &HostRuntime, before: &str, path: &str, after: &str) {
-    let path = path.escape_debug();
-    if let Ok(line) = format!(in rt.alloc(); "note: {before}{path}{after}\n") {
-        let _ = rt.stderr().write_all(line.as_bytes());
-    }
-}
 
 /// Says that another run has the file open, and is waited for.
 pub(crate) fn note_wait(rt: &HostRuntime, path: &str) {
     note(rt, "another run has ", path, " open; waiting");
 }
 
-/// Says with which error the system refuses to open or to read the file at a path.
-fn note_system(rt: &HostRuntime, path: &str, error: io::Error) {
-    if let Ok(why) = format!(in rt.alloc(); ": {error}") {
-        note(rt, "the system refuses ", path, why.as_str());
+/// Says why a server cannot have the file that it served, and what it does meanwhile.
+pub(crate) fn note_away(rt: &HostRuntime, path: &str, fault: &Fault) {
+    let after = format!(in rt.alloc();
+        " can't be had again ({fault}); each request is answered 503"
+    );
+    if let Ok(after) = after {
+        note(rt, "", path, after.as_str());
     }
 }
 
@@ -37,6 +32,7 @@ fn what_stands(rt: &HostRuntime, path: &str) -> &'static str {
         Ok(found) if found.is_dir() => " is a folder",
         Ok(found) if !found.is_file() => " is no file",
         Ok(found) if found.nlink() > 1 => " has more than one name, by hard links",
+        Err(error) if error.kind() == ErrorKind::NotFound => " is a link that leads nowhere",
         _ => " can't be opened beside its log",
     }
 }
@@ -63,6 +59,11 @@ pub(crate) fn note_refusal(rt: &HostRuntime, path: &str, error: &OpenError, wait
     }
 }
 
+/// Says that the system gave no random number.
+pub(crate) fn note_random(rt: &HostRuntime, error: io::Error) {
+    note_system(rt, "a random number", error);
+}
+
 /// Says that SQLite takes a path for something else than the name of a file, and how to write it.
 pub(crate) fn note_name(rt: &HostRuntime, path: &str) {
     let named = path.escape_debug();
@@ -80,16 +81,14 @@ fn first_bytes(rt: &HostRuntime, path: &str) -> io::Result<Vec<u8>> {
     Ok(bytes)
 }
 
-/// Says what a file holds in which no office could be opened: nothing, a database or something
-/// else; or why it can't be read.
+/// Says what a file holds in which no office could be opened though the system refused nothing:
+/// a database or something else; or why it can't be read.
 pub(crate) fn note_content(rt: &HostRuntime, path: &str) {
     let bytes = match first_bytes(rt, path) {
         Ok(bytes) => bytes,
         Err(error) => return note_system(rt, path, error),
     };
-    let what = if bytes.is_empty() {
-        " is empty, and no office can be begun in it"
-    } else if bytes.as_slice() == HEAD {
+    let what = if bytes.as_slice() == HEAD {
         " is a database in which no office can be opened"
     } else {
         " is no database"

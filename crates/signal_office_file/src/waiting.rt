@@ -1,46 +1,147 @@
-//! The two files of an office at a path, opened at once or, within the seconds of a call, as soon
-//! as no other run has them open.
+//! The two files of an office at a path, opened when it is this run's turn and, within the seconds
+//! of a call, as soon as no other run has them open.
 
-ghost use Rattle.std.specs.Prelude.{◌≡◌, ◌<◌, ◌↔◌, IfErr, IsTrue};
+ghost use Rattle.std.specs.Prelude.{◌≡◌, ◌<◌, ◌↔◌, IfErr, IsTrue, IsFalse};
 
-use crate::notes::{note_name, note_refusal, note_wait};
+use crate::notes::{note_name, note_random, note_refusal, note_wait};
+use crate::turn::Turn;
 use signal_office_faults::Fault;
 use sqlite::{FileFrom, Options, Wary};
 use sqlite_disk::Files;
 use sqlite_std_file::OpenError;
 use std::hash::{BuildHasher, RandomState};
-use std::io::ErrorKind;
+use std::io::{self, ErrorKind};
 use std::thread;
-use std::time::Duration;
+use std::time::{Duration, Instant};
 
 /// The two files at a path. `Wary` stands for what they held as they were opened, which no clause
 /// ties to the path.
-type FilesAtPath = Files<FileFrom<Wary>>;
+pub(crate) type FilesAtPath = Files<FileFrom<Wary>>;
 
-/// The two files at a path, which are made where they are missing, and how their database is kept:
-/// with a random number for the salts of its log. While another run has them open, they are tried
-/// again for up to `wait` seconds. The fault is `Memory` if memory was refused, else `Store`, as
-/// where SQLite takes the path for no name of a file, or the system gives no random number.
-pub(crate) fn files_at(
-    rt: &HostRuntime,
-    path: &str,
-    wait: u32,
-) -> Result<(FilesAtPath, Options), Fault> {
-    if path == ":memory:" || path.starts_with("file:") {
-        note_name(rt, path);
-        return Err(Fault::Store);
-    }
-    let Ok(random) = RandomState::new(rt) else {
-        return Err(Fault::Store);
-    };
-    let options = Options::new(random.hash_one(&0u8));
-    match open_in_turns(rt, path, turns_in(wait)) {
-        Ok(files) => Ok((files, options)),
-        Err((error, _left)) => {
-            note_refusal(rt, path, &error, wait > 0);
-            Err(fault_of_refusal(&error))
+/// How many milliseconds pass between two tries.
+const PAUSE: u64 = 2;
+
+/// How many microseconds a second has.
+const SECOND: u128 = 1_000_000;
+
+/// Which notes are said of files that are not had at once.
+#[derive(Clone, Copy, PartialEq)]
+pub(crate) enum Notes {
+    /// After a second, that another run is waited for; and why the files are refused.
+    All,
+    /// Why the files are refused.
+    Refusal,
+    /// None.
+    Nothing,
+}
+
+/// The time for which a run waits for others, in microseconds.
+#[derive(Clone, Copy)]
+pub(crate) struct Patience {
+    left: u128,
+    waited: u128,
+    notes: Notes,
+}
+
+impl Patience {
+    /// So many seconds, with these notes.
+    pub(crate) fn of_seconds(seconds: u32, notes: Notes) -> Patience {
+        Patience {
+            left: Duration::from_secs(u64::from(seconds)).as_micros(),
+            waited: 0,
+            notes,
         }
     }
+
+    /// Whether it was said that another run is waited for.
+    fn was_told(&self) -> bool {
+        self.notes == Notes::All && self.waited >= SECOND
+    }
+}
+
+/// The microseconds since then.
+fn passed_since(rt: &HostRuntime, then: io::Result<Instant>) -> io::Result<u128> {
+    Ok(then?.elapsed(rt)?.as_micros())
+}
+
+/// Waits a moment for another run. When that was waited for over a second, a note says so once.
+fn wait_a_moment(rt: &HostRuntime, path: &str, patience: &mut Patience)
+    ensures { 0 < patience.old.left → patience.new.left < patience.old.left }
+{
+    let begun = Instant::now(rt);
+    thread::sleep(rt, Duration::from_millis(PAUSE));
+    let passed = match passed_since(rt, begun) {
+        Ok(passed) => passed.saturating_add(1),
+        Err(_) => SECOND,
+    };
+    let was_told = patience.was_told();
+    patience.left = patience.left.saturating_sub(passed);
+    patience.waited = patience.waited.saturating_add(passed);
+    if patience.was_told() && !was_told {
+        note_wait(rt, path);
+    }
+}
+
+/// Waits until it is this run's turn, as long as time is left, and says whether it is.
+fn await_turn(rt: &HostRuntime, path: &str, turn: &Turn, patience: &mut Patience) -> bool
+    ensures { IsFalse result → patience.new.left ≡ 0 }
+{
+    while turn.is_taken() {
+        if patience.left == 0 {
+            return false;
+        }
+        wait_a_moment(rt, path, patience);
+    }
+    true
+}
+
+/// Whether files are tried again: those that another run has open, as long as time is left.
+fn tries_again(error: &OpenError, left: u128) -> bool
+    ensures { IsTrue result ↔ ((error.now ≡ OpenError.Busy) × (0 < left)) }
+{
+    match error {
+        OpenError::Busy => left > 0,
+        _ => false,
+    }
+}
+
+/// The two files at a path, which are made where they are missing. If another run has them open,
+/// they are tried again, as long as time is left.
+fn open_when_free(
+    rt: &HostRuntime,
+    path: &str,
+    patience: &mut Patience,
+) -> Result<FilesAtPath, OpenError>
+    // Another run is given up only when no time is left.
+    ensures waited { IfErr result (λ why. why ≡ OpenError.Busy → patience.new.left ≡ 0) }
+{
+    loop {
+        let error = match sqlite_std_file::open(rt, path, Wary) {
+            Ok(files) => return Ok(files),
+            Err(error) => error,
+        };
+        if !tries_again(&error, patience.left) {
+            return Err(error);
+        }
+        wait_a_moment(rt, path, patience);
+    }
+}
+
+/// The two files at a path, in this run's turn, which is let go then.
+fn open_in_turn(
+    rt: &HostRuntime,
+    path: &str,
+    turn: &Turn,
+    patience: &mut Patience,
+) -> Result<FilesAtPath, OpenError>
+    ensures waited { IfErr result (λ why. why ≡ OpenError.Busy → patience.new.left ≡ 0) }
+{
+    if !await_turn(rt, path, turn, patience) {
+        return Err(OpenError::Busy);
+    }
+    let opened = open_when_free(rt, path, patience);
+    turn.let_go();
+    opened
 }
 
 /// The fault that is reported of files that were not opened: `Memory` if memory was refused, else
@@ -53,50 +154,56 @@ fn fault_of_refusal(error: &OpenError) -> Fault {
     }
 }
 
-/// How long a turn of waiting for another run is, in milliseconds.
-const TURN: u64 = 50;
-
-/// How many turns of waiting a second has.
-const TURNS_IN_A_SECOND: u64 = 20;
-
-/// How many turns of waiting so many seconds have.
-fn turns_in(seconds: u32) -> u64 {
-    u64::from(seconds) * TURNS_IN_A_SECOND
+/// How the database in files is kept: with a random number for the salts of its log.
+fn options(rt: &HostRuntime) -> io::Result<Options> {
+    Ok(Options::new(RandomState::new(rt)?.hash_one(&0u8)))
 }
 
-/// Why files were not opened, and how many turns were left.
-type Refusal = (OpenError, u64);
+/// Files that were opened at a path, how their database is kept, and the turn in which they were
+/// opened, which was let go.
+pub(crate) type OpenedInTurn = (FilesAtPath, Options, Turn);
 
-/// Whether files are tried again: those that another run has open, as long as turns are left.
-fn tries_again(error: &OpenError, left: u64) -> bool
-    ensures { IsTrue result ↔ ((error.now ≡ OpenError.Busy) × (0 < left)) }
-{
-    match error {
-        OpenError::Busy => left > 0,
-        _ => false,
+/// The two files at a path, which are made where they are missing. While it is the turn of another
+/// run, or one has them open, this run waits, as long as its patience. The fault is `Memory` if
+/// memory was refused, else `Store`, as where SQLite takes the path for no name of a file, or the
+/// system gives no random number.
+pub(crate) fn files_in_turn(
+    rt: &HostRuntime,
+    path: &str,
+    patience: Patience,
+) -> Result<OpenedInTurn, Fault> {
+    if path == ":memory:" || path.starts_with("file:") {
+        note_name(rt, path);
+        return Err(Fault::Store);
+    }
+    let options = match options(rt) {
+        Ok(options) => options,
+        Err(error) => {
+            note_random(rt, error);
+            return Err(Fault::Store);
+        }
+    };
+    let turn = Turn::at(rt, path);
+    let mut patience = patience;
+    match open_in_turn(rt, path, &turn, &mut patience) {
+        Ok(files) => Ok((files, options, turn)),
+        Err(error) => {
+            if patience.notes != Notes::Nothing {
+                note_refusal(rt, path, &error, patience.was_told());
+            }
+            Err(fault_of_refusal(&error))
+        }
     }
 }
 
-/// The two files at a path, which are made where they are missing. If another run has them open, a
-/// note says so once, and they are tried again, at most `turns` times. A refusal is that of the
-/// last try, with the turns that were left.
-fn open_in_turns(rt: &HostRuntime, path: &str, turns: u64) -> Result<FilesAtPath, Refusal>
-    // Another run is given up only when no turn is left.
-    ensures waited { IfErr result (λ why. why.0 ≡ OpenError.Busy → why.1 ≡ 0) }
-{
-    let mut left = turns;
-    loop {
-        let error = match sqlite_std_file::open(rt, path, Wary) {
-            Ok(files) => return Ok(files),
-            Err(error) => error,
-        };
-        if !tries_again(&error, left) {
-            return Err((error, left));
-        }
-        if left == turns {
-            note_wait(rt, path);
-        }
-        thread::sleep(rt, Duration::from_millis(TURN));
-        left -= 1;
-    }
+/// The two files at a path, for a run that waits for up to `wait` seconds, as `files_in_turn` has
+/// them.
+pub(crate) fn files_at(
+    rt: &HostRuntime,
+    path: &str,
+    wait: u32,
+) -> Result<(FilesAtPath, Options), Fault> {
+    let patience = Patience::of_seconds(wait, Notes::All);
+    let (files, options, _turn) = files_in_turn(rt, path, patience)?;
+    Ok((files, options))
 }

@@ -22,11 +22,12 @@ pub fn done_in<D: Disk + Drop, Outcome: Drop, T: OfficeTask<Outcome>, W: Sink>(
     alloc: Global,
     files: Files<D>,
     options: Options,
-    task: &T,
+    task: &mut T,
     out: &mut W,
 ) -> Ended<Result<Outcome, Fault>, D>
-    // Where the files were refused, the output took nothing.
-    ensures { EndsOver files (task_work (T.effect task.now) (out.new ≡ out.old)) result }
+    // Where the files were refused, the task did nothing, and the output took nothing.
+    ensures { EndsOver files (task_work (T.effect task.old task.new)
+        ((task.new ≡ task.old) × (out.new ≡ out.old))) result }
 {
     let mut office = match open_file(alloc, files, options) {
         Ok(office) => office,

@@ -1,12 +1,10 @@
 -- What is found in words, by the command that they name.
-use Rattle.std.proofs.Common.{◌≡◌, true, List, Option, Some, None, Result, Ok, Err, sym, subst, inl, inr}
-use Rattle.std.specs.declared.alloc.AllocError.{AllocError}
+use Rattle.std.proofs.Common.{◌≡◌, true, List, Option, Some, None, Result, Ok, Err, sym, subst}
 use Rattle.clap.specs.{Simple.is_simple, Walk.Text, declared.error.Error.Error, declared.parser.matches.ArgMatches.ArgMatches}
 use Rattle.signal_office_line.specs.CommandLine.{Words, app, named_in}
-use Rattle.signal_office_line.specs.Refusals.{IsAnswer, IsFaultOf, IsFound, IsFoundInWords, IsJudged}
+use Rattle.signal_office_line.specs.Refusals.{IsAnswer, IsFound, IsFoundInWords, IsJudged}
 use Rattle.signal_office_line.specs.declared.job.Job.{Job}
 use Rattle.signal_office_line.specs.declared.job.JobFault.{JobFault}
-use Rattle.signal_office_line.specs.declared.job.JobFault.TheVariants as fault
 use Rattle.signal_office_line.proofs.CommandLemmas.{named_simple}
 
 -- what `clap` answers to the words of a command is judged
@@ -19,16 +17,6 @@ found_named words named answer result e answers judged =
     subst (λ (n : Option (Words × List Text)). IsFound n result) e
     (answer, answers (named_simple words named (sym e)), judged)
 
-not_bad : (refusal : Result Error AllocError) (told : JobFault) → IsFaultOf refusal told → IsFound None (Err told)
-not_bad refusal (fault.Refused error) h = tt
-not_bad refusal fault.NoMemory h = tt
-not_bad (Ok error) (fault.Bad bad) (inl h) = let same = h.1 in cc
-not_bad (Ok error) (fault.Bad bad) (inr h) = let same = h.1 in cc
-not_bad (Err no_memory) (fault.Bad bad) h = cc
-
 -- words that name no command state no job
-pub none_found : (words : List Text) (refusal : Result Error AllocError) (told : JobFault) → None ≡ named_in words
-    → IsFaultOf refusal told
-    → IsFoundInWords words (Err told)
-none_found words refusal told e h =
-    subst (λ (n : Option (Words × List Text)). IsFound n (Err told)) e (not_bad refusal told h)
+pub none_found : (words : List Text) (told : JobFault) → None ≡ named_in words → IsFoundInWords words (Err told)
+none_found words told e = subst (λ (n : Option (Words × List Text)). IsFound n (Err told)) e tt

@@ -5,7 +5,7 @@ use Rattle.std.specs.Option.{option_map_or}
 use Rattle.std.specs.Str.{bytes_eq}
 use Rattle.clap.specs.Walk.{Row, Text, first_of}
 use Rattle.office_files.specs.RecordReading.{day_of, part_of}
-use Rattle.signal_office_line.specs.Values.{Stated, ◌>>=◌, needed, choice_at, number_within, flag_at, word_at, name_at, any_of, day_at, csv_at, any_db_at, db_at}
+use Rattle.signal_office_line.specs.Values.{Stated, ◌>>=◌, needed, choice_at, number_within, flag_at, word_at, name_at, any_of, any_between_at, between_at, list_form_at, day_at, csv_at, any_db_at, db_at}
 use Rattle.signal_office_line.specs.declared.job.BadWord.TheVariants as wrong
 use Rattle.signal_office_line.specs.declared.shows.CsvFile.{CsvFile}
 use Rattle.signal_office_line.specs.declared.job.Folder.TheVariants as folder
@@ -23,12 +23,36 @@ use Rattle.signal_office_line.specs.declared.shows.View.TheVariants as view
 
 -- ---- requests of the office of a file
 
--- `overdue --db FILE [--first N] [--csv] DAY`, N from 1 to 9999; without N all are listed
-unfoldable pub overdue_at : List Row → Stated Request
-overdue_at rows = do
-  first ← choice_at 1 9_999 (codes "first") rows
-  day ← day_at (codes "DAY") rows
-  Ok (request.Show (shown.Overdue day (unwrap_or first 9_999) (flag_at (codes "csv") rows)))
+-- what `stock` shows: the stock, or the part that is named
+abbrev pub stock_or_part : Option Text → List Row → Shown
+stock_or_part None rows = shown.Stock (list_form_at rows)
+stock_or_part (Some part) rows = shown.Part part
+
+-- `stock --db FILE [--csv [--headings]]`, or `stock --db FILE PART`
+unfoldable pub stock_at : List Row → Stated Request
+stock_at rows = do
+  part ← any_of wrong.Part part_of (first_of (codes "PART") rows)
+  Ok (request.Show (stock_or_part part rows))
+
+-- `orders --db FILE [--by-age DAY] [--csv [--headings]] [ID]`
+unfoldable pub orders_at : List Row → Stated Request
+orders_at rows = do
+  id ← choice_at 1 9_999 (codes "ID") rows
+  day ← any_of wrong.Day day_of (first_of (codes "by-age") rows)
+  Ok (request.Show (shown.Orders id day (list_form_at rows)))
+
+-- `used --db FILE [--from DAY --to DAY] [--csv [--headings]] [PART]`
+unfoldable pub used_at : List Row → Stated Request
+used_at rows = do
+  part ← any_of wrong.Part part_of (first_of (codes "PART") rows)
+  between ← any_between_at rows
+  Ok (request.Show (shown.Used part between (list_form_at rows)))
+
+-- `work --db FILE --from DAY --to DAY [--csv [--headings]]`
+unfoldable pub work_at : List Row → Stated Request
+work_at rows = do
+  between ← between_at rows
+  Ok (request.Show (shown.Work between (list_form_at rows)))
 
 -- `add --db FILE ID INTERVAL NAME`: an intersection, 1 to 9999, its days from one inspection to the
 -- next, 1 to 3650, and its name of 1 to 120 bytes
@@ -39,7 +63,7 @@ add_at rows = do
   name ← name_at wrong.Name 120 (codes "NAME") rows
   Ok (request.Add id interval name)
 
--- `import --db FILE [--check] [--until DAY] [--padded] CSV`
+-- `import --db FILE [--check] [--until DAY] [--explain] [--padded] CSV`
 unfoldable pub import_at : List Row → Stated Request
 import_at rows = do
   csv ← needed (csv_at (codes "CSV") rows)
@@ -68,18 +92,20 @@ pages_at rows = do
   day ← any_of wrong.Day day_of (first_of (codes "day") rows)
   Ok (request.Fill dir (folder.Pages day))
 
--- `edit --db FILE --clerk NAME [--replace] [--commit] [--explain] [--advise] [--padded] ID CSV`, or
--- `edit --db FILE --clerk NAME --commit [--explain] [--advise] ID`
+-- `edit --db FILE --clerk NAME [--replace] [--commit] [--revision N] [--explain] [--advise] [--padded] ID CSV`, or
+-- `edit --db FILE --clerk NAME --commit [--revision N] [--explain] [--advise] ID`: a revision from 0 to 999,999
 unfoldable pub edit_at : List Row → Stated Request
 edit_at rows = do
   id ← number_within 1 9_999 (codes "ID") rows
   clerk ← name_at wrong.Clerk 40 (codes "clerk") rows
+  revision ← choice_at 0 999_999 (codes "revision") rows
   Ok (request.Edit (record {
     id = id;
     clerk = clerk;
     csv = csv_at (codes "CSV") rows;
     replace = flag_at (codes "replace") rows;
     commit = flag_at (codes "commit") rows;
+    revision = revision;
     explain = flag_at (codes "explain") rows;
     advise = flag_at (codes "advise") rows;
   }))
@@ -97,21 +123,14 @@ shown_at show rows = do
 -- the commands that ask something of the office of a file
 abbrev pub requests : List (Text × (List Row → Stated Request))
 requests =
-    -- `sheet --db FILE ID`
-    (codes "sheet", shown_at shown.Sheet)
-    -- `list --db FILE [--csv]`
-    ∷ (codes "list", λ rows. Ok (request.Show (shown.List (flag_at (codes "csv") rows))))
-    -- `stock --db FILE [--csv]`
-    ∷ (codes "stock", λ rows. Ok (request.Show (shown.Stock (flag_at (codes "csv") rows))))
+    -- `list --db FILE [--csv [--headings]]`
+    (codes "list", λ rows. Ok (request.Show (shown.List (list_form_at rows))))
     -- `cabinet --db FILE ID`
     ∷ (codes "cabinet", shown_at shown.Cabinet)
-    -- `orders --db FILE [--csv] [ID]`
-    ∷ (codes "orders", λ rows. choice_at 1 9_999 (codes "ID") rows >>= (λ id. Ok (request.Show (shown.Orders id (flag_at (codes "csv") rows)))))
-    -- `used --db FILE [--csv] [PART]`
-    ∷ (codes "used", λ rows. any_of wrong.Part part_of (first_of (codes "PART") rows) >>= (λ part. Ok (request.Show (shown.Used part (flag_at (codes "csv") rows)))))
     -- `abandon --db FILE --clerk NAME ID`
     ∷ (codes "abandon", λ rows. number_within 1 9_999 (codes "ID") rows >>= (λ id. name_at wrong.Clerk 40 (codes "clerk") rows >>= (λ clerk. Ok (request.Abandon id clerk))))
-    ∷ (codes "overdue", overdue_at) ∷ (codes "add", add_at) ∷ (codes "import", import_at)
+    ∷ (codes "stock", stock_at) ∷ (codes "orders", orders_at) ∷ (codes "used", used_at) ∷ (codes "work", work_at)
+    ∷ (codes "add", add_at) ∷ (codes "import", import_at)
     ∷ (codes "export", export_at) ∷ (codes "pages", pages_at) ∷ (codes "edit", edit_at) ∷ []
 
 -- what the command of a name asks of the office of a file; a name of no such command states nothing
@@ -137,12 +156,33 @@ serve_at rows = do
   db ← any_db_at rows
   Ok (job.Serve port (unwrap_or count 1_000_000) db)
 
+-- `sheet --db FILE ID`
+abbrev pub sheet_at : List Row → Stated Job
+sheet_at rows = do
+  db ← db_at rows
+  id ← number_within 1 9_999 (codes "ID") rows
+  Ok (job.Sheet db id)
+
+-- `overdue --db FILE [--first N] [--csv [--headings]] DAY`, N from 1 to 9999; without N all are listed
+unfoldable pub overdue_at : List Row → Stated Job
+overdue_at rows = do
+  db ← db_at rows
+  first ← choice_at 1 9_999 (codes "first") rows
+  day ← day_at (codes "DAY") rows
+  Ok (job.Overdue db day (unwrap_or first 9_999) (list_form_at rows))
+
+-- `verify-file [--explain] [--advise] [--padded] CSV`
+abbrev pub verify_file_at : List Row → Stated Job
+verify_file_at rows = do
+  csv ← needed (csv_at (codes "CSV") rows)
+  Ok (job.VerifyFile csv (flag_at (codes "explain") rows) (flag_at (codes "advise") rows))
+
 -- what an intersection's committed plan is compared with: its draft, or the plan of a file
 abbrev pub comparison_of : ℕ → Option CsvFile → (csv : Bool) → Shown
 comparison_of id None csv = shown.CompareDraft id csv
 comparison_of id (Some other) csv = shown.CompareRunning id other csv
 
--- `compare [--csv] [--padded] PLAN OTHER`, or `compare --db FILE [--csv] [--padded] ID [OTHER]`
+-- `compare [--csv] [--explain] [--padded] PLAN OTHER`, or `compare --db FILE [--csv] [--explain] [--padded] ID [OTHER]`
 abbrev pub compare_of : Option OfficeFile → List Row → Stated Job
 compare_of None rows = do
   plan ← needed (csv_at (codes "PLAN") rows)
@@ -192,12 +232,7 @@ jobs =
     ∷ (codes "migrate", λ rows. db_at rows >>= (λ db. Ok (job.Migrate db)))
     -- `backup --db FILE [--force] TO`
     ∷ (codes "backup", λ rows. db_at rows >>= (λ db. word_at (codes "TO") rows >>= (λ to. Ok (job.Backup db to (flag_at (codes "force") rows)))))
-    -- `verify-file [--explain] [--advise] [--padded] CSV`
-    ∷ (
-      codes "verify-file",
-      λ rows. needed (csv_at (codes "CSV") rows)
-          >>= (λ csv. Ok (job.ShowPlan csv (plan.Violations (flag_at (codes "explain") rows) (flag_at (codes "advise") rows)))),
-    )
+    ∷ (codes "verify-file", verify_file_at) ∷ (codes "sheet", sheet_at) ∷ (codes "overdue", overdue_at)
     ∷ (codes "serve", serve_at) ∷ (codes "compare", compare_at) ∷ (codes "diagram", diagram_at) ∷ (codes "page", page_at) ∷ []
 
 -- the job that the command of a name states by its values, or why they state none; a name that is

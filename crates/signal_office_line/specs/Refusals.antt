@@ -12,6 +12,7 @@ use Rattle.clap.specs.declared.error.Error.{Error}
 use Rattle.clap.specs.declared.error.kind.ErrorKind.TheVariants as kind
 use Rattle.clap.specs.declared.parser.matches.ArgMatches.{ArgMatches}
 use Rattle.signal_office_line.specs.declared.job.Job.{Job}
+use Rattle.signal_office_line.specs.declared.job.Job.TheVariants as job
 use Rattle.signal_office_line.specs.declared.job.JobFault.{JobFault}
 use Rattle.signal_office_line.specs.declared.job.JobFault.TheVariants as fault
 use Rattle.signal_office_line.specs.declared.job.NoJob.TheVariants.{Unstated, Bad}
@@ -37,11 +38,11 @@ abbrev pub IsFaultOf : Result Error AllocError → JobFault → Type 0
 IsFaultOf (Ok error) told = IsToldAs error told
 IsFaultOf (Err no_memory) told = told ≡ fault.NoMemory
 
--- the job that a command and its values state is found; one bad word is reported as it is; values that
+-- the job that a command and its values state is found; for a bad word it is to report that one; values that
 -- state nothing are refused as such, or memory for that refusal ran out
 abbrev pub IsJobFound : Stated Job → Result Job JobFault → Type 0
-IsJobFound (Ok job) (Ok found) = found ≡ job
-IsJobFound (Err (Bad bad)) (Err told) = told ≡ fault.Bad bad
+IsJobFound (Ok stated) (Ok found) = found ≡ stated
+IsJobFound (Err (Bad bad)) (Ok found) = found ≡ job.ReportBadWord bad
 IsJobFound (Err Unstated) (Err (fault.Refused error)) = kind_of error ≡ kind.ValueValidation
 IsJobFound (Err Unstated) (Err fault.NoMemory) = ⊤
 IsJobFound _ _ = ⊥
@@ -50,14 +51,13 @@ IsJobFound _ _ = ⊥
 abbrev pub IsJudged : Text → Result ArgMatches Error → Result Job JobFault → Type 0
 IsJudged name (Ok matches) result = IsJobFound (job_at name (rows_of (found_of matches))) result
 IsJudged name (Err error) (Err told) = IsToldAs error told
-IsJudged name (Err error) (Ok job) = ⊥
+IsJudged name (Err error) (Ok found) = ⊥
 
 -- what is found in the words of a command, or in words that name none: these state no job
 abbrev pub IsFound : Option (Words × List Text) → Result Job JobFault → Type 0
 IsFound (Some named) result = (answer : Result ArgMatches Error) × IsAnswer (app named.0) named.1 answer × IsJudged named.0.0 answer result
-IsFound None (Err (fault.Bad bad)) = ⊥
 IsFound None (Err told) = ⊤
-IsFound None (Ok job) = ⊥
+IsFound None (Ok found) = ⊥
 
 -- WHAT IS FOUND IN WORDS: the first behind the program's name is that of a command, and `clap` finds the values of its arguments in the others. The job is the
 -- one that this command and these values state. There is none where `clap` refuses the words, or where they name no command.

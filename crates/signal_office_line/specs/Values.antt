@@ -8,7 +8,10 @@ use Rattle.clap.specs.Walk.{Row, Text, first_of}
 use Rattle.office_files.specs.RecordReading.{day_of, words_of}
 use Rattle.signal_office_line.specs.declared.job.BadWord.{BadWord}
 use Rattle.signal_office_line.specs.declared.job.BadWord.TheVariants as wrong
+use Rattle.signal_office_line.specs.declared.shows.Between.{Between}
 use Rattle.signal_office_line.specs.declared.shows.CsvFile.{CsvFile}
+use Rattle.signal_office_line.specs.declared.shows.ListForm.{ListForm}
+use Rattle.signal_office_line.specs.declared.shows.ListForm.TheVariants as form
 use Rattle.signal_office_line.specs.declared.job.NoJob.{NoJob}
 use Rattle.signal_office_line.specs.declared.job.NoJob.TheVariants.{Unstated, Bad}
 use Rattle.signal_office_line.specs.declared.job.OfficeFile.{OfficeFile}
@@ -82,9 +85,36 @@ day_at id rows = do
   day ← any_of wrong.Day day_of (first_of id rows)
   needed day
 
--- the CSV file of an argument, if it is given, and whether its records are padded: `--padded`
+-- `--from DAY --to DAY`: two days, which have to be there
+abbrev pub between_at : List Row → Stated Between
+between_at rows = do
+  from ← day_at (codes "from") rows
+  to ← day_at (codes "to") rows
+  Ok (record { from = from; to = to })
+
+-- two days, if the first is given
+abbrev pub any_between_of : Option Text → List Row → Stated (Option Between)
+any_between_of None rows = Ok None
+any_between_of (Some from) rows = do
+  between ← between_at rows
+  Ok (Some between)
+
+-- `[--from DAY --to DAY]`
+abbrev pub any_between_at : List Row → Stated (Option Between)
+any_between_at rows = any_between_of (first_of (codes "from") rows) rows
+
+-- a list is printed as lines; with `--csv` as CSV, and with `--headings` too below the names of its fields
+abbrev pub list_form_of : (csv headings : Bool) → ListForm
+list_form_of csv headings = if csv then (if headings then form.HeadedCsv else form.Csv) else form.Lines
+
+-- how a list is printed, by these two flags
+abbrev pub list_form_at : List Row → ListForm
+list_form_at rows = list_form_of (flag_at (codes "csv") rows) (flag_at (codes "headings") rows)
+
+-- the CSV file of an argument, if it is given, whether its records are padded: `--padded`, and whether each bad one is explained:
+-- `--explain`
 abbrev pub csv_at : Text → List Row → Option CsvFile
-csv_at id rows = option_map (λ path. record { path = path; padded = flag_at (codes "padded") rows }) (first_of id rows)
+csv_at id rows = option_map (λ path. record { path = path; padded = flag_at (codes "padded") rows; explain = flag_at (codes "explain") rows }) (first_of id rows)
 
 -- `[--db FILE [--wait SECONDS]]`: the file of an office, if one is given, and for how many seconds, 0 to 3600, a run waits for another
 -- one that has the file open: ten where no number is given

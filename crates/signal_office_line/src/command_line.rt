@@ -23,6 +23,9 @@ pub(crate) const PORTS: Range = Range(1, 65_535);
 /// How many connections a server serves.
 pub(crate) const COUNTS: Range = Range(1, 1_000_000);
 
+/// How often a plan was committed.
+pub(crate) const REVISIONS: Range = Range(0, 999_999);
+
 /// For how many seconds a file is waited for.
 pub(crate) const WAITS: Range = Range(0, 3_600);
 
@@ -59,13 +62,27 @@ const ON_DAY: Argument = Argument("day", Form::Choice("DAY"), None, Given::Maybe
 
 const UNTIL: Argument = Argument("until", Form::Choice("DAY"), None, Given::Maybe);
 
+const FROM: Argument = Argument("from", Form::Choice("DAY"), None, Given::Always);
+
+const TO_DAY: Argument = Argument("to", Form::Choice("DAY"), None, Given::Always);
+
+const ANY_FROM: Argument = Argument("from", Form::Choice("DAY"), None, Given::With("to"));
+
+const ANY_TO_DAY: Argument = Argument("to", Form::Choice("DAY"), None, Given::With("from"));
+
+const BY_AGE: Argument = Argument("by-age", Form::Choice("DAY"), None, Given::Maybe);
+
 const CLERK: Argument = Argument("clerk", Form::Choice("NAME"), None, Given::Always);
 
 const FILE: Argument = Argument("file", Form::Choice("FILE"), None, Given::Maybe);
 
 const CSV: Argument = Argument("csv", Form::Flag, None, Given::Maybe);
 
+const HEADINGS: Argument = Argument("headings", Form::Flag, None, Given::With("csv"));
+
 const EXPLAIN: Argument = Argument("explain", Form::Flag, None, Given::Maybe);
+
+const REVISION: Argument = Argument("revision", Form::Choice("N"), Some(REVISIONS), Given::Maybe);
 
 const ADVISE: Argument = Argument("advise", Form::Flag, None, Given::Maybe);
 
@@ -101,6 +118,8 @@ const NAME: Argument = Argument("NAME", Form::Word, None, Given::Always);
 
 const PART: Argument = Argument("PART", Form::Word, None, Given::Maybe);
 
+const PART_ALONE: Argument = Argument("PART", Form::Word, None, Given::Without("csv"));
+
 const DIR: Argument = Argument("DIR", Form::Word, None, Given::Always);
 
 const TO: Argument = Argument("TO", Form::Word, None, Given::Always);
@@ -126,18 +145,25 @@ const COMMANDS: &[Usage] = &[
     Usage("batch", &[ANY_DB, ANY_WAIT]),
     Usage("serve", &[PORT, COUNT, ANY_DB, ANY_WAIT]),
     Usage("sheet", &[DB, WAIT, ID]),
-    Usage("overdue", &[DB, WAIT, FIRST, CSV, DAY]),
+    Usage("overdue", &[DB, WAIT, FIRST, CSV, HEADINGS, DAY]),
     Usage("add", &[DB, WAIT, ID, INTERVAL, NAME]),
-    Usage("list", &[DB, WAIT, CSV]),
-    Usage("stock", &[DB, WAIT, CSV]),
-    Usage("orders", &[DB, WAIT, CSV, ANY_ID]),
-    Usage("used", &[DB, WAIT, CSV, PART]),
+    Usage("list", &[DB, WAIT, CSV, HEADINGS]),
+    Usage("stock", &[DB, WAIT, CSV, HEADINGS, PART_ALONE]),
+    Usage("orders", &[DB, WAIT, BY_AGE, CSV, HEADINGS, ANY_ID]),
+    Usage(
+        "used",
+        &[DB, WAIT, ANY_FROM, ANY_TO_DAY, CSV, HEADINGS, PART],
+    ),
+    Usage("work", &[DB, WAIT, FROM, TO_DAY, CSV, HEADINGS]),
     Usage("cabinet", &[DB, WAIT, ID]),
     Usage("pages", &[DB, WAIT, ON_DAY, DIR]),
     Usage("verify-file", &[EXPLAIN, ADVISE, PADDED, RECORDS]),
     Usage("migrate", &[DB, WAIT]),
     Usage("backup", &[DB, WAIT, FORCE, TO]),
-    Usage("import", &[DB, WAIT, CHECK, UNTIL, PADDED, RECORDS]),
+    Usage(
+        "import",
+        &[DB, WAIT, CHECK, UNTIL, EXPLAIN, PADDED, RECORDS],
+    ),
     Usage("export", &[DB, WAIT, DRAFT, CABINET, ALL, ID_OR_ALL]),
     Usage(
         "edit",
@@ -147,6 +173,7 @@ const COMMANDS: &[Usage] = &[
             CLERK,
             REPLACE,
             COMMIT,
+            REVISION,
             EXPLAIN,
             ADVISE,
             PADDED,
@@ -157,7 +184,7 @@ const COMMANDS: &[Usage] = &[
     Usage("abandon", &[DB, WAIT, CLERK, ID]),
     Usage(
         "compare",
-        &[ANY_DB, ANY_WAIT, CSV, PADDED, PLAN, OTHER_OR_DB],
+        &[ANY_DB, ANY_WAIT, CSV, EXPLAIN, PADDED, PLAN, OTHER_OR_DB],
     ),
     Usage(
         "diagram",

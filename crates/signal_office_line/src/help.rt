@@ -69,10 +69,13 @@ add itself: Adds an intersection; says whether it is new, or is there already wi
 values
 list itself: Prints all intersections: the days between inspections, the revision, the state and \
 owner of the draft, and how many rows are committed
-stock itself: Prints how many of each part are on hand, of all parts that were ever delivered
+stock itself: Prints how many of each part are on hand, of all parts that were ever delivered; or \
+of one part what is on hand, its deliveries, its uses, and the next free delivery number
 orders itself: Prints the open work orders of an intersection, or of all intersections
 used itself: Prints what was used of all parts, or of one: with the intersection and the work \
-order, open or closed
+order, open or closed, and how many pieces of each part
+work itself: Prints what was inspected, opened, used and closed between two days, in all \
+intersections, by day
 cabinet itself: Prints the records of an intersection's cabinet: when its next inspection is due, \
 its inspections, and its work orders with their used parts and closings
 pages itself: Writes the pages of all intersections, and an index of them with the open orders \
@@ -117,6 +120,8 @@ out; the clerk's draft is then committed as it is
 any DAY: The day, as YYYY-MM-DD, from 1970-01-01 to 2199-12-31
 any INTERVAL: Days from one inspection of its cabinet to the next, 1 to 3650
 any NAME: Its name, 1 to 120 bytes without control characters
+stock PART: The part's code, 1 to 20 of A to Z, 0 to 9 and -; without it all are printed. Not with \
+--csv
 any PART: The part's code, 1 to 20 of A to Z, 0 to 9 and -; without it all are printed
 any DIR: The folder, which is made if there is none
 any TO: The file of the copy; none with this name, or with a log, may be there
@@ -131,6 +136,14 @@ any first: List at most N intersections, 1 to 9999, those with the lowest number
 are listed
 any day: Mark the intersections that are overdue for inspection on this day, YYYY-MM-DD, and put \
 them first
+used from: What was used for orders that were closed on this day or later, or are open and were \
+opened then; YYYY-MM-DD
+used to: What was used for orders that were closed on this day or before, or are open and were \
+opened then; YYYY-MM-DD
+any from: The first day, as YYYY-MM-DD
+any to: The last day, as YYYY-MM-DD
+any by-age: Print the orders that were opened on this day or before, the oldest first, with their \
+age in days; YYYY-MM-DD
 any until: Take none where one is of a later day, as YYYY-MM-DD; a used part has no day
 abandon clerk: Who drops it, 1 to 40 bytes
 any clerk: Who edits, 1 to 40 bytes; the draft of another clerk is not touched
@@ -138,9 +151,17 @@ page file: The CSV file of a plan, to show that alone
 any file: The CSV file of a plan, with the pattern's number alone
 compare csv: Print the changes as CSV, as `edit` takes them
 any csv: Print as CSV, without heading or count
-any explain: Also print, for each broken rule, the numbers that break it
+verify-file explain: Also print, for each broken rule, the numbers that break it, and each bad \
+record with its line, what stands there and what may stand there
+edit explain: Also print, for each broken rule, the numbers that break it, each bad record with \
+its line, what stands there and what may stand there, who owns the draft of another clerk, and up \
+to ten changes of a commit
+any explain: Also print each bad record, with its line, what stands there and what may stand there
+any headings: Print first a record with the names of the fields
 any advise: Also print, after the broken rules, what breaks none and may surprise; the status stays
-any padded: Drop the empty fields with which spreadsheets pad the records of CSV
+any padded: Drop the empty fields with which spreadsheets pad the records of CSV, and records of \
+nothing but commas
+any revision: Change nothing, with status 1, unless the committed revision is N, 0 to 999999
 any force: Replace the file TO
 any check: Take nothing; print each record that would be refused, with its line and what is \
 there. Status 1 if there is one

@@ -12,7 +12,7 @@ ghost use Rattle.signal_office_line.specs.Refusals.{IsAnswer, IsFaultOf, IsFound
 use crate::arguments::{Usage, command_of};
 use crate::command_line::{named_in, program};
 use crate::jobs::job_at;
-use crate::shows::{CsvFile, PlanShown, Shown};
+use crate::shows::{CsvFile, ListForm, PlanShown, Shown};
 use crate::words::{Name, Path};
 use cabinet_core::Day;
 use clap::error::ErrorKind;
@@ -41,8 +41,9 @@ pub enum Folder {
 
 /// An edit of an intersection's plan by a CSV file, in the draft of a clerk. Without a file, which
 /// only `commit` without `replace` allows, the draft is taken as it is. `replace` removes the rows
-/// that the file lacks, `commit` commits a draft that breaks no rule, `explain` adds the reasons of
-/// broken rules and of faults, and `advise` warnings.
+/// that the file lacks, and `commit` commits a draft that breaks no rule. `revision`, 0 to 999,999,
+/// is the one that has to be committed before. `explain` adds the reasons of broken rules, the owner
+/// of a draft and what a commit changed, and `advise` warnings.
 #[derive(Drop)]
 pub struct Edit<'a> {
     pub id: InterId,
@@ -50,6 +51,7 @@ pub struct Edit<'a> {
     pub csv: Option<CsvFile<'a>>,
     pub replace: bool,
     pub commit: bool,
+    pub revision: Option<u32>,
     pub explain: bool,
     pub advise: bool,
 }
@@ -102,7 +104,27 @@ pub enum Job<'a> {
         count: u32,
         db: Option<OfficeFile<'a>>,
     },
-    /// Do what is asked of the office of a file.
+    /// Print the timing sheet of an intersection.
+    Sheet {
+        db: OfficeFile<'a>,
+        id: InterId,
+    },
+    /// Print the intersections that are overdue for inspection on a day, at most `most` of them, 1
+    /// to 9999, those with the lowest numbers.
+    Overdue {
+        db: OfficeFile<'a>,
+        day: Day,
+        most: usize,
+        form: ListForm,
+    },
+    /// Print the rules that the plan in a CSV file breaks, with their reasons if `explain`, and
+    /// behind them what an engineer is warned of in it, if `advise`.
+    VerifyFile {
+        csv: CsvFile<'a>,
+        explain: bool,
+        advise: bool,
+    },
+    /// Do what else is asked of the office of a file.
     Office {
         db: OfficeFile<'a>,
         request: Request<'a>,
@@ -123,11 +145,13 @@ pub enum Job<'a> {
         second: CsvFile<'a>,
         csv: bool,
     },
-    /// Print what is shown of the plan in a CSV file.
+    /// Print what else is shown of the plan in a CSV file.
     ShowPlan {
         csv: CsvFile<'a>,
         shown: PlanShown,
     },
+    /// Report a word that is not what it was to be; the other words would state another job.
+    ReportBadWord(BadWord),
 }
 
 /// What a word of the command line was to be, and is not.
@@ -143,11 +167,12 @@ pub enum BadWord {
     Part,
 }
 
-/// Why the values of a command state no job.
+/// Why the values of a command do not state what it is to do.
 #[derive(Clone, Copy)]
 pub(crate) enum NoJob {
     /// The values are too few or too many, do not go together, or a number is out of its range.
     Unstated,
+    /// The values would state a job, but a word is not what it was to be.
     Bad(BadWord),
 }
 
@@ -156,8 +181,6 @@ pub(crate) enum NoJob {
 pub enum JobFault {
     /// The words are refused, or ask for help or for the version.
     Refused(Error),
-    /// The values would state a job, but a word is not what it was to be.
-    Bad(BadWord),
     NoMemory,
 }
 
@@ -217,13 +240,14 @@ fn fault_for(refusal: Result<Error, AllocError>) -> JobFault
     }
 }
 
-/// The job that the values of a command state, or the fault to report of values that state none.
+/// The job that the values of a command state, to report a bad word among them included, or the
+/// fault to report of values that state none.
 fn job_in<'a>(alloc: Global, usage: &Usage, matches: &ArgMatches<'a>) -> Result<Job<'a>, JobFault>
     ensures { IsJobFound (job_at usage.now.0.now (rows_of (found_of matches.now))) result }
 {
     match job_at(usage.0, matches) {
         Ok(job) => Ok(job),
-        Err(NoJob::Bad(bad)) => Err(JobFault::Bad(bad)),
+        Err(NoJob::Bad(bad)) => Ok(Job::ReportBadWord(bad)),
         Err(NoJob::Unstated) => Err(fault_for(refusal_of(alloc, usage))),
     }
 }
@@ -251,8 +275,8 @@ fn help_for<'a>(alloc: Global, words: &'a [&'a str]) -> Result<Error, AllocError
     }
 }
 
-/// What the words ask for, the first being the program's name: a job; or what a bad word was to be;
-/// or the refusal, or the help, of words that state no job; or that memory ran out.
+/// What the words ask for, the first being the program's name: a job; or the refusal, or the help,
+/// of words that state no job; or that memory ran out.
 #[tactic(auto, using(crate::proofs::FoundLemmas::none_found))]
 pub fn job_of<'a>(alloc: Global, words: &'a [&'a str]) -> Result<Job<'a>, JobFault>
     ensures { IsFoundInWords (map (λ word. word.now) words.entry.now) result }

@@ -4,28 +4,84 @@
 ghost use Rattle.std.specs.Prelude.{◌≡◌};
 ghost use Rattle.clap.specs.Matches.{found_of};
 ghost use Rattle.clap.specs.Walk.{rows_of};
-ghost use Rattle.signal_office_line.specs.Job.{add_at, compare_at, diagram_at, edit_at, export_at, import_at, job_at, office_of, overdue_at, page_at, pages_at, request_at, serve_at};
+ghost use Rattle.signal_office_line.specs.Job.{add_at, compare_at, diagram_at, edit_at, export_at, import_at, job_at, office_of, orders_at, overdue_at, page_at, pages_at, request_at, serve_at, stock_at, used_at, work_at};
 ghost use Rattle.signal_office_line.specs.Values.{number_within};
 
-use crate::command_line::{COUNTS, IDS, INTERVALS, PATTERNS, PORTS};
+use crate::command_line::{COUNTS, IDS, INTERVALS, PATTERNS, PORTS, REVISIONS};
 use crate::job::{BadWord, Edit, Folder, Job, NoJob, Request};
 use crate::shows::{PlanShown, Shown, View};
 use crate::values::{
-    any_csv, any_day, any_intersection, any_office_file, any_part, any_path, choice, csv_file, day,
-    flag, intersection, name, number, office_file, path,
+    any_between, any_csv, any_day, any_intersection, any_office_file, any_part, any_path, between,
+    choice, csv_file, day, flag, intersection, list_form, name, number, office_file, path,
 };
 use clap::ArgMatches;
 use signal_values::{Interval, PatternNo};
 
-/// `overdue --db FILE [--first N] [--csv] DAY`.
+/// `overdue --db FILE [--first N] [--csv [--headings]] DAY`.
 #[tactic(auto, unfolding(crate::specs::Job::overdue_at))]
-fn overdue<'a>(matches: &ArgMatches<'a>) -> Result<Request<'a>, NoJob>
+fn overdue<'a>(matches: &ArgMatches<'a>) -> Result<Job<'a>, NoJob>
     ensures { result ≡ overdue_at (rows_of (found_of matches.now)) }
 {
+    let db = office_file(matches)?;
     let most = choice(matches, "first", IDS)?.unwrap_or(IDS.1) as usize;
     let day = day(matches, "DAY")?;
-    let csv = flag(matches, "csv");
-    Ok(Request::Show(Shown::Overdue { day, most, csv }))
+    let form = list_form(matches);
+    Ok(Job::Overdue {
+        db,
+        day,
+        most,
+        form,
+    })
+}
+
+/// `stock --db FILE [--csv [--headings]]`, or `stock --db FILE PART`.
+#[tactic(auto, unfolding(crate::specs::Job::stock_at))]
+fn stock_or_part<'a>(matches: &ArgMatches<'a>) -> Result<Request<'a>, NoJob>
+    ensures { result ≡ stock_at (rows_of (found_of matches.now)) }
+{
+    let shown = match any_part(matches, "PART")? {
+        Some(part) => Shown::Part { part },
+        None => Shown::Stock {
+            form: list_form(matches),
+        },
+    };
+    Ok(Request::Show(shown))
+}
+
+/// `orders --db FILE [--by-age DAY] [--csv [--headings]] [ID]`.
+#[tactic(auto, unfolding(crate::specs::Job::orders_at))]
+fn open_orders<'a>(matches: &ArgMatches<'a>) -> Result<Request<'a>, NoJob>
+    ensures { result ≡ orders_at (rows_of (found_of matches.now)) }
+{
+    let id = any_intersection(matches, "ID")?;
+    let by_age = any_day(matches, "by-age")?;
+    let form = list_form(matches);
+    Ok(Request::Show(Shown::Orders { id, by_age, form }))
+}
+
+/// `used --db FILE [--from DAY --to DAY] [--csv [--headings]] [PART]`.
+#[tactic(auto, unfolding(crate::specs::Job::used_at))]
+fn used<'a>(matches: &ArgMatches<'a>) -> Result<Request<'a>, NoJob>
+    ensures { result ≡ used_at (rows_of (found_of matches.now)) }
+{
+    let part = any_part(matches, "PART")?;
+    let between = any_between(matches)?;
+    let form = list_form(matches);
+    Ok(Request::Show(Shown::Used {
+        part,
+        between,
+        form,
+    }))
+}
+
+/// `work --db FILE --from DAY --to DAY [--csv [--headings]]`.
+#[tactic(auto, unfolding(crate::specs::Job::work_at))]
+fn work<'a>(matches: &ArgMatches<'a>) -> Result<Request<'a>, NoJob>
+    ensures { result ≡ work_at (rows_of (found_of matches.now)) }
+{
+    let between = between(matches)?;
+    let form = list_form(matches);
+    Ok(Request::Show(Shown::Work { between, form }))
 }
 
 /// `add --db FILE ID INTERVAL NAME`.
@@ -40,7 +96,7 @@ fn add<'a>(matches: &ArgMatches<'a>) -> Result<Request<'a>, NoJob>
     Ok(Request::Add { id, interval, name })
 }
 
-/// `import --db FILE [--check] [--until DAY] [--padded] CSV`.
+/// `import --db FILE [--check] [--until DAY] [--explain] [--padded] CSV`.
 #[tactic(auto, unfolding(crate::specs::Job::import_at))]
 fn import<'a>(matches: &ArgMatches<'a>) -> Result<Request<'a>, NoJob>
     ensures { result ≡ import_at (rows_of (found_of matches.now)) }
@@ -82,20 +138,23 @@ fn pages<'a>(matches: &ArgMatches<'a>) -> Result<Request<'a>, NoJob>
     Ok(Request::Fill { dir, folder })
 }
 
-/// `edit --db FILE --clerk NAME [--replace] [--commit] [--explain] [--advise] [--padded] ID CSV`,
-/// or `edit --db FILE --clerk NAME --commit [--explain] [--advise] ID`.
+/// `edit --db FILE --clerk NAME [--replace] [--commit] [--revision N] [--explain] [--advise]
+/// [--padded] ID CSV`, or `edit --db FILE --clerk NAME --commit [--revision N] [--explain]
+/// [--advise] ID`.
 #[tactic(auto, unfolding(crate::specs::Job::edit_at))]
 fn edit<'a>(matches: &ArgMatches<'a>) -> Result<Request<'a>, NoJob>
     ensures { result ≡ edit_at (rows_of (found_of matches.now)) }
 {
     let id = intersection(matches, "ID")?;
     let clerk = name(matches, "clerk", BadWord::Clerk)?;
+    let revision = choice(matches, "revision", REVISIONS)?;
     Ok(Request::Edit(Edit {
         id,
         clerk,
         csv: any_csv(matches, "CSV"),
         replace: flag(matches, "replace"),
         commit: flag(matches, "commit"),
+        revision,
         explain: flag(matches, "explain"),
         advise: flag(matches, "advise"),
     }))
@@ -107,25 +166,17 @@ fn edit<'a>(matches: &ArgMatches<'a>) -> Result<Request<'a>, NoJob>
 fn request_at<'a>(command: &str, matches: &ArgMatches<'a>) -> Result<Request<'a>, NoJob>
     ensures { result ≡ request_at command.now (rows_of (found_of matches.now)) }
 {
-    let csv = flag(matches, "csv");
     let shown = match command {
-        "sheet" => Shown::Sheet {
-            id: intersection(matches, "ID")?,
+        "list" => Shown::List {
+            form: list_form(matches),
         },
-        "list" => Shown::List { csv },
-        "stock" => Shown::Stock { csv },
+        "stock" => return stock_or_part(matches),
         "cabinet" => Shown::Cabinet {
             id: intersection(matches, "ID")?,
         },
-        "orders" => Shown::Orders {
-            id: any_intersection(matches, "ID")?,
-            csv,
-        },
-        "overdue" => return overdue(matches),
-        "used" => Shown::Used {
-            part: any_part(matches, "PART")?,
-            csv,
-        },
+        "orders" => return open_orders(matches),
+        "used" => return used(matches),
+        "work" => return work(matches),
         "add" => return add(matches),
         "import" => return import(matches),
         "export" => return export(matches),
@@ -162,8 +213,8 @@ fn serve<'a>(matches: &ArgMatches<'a>) -> Result<Job<'a>, NoJob>
     Ok(Job::Serve { port, count, db })
 }
 
-/// `compare [--csv] [--padded] PLAN OTHER`, or `compare --db FILE [--csv] [--padded] ID [OTHER]`,
-/// whose ID is found as the argument `PLAN`.
+/// `compare [--csv] [--explain] [--padded] PLAN OTHER`, or `compare --db FILE [--csv] [--explain]
+/// [--padded] ID [OTHER]`, whose ID is found as the argument `PLAN`.
 #[tactic(auto, unfolding(crate::specs::Job::compare_at))]
 fn compare<'a>(matches: &ArgMatches<'a>) -> Result<Job<'a>, NoJob>
     ensures { result ≡ compare_at (rows_of (found_of matches.now)) }
@@ -246,9 +297,18 @@ pub(crate) fn job_at<'a>(command: &str, matches: &ArgMatches<'a>) -> Result<Job<
             let csv = csv_file(matches, "CSV")?;
             let explain = flag(matches, "explain");
             let advise = flag(matches, "advise");
-            let shown = PlanShown::Violations { explain, advise };
-            Ok(Job::ShowPlan { csv, shown })
+            Ok(Job::VerifyFile {
+                csv,
+                explain,
+                advise,
+            })
         }
+        "sheet" => {
+            let db = office_file(matches)?;
+            let id = intersection(matches, "ID")?;
+            Ok(Job::Sheet { db, id })
+        }
+        "overdue" => overdue(matches),
         "serve" => serve(matches),
         "compare" => compare(matches),
         "diagram" => diagram(matches),

@@ -17,5 +17,5 @@ mod values;
 mod words;
 
 pub use job::{BadWord, Edit, Folder, Job, JobFault, OfficeFile, Request, job_of};
-pub use shows::{CsvFile, PlanShown, Shown, View};
+pub use shows::{Between, CsvFile, ListForm, PlanShown, Shown, View};
 pub use words::{Name, Part, Path};

@@ -4,12 +4,31 @@ use crate::words::{Part, Path};
 use cabinet_core::Day;
 use signal_values::{InterId, PatternNo};
 
-/// A CSV file, or `-` for standard input, and whether its records may be padded with empty fields
-/// at their end, which are then dropped.
+/// A CSV file, or `-` for standard input; whether its records may be padded with empty fields at
+/// their end, which are then dropped; and whether each bad one is explained.
 #[derive(Drop)]
 pub struct CsvFile<'a> {
     pub path: Path<'a>,
     pub padded: bool,
+    pub explain: bool,
+}
+
+/// How a list is printed.
+#[derive(Clone, Copy)]
+pub enum ListForm {
+    /// Lines of columns below their heading, and how many they are.
+    Lines,
+    /// CSV.
+    Csv,
+    /// CSV, whose first record has the names of its fields.
+    HeadedCsv,
+}
+
+/// The days from one on to another, both included; none where the first is later.
+#[derive(Clone, Copy)]
+pub struct Between {
+    pub from: Day,
+    pub to: Day,
 }
 
 /// What of an intersection is exported as CSV.
@@ -31,29 +50,42 @@ pub enum Shown<'a> {
         id: InterId,
     },
     /// The intersections that are overdue for inspection on a day, at most `most` of them, 1 to
-    /// 9999, those with the lowest numbers, as a text or as CSV.
+    /// 9999, those with the lowest numbers.
     Overdue {
         day: Day,
         most: usize,
-        csv: bool,
+        form: ListForm,
     },
-    /// All intersections, as a text or as CSV.
+    /// All intersections.
     List {
-        csv: bool,
+        form: ListForm,
     },
-    /// What is on hand of each part, as a text or as CSV.
+    /// What is on hand of each part.
     Stock {
-        csv: bool,
+        form: ListForm,
     },
-    /// The open orders of an intersection, or of all, as a text or as CSV.
+    /// What is on hand of a part, its deliveries and its uses.
+    Part {
+        part: Part<'a>,
+    },
+    /// The open orders of an intersection, or of all; with a day, those that were opened on it or
+    /// before, the oldest first, with their age in days.
     Orders {
         id: Option<InterId>,
-        csv: bool,
+        by_age: Option<Day>,
+        form: ListForm,
     },
-    /// What was used of all parts, or of one, as a text or as CSV.
+    /// What was used of all parts, or of one; with days, on these: a used part has the day on which
+    /// its order was closed, or was opened, if it is open.
     Used {
         part: Option<Part<'a>>,
-        csv: bool,
+        between: Option<Between>,
+        form: ListForm,
+    },
+    /// What was inspected, opened, used and closed on some days, in all intersections.
+    Work {
+        between: Between,
+        form: ListForm,
     },
     /// The register of an intersection's cabinet.
     Cabinet {

@@ -3,13 +3,13 @@
 ghost use Rattle.std.specs.Prelude.{◌≡◌, option_map};
 ghost use Rattle.clap.specs.Matches.{found_of};
 ghost use Rattle.clap.specs.Walk.{first_of, rows_of};
-ghost use Rattle.signal_office_line.specs.Values.{any_db_at, any_of, choice_at, csv_at, day_at, db_at, flag_at, name_at, needed, number_within, number_of, word_at};
+ghost use Rattle.signal_office_line.specs.Values.{any_between_at, any_db_at, any_of, between_at, choice_at, csv_at, day_at, db_at, flag_at, list_form_at, name_at, needed, number_within, number_of, word_at};
 ghost use Rattle.office_files.specs.RecordReading.{day_of, part_of};
 
 use crate::arguments::Range;
 use crate::command_line::{IDS, WAITS};
 use crate::job::{BadWord, NoJob, OfficeFile};
-use crate::shows::CsvFile;
+use crate::shows::{Between, CsvFile, ListForm};
 use crate::words::{Name, Part, Path, day_of};
 use cabinet_core::Day;
 use clap::ArgMatches;
@@ -138,6 +138,38 @@ pub(crate) fn day(matches: &ArgMatches<'_>, id: &str) -> Result<Day, NoJob>
     any_day(matches, id)?.ok_or(NoJob::Unstated)
 }
 
+/// The days of `--from DAY --to DAY`; `Unstated` says that one is missing, `Bad` that a word spells
+/// no day.
+pub(crate) fn between(matches: &ArgMatches<'_>) -> Result<Between, NoJob>
+    ensures { result ≡ between_at (rows_of (found_of matches.now)) }
+{
+    let from = day(matches, "from")?;
+    let to = day(matches, "to")?;
+    Ok(Between { from, to })
+}
+
+/// The days of `--from DAY --to DAY`, if `--from` was given; errors as `between`.
+pub(crate) fn any_between(matches: &ArgMatches<'_>) -> Result<Option<Between>, NoJob>
+    ensures { result ≡ any_between_at (rows_of (found_of matches.now)) }
+{
+    if any_word(matches, "from").is_none() {
+        return Ok(None);
+    }
+    let between = between(matches)?;
+    Ok(Some(between))
+}
+
+/// How a list is printed, by `--csv` and `--headings`.
+pub(crate) fn list_form(matches: &ArgMatches<'_>) -> ListForm
+    ensures { result ≡ list_form_at (rows_of (found_of matches.now)) }
+{
+    match (flag(matches, "csv"), flag(matches, "headings")) {
+        (true, true) => ListForm::HeadedCsv,
+        (true, false) => ListForm::Csv,
+        (false, _) => ListForm::Lines,
+    }
+}
+
 /// The part whose code an argument's word is, if it was given; `Bad` says that it is no part's
 /// code.
 pub(crate) fn any_part<'a>(matches: &ArgMatches<'a>, id: &str) -> Result<Option<Part<'a>>, NoJob>
@@ -153,13 +185,18 @@ pub(crate) fn any_part<'a>(matches: &ArgMatches<'a>, id: &str) -> Result<Option<
     }
 }
 
-/// The CSV file of an argument, if it was given, and whether `--padded` was.
+/// The CSV file of an argument, if it was given, and whether `--padded` and `--explain` were.
 pub(crate) fn any_csv<'a>(matches: &ArgMatches<'a>, id: &str) -> Option<CsvFile<'a>>
     ensures { result ≡ csv_at id.now (rows_of (found_of matches.now)) }
 {
     let path = any_path(matches, id)?;
     let padded = flag(matches, "padded");
-    Some(CsvFile { path, padded })
+    let explain = flag(matches, "explain");
+    Some(CsvFile {
+        path,
+        padded,
+        explain,
+    })
 }
 
 /// The CSV file of an argument; `Unstated` says that it is missing.

@@ -14,7 +14,7 @@ use Rattle.signal_plans.proofs.Clean.{made_at, joined_at, four_parts}
 use Rattle.signal_plans.specs.declared.warning.Advice.{Advice}
 use Rattle.signal_plans.specs.declared.warning.Scope.{Scope}
 use Rattle.signal_plans.specs.declared.warning.Scope.TheVariants as scope
-use Rattle.signal_plans.specs.PhaseWarnings.{maximum_case, minimum_case, concurrency_case, service_case, phase_cases, clearance_case, width_case, crossing_warnings}
+use Rattle.signal_plans.specs.PhaseWarnings.{maximum_case, minimum_case, concurrency_case, service_case, passage_case, red_case, phase_cases, clearance_case, width_case, narrow_case, wide_case, crossing_warnings}
 use Rattle.signal_plans.specs.SplitWarnings.{split_warnings, button_case, recall_case, green_case}
 use Rattle.signal_plans.specs.PlanWarnings.{plan_cases}
 use Rattle.signal_plans.specs.Warnings.{told_cases, phase_warnings, row_warnings, warnings_at, warnings_of}
@@ -41,7 +41,8 @@ untold s c cs none = by_test c.0 none where
 -- a crossing is measured
 pub measured : (s : Scope) (ped : Ped) → told_cases s (crossing_warnings (Some ped)) ≡ [] → eqb ped.width 0 ≡ false
 measured s ped none =
-    (untold s (width_case ped) [] (untold s (clearance_case ped) (width_case ped ∷ []) none).1).0
+    let rest = narrow_case ped ∷ wide_case ped ∷ [] in
+    (untold s (width_case ped) rest (untold s (clearance_case ped) (width_case ped ∷ rest) none).1).0
 
 module _ (set : Rows) (quiet : IsQuiet set) where
   -- a phase has a minimum green, and a crossing that it has is measured
@@ -52,7 +53,7 @@ module _ (set : Rows) (quiet : IsQuiet set) where
       let found : phase_warnings set p (Some phase) ≡ [] = ap (phase_warnings set p) (sym is) ∙ own in
       let s = scope.Subject (subject.Phase p) in
       let parts = nil_parts (told_cases s (phase_cases set p phase)) (told_cases s (crossing_warnings phase.ped)) found in
-      let rest = concurrency_case set phase ∷ service_case set p ∷ [] in
+      let rest = concurrency_case set phase ∷ service_case set p ∷ passage_case phase ∷ red_case phase ∷ [] in
       let maximum = untold s (maximum_case phase) (minimum_case phase ∷ rest) parts.0 in
       ((untold s (minimum_case phase) rest maximum.1).0, parts.1)
 

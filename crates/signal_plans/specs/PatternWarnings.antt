@@ -1,15 +1,19 @@
--- What an engineer is warned of in a pattern: which of its coordinated phases (splitCoordPhase) time at no common second.
-use Rattle.std.specs.Prelude.{◌==◌, ◌+◌, ℕ, nat_lt, Bool, true, not, ◌&&◌, if◌then◌else◌, List, [], ◌∷◌, ◌++◌, map, filter, length, Option, Some, None}
+-- What an engineer is warned of in a pattern: which of its coordinated phases (splitCoordPhase) time at no common second, and
+-- which of its splits (splitTime) leaves another one no second.
+use Rattle.std.specs.Prelude.{◌==◌, ◌+◌, ◌-◌, ◌*◌, ℕ, nat_lt, Bool, true, false, not, ◌&&◌, if◌then◌else◌, List, [], ◌∷◌, ◌++◌, map, filter, length, Option, Some, None}
 use Rattle.signal_records.specs.declared.record.Phase.{Phase}
 use Rattle.signal_records.specs.declared.record.Pattern.{Pattern}
+use Rattle.signal_records.specs.declared.record.Split.{Split}
+use Rattle.signal_records.specs.Need.{need_of}
 use Rattle.signal_records.specs.TimingSet.{Rows}
 use Rattle.signal_rules.specs.Cases.{Cases, first_true}
 use Rattle.signal_rules.specs.Lanes.{time_of}
 use Rattle.signal_rules.specs.Lookup.{phase_at, split_at, phases}
 use Rattle.signal_rules.specs.PatternRules.{is_coordinated}
 use Rattle.signal_rules.specs.SequenceRule.{ring_row}
+use Rattle.signal_rules.specs.SplitRule.{is_omitted}
 use Rattle.signal_plans.specs.declared.warning.Advice.{Advice}
-use Rattle.signal_plans.specs.declared.warning.Advice.TheVariants.{AllCoordinated, CoordinatedApart}
+use Rattle.signal_plans.specs.declared.warning.Advice.TheVariants.{AllCoordinated, CoordinatedApart, LongSplit}
 
 -- the phases of the set that splitCoordPhase marks in a split number, ascending
 abbrev pub coordinated_phases : Rows → ℕ → List ℕ
@@ -65,3 +69,43 @@ abbrev pub coordination_advice : Rows → Pattern → Option Advice
 coordination_advice set pattern =
     or_all (length (coordinated_phases set pattern.split) == length (phases set)) (length (phases set))
     (first_true (apart_cases set pattern (coordinated_phases set pattern.split)))
+
+-- a phase takes more than half of patternCycleTime
+abbrev pub takes_half : Rows → Pattern → ℕ → Bool
+takes_half set pattern p = nat_lt pattern.cycle (2 * seconds_of set pattern p)
+
+-- a phase that splitMode does not omit has what it needs and no second more
+abbrev pub is_at_need : Option Phase → Option Split → Bool
+is_at_need (Some phase) (Some split) =
+    not (is_omitted split.mode) && nat_lt (10 * (split.time - 1)) (need_of phase split.mode)
+is_at_need _ _ = false
+
+-- two phases of the set are in one ring (phaseRing), so that they share its cycle
+abbrev pub share_ring : Option Phase → Option Phase → Bool
+share_ring (Some phase) (Some other) = phase.ring == other.ring
+share_ring _ _ = false
+
+-- a phase takes more than half of the cycle, and another one in its ring is at its need
+abbrev pub is_crowded : Rows → Pattern → ℕ → ℕ → Bool
+is_crowded set pattern p q =
+    not (p == q) && takes_half set pattern p && share_ring (phase_at set p) (phase_at set q)
+    && is_at_need (phase_at set q) (split_at set pattern.split q)
+
+-- what is told of two such phases
+abbrev pub long_split : Rows → Pattern → ℕ → ℕ → Advice
+long_split set pattern p q = LongSplit p (seconds_of set pattern p) pattern.cycle q
+
+-- long-split, of a phase and each of some others, in their order
+abbrev pub crowded_by : Rows → Pattern → ℕ → List ℕ → Cases Advice
+crowded_by set pattern p qs = map (λ q. (is_crowded set pattern p q, long_split set pattern p q)) qs
+
+-- long-split: one of some phases takes more than half of the cycle, and one of others is at its need
+abbrev pub crowded_cases : Rows → Pattern → (others : List ℕ) → List ℕ → Cases Advice
+crowded_cases set pattern others [] = []
+crowded_cases set pattern others (p ∷ ps) =
+    crowded_by set pattern p others ++ crowded_cases set pattern others ps
+
+-- what an engineer is warned of in a pattern, if a phase takes more than half of the cycle and leaves another at its need: the
+-- first two such phases
+abbrev pub crowding_advice : Rows → Pattern → Option Advice
+crowding_advice set pattern = first_true (crowded_cases set pattern (phases set) (phases set))

@@ -11,7 +11,7 @@ use Rattle.signal_rules.specs.Lanes.{used_rings}
 use Rattle.signal_rules.specs.Lookup.{split_at, pattern_at, pattern_numbers}
 use Rattle.signal_rules.specs.SplitRule.{is_omitted}
 use Rattle.signal_plans.specs.declared.warning.Advice.{Advice}
-use Rattle.signal_plans.specs.declared.warning.Advice.TheVariants.{MaximumBelowMinimum, NoMinimumGreen, NoConcurrentPhase, NeverServed, NoClearance, NotMeasured}
+use Rattle.signal_plans.specs.declared.warning.Advice.TheVariants.{MaximumBelowMinimum, NoMinimumGreen, NoConcurrentPhase, NeverServed, ShortPassage, ShortRed, NoClearance, NotMeasured, NarrowCrossing, WideCrossing}
 
 -- maximum-below-minimum: phaseMaximum1 is less than phaseMinimumGreen, so that green is over before it may end
 abbrev pub maximum_case : Phase → Bool × Advice
@@ -57,10 +57,19 @@ is_never_served set p = not (length (patterns set) == 0) && not (is_served set p
 abbrev pub service_case : Rows → ℕ → Bool × Advice
 service_case set p = (is_never_served set p, NeverServed)
 
+-- short-passage: phasePassage is less than half a second, as where seconds stand for tenths of them
+abbrev pub passage_case : Phase → Bool × Advice
+passage_case phase = (nat_lt phase.passage 5, ShortPassage phase.passage)
+
+-- short-red: phaseRedClear is less than half a second, as where seconds stand for tenths of them
+abbrev pub red_case : Phase → Bool × Advice
+red_case phase = (nat_lt phase.red 5, ShortRed phase.red)
+
 -- what an engineer is warned of in a phase itself, besides its crossing
 abbrev pub phase_cases : Rows → ℕ → Phase → Cases Advice
 phase_cases set p phase =
-    maximum_case phase ∷ minimum_case phase ∷ concurrency_case set phase ∷ service_case set p ∷ []
+    maximum_case phase ∷ minimum_case phase ∷ concurrency_case set phase ∷ service_case set p
+    ∷ passage_case phase ∷ red_case phase ∷ []
 
 -- no-clearance: phasePedestrianClear is 0, so that only yellow and red clear the crossing
 abbrev pub clearance_case : Ped → Bool × Advice
@@ -70,7 +79,16 @@ clearance_case ped = (ped.clear == 0, NoClearance ped.width)
 abbrev pub width_case : Ped → Bool × Advice
 width_case ped = (ped.width == 0, NotMeasured)
 
+-- narrow-crossing: the crossing's width is measured and less than 20 feet, as where feet stand for tenths of them
+abbrev pub narrow_case : Ped → Bool × Advice
+narrow_case ped = (not (ped.width == 0) && nat_lt ped.width 200, NarrowCrossing ped.width)
+
+-- wide-crossing: the crossing's width is more than 200 feet, as where inches stand for tenths of a foot
+abbrev pub wide_case : Ped → Bool × Advice
+wide_case ped = (nat_lt 2_000 ped.width, WideCrossing ped.width)
+
 -- what an engineer is warned of in the crossing of a phase; a phase without a pedestrian part has none
 abbrev pub crossing_warnings : Option Ped → Cases Advice
 crossing_warnings None = []
-crossing_warnings (Some ped) = clearance_case ped ∷ width_case ped ∷ []
+crossing_warnings (Some ped) =
+    clearance_case ped ∷ width_case ped ∷ narrow_case ped ∷ wide_case ped ∷ []

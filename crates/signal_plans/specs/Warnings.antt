@@ -16,7 +16,7 @@ use Rattle.signal_plans.specs.declared.warning.Scope.TheVariants as scope
 use Rattle.signal_plans.specs.declared.warning.Warning.{Warning}
 use Rattle.signal_plans.specs.PhaseWarnings.{phase_cases, crossing_warnings}
 use Rattle.signal_plans.specs.SplitWarnings.{split_warnings}
-use Rattle.signal_plans.specs.PatternWarnings.{coordination_advice}
+use Rattle.signal_plans.specs.PatternWarnings.{coordination_advice, crowding_advice}
 use Rattle.signal_plans.specs.PlanWarnings.{plan_cases}
 
 -- the warning of a subject with a piece of advice, if there is one
@@ -47,6 +47,7 @@ abbrev pub pattern_warnings : Rows → ℕ → Option Pattern → List Warning
 pattern_warnings set n None = []
 pattern_warnings set n (Some pattern) =
     warning_of (scope.Subject (subject.Pattern n)) (coordination_advice set pattern)
+    ++ warning_of (scope.Subject (subject.Pattern n)) (crowding_advice set pattern)
 
 -- the warnings of a subject; of a sequence there are none
 abbrev pub warnings_at : Rows → Subject → List Warning

@@ -5,9 +5,9 @@ ghost use Rattle.std.specs.List.{flat_map};
 ghost use Rattle.signal_rules.specs.Lookup as set_has;
 ghost use Rattle.signal_rules.specs.Violations.{split_rows};
 ghost use Rattle.signal_plans.specs.Parts.{AreParts};
-ghost use Rattle.signal_plans.specs.Warnings.{told_cases, phase_warnings, row_warnings, pattern_warnings, warnings_at, warnings_of, warnings_of_pattern};
+ghost use Rattle.signal_plans.specs.Warnings.{told_cases, warning_of, phase_warnings, row_warnings, pattern_warnings, warnings_at, warnings_of, warnings_of_pattern};
 
-use crate::pattern::coordination_advice;
+use crate::pattern::{coordination_advice, crowding_advice};
 use crate::phase::{crossing_cases, phase_cases};
 use crate::plan::{PlanParts, parts_of, plan_cases};
 use crate::split::split_cases;
@@ -147,11 +147,18 @@ fn warn_pattern(
     ensures { OnOk result (found.new.items ≡ found.old.items
         ++ pattern_warnings set.now n (Some pattern.now)) }
 {
-    match coordination_advice(alloc, set, phases, pattern)? {
-        Some(advice) => {
-            let scope = Scope::Subject(Subject::Pattern(n));
-            tell(&scope, &[(true, advice)], found)
-        }
+    let scope = Scope::Subject(Subject::Pattern(n));
+    let apart = coordination_advice(alloc, set, phases, pattern)?;
+    tell_any(&scope, apart, found)?;
+    tell_any(&scope, crowding_advice(set, pattern, phases, phases), found)
+}
+
+/// Adds the warning of a piece of advice, if there is one.
+fn tell_any(scope: &Scope, advice: Option<Advice>, found: &mut Vec<Warning>) -> Result<(), NoMemory>
+    ensures { OnOk result (found.new.items ≡ found.old.items ++ warning_of scope.now advice) }
+{
+    match advice {
+        Some(advice) => tell(scope, &[(true, advice)], found),
         None => Ok(()),
     }
 }

@@ -1,13 +1,15 @@
-//! What an engineer is warned of in a pattern: coordinated phases that do not time together.
+//! What an engineer is warned of in a pattern: coordinated phases that do not time together, and a
+//! split that leaves another one no second.
 
 ghost use Rattle.std.specs.Prelude.{◌≡◌, ◌≤◌, ◌*◌, IfOk, length};
 ghost use Rattle.signal_rules.specs.Cases.{first_true};
 ghost use Rattle.signal_rules.specs.Lookup as set_has;
-ghost use Rattle.signal_rules.specs.Lookup.{phase_at};
-ghost use Rattle.signal_plans.specs.PatternWarnings.{coordinated_phases, own_row, begin_of, time_together, apart_from, apart_cases, or_all, coordination_advice, seconds_of};
+ghost use Rattle.signal_rules.specs.Lookup.{phase_at, split_at};
+ghost use Rattle.signal_plans.specs.PatternWarnings.{coordinated_phases, own_row, begin_of, time_together, apart_from, apart_cases, or_all, coordination_advice, seconds_of, crowded_by, crowded_cases, is_at_need, is_crowded, long_split, share_ring, takes_half};
 
+use crate::phase::is_serving;
 use crate::warning::Advice;
-use signal_records::{NoMemory, Pattern, PhaseNo, SeqNo, SplitNo, TimingSet};
+use signal_records::{NoMemory, Pattern, PhaseNo, SeqNo, SplitNo, TimingSet, need};
 use signal_rules::{is_coordinated, phase_at, ring_row, split_at, time_of};
 use std::alloc::Global;
 
@@ -127,5 +129,92 @@ fn own_row(set: &TimingSet, n: SeqNo, p: PhaseNo) -> &[PhaseNo]
     match phase_at(set, p) {
         Some(phase) => ring_row(set, n, phase.ring),
         None => &[],
+    }
+}
+
+/// What an engineer is warned of in a pattern, if one of some phases takes more than half of the
+/// cycle and leaves one of others at its need: the first two such phases.
+pub(crate) fn crowding_advice(
+    set: &TimingSet,
+    pattern: &Pattern,
+    others: &[PhaseNo],
+    phases: &[PhaseNo],
+) -> Option<Advice>
+    ensures { result ≡ first_true (crowded_cases set.now pattern.now others.now phases.now) }
+{
+    let [phase, later @ ..] = phases else {
+        return None;
+    };
+    match crowded_by(set, pattern, *phase, others) {
+        Some(advice) => Some(advice),
+        None => crowding_advice(set, pattern, others, later),
+    }
+}
+
+/// The first of some other phases that this phase leaves at its need, if it takes more than half of
+/// the cycle.
+fn crowded_by(
+    set: &TimingSet,
+    pattern: &Pattern,
+    phase: PhaseNo,
+    others: &[PhaseNo],
+) -> Option<Advice>
+    ensures { result ≡ first_true (crowded_by set.now pattern.now phase others.now) }
+{
+    for other in others {
+        if is_crowded(set, pattern, phase, *other) {
+            return Some(long_split(set, pattern, phase, *other));
+        }
+    }
+    None
+}
+
+/// What is told of a phase that takes more than half of the cycle, and another one at its need.
+fn long_split(set: &TimingSet, pattern: &Pattern, phase: PhaseNo, other: PhaseNo) -> Advice
+    ensures { result ≡ long_split set.now pattern.now phase other }
+{
+    Advice::LongSplit {
+        phase,
+        time: time_of(split_at(set, pattern.split, phase)),
+        cycle: pattern.cycle.get(),
+        other,
+    }
+}
+
+/// Whether a phase takes more than half of the cycle, and leaves another one of its ring at its
+/// need.
+fn is_crowded(set: &TimingSet, pattern: &Pattern, p: PhaseNo, q: PhaseNo) -> bool
+    ensures { result ≡ is_crowded set.now pattern.now p q }
+{
+    p != q && takes_half(set, pattern, p) && share_ring(set, p, q) && is_at_need(set, pattern, q)
+}
+
+/// Whether a phase takes more than half of the cycle.
+fn takes_half(set: &TimingSet, pattern: &Pattern, p: PhaseNo) -> bool
+    ensures { result ≡ takes_half set.now pattern.now p }
+{
+    pattern.cycle.get() < 2 * time_of(split_at(set, pattern.split, p))
+}
+
+/// Whether the set has both phases, in one ring.
+fn share_ring(set: &TimingSet, p: PhaseNo, q: PhaseNo) -> bool
+    ensures { result ≡ share_ring (phase_at set.now p) (phase_at set.now q) }
+{
+    match (phase_at(set, p), phase_at(set, q)) {
+        (Some(phase), Some(other)) => phase.ring == other.ring,
+        _ => false,
+    }
+}
+
+/// Whether a phase that its split does not omit has what it needs, and no second more.
+fn is_at_need(set: &TimingSet, pattern: &Pattern, p: PhaseNo) -> bool
+    ensures { result ≡ is_at_need (phase_at set.now p) (split_at set.now pattern.now.split p) }
+{
+    match (phase_at(set, p), split_at(set, pattern.split, p)) {
+        (Some(phase), Some(split)) => {
+            let shorter = u32::from(split.time.saturating_sub(1));
+            is_serving(Some(split)) && 10 * shorter < need(phase, split.mode)
+        }
+        _ => false,
     }
 }

@@ -10,6 +10,15 @@ use crate::warning::Advice;
 use signal_records::{Pattern, Ped, Phase, PhaseNo, Split, SplitMode, TimingSet};
 use signal_rules::split_at;
 
+/// The least passage and red of which no warning is given, in tenths of a second.
+const HALF_SECOND: u8 = 5;
+
+/// The least width of a crossing of which no warning is given, in tenths of a foot: 20 feet.
+const NARROWEST: u32 = 200;
+
+/// The greatest width of a crossing of which no warning is given, in tenths of a foot: 200 feet.
+const WIDEST: u32 = 2_000;
+
 /// What an engineer may be warned of in a phase itself, each with whether it is so. The parts are
 /// those of the set.
 pub(crate) fn phase_cases(
@@ -17,13 +26,15 @@ pub(crate) fn phase_cases(
     parts: &PlanParts,
     p: PhaseNo,
     phase: &Phase,
-) -> [(bool, Advice); 4]
+) -> [(bool, Advice); 6]
     requires { AreParts set.now parts.now }
     ensures { result ≡ phase_cases set.now p phase.now }
 {
     let Phase {
         min_green: minimum,
         max1: maximum,
+        passage,
+        red,
         ..
     } = *phase;
     let rings = parts.rings;
@@ -38,6 +49,8 @@ pub(crate) fn phase_cases(
             is_never_served(set, &parts.patterns, p),
             Advice::NeverServed,
         ),
+        (passage < HALF_SECOND, Advice::ShortPassage { passage }),
+        (red < HALF_SECOND, Advice::ShortRed { red }),
     ]
 }
 
@@ -81,12 +94,17 @@ pub(crate) fn is_serving(split: Option<Split>) -> bool
 }
 
 /// What an engineer may be warned of in a crossing, each with whether it is so.
-pub(crate) fn crossing_cases(ped: &Ped) -> [(bool, Advice); 2]
+pub(crate) fn crossing_cases(ped: &Ped) -> [(bool, Advice); 4]
     ensures { result ≡ crossing_warnings (Some ped.now) }
 {
     let width = ped.width.get();
     [
         (ped.clear == 0, Advice::NoClearance { width }),
         (width == 0, Advice::NotMeasured),
+        (
+            width != 0 && width < NARROWEST,
+            Advice::NarrowCrossing { width },
+        ),
+        (WIDEST < width, Advice::WideCrossing { width }),
     ]
 }

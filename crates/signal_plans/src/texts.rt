@@ -42,6 +42,13 @@ impl fmt::Display for Advice {
                 )
             }
             Advice::NeverServed => f.write_str("no pattern serves it"),
+            Advice::ShortPassage { passage } => {
+                let passage = Tenths(u32::from(*passage));
+                write!(f, "the passage is {passage} s, less than 0.5 s")
+            }
+            Advice::ShortRed { red } => {
+                write!(f, "red is {} s, less than 0.5 s", Tenths(u32::from(*red)))
+            }
             Advice::NoClearance { width } => {
                 write!(
                     f,
@@ -51,6 +58,14 @@ impl fmt::Display for Advice {
             }
             Advice::NotMeasured => {
                 f.write_str("the width of the crossing is 0 ft, not measured")
+            }
+            Advice::NarrowCrossing { width } => {
+                let width = Tenths(*width);
+                write!(f, "the crossing is {width} ft wide, less than 20.0 ft")
+            }
+            Advice::WideCrossing { width } => {
+                let width = Tenths(*width);
+                write!(f, "the crossing is {width} ft wide, more than 200.0 ft")
             }
             Advice::WalkIfCalled { time, need } => write_walk_if_called(f, *time, *need),
             Advice::RecallWithoutWalk => {
@@ -68,6 +83,18 @@ impl fmt::Display for Advice {
             Advice::CoordinatedApart { phase, other } => write!(
                 f,
                 "phases {} and {} are coordinated and do not time together",
+                phase.get(),
+                other.get()
+            ),
+            Advice::LongSplit {
+                phase,
+                time,
+                cycle,
+                other,
+            } => write!(
+                f,
+                "phase {} takes {time} s of the cycle of {cycle} s, and phase {} has no second \
+                 more than it needs",
                 phase.get(),
                 other.get()
             ),

@@ -6,7 +6,7 @@ use Rattle.signal_rules.specs.Cases.{first_true}
 use Rattle.signal_rules.specs.Slots.{Span, has_second, spans_in, later_cases, slot_cases, pair_cases}
 use Rattle.signal_rules.proofs.Cases.{first_here, first_past}
 
-parts : (second : ℕ) (span : Span) (later : List Span) → pair_cases second (spans_in second (span ∷ later)) ≡ slot_cases second span later ++ pair_cases second (spans_in second later)
+pub parts : (second : ℕ) (span : Span) (later : List Span) → pair_cases second (spans_in second (span ∷ later)) ≡ slot_cases second span later ++ pair_cases second (spans_in second later)
 parts second span later = by_test (has_second second span) where
   by_test : (b : Bool) → pair_cases second (if b then span ∷ spans_in second later else spans_in second later) ≡ (if b then later_cases second span (spans_in second later) else []) ++ pair_cases second (spans_in second later)
   by_test true = refl

@@ -1,6 +1,6 @@
 -- The lanes of a pattern as slots: what is looked up once of each phase that has any time.
-use Rattle.std.specs.Prelude.{ℕ, ◌+◌, nat_le, nat_lt, min, Bool, not, ◌&&◌, if◌then◌else◌, List, [], ◌∷◌, ◌++◌, map, filter}
-use Rattle.std.specs.List.{list_all, flat_map}
+use Rattle.std.specs.Prelude.{◌≡◌, ◌<◌, ◌≤◌, ℕ, ◌+◌, nat_le, nat_lt, min, Bool, true, false, not, ◌&&◌, if◌then◌else◌, List, [], ◌∷◌, ◌++◌, map, filter}
+use Rattle.std.specs.List.{AllByRecursion, list_all, flat_map}
 use Rattle.signal_values.specs.Numbers.{numbers}
 use Rattle.signal_records.specs.declared.record.Pattern.{Pattern}
 use Rattle.signal_records.specs.TimingSet.{Rows}
@@ -78,6 +78,13 @@ pair_cases second (span ∷ later) = later_cases second span later ++ pair_cases
 -- at each second at which one of some spans begins, the phases of the spans that last then list each other
 abbrev pub agree_where_begun : List Span → List Span → Bool
 agree_where_begun spans begun = list_all (λ span. holds (pair_cases span.from (spans_in span.from spans))) begun
+
+-- the second is the first before `end` at which one of some spans begins and two phases whose spans then last do not list each other; or it is `end`, and
+-- there is none
+pub record IsFirstConflict (spans begun : List Span) (end second : ℕ) : Type 0 where
+  pub within : second ≤ end
+  pub broken : second < end → holds (pair_cases second (spans_in second spans)) ≡ false
+  pub before : AllByRecursion (λ span. span.from < second → holds (pair_cases span.from (spans_in span.from spans)) ≡ true) begun
 
 -- V13 of spans, at each second of the cycle in turn: any two phases whose spans last then list each other
 abbrev pub conflicts_in : ℕ → List Span → Cases Reason

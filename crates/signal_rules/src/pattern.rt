@@ -5,7 +5,7 @@ ghost use Rattle.signal_rules.specs.Lookup as set_has;
 ghost use Rattle.signal_rules.specs.Cases.{first_true};
 ghost use Rattle.signal_rules.specs.Counts.{RisesAtLeast, RisesAtMost};
 ghost use Rattle.signal_rules.specs.PatternRules.{splits_cases, rows_cases, offset_cases, coordination_cases, is_coordinated, rings_cases};
-ghost use Rattle.signal_rules.specs.Slots.{spans_of, conflicts_in, agree_where_begun};
+ghost use Rattle.signal_rules.specs.Slots.{IsFirstConflict, spans_of, conflicts_in, agree_where_begun};
 
 use crate::lanes::{Slot, lane_seconds, pair_reason, row_fills};
 use crate::lookup::{ring_row, split_at};
@@ -129,10 +129,29 @@ pub(crate) fn rings_agree(slots: &[Slot<'_>], ticks: &mut u64) -> bool
 pub(crate) fn conflict_reason(slots: &[Slot<'_>], cycle: Cycle) -> Option<Reason>
     ensures { result ≡ first_true (conflicts_in cycle slots.now) }
 {
-    for second in 0..cycle.get() {
-        if let Some(reason) = pair_reason(slots, second) {
-            return Some(reason);
-        }
+    let end = cycle.get();
+    let first = first_conflict(slots, slots, end);
+    if first == end {
+        return None;
     }
-    None
+    pair_reason(slots, first)
+}
+
+/// The first second before `end` at which one of some slots begins and two phases time together
+/// that do not list each other; `end` where there is none. The first second of a conflict is the
+/// one at which the later of its two phases begins.
+fn first_conflict<'s>(slots: &[Slot<'s>], begun: &[Slot<'s>], end: u32) -> u32
+    ensures { IsFirstConflict slots.now begun.now end result }
+{
+    let [slot, later @ ..] = begun else {
+        return end;
+    };
+    let first = first_conflict(slots, later, end);
+    if first <= slot.from {
+        return first;
+    }
+    if pair_reason(slots, slot.from).is_none() {
+        return first;
+    }
+    slot.from
 }

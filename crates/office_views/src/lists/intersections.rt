@@ -1,6 +1,6 @@
 //! The list of the intersections, and that of the overdue inspections.
 
-use super::list::{Cell, Column, print_csv, print_list, record_of};
+use super::list::{Cell, Column, ListStyle, first_records, print_csv, print_list, record_of};
 use cabinet_core::OverdueRow;
 use office_files::state_word;
 use office_machine::intersections::ListedIntersection;
@@ -8,6 +8,8 @@ use signal_records::NoMemory;
 use std::alloc::Global;
 
 const HEADING: &str = "    No     Rev  State        Owner         Rows  Days  Name\n";
+
+const NAMES: [&str; 7] = ["id", "revision", "state", "owner", "rows", "name", "days"];
 
 const COLUMNS: [Column; 7] = [
     Column::Right(0, 6),
@@ -21,14 +23,14 @@ const COLUMNS: [Column; 7] = [
 
 /// The list of intersections in UTF-8: the number of each, its revision, state, owner or `-`,
 /// number of committed rows, days from one inspection to the next, and name. As CSV a record for
-/// each, with the name before the days, nothing for `-`, and no heading. `NoMemory` means that a
-/// growth was refused.
+/// each, with the name before the days, and nothing for `-`. `NoMemory` means that a growth was
+/// refused.
 pub fn intersections_list(
     alloc: Global,
-    csv: bool,
+    style: ListStyle,
     list: &[ListedIntersection],
 ) -> Result<Vec<u8>, NoMemory> {
-    let mut records = Vec::new(alloc);
+    let mut records = first_records(alloc, style, &NAMES)?;
     for listed in list {
         // A clerk may be called `-`: nobody is an empty word, shown so as CSV.
         let owner = match &listed.holder {
@@ -46,14 +48,19 @@ pub fn intersections_list(
         ];
         records.push(record_of(alloc, &cells)?)?;
     }
-    print_list(alloc, csv, HEADING, &COLUMNS, &records)
+    print_list(alloc, style, HEADING, &COLUMNS, &records)
 }
 
 /// The overdue intersections as CSV, in UTF-8: a record for each, in order, with its number, its
 /// name, and the day on which its inspection fell due, as `YYYY-MM-DD`, or nothing where there
-/// never was one. No record is a heading. `NoMemory` means that a growth was refused.
-pub fn overdue_csv(alloc: Global, rows: &[OverdueRow]) -> Result<Vec<u8>, NoMemory> {
-    let mut records = Vec::new(alloc);
+/// never was one; perhaps below the names of these fields. `NoMemory` means that a growth was
+/// refused.
+pub fn overdue_csv(
+    alloc: Global,
+    style: ListStyle,
+    rows: &[OverdueRow],
+) -> Result<Vec<u8>, NoMemory> {
+    let mut records = first_records(alloc, style, &["id", "name", "due"])?;
     for row in rows {
         let due = match row.due {
             None => Cell::Word(""),

@@ -2,13 +2,37 @@
 
 ghost use Rattle.std.specs.Prelude.{◌≡◌, true, map, IfOk, string_bytes};
 ghost use Rattle.csv.specs.Records.{fields_of};
-ghost use Rattle.office_views.specs.Lists.{IsReadBack, cell_text};
+ghost use Rattle.office_views.specs.Lists.{IsReadBack, cell_text, is_csv};
 
 use cabinet_core::{Date, write_date};
 use csv::ByteRecord;
 use office_files::csv_file;
 use signal_records::NoMemory;
 use std::alloc::{AllocError, Global};
+use unicode_width::UnicodeWidthStr;
+
+/// How a list is printed.
+#[derive(Clone, Copy)]
+pub enum ListStyle {
+    /// Lines of columns below their heading, and how many they are.
+    Lines,
+    /// CSV.
+    Csv,
+    /// CSV, whose first record has the names of its fields.
+    HeadedCsv,
+}
+
+impl ListStyle {
+    /// Whether the list is CSV.
+    pub(crate) fn is_csv(self) -> bool
+        ensures { result ≡ is_csv self }
+    {
+        match self {
+            ListStyle::Lines => false,
+            ListStyle::Csv | ListStyle::HeadedCsv => true,
+        }
+    }
+}
 
 /// What stands in a cell of a list.
 #[derive(Clone, Copy)]
@@ -18,8 +42,8 @@ pub(crate) enum Cell<'a> {
     Day(Date),
 }
 
-/// A column of the lines of a list: the place of its cell in a record, from 0, and the bytes that
-/// it is wide. A longer cell stands whole.
+/// A column of the lines of a list: the place of its cell in a record, from 0, and how wide it is
+/// on a terminal, in characters of Latin. A longer cell stands whole.
 #[derive(Clone, Copy)]
 pub(crate) enum Column {
     /// At the right.
@@ -52,14 +76,22 @@ pub(crate) fn record_of(alloc: Global, cells: &[Cell<'_>]) -> Result<ByteRecord,
     Ok(row)
 }
 
+/// How wide a field is on a terminal: an accent takes no place of its own, a wide letter two.
+fn width_of(field: &[u8]) -> usize {
+    match str::from_utf8(field) {
+        Ok(text) => text.width(),
+        Err(_) => field.len(),
+    }
+}
+
 fn push_spaces(text: &mut Vec<u8>, width: usize, field: &[u8]) -> Result<(), AllocError> {
-    for _ in field.len()..width {
+    for _ in width_of(field)..width {
         text.push(b' ')?;
     }
     Ok(())
 }
 
-/// Appends a field, and spaces up to so many bytes.
+/// Appends a field, and spaces up to a width.
 fn push_left(text: &mut Vec<u8>, width: usize, field: &[u8]) -> Result<(), AllocError> {
     text.extend_from_slice(field)?;
     push_spaces(text, width, field)
@@ -103,6 +135,26 @@ pub(crate) fn push_line(
     Ok(push_record(text, columns, &record)?)
 }
 
+/// Appends a heading, and below it the line of each record.
+pub(crate) fn push_lines(
+    text: &mut Vec<u8>,
+    heading: &str,
+    columns: &[Column],
+    records: &[ByteRecord],
+) -> Result<(), AllocError> {
+    text.extend_from_slice(heading.as_bytes())?;
+    for record in records {
+        push_record(text, columns, record)?;
+    }
+    Ok(())
+}
+
+/// Appends the last line of a list: how many there are.
+pub(crate) fn push_count(alloc: Global, text: &mut Vec<u8>, count: usize) -> Result<(), NoMemory> {
+    let end = format!(in alloc; "Count {count}\n")?;
+    Ok(text.extend_from_slice(end.as_bytes())?)
+}
+
 /// A list as lines: its heading, the line of each record, and their count.
 pub(crate) fn print_lines(
     alloc: Global,
@@ -110,36 +162,49 @@ pub(crate) fn print_lines(
     columns: &[Column],
     records: &[ByteRecord],
 ) -> Result<Vec<u8>, NoMemory> {
-    let count = records.len();
-    let end = format!(in alloc; "Count {count}\n")?;
     let mut text = Vec::new(alloc);
-    text.extend_from_slice(heading.as_bytes())?;
-    for record in records {
-        push_record(&mut text, columns, record)?;
-    }
-    text.extend_from_slice(end.as_bytes())?;
+    push_lines(&mut text, heading, columns, records)?;
+    push_count(alloc, &mut text, records.len())?;
     Ok(text)
 }
 
-/// A list as CSV, without a heading. Whatever its words contain, it is read back as its records.
+/// The records with which a list begins: that of its fields' names, where it is CSV with headings;
+/// else none.
+pub(crate) fn first_records(
+    alloc: Global,
+    style: ListStyle,
+    names: &[&str],
+) -> Result<Vec<ByteRecord>, NoMemory> {
+    let mut records = Vec::new(alloc);
+    if matches!(style, ListStyle::HeadedCsv) {
+        let mut row = ByteRecord::new(alloc);
+        for name in names {
+            row.push_field(name.as_bytes())?;
+        }
+        records.push(row)?;
+    }
+    Ok(records)
+}
+
+/// A list as CSV. Whatever its words contain, it is read back as its records.
 pub(crate) fn print_csv(alloc: Global, records: &[ByteRecord]) -> Result<Vec<u8>, NoMemory>
     ensures { IfOk result (λ text. IsReadBack (map fields_of records.now) text.items) }
 {
     csv_file(alloc, records)
 }
 
-/// A list as CSV without a heading, or as lines of columns below this heading.
+/// A list as CSV, or as lines of columns below this heading.
 pub(crate) fn print_list(
     alloc: Global,
-    csv: bool,
+    style: ListStyle,
     heading: &str,
     columns: &[Column],
     records: &[ByteRecord],
 ) -> Result<Vec<u8>, NoMemory>
-    ensures { csv ≡ true →
+    ensures { is_csv style ≡ true →
         IfOk result (λ text. IsReadBack (map fields_of records.now) text.items) }
 {
-    if csv {
+    if style.is_csv() {
         print_csv(alloc, records)
     } else {
         print_lines(alloc, heading, columns, records)

@@ -1,6 +1,6 @@
-//! What an office holds, as lists for its people: its intersections, its stock, the open orders,
-//! the used parts, and the register of a cabinet. All but the register can also be CSV, and the
-//! overdue inspections are CSV alone.
+//! What an office holds, as lists for its people: its intersections, its stock, a part, the open
+//! orders, the used parts, what was done by day, and the register of a cabinet. All but a part and
+//! the register can also be CSV, and the overdue inspections are CSV alone.
 //!
 //! A list as CSV is read back as the cells of its rows. Which cells those are, and how a line shows
 //! them, is tested.
@@ -8,10 +8,17 @@
 mod intersections;
 mod list;
 mod orders;
+mod part;
 mod parts;
 mod register;
+mod used;
+mod work;
 
 pub use intersections::{intersections_list, overdue_csv};
-pub use orders::{orders_list, orders_text};
-pub use parts::{UsedPart, add_used, stock_list, used_list};
+pub use list::ListStyle;
+pub use orders::{orders_by_age, orders_list, orders_text};
+pub use part::{PartShown, part_text};
+pub use parts::stock_list;
 pub use register::cabinet_text;
+pub use used::{Days, UsedPart, add_used, used_list};
+pub use work::{DayWork, add_work, work_list};

@@ -13,19 +13,39 @@ use safe_markup::Markup;
 use signal_plans::{Warning, warnings};
 use signal_records::{NoMemory, TimingSet};
 use signal_rules::reasons;
-use std::alloc::Global;
+use std::alloc::{AllocError, Global};
 use std::fmt;
 
-/// The markup of a page up to its title.
+/// The markup of a page between its title as CSS and its title.
 const HEAD: &str = "\
-<!DOCTYPE html>
-<html lang='en'>
+\"'>
 <head>
 <meta charset='utf-8'>
 <meta name='viewport' content='width=device-width, initial-scale=1'>
 <title>";
 
+/// A text as CSS has it between double quotes; a control character is a space.
+fn css_text(alloc: Global, text: &str) -> Result<String, AllocError> {
+    let mut css = String::new(alloc);
+    for letter in text.chars() {
+        match letter {
+            '"' => css.push_str("\\22 ")?,
+            '\\' => css.push_str("\\5c ")?,
+            letter if letter.is_control() => css.push(' ')?,
+            letter => css.push(letter)?,
+        }
+    }
+    Ok(css)
+}
+
+/// Writes the head of a page, with its title, which also stands on each printed page.
 pub(crate) fn push_head(page: &mut Markup, title: &str) -> fmt::Result {
+    let printed = css_text(page.alloc(), title)?;
+    page.enclose(
+        "<!DOCTYPE html>\n<html lang='en' style='--title: \"",
+        &printed,
+        "",
+    )?;
     page.enclose(HEAD, &title, "</title>\n<style>\n")?;
     page.own(STYLE)?;
     page.own("</style>\n</head>\n")
@@ -147,19 +167,25 @@ pub fn intersection_page(
     Ok(page.into_bytes())
 }
 
-fn push_plan_page(page: &mut Markup, plan: &TimingSet) -> fmt::Result {
-    push_head(page, "Timing plan")?;
+fn push_plan_page(page: &mut Markup, file: &str, plan: &TimingSet) -> fmt::Result {
+    let title = format!(in page.alloc(); "Timing plan: {file}")?;
+    push_head(page, &title)?;
     page.own(BODY)?;
-    page.own("Timing plan</h1>\n</header>\n<main id='main'>\n")?;
+    page.enclose(
+        "Timing plan: <bdi>",
+        &file,
+        "</bdi></h1>\n</header>\n<main id='main'>\n",
+    )?;
     push_judged(page, "", plan, None)?;
     page.own(END)
 }
 
-/// The page of a plan alone as one HTML text in UTF-8, which needs no other file: how many reasons
-/// there are why it breaks rules, its warnings, its pictures, and its tables, each row with its
-/// reasons and warnings below it. `NoMemory` means that a growth was refused.
-pub fn plan_page(alloc: Global, plan: &TimingSet) -> Result<Vec<u8>, NoMemory> {
+/// The page of a plan alone as one HTML text in UTF-8, which needs no other file: the name of its
+/// file, how many reasons there are why it breaks rules, its warnings, its pictures, and its
+/// tables, each row with its reasons and warnings below it. `NoMemory` means that a growth was
+/// refused.
+pub fn plan_page(alloc: Global, file: &str, plan: &TimingSet) -> Result<Vec<u8>, NoMemory> {
     let mut page = Markup::new(alloc);
-    push_plan_page(&mut page, plan).map_err(|_| NoMemory)?;
+    push_plan_page(&mut page, file, plan).map_err(|_| NoMemory)?;
     Ok(page.into_bytes())
 }

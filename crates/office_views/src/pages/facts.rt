@@ -2,7 +2,7 @@
 
 use super::cell::{Cell, due_cell, last_cell, push_content};
 use cabinet_core::{CabinetView, latest, open_count};
-use draft_core::state::Verdict;
+use draft_core::state::{DbState, Verdict};
 use office_machine::reply::{IntersectionState, state_name};
 use safe_markup::Markup;
 use std::fmt;
@@ -26,6 +26,11 @@ const NAMES: [&str; 9] = [
     "Committed rows",
     "Warnings of the committed plan",
 ];
+
+/// Whether a fact is told in this state: a verify status is one of a draft that was handed over.
+fn is_told(name: &str, state: DbState) -> bool {
+    *name != *"Verify status" || matches!(state, DbState::Verify | DbState::Done)
+}
 
 /// Writes the facts of the cabinet, of the plan and of its draft.
 pub(crate) fn push_facts(
@@ -56,9 +61,11 @@ pub(crate) fn push_facts(
     ];
     page.own("<dl>\n")?;
     for (name, value) in NAMES.iter().zip(&values) {
-        page.enclose("<div><dt>", name, "</dt><dd>")?;
-        push_content(page, value)?;
-        page.own("</dd></div>\n")?;
+        if is_told(name, state.state) {
+            page.enclose("<div><dt>", name, "</dt><dd>")?;
+            push_content(page, value)?;
+            page.own("</dd></div>\n")?;
+        }
     }
     page.own("</dl>\n")
 }

@@ -15,23 +15,23 @@ use std::fmt;
 const INTERSECTION_COLUMNS: [Column; 10] = [
     Column::Numbers("No"),
     Column::Words("Name"),
+    Column::Words("Next inspection due"),
+    Column::Numbers("Open orders"),
+    Column::Numbers("Warnings"),
     Column::Words("State"),
     Column::Words("Draft of"),
     Column::Numbers("Revision"),
     Column::Numbers("Committed rows"),
-    Column::Numbers("Warnings"),
-    Column::Numbers("Open orders"),
     Column::Words("Last inspection"),
-    Column::Words("Next inspection due"),
 ];
 
 const ORDER_COLUMNS: [Column; 6] = [
     Column::Numbers("No"),
-    Column::Words("Name"),
     Column::Numbers("Order"),
     Column::Words("Opened"),
-    Column::Words("Clerk"),
     Column::Words("Work"),
+    Column::Words("Name"),
+    Column::Words("Clerk"),
 ];
 
 const STOCK_COLUMNS: [Column; 2] = [Column::Words("Part"), Column::Numbers("On hand (pieces)")];
@@ -54,14 +54,14 @@ fn push_entry(page: &mut Markup, entry: &IndexEntry, overdue: bool) -> fmt::Resu
     let cells = [
         Cell::Link(listed.id.get()),
         Cell::Name(listed.name.as_str()),
+        due_cell(entry.last, listed.interval, overdue),
+        Cell::Number(entry.open_orders as u64),
+        Cell::Number(entry.warnings as u64),
         Cell::Words(state_word(&listed.holder)),
         holder,
         Cell::Number(u64::from(listed.revision.get())),
         Cell::Number(listed.rows as u64),
-        Cell::Number(entry.warnings as u64),
-        Cell::Number(entry.open_orders as u64),
         last_cell(entry.last),
-        due_cell(entry.last, listed.interval, overdue),
     ];
     push_row(page, "<tr>", &cells, &[])
 }
@@ -85,12 +85,12 @@ fn push_orders(page: &mut Markup, orders: &[NamedOrder]) -> fmt::Result {
     for named in orders {
         let order = &named.listed.order;
         let cells = [
-            Cell::Head(named.listed.id.get()),
-            Cell::Name(named.name.as_str()),
+            Cell::Link(named.listed.id.get()),
             Cell::Number(u64::from(order.number.get())),
             Cell::Day(order.opened.date()),
-            Cell::Name(order.clerk.as_str()),
             Cell::Name(order.text.as_str()),
+            Cell::Name(named.name.as_str()),
+            Cell::Name(order.clerk.as_str()),
         ];
         push_row(page, "<tr>", &cells, &[])?;
     }

@@ -2,7 +2,7 @@
 
 use super::cell::Tenths;
 use safe_markup::Markup;
-use signal_diagram::figure;
+use signal_diagram::{figure, most_seconds};
 use signal_records::{Pattern, PatternNo, Ped, Phase, PhaseNo, Row, Split, TimingSet};
 use signal_rules::split_at;
 use std::fmt::{self, Write};
@@ -42,16 +42,18 @@ fn push_cut_note(
     page.own("</p>\n")
 }
 
-/// Writes the picture of a pattern, and below it the notes on what it cannot show.
+/// Writes the picture of a pattern, with room for so many seconds, and below it the notes on what
+/// it cannot show.
 fn push_picture(
     page: &mut Markup,
     set: &TimingSet,
     rows: &[Row],
+    room: u16,
     n: PatternNo,
     pattern: &Pattern,
 ) -> fmt::Result {
     page.own("<figure tabindex='0'>\n")?;
-    if let Some(picture) = figure(page.alloc(), set, n)? {
+    if let Some(picture) = figure(page.alloc(), set, n, room)? {
         page.append(&picture)?;
     }
     for row in rows {
@@ -62,11 +64,12 @@ fn push_picture(
     page.own("</figure>\n")
 }
 
-/// Writes the pictures of all patterns in the rows of a set.
+/// Writes the pictures of all patterns in the rows of a set, all in one scale.
 pub(crate) fn push_pictures(page: &mut Markup, set: &TimingSet, rows: &[Row]) -> fmt::Result {
+    let room = most_seconds(page.alloc(), set)?;
     for row in rows {
         if let Row::Pattern(n, pattern) = row {
-            push_picture(page, set, rows, *n, pattern)?;
+            push_picture(page, set, rows, room, *n, pattern)?;
         }
     }
     Ok(())

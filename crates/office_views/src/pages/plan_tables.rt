@@ -2,6 +2,7 @@
 
 use super::plan_rows::{TABLES, cells_of, kind_of_row};
 use super::table::{close_table, open_table, push_row};
+use crate::resting::rest_remark;
 use safe_markup::Markup;
 use signal_plans::{Scope, Warning};
 use signal_records::{Row, TimingSet};
@@ -21,14 +22,17 @@ pub(crate) struct Remarks<'a> {
 fn push_remarks(
     page: &mut Markup,
     columns: usize,
+    set: &TimingSet,
     remarks: &Remarks<'_>,
     subject: &Subject,
 ) -> fmt::Result {
     for broken in remarks.reasons {
         if broken.violation.subject == *subject {
+            let rest = rest_remark(page.alloc(), set, broken)?;
             page.enclose("<tr class='why'><td colspan='", &columns, "'><p>")?;
             page.enclose("", &broken.violation.rule, ": ")?;
-            page.enclose("", &broken.reason, "</p></td></tr>\n")?;
+            page.enclose("", &broken.reason, "")?;
+            page.enclose("", &rest, "</p></td></tr>\n")?;
         }
     }
     for warning in remarks.warnings {
@@ -52,7 +56,7 @@ fn push_rows(
     for row in rows {
         if kind_of_row(row) == kind {
             push_row(page, "<tr>", &cells_of(page.alloc(), set, row)?, &[])?;
-            push_remarks(page, columns, remarks, &subject_of(row))?;
+            push_remarks(page, columns, set, remarks, &subject_of(row))?;
         }
     }
     Ok(())

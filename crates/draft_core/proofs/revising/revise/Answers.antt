@@ -2,9 +2,9 @@ use Rattle.std.proofs.Common.{◌≡◌, ◌==◌, [], List, Ok, ap, false, leng
 use Rattle.signal_rules.specs.{Violations.violations_of, declared.violation.Violation.Violation}
 use Rattle.signal_records.specs.{TimingSet.after_changes, declared.state.Stage.TheVariants.Done}
 use Rattle.draft_core.specs.Moves.{Follows}
-use Rattle.draft_core.specs.Revising.{RevisionWrites, base_of, committing, take_up}
+use Rattle.draft_core.specs.Revising.{RevisionWrites, WritesRows, base_of, committing, take_up}
 use Rattle.draft_core.proofs.{Lines.none_found, Makes.edit_makes, News.revision_settles}
-use Rattle.draft_core.proofs.Revisions.{breaks_stay, found_after, open_lines, open_writes, settled_lines, takes_up}
+use Rattle.draft_core.proofs.Revisions.{breaks_stay, found_after, open_lines, settled_lines, takes_up}
 use Rattle.draft_core.proofs.revising.revise.Goals.{else-commit-via-then-commit+in_ok-violations_after+else-is_empty, else-commit-via-else-commit}
 use Rattle.draft_core.proofs.revising.revise.Goals as goal
 
@@ -29,7 +29,7 @@ returns-then-is_empty c =
           (record { stage = Done; owner = takes.owner; set = after }) clerk stands
           (ap (λ set. after_changes set settled) stands.read.1 ∙ sym same));
       writes = revision_settles timing settled edits c.commit_settled.result
-          c.commit_settled.ensures.holder c.commit_settled.ensures.writes;
+          c.commit_settled.ensures.state c.commit_settled.ensures.writes;
     }
 
 pub returns : goal.returns
@@ -65,7 +65,7 @@ returns c =
       writes = subst (RevisionWrites timing edits settled) (sym c.moves_to.ensures) (record {
         news = λ old order. did.news;
         drafts = did.among;
-        rows = open_writes holder opens timing.delta edits settled c.in_ok-rows.rows did.no_timing
-            did.few;
+        rows = subst (λ state. WritesRows state timing.delta edits settled c.in_ok-rows.rows)
+            (sym opens) (did.no_timing, did.few);
       });
     }

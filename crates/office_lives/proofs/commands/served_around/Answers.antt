@@ -19,7 +19,7 @@ returns g c clean =
         one.3,
         (
           two.1,
-          subst (λ old. (g.T.OfficeTask.effect c.args.task.now).does old c.in_ok-done.done two.1) first two.3,
+          subst (λ old. (g.T.OfficeTask.effect c.args.task.now c.done_once.new.task).does old c.in_ok-done.done two.1) first two.3,
           (three.1, (λ before stands. three.3 before (subst (λ t. StandForSound t before) (sym second) stands)), refl),
         ),
       ),

@@ -10,11 +10,11 @@ returns-clause-clean g c =
     let start = ends_of (g.R.Source.told c.args.reader.now) (g.W.Sink.told c.args.writer.now) in
     let end = ends_of (g.R.Source.told c.answered_in-ended.new.source) (g.W.Sink.told c.answered_in-ended.new.out) in
     some_so (λ it. IsClosedWith c.answered_in-ended.result it.0 it.1) _ c.closed_after.result
-    (λ it is. (subst (EndsOver c.args.files (stream_work 1000 start end _)) is c.answered_in-ended.ensures).clean) c.closed_after.ensures
+    (λ it is. (subst (EndsOver c.args.files (stream_work 1000000 start end _)) is c.answered_in-ended.ensures).clean) c.closed_after.ensures
 
 pub returns-clause-made : goal.returns-clause-made
 returns-clause-made g c =
     let start = ends_of (g.R.Source.told c.args.reader.now) (g.W.Sink.told c.args.writer.now) in
     let end = ends_of (g.R.Source.told c.answered_in-ended.new.source) (g.W.Sink.told c.answered_in-ended.new.out) in
     some_so (λ it. IsClosedWith c.answered_in-ended.result it.0 it.1) _ c.closed_after.result
-    (λ it is. (subst (EndsOver c.args.files (stream_work 1000 start end _)) is c.answered_in-ended.ensures).made) c.closed_after.ensures
+    (λ it is. (subst (EndsOver c.args.files (stream_work 1000000 start end _)) is c.answered_in-ended.ensures).made) c.closed_after.ensures

@@ -1,10 +1,9 @@
-use Rattle.std.proofs.Common.{rules}
-use Rattle.office_machine.specs.declared.command.Command.TheVariants as command
-use Rattle.signal_office_commands.proofs.ChangingLemmas.{changes_none, runs_change}
+use Rattle.std.proofs.Common.{refl}
+use Rattle.signal_office_commands.proofs.ChangingLemmas.{looks_first, changes_weaker}
 use Rattle.signal_office_commands.proofs.changing.abandon.Goals as goal
 
-pub returns : goal.returns
-returns g c = runs_change (command.Abandon c.args.id) _ c.in_ok-clerk.ensures c.change.ensures
+pub returns-in-Ok : goal.returns-in-Ok
+returns-in-Ok g c = changes_weaker (looks_first c.tell_dropped.ensures c.in-Ok.ensures) (λ tables made both. (_, both.1, (_, refl))) (λ tables found after. after)
 
-pub returns-in_err-clerk : goal.returns-in_err-clerk
-returns-in_err-clerk g c = changes_none (λ tables. search rules)
+pub returns-in-Err : goal.returns-in-Err
+returns-in-Err g c = changes_weaker (looks_first c.tell_dropped.ensures c.in-Err.ensures) (λ tables made both. (_, both.1, refl)) (λ tables found after. after)

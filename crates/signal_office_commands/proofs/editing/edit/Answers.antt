@@ -1,11 +1,12 @@
-use Rattle.std.proofs.Common.{refl}
-use Rattle.signal_office_commands.proofs.ChangingLemmas.{asks_after, changes_weaker}
-use Rattle.signal_office_commands.proofs.EditingLemmas.{explained}
+use Rattle.std.proofs.Common.{inl, inr, refl}
+use Rattle.signal_office_commands.proofs.ChangingLemmas.{changes_none, changes_weaker}
+use Rattle.signal_office_commands.proofs.FaultLemmas.{err_is}
 use Rattle.signal_office_commands.proofs.editing.edit.Goals as goal
 
-pub returns-in-Ok : goal.returns-in-Ok
-returns-in-Ok g c = changes_weaker c.in-Ok.ensures (λ tables made revises. (_, revises, refl)) (λ tables found after. after)
+pub returns : goal.returns
+returns g c =
+    let asked = c.in_ok-asked.ensures.asked in
+    changes_weaker c.edit_found.ensures (λ tables made found. inl (_, asked, found)) (λ tables found after. (_, asked, after))
 
-pub returns-in-Err : goal.returns-in-Err
-returns-in-Err g c = changes_weaker (asks_after c.in-Err.ensures c.refused_edit.ensures.looks)
-    (λ tables made both. (_, both.0, explained _ c.in-Err.why _ c.refused_edit.ensures.plain)) (λ tables found after. after)
+pub returns-in_err-asked : goal.returns-in_err-asked
+returns-in_err-asked g c = changes_none (λ tables. inr (_, err_is _ _ c.from_residual.ensures.1, c.in_err-asked.ensures.unread, refl))

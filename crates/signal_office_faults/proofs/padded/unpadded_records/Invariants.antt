@@ -1,8 +1,9 @@
-use Rattle.std.proofs.Common.{◌≡◌, map, take}
+use Rattle.std.proofs.Common.{◌≡◌, ◌++◌, drop, map}
 use Rattle.csv.specs.Records.{fields_of}
-use Rattle.signal_office_faults.specs.Padded.{unpadded}
+use Rattle.signal_office_faults.specs.Padded.{unpadded_rows}
 use Rattle.signal_office_faults.proofs.padded.unpadded_records.Given as goal
 
+-- the rows so far, and those of the records that are left
 abbrev pub invariant-loop-record : goal.invariant-loop-record
 invariant-loop-record l =
-    map fields_of l.rows.items ≡ map unpadded (map fields_of (take l.record-index l.records))
+    map fields_of l.rows.items ++ unpadded_rows (map fields_of (drop l.record-index l.records)) ≡ unpadded_rows (map fields_of l.records)

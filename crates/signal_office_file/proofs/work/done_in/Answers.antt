@@ -5,7 +5,7 @@ use Rattle.signal_office_file.proofs.FilesLemmas.{closing_told, first_told, uncl
 use Rattle.signal_office_file.proofs.work.done_in.Goals as goal
 
 pub returns-in-Err : goal.returns-in-Err
-returns-in-Err g c = (refl, c.in-Err.ensures.refused)
+returns-in-Err g c = ((refl, refl), c.in-Err.ensures.refused)
 
 -- closed on a clean disk, the database was open to the end
 pub returns-in-Ok-close_office : goal.returns-in-Ok-close_office

@@ -1,6 +1,6 @@
 use Rattle.std.proofs.Common.{ap, inl, ◌∙◌}
 use Rattle.office_machine.specs.declared.{refusal.Refusal.Refusal, reply.Reply.TheVariants.Refused}
-use Rattle.office_desk.proofs.Edits.{decided_edit, fault_edit, fault_told}
+use Rattle.office_desk.proofs.Edits.{fault_edit, fault_told}
 use Rattle.office_desk.proofs.office.Office.decide_edit.Goals as goal
 
 pub returns-in-Ok-clause-shut : goal.returns-in-Ok-clause-shut
@@ -8,7 +8,7 @@ returns-in-Ok-clause-shut g c = λ clean. inl (c.in-Ok.ensures.reads.read tt cle
 
 pub returns-in-Ok-clause-answers : goal.returns-in-Ok-clause-answers
 returns-in-Ok-clause-answers g c =
-    decided_edit _ _ _ _ _ _ (rw (← c.self.view_is) c.in-Ok.ensures.decides)
+    rw (← c.self.view_is) c.in-Ok.ensures.decides
 
 pub returns-in-Err-clause-shut : goal.returns-in-Err-clause-shut
 returns-in-Err-clause-shut g c =

@@ -9,9 +9,9 @@ pub returns-in-Ok-clause-bytes : goal.returns-in-Ok-clause-bytes
 returns-in-Ok-clause-bytes g c =
     let inside = c.self.inside in
     let end = inside.end - inside.start in
-    let piece = c.read_from.new.buf in
+    let piece = c.read.new.buf in
     let all = c.deref_mut.result.now in
-    let fits : length all - end ≡ length piece = omega (arith, c.read_from.auto.buf, length-take (length all - end) (drop end all), length-drop end all) in
+    let fits : length all - end ≡ length piece = omega (arith, c.read.auto.buf, length-take (length all - end) (drop end all), length-drop end all) in
     let same_len : length (put_mid end (length all - end) all piece) ≡ c.move_to_front.new.bytes.len =
     omega (arith, length-put_mid all piece end (length all - end) fits (omega arith), c.deref_mut.ensures.len) in
     let view : slice_range (put_mid end (length all - end) all piece) 0 (end + c.in-Ok.n) ≡ c.args.self.now ++ take c.in-Ok.n piece =

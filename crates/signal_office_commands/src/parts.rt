@@ -1,0 +1,164 @@
+//! What an office holds of a part.
+#![tactic(auto, using(office_desk::proofs::Looks::keeps, office_desk::proofs::Looks::keeps_then, office_desk::proofs::Looks::keeps_none, crate::proofs::LookLemmas::keeps_shelf))]
+
+ghost use Rattle.office_desk.specs.Asks.{KeepsOffice};
+
+use crate::listing::used_parts;
+use crate::reads::or_fault;
+use crate::reporting::{Report, report_of};
+use cabinet_core::{Day, Delivery, Hand, PartCode, RecordCommand};
+use office_desk::office::Office;
+use office_desk::{Checked, There};
+use office_tables_shelf::shelf::Shelf;
+use office_views::{PartShown, UsedPart, part_text};
+use signal_office_faults::Fault;
+use signal_office_line::Part;
+use signal_records::{Amount, NoMemory, RecordNo};
+use std::alloc::Global;
+
+/// How many pieces of a part are on hand, if there ever was a delivery of it.
+fn hand_of(parts: &[(PartCode, Hand)], part: &PartCode) -> Option<Hand> {
+    for (code, hand) in parts {
+        if *code == *part {
+            return Some(*hand);
+        }
+    }
+    None
+}
+
+/// How many pieces of a part are on hand, if there ever was a delivery of it.
+fn read_hand<S: Shelf>(
+    alloc: Global,
+    office: &mut Office<S>,
+    part: &PartCode,
+) -> Result<Option<Hand>, Fault>
+    ensures { KeepsOffice S.Shelf office.old office.new }
+{
+    let parts = or_fault(office.stock(alloc))?;
+    Ok(hand_of(parts.as_slice(), part))
+}
+
+/// A delivery of one piece on the first day, to be tried.
+fn one_piece(part: &PartCode, number: RecordNo) -> Result<Option<Delivery>, NoMemory> {
+    let (Some(day), Some(count)) = (Day::new(0), Amount::new(1)) else {
+        return Ok(None);
+    };
+    Ok(Some(Delivery {
+        part: part.clone()?,
+        number,
+        day,
+        count,
+    }))
+}
+
+/// What was tried, as the records of a try.
+fn records_of(alloc: Global, delivery: Option<Delivery>) -> Result<Vec<RecordCommand>, NoMemory> {
+    let mut records = Vec::new(alloc);
+    if let Some(delivery) = delivery {
+        records.push(RecordCommand::Receive { delivery })?;
+    }
+    Ok(records)
+}
+
+/// The delivery that is there, by what would come of one of one piece on the first day under its
+/// number: that one, or the one with which it is refused.
+fn there_by(
+    checked: Option<Checked>,
+    part: &PartCode,
+    number: RecordNo,
+) -> Result<Option<Delivery>, NoMemory> {
+    match checked {
+        Some(Checked::Same) => one_piece(part, number),
+        Some(
+            Checked::Refused {
+                there: There::Delivery(delivery),
+                ..
+            },
+        ) => Ok(Some(delivery)),
+        _ => Ok(None),
+    }
+}
+
+/// The delivery of a part with this number, if there is one: the office tells it where another one
+/// is tried under the number.
+fn read_delivery<S: Shelf>(
+    alloc: Global,
+    office: &mut Office<S>,
+    part: &PartCode,
+    number: RecordNo,
+) -> Result<Option<Delivery>, Fault>
+    ensures { KeepsOffice S.Shelf office.old office.new }
+{
+    let records = records_of(alloc, one_piece(part, number)?)?;
+    let mut checked = or_fault(office.check(alloc, &records))?;
+    Ok(there_by(checked.pop(), part, number)?)
+}
+
+/// Adds a delivery that was read, if one was, and gives how many of so many pieces are left.
+fn take_delivery(
+    deliveries: &mut Vec<Delivery>,
+    found: Option<Delivery>,
+    left: u64,
+) -> Result<u64, NoMemory> {
+    let Some(delivery) = found else {
+        return Ok(left);
+    };
+    let rest = left.saturating_sub(u64::from(delivery.count.get()));
+    deliveries.push(delivery)?;
+    Ok(rest)
+}
+
+/// The deliveries of a part by number, which together had so many pieces: no number past the last
+/// of them is looked for.
+fn read_deliveries<S: Shelf>(
+    alloc: Global,
+    office: &mut Office<S>,
+    part: &PartCode,
+    pieces: u64,
+) -> Result<Vec<Delivery>, Fault>
+    ensures { KeepsOffice S.Shelf office.old office.new }
+{
+    let mut deliveries = Vec::new(alloc);
+    let mut left = pieces;
+    for number in RecordNo::all() {
+        if left == 0 {
+            break;
+        }
+        let found = read_delivery(alloc, office, part, number)?;
+        left = take_delivery(&mut deliveries, found, left)?;
+    }
+    Ok(deliveries)
+}
+
+/// How many pieces of a part ever came: those on hand, and those that were used.
+fn pieces_of(hand: Option<Hand>, used: &[UsedPart]) -> u64 {
+    let on_hand = match hand {
+        Some(hand) => u64::from(hand.get()),
+        None => 0,
+    };
+    used.iter().fold(on_hand, |sum, it| {
+        sum.saturating_add(u64::from(it.used.count.get()))
+    })
+}
+
+/// What is on hand of a part, its deliveries and its uses.
+pub(crate) fn report_part<S: Shelf>(
+    alloc: Global,
+    office: &mut Office<S>,
+    part: &Part<'_>,
+) -> Report
+    ensures { KeepsOffice S.Shelf office.old office.new }
+{
+    let code = part.to_code(alloc)?;
+    let asked = Some(part.to_code(alloc)?);
+    let used = used_parts(alloc, office, &asked, &None)?;
+    let hand = read_hand(alloc, office, &code)?;
+    let deliveries = read_deliveries(alloc, office, &code, pieces_of(hand, &used))?;
+    let shown = PartShown {
+        part: &code,
+        hand,
+        deliveries: &deliveries,
+        used: &used,
+    };
+    report_of(part_text(alloc, &shown))
+}

@@ -1,0 +1,47 @@
+#!/usr/bin/env python3
+"""Commits the plan in a CSV file over HTTP, or prints which rules it breaks.
+
+    examples/plan.py OFFICE ID CLERK CSV      OFFICE as http://127.0.0.1:8080
+
+Each step is sent once; commit.py copes with answers that are missing. The status is 3 if the plan
+breaks a rule, and its draft is dropped then; any other refusal ends with status 1 and what came.
+"""
+import json
+import pathlib
+import sys
+import urllib.error
+import urllib.request
+
+
+def ask(url, keys=None):
+    """What the office answers. Only an answer with status 200 is read as what was asked for."""
+    body = None if keys is None else json.dumps(keys).encode()
+    try:
+        with urllib.request.urlopen(url, body, timeout=35) as answer:
+            return json.load(answer)
+    except urllib.error.HTTPError as refusal:
+        sys.exit(f"{url}: {refusal.code} {refusal.read().decode(errors='replace')}")
+    except OSError as it:
+        sys.exit(f"{url}: {it}. Ask for the intersection: it shows whether the step was done.")
+
+
+def main():
+    office, id, clerk, name = sys.argv[1:]
+    at, csv = f"{office}/intersections/{id}", pathlib.Path(name).read_text()
+
+    def step(name, **keys):
+        return ask(f"{at}/{name}", {"clerk": clerk, **keys})
+
+    step("begin")
+    step("edit-csv", csv=csv)
+    step("verify")
+    if step("check")["verify"] == "doneWithError":
+        for it in ask(f"{at}/draft")["violations"]:
+            print(it["subject"], it["rule"])
+        step("abandon")
+        sys.exit(3)
+    print("committed revision", step("commit")["revision"])
+
+
+if __name__ == "__main__":
+    main()
