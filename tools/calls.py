@@ -17,6 +17,7 @@ import pathlib
 import re
 import sys
 
+sys.path.insert(0, str(pathlib.Path(__file__).resolve().parents[1] / "tests" / "lib"))
 import sources
 
 TOP = pathlib.Path(__file__).resolve().parent.parent

@@ -32,7 +32,6 @@ Each part has a server of its own on 127.0.0.1, over tables in memory, and ends 
 Where Python's `requests` is not installed, its cases are not tried. Prints what it tries, and ends
 with status 1 if a part failed. Takes less than a minute.
 """
-import collections
 import concurrent.futures
 import contextlib
 import http.client
@@ -46,7 +45,6 @@ import random
 import select
 import signal
 import socket
-import struct
 import subprocess
 import sys
 import threading

@@ -40,7 +40,7 @@ from model.rules import violations
 from model.wire import answer, answer_bytes
 from preloaded import built
 from program import found
-from runs import NOTHING, OLD, TODAY, Ask, Command, Held, Stream, without_repeats
+from runs import NOTHING, OLD, Ask, Command, Held, Stream, without_repeats
 from second.requests import spelled
 
 THEMES = (requests.mixed, requests.transactions, requests.plans, requests.registers)

@@ -30,8 +30,8 @@ import time
 
 sys.path.insert(0, str(pathlib.Path(__file__).resolve().parents[1] / "lib"))
 import version
-from packaged import COPIES, OFFICE, OLDER, PLAN, STATE, packed, ran
-from program import TOP, found
+from packaged import COPIES, OFFICE, OLDER, PLAN, STATE, packed, part, ran
+from program import found
 from serving import Off, expect
 
 SKIPPED, INSIDE = 77, "--inside"

@@ -15,7 +15,7 @@ import subprocess
 import sys
 import tempfile
 
-from model import pictures, plan, planning, rows, rules
+from model import pictures, planning, rows, rules
 
 KEPT = 3  # a plan in so many is verified as it was drawn
 PLAIN = 10  # a plan in so many is verified without reasons too
