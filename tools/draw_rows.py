@@ -1,6 +1,6 @@
 #!/usr/bin/env python3
-"""Draws requests, has the second office (tests/lib/model) answer them, and writes both as row files,
-which tests/program/rows.py plays.
+"""Draws requests, has the second office (tests/lib/model) answer them, and writes both as row
+files, which tests/program/rows.py plays.
 
     tools/draw_rows.py                          checks that the stored rows are what is drawn today
     tools/draw_rows.py SEED COUNT               prints how often each answer, refusal, fault and

@@ -3,9 +3,10 @@
 
     tests/house/documents.py
 
-- docs/layers.svg is what tools/drawing.py draws, docs/openapi.json what tests/house/openapi.py makes, and
-  the manual page, the completions and the synopses of docs/COMMANDS.md what tests/house/words.py makes of
-  packaging/help.txt; each file of definitions begins with a comment (tools/definitions.py).
+- docs/layers.svg is what tools/drawing.py draws, docs/openapi.json what tests/house/openapi.py
+  makes, and the manual page, the completions and the synopses of docs/COMMANDS.md what
+  tests/house/words.py makes of packaging/help.txt; each file of definitions begins with a comment.
+- Each script of a drawer stands in the README.md of the drawer.
 - docs/PROOF.md and docs/ARCHITECTURE.md: each name in the sources' spelling is a word of the
   sources, and each file or definition is where it is said to be.
 - In all documents: each link leads somewhere, each file named by its path is there, no line passes
@@ -35,6 +36,8 @@ from making import picture
 TOP = pathlib.Path(__file__).resolve().parents[2]
 DOCUMENTS = [TOP / "README.md", TOP / "CONTRIBUTING.md", TOP / "CHANGELOG.md"]
 DOCUMENTS += [*sorted((TOP / "docs").glob("*.md")), TOP / "examples" / "README.md"]
+DRAWERS = [TOP / it for it in ("tests/program", "tests/house", "tests/nightly", "tools", "bench")]
+DOCUMENTS += [TOP / "tests" / "README.md", *(it / "README.md" for it in DRAWERS)]
 COLUMNS, README_LINES = 100, 200
 LONG_CODE = 70  # columns of code that is not broken
 REPEATED = 12  # words in a row that two documents share
@@ -43,10 +46,16 @@ NAME = re.compile(r"`([^`]+)`")
 FILE = r"`(\w+/(?:specs|src)/[\w/.{},]+)`"
 
 
+def named(document):
+    """A document as it is told of."""
+    return document.relative_to(TOP)
+
+
 def words():
     """All words of the sources, and the names of their files and crates."""
     paths = [path for kind in ("rt", "antt") for path in (TOP / "crates").rglob(f"*.{kind}")]
     paths += [path for kind in ("py", "row") for path in (TOP / "tests").rglob(f"*.{kind}")]
+    paths += (TOP / "tools").glob("*.py")
     paths += [TOP / "HANDLES", TOP / "crates.txt"]
     found = {word for path in paths for word in re.findall(r"\w+", path.read_text())}
     return found | {path.stem for path in paths} | {it.name for it in (TOP / "crates").iterdir()}
@@ -91,19 +100,19 @@ def missing_links():
         for path, anchor in re.findall(r"\]\(([^)#:]*)(?:#([^)]*))?\)", document.read_text()):
             target = document.parent / path if path else document
             if not target.exists():
-                yield f"{document.name} leads to {path}, which is not there"
+                yield f"{named(document)} leads to {path}, which is not there"
             elif anchor and anchor not in anchors(target.read_text()):
-                yield f"{document.name} leads to {anchor} in {target.name}, which is not there"
+                yield f"{named(document)} leads to {anchor} in {target.name}, which is not there"
 
 
 def missing_files():
     """The files of the repository that a document names by their paths."""
-    folders = "tests|bench|building|docs|crates|packaging"
+    folders = "tests|tools|bench|building|docs|crates|packaging"
     pattern = re.compile(rf"(?<![\w/.])(?:\./)?((?:{folders})/[\w./-]*\w)")
     for document in DOCUMENTS:
         for path in sorted(set(pattern.findall(document.read_text()))):
             if not (TOP / path).exists() and "/out/" not in path:
-                yield f"{document.name} names {path}, which is not there"
+                yield f"{named(document)} names {path}, which is not there"
 
 
 def wrong_lines():
@@ -114,8 +123,8 @@ def wrong_lines():
             is_free = line.startswith(("|", "    ")) or any(
                 len(it) > LONG_CODE for it in re.findall("`[^`]*`", line))
             if len(line) > COLUMNS and not is_free:
-                yield f"{document.name}:{number} has {len(line)} columns"
-            yield from (f"{document.name} names {it}, which no reader has"
+                yield f"{named(document)}:{number} has {len(line)} columns"
+            yield from (f"{named(document)} names {it}, which no reader has"
                         for it in private.findall(line))
 
 
@@ -143,7 +152,7 @@ def wrong_headlines():
     for document in DOCUMENTS:
         for found, wanted in zip(in_bold(document), (headline, exact)):
             if found and found != wanted:
-                yield f"{document.name} and PROOF.md have different headlines"
+                yield f"{named(document)} and PROOF.md have different headlines"
 
 
 def wrong_version():
@@ -155,6 +164,14 @@ def wrong_version():
     for name in (f"cayunchis_{number}_amd64.deb", f"cayunchis-{number}-amd64.tar.xz"):
         if name not in (TOP / "docs/OPERATING.md").read_text():
             yield f"OPERATING.md does not install {name}"
+
+
+def unlisted_scripts():
+    """The scripts of a drawer of which its README.md does not say what they are for."""
+    for drawer in DRAWERS:
+        text = (drawer / "README.md").read_text()
+        yield from (f"{drawer.name}/README.md lacks {it.name}" for it in sorted(drawer.iterdir())
+                    if it.suffix in (".py", ".sh", ".c") and f"`{it.name}" not in text)
 
 
 def written_by_scripts():
@@ -171,7 +188,7 @@ def wrong_beginnings():
     for document in DOCUMENTS:
         title, _, first = document.read_text().partition("\n\n")
         if not title.startswith("# ") or not first.startswith("For "):
-            yield f"{document.name} does not begin with whom it is for"
+            yield f"{named(document)} does not begin with whom it is for"
 
 
 def prose(document):
@@ -192,7 +209,7 @@ def repeated():
             rows = [" ".join(words[at:at + REPEATED]) for at in range(len(words) - REPEATED + 1)]
             wrong = next((it for it in rows if seen.get(it, document) != document), None)
             if wrong:
-                yield f"{document.name} and {seen[wrong].name} both say: {wrong}"
+                yield f"{named(document)} and {named(seen[wrong])} both say: {wrong}"
             seen.update((it, seen.get(it, document)) for it in rows)
 
 
@@ -208,7 +225,7 @@ def wrong_commands():
                 if it not in known)
     for document in DOCUMENTS:
         shown = {*re.findall(r"(?:\./office|\bsignal_office) ([a-z][\w-]*) ", document.read_text())}
-        yield from (f"{document.name} shows {it}, which is no command" for it in shown - known)
+        yield from (f"{named(document)} shows {it}, which is no command" for it in shown - known)
     faults = (TOP / "docs/COMMANDS.md").read_text().partition("## Faults")[2].partition("## ")[0]
     after = (TOP / "docs/OPERATING.md").read_text().partition("## After a fault")[2]
     for names in re.findall(r"^- ((?:`[\w ]+`(?:, )?)+)", faults, re.MULTILINE):
@@ -231,11 +248,11 @@ def wrong_quotes():
                 shown = " ".join(part.split())
                 is_code = shown.startswith(("pub fn", "pub(crate)", "/// ", "-- ", "abbrev"))
                 if is_code and not any(shown in it for it in sources):
-                    yield f"{document.name} shows code that no source has: {shown[:60]}"
+                    yield f"{named(document)} shows code that no source has: {shown[:60]}"
         for number, line in re.findall(r"Line (\d+) is\s+`([^`]*)`", text):
             code = (TOP / "crates/cabinet_core/src/decide.rt").read_text().splitlines()
             if line not in code[int(number) - 1]:
-                yield f"{document.name}: line {number} of decide.rt is not {line}"
+                yield f"{named(document)}: line {number} of decide.rt is not {line}"
 
 
 def unused_crates():
@@ -255,7 +272,8 @@ def main():
     known = words()
     wrong = [*missing_names("PROOF.md", known), *missing_names("ARCHITECTURE.md", known)]
     wrong += [*missing_links(), *missing_files(), *wrong_lines(), *wrong_sizes(),
-              *wrong_headlines(), *wrong_beginnings(), *repeated(), *wrong_commands()]
+              *wrong_headlines(), *wrong_beginnings(), *repeated(), *wrong_commands(),
+              *unlisted_scripts()]
     wrong += [*written_by_scripts(), *wrong_version()]
     wrong += [*wrong_quotes(), *unused_crates()]
     print("\n".join(wrong) if wrong else "ok")

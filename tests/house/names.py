@@ -107,7 +107,7 @@ def main():
     known, listed = {name for names in MEANT.values() for name in names.split()}, standing()
     told = [f"{name} stands in one crate alone: take it off the list"
             for name in sorted(known - shared.keys())]
-    told += [f"{name} is gone: take it off tests/house/standing_names.txt (tests/house/names.py --shorten)"
+    told += [f"{name} is gone: take it off standing_names.txt (tests/house/names.py --shorten)"
              for name in sorted(listed - short)]
     told += [f"{name} says too little: a bare participle, or in more than {MOST} crates"
              for name in sorted(short - listed)]

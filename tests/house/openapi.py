@@ -2,10 +2,11 @@
 """Makes docs/openapi.json, the description of the HTTP interface that tools read (OpenAPI 3.1), of
 the second office's tables (tests/lib/model) and of what docs/HTTP.md says of each route.
 
-    tests/house/openapi.py            checks that docs/openapi.json is what is made today, and that it
-                                describes each request and answer of the worked rows, and of drawn
-                                requests that the second office answers
-    tests/house/openapi.py --write    writes it
+    tests/house/openapi.py
+        checks that docs/openapi.json is what is made today, and that it describes each request and
+        answer of the worked rows, and of drawn requests that the second office answers
+    tests/house/openapi.py --write
+        writes it
 
 Builds nothing; needs no program. The check needs Python's jsonschema (Debian: python3-jsonschema);
 without it, it is skipped with status 77. Takes some fifteen seconds.

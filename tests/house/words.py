@@ -2,7 +2,7 @@
 """Makes the manual page, the completions of bash, zsh and fish, and the synopses of
 docs/COMMANDS.md, of what the program says of its words by `--help`.
 
-    tests/house/words.py [PROGRAM]            checks that they are what is made today, and tries them
+    tests/house/words.py [PROGRAM]            checks that they are today's, and tries them
     tests/house/words.py --write [PROGRAM]    writes them
 
 What the program says is packaging/help.txt, so that tests/house/documents.py can compare without a

@@ -1,5 +1,5 @@
-"""What a run of the program may leave in its file: the offices (tests/lib/model) of which the next run
-must find one. A run is requests to `batch` or `serve`, or another command."""
+"""What a run of the program may leave in its file: the offices (tests/lib/model) of which the next
+run must find one. A run is requests to `batch` or `serve`, or another command."""
 import dataclasses
 import functools
 import json
@@ -186,7 +186,7 @@ class Command:
         return " ".join([self.name, *self.words])
 
     def come(self, program, path, trouble):
-        """What came of it. Notes, which tests/program/second_office.py plans and tests/program/in_use.py try, are left out."""
+        """What came of it. Notes, which second_office.py plans and in_use.py try, are left out."""
         return without_notes(program.run([self.name, "--db", path, *self.words], trouble))
 
     def steps(self, office):

@@ -2,7 +2,9 @@
 """Tries servers of the program with several clients at once: none is kept out by another that has
 no request under way, and none loses what it sent.
 
-    tests/program/clients.py [PROGRAM [PART..]]     by default the program that ./office built, all parts
+    tests/program/clients.py [PROGRAM [PART..]]
+
+By default it takes the program that ./office built, and all parts.
 
 Each part has a server of its own on 127.0.0.1, over tables in memory, and ends it:
 

@@ -4,8 +4,8 @@
     tests/program/mistakes.py [PROGRAM]
 
 What each command prints is held against what stands below it, and the last one of each mistake,
-which mends it, has to end with status 0. All run in order in one new folder, as tests/program/tour.py runs
-those of a document. Needs bash. Prints a line for each mistake, and ends with status 1 if something
+which mends it, has to end with status 0. All run in order in one new folder, as those of a document
+do (tests/program/tour.py). Needs bash. Prints a line for each mistake, and ends with status 1 if something
 else was printed, or was not mended.
 """
 import pathlib

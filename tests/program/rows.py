@@ -2,9 +2,10 @@
 """Plays the worked rows, tests/rows/*.row: requests with their answers, and runs of the program
 with what they print, byte for byte. docs/ARCHITECTURE.md has the language of their lines.
 
-    tests/program/rows.py [PROGRAM] [ROW..]     by default the program that ./office built, and all rows
+    tests/program/rows.py [PROGRAM] [ROW..]
 
-A ROW is a name, as an_empty_stock, or the path of a row file. Streams of requests are played in
+By default it takes the program that ./office built, and all rows. A ROW
+is a name, as an_empty_stock, or the path of a row file. Streams of requests are played in
 memory and over a file, each whole and in single bytes: by `batch`, and in memory those of a row
 with several by `serve`, each over a connection of its own. Rows that run the program are played
 with its streams whole and in single bytes. A library between the program and the system (it needs

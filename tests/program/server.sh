@@ -8,8 +8,9 @@
 # timing sheet from the file. Needs curl and Python 3, and takes some one and a half minutes. Prints
 # ok.
 #
-#     tests/program/server.sh [PROGRAM [PORT]]      by default the program that ./office built, and a free
-#                                           port
+#     tests/program/server.sh [PROGRAM [PORT]]
+#
+# By default it takes the program that ./office built, and a free port.
 set -eu
 top=$(cd "$(dirname "$0")/../.." && pwd)
 program=$(python3 "$top/tests/lib/program.py" "${@:1:1}") || exit 2

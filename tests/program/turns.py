@@ -1,7 +1,9 @@
 #!/usr/bin/env python3
 """Tries a server and commands over one file of 120 intersections, each in its turn.
 
-    tests/program/turns.py [PROGRAM [PART..]]     by default the program that ./office built, all parts
+    tests/program/turns.py [PROGRAM [PART..]]
+
+By default it takes the program that ./office built, and all parts.
 
 Each part has a file and a server of its own, beside which each command is done:
 

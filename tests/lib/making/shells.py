@@ -13,7 +13,8 @@ def bash(words):
     """The completion of bash."""
     names = [it.name for it in words.commands]
     lines = [
-        f"# Completion of {PROGRAM} in bash, made by tests/house/words.py of what it says by --help.",
+        f"# Completion of {PROGRAM} in bash, made by tests/house/words.py of what it says by "
+        "--help.",
         "_signal_office() {",
         '    local word=${COMP_WORDS[COMP_CWORD]} before=${COMP_WORDS[COMP_CWORD - 1]}',
         "    local options= others=none",
@@ -68,7 +69,8 @@ def zsh(words):
     """The completion of zsh."""
     lines = [
         f"#compdef {PROGRAM}",
-        f"# Completion of {PROGRAM} in zsh, made by tests/house/words.py of what it says by --help.",
+        f"# Completion of {PROGRAM} in zsh, made by tests/house/words.py of what it says by "
+        "--help.",
         "_signal_office() {",
         "    local -a commands",
         "    commands=("]

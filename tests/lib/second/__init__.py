@@ -1,5 +1,5 @@
-"""The program held against the second office (`model`), byte for byte. tests/program/second_office.py
-is the command.
+"""The program held against the second office (`model`), byte for byte, by
+tests/program/second_office.py.
 
     requests.py   drawn requests, and the worked rows that the model can answer
     plans.py      drawn plans: violations, reasons, warnings, pictures

@@ -1,8 +1,8 @@
 """Drawn plans, with reasons and warnings and without, and the pictures of their patterns: what the
 program prints must be what the model says.
 
-Most plans break some rule, since rows of a good plan are changed. It is told how often each rule was
-broken, each reason given and each warning told; each of them must come up.
+Most plans break some rule, since rows of a good plan are changed. It is told how often each rule
+was broken, each reason given and each warning told; each of them must come up.
 """
 import collections
 import concurrent.futures
