@@ -153,7 +153,7 @@ fn read_deliveries<S: Shelf>(
 }
 
 /// How many pieces of a part ever came: those on hand, and those that were used.
-fn pieces_of(hand: Option<Hand>, used: &[UsedPart]) -> u64 {
+fn pieces_of(hand: &Option<Hand>, used: &[UsedPart]) -> u64 {
     let on_hand = match hand {
         Some(hand) => u64::from(hand.get()),
         None => 0,
@@ -161,26 +161,6 @@ fn pieces_of(hand: Option<Hand>, used: &[UsedPart]) -> u64 {
     used.iter().fold(on_hand, |sum, it| {
         sum.saturating_add(u64::from(it.used.count.get()))
     })
-}
-
-/// What is on hand of a part that was used so, and its deliveries.
-fn report_held<'a, S: Shelf>(
-    alloc: Global,
-    office: &mut Office<S>,
-    part: &'a PartCode,
-    used: &'a [UsedPart],
-) -> Report
-    ensures { KeepsOffice S.Shelf office.old office.new }
-{
-    let hand = read_hand(alloc, office, part)?;
-    let deliveries = read_deliveries(alloc, office, part, pieces_of(hand, used), NUMBERS_END)?;
-    let shown = PartShown {
-        part,
-        hand,
-        deliveries: &deliveries,
-        used,
-    };
-    report_of(part_text(alloc, &shown))
 }
 
 /// The uses of a part.
@@ -195,6 +175,23 @@ fn uses_of<S: Shelf>(
     used_parts(alloc, office, &asked, &None)
 }
 
+/// What a part is shown as.
+fn text_of<'a>(
+    alloc: Global,
+    part: &'a PartCode,
+    hand: Option<Hand>,
+    deliveries: &'a [Delivery],
+    used: &'a [UsedPart],
+) -> Result<Vec<u8>, NoMemory> {
+    let shown = PartShown {
+        part,
+        hand,
+        deliveries,
+        used,
+    };
+    part_text(alloc, &shown)
+}
+
 /// What is on hand of a part, its deliveries and its uses.
 pub(crate) fn report_part<S: Shelf>(
     alloc: Global,
@@ -205,5 +202,8 @@ pub(crate) fn report_part<S: Shelf>(
 {
     let used = uses_of(alloc, office, part)?;
     let code = part.to_code(alloc)?;
-    report_held(alloc, office, &code, &used)
+    let hand = read_hand(alloc, office, &code)?;
+    let pieces = pieces_of(&hand, &used);
+    let deliveries = read_deliveries(alloc, office, &code, pieces, NUMBERS_END)?;
+    report_of(text_of(alloc, &code, hand, &deliveries, &used))
 }
