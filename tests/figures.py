@@ -39,7 +39,7 @@ SENTENCES = [
     (COMMANDS, f"`used_part` to `work_order`. The version is {ANY}", "VERSION"),
     (HTTP, f"from the first {ANY} bytes, with at most {ANY} fields", "HEAD_LIMIT", "FIELD_LIMIT"),
     (HTTP, f"Content-Length says, at most {ANY} bytes", "LARGEST_BODY"),
-    (HTTP, f"the first {ANY} bytes contain no whole head", "HEAD_LIMIT"),
+    (HTTP, f"no whole head in the first {ANY} bytes", "HEAD_LIMIT"),
     (HTTP, f"the body is longer than {ANY} bytes", "LARGEST_BODY"),
     (HTTP, f"`id`, `{{id}}`: {ANY} to {ANY}", "InterId.low", "InterId.high"),
     (HTTP, f"`interval`: {ANY} to {ANY} days", "Interval.low", "Interval.high"),
@@ -151,7 +151,7 @@ def wrong_refusals():
     does not have."""
     text = (TOP / HTTP).read_text()
     shown = {int(number): (name, int(status)) for number, name, status
-             in re.findall(r"^- (\d+) (\w+) \((\d+)\)", text, re.MULTILINE)}
+             in re.findall(r"^\| (\d+) (\w+) \| (\d+) \|", text, re.MULTILINE)}
     statuses = {number: int(it.split()[0]) for it, all_of in refusal.STATUSES.items()
                 for number in all_of}
     wanted = {number: (name, statuses[number]) for number, name in refusal.NAMES.items()}
