@@ -36,11 +36,11 @@ def play(folder, program):
     day, wrong = shown.Tour(folder), 0
     try:
         for block in shown.blocks(DAY.read_text()):
-            for command, shown in shown.commands(block):
-                printed = day.run(command, shown)
-                wrong += printed != shown
-                print(f"{'ok   ' if printed == shown else 'WRONG'} {command}", flush=True)
-                if printed != shown:
+            for command, wanted in shown.commands(block):
+                printed = day.run(command, wanted)
+                wrong += printed != wanted
+                print(f"{'ok   ' if printed == wanted else 'WRONG'} {command}", flush=True)
+                if printed != wanted:
                     print(f"--- printed\n{printed}\n---", flush=True)
     finally:
         day.end()
