@@ -60,5 +60,4 @@ def manual(words):
         "The log of the office in \\fIFILE\\fR. It belongs to that file: move, copy and remove",
         "both or neither.",
         ".SH SEE ALSO",
-        "TUTORIAL.md, COMMANDS.md, HTTP.md, PLANS.md and OPERATING.md in",
-        "/usr/share/doc/cayunchis/docs", ""])
+        "COMMANDS.md, HTTP.md, PLANS.md and OPERATING.md in /usr/share/doc/cayunchis/docs", ""])
