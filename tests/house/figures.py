@@ -40,7 +40,7 @@ SENTENCES = [
     (COMMANDS, f"`used_part` to `work_order`. The version is {ANY}", "VERSION"),
     (HTTP, f"from the first {ANY} bytes, with at most {ANY} fields", "HEAD_LIMIT", "FIELD_LIMIT"),
     (HTTP, f"Content-Length says, at most {ANY} bytes", "LARGEST_BODY"),
-    (HTTP, f"the first {ANY} bytes contain no whole head", "HEAD_LIMIT"),
+    (HTTP, f"no whole head in the first {ANY} bytes", "HEAD_LIMIT"),
     (HTTP, f"the body is longer than {ANY} bytes", "LARGEST_BODY"),
     (HTTP, f"`id`, `{{id}}`: {ANY} to {ANY}", "InterId.low", "InterId.high"),
     (HTTP, f"`interval`: {ANY} to {ANY} days", "Interval.low", "Interval.high"),
@@ -53,14 +53,15 @@ SENTENCES = [
     (HTTP, f"or has had {ANY} answers", "CONNECTION_LIMIT"),
     (HTTP, f"it stays open for {ANY} seconds", "LONGEST_WAIT of from_listener"),
     (HTTP, f"has {ANY} milliseconds", "FIRST_WAIT"),
-    (PLANS, f"phase numbers: {ANY} to {ANY}", "PhaseNo.low", "PhaseNo.high"),
-    (PLANS, f"ring: {ANY} to {ANY}", "RingNo.low", "RingNo.high"),
-    (PLANS, f"sequence, split; pattern: {ANY} to {ANY}; {ANY} to {ANY}", "SeqNo.low",
-     "SplitNo.high", "PatternNo.low", "PatternNo.high"),
-    (PLANS, f"width: {ANY} to {ANY} tenths", "Width.low", "Width.high"),
-    (PLANS, f"setback: {ANY} to {ANY} tenths", "Setback.low", "Setback.high"),
-    (PLANS, f"lead: {ANY} to {ANY} seconds", "Lead.low", "Lead.high"),
-    (PLANS, f"cycle: {ANY} to {ANY} seconds", "Cycle.low", "Cycle.high"),
+    (PLANS, f"`phaseNumber`, `splitPhase` \\| {ANY} to {ANY} ", "PhaseNo.low", "PhaseNo.high"),
+    (PLANS, f"`sequenceRingNumber` \\| {ANY} to {ANY} ", "RingNo.low", "RingNo.high"),
+    (PLANS, f"`patternNumber` \\| {ANY} to {ANY}; {ANY} to {ANY}; {ANY} to {ANY} ", "SeqNo.low",
+     "SeqNo.high", "SplitNo.low", "SplitNo.high", "PatternNo.low", "PatternNo.high"),
+    (PLANS, f"from curb to curb \\| none \\| {ANY} to {ANY} tenths", "Width.low", "Width.high"),
+    (PLANS, f"a pedestrian starts \\| none \\| {ANY} to {ANY} tenths", "Setback.low",
+     "Setback.high"),
+    (PLANS, f"before the green \\| none \\| {ANY} to {ANY} seconds", "Lead.low", "Lead.high"),
+    (PLANS, f"`patternCycleTime` \\| {ANY} to {ANY} seconds", "Cycle.low", "Cycle.high"),
     (PLANS, f"at revision {ANY};", "LAST_REVISION"),
     (PLANS, f"more than {ANY} on hand", "MOST_ON_HAND"),
     ("docs/ARCHITECTURE.md", f"its buffer of {ANY} bytes", "BUFFER_LEN"),
@@ -152,7 +153,7 @@ def wrong_refusals():
     does not have."""
     text = (TOP / HTTP).read_text()
     shown = {int(number): (name, int(status)) for number, name, status
-             in re.findall(r"^- (\d+) (\w+) \((\d+)\)", text, re.MULTILINE)}
+             in re.findall(r"^\| (\d+) (\w+) \| (\d+) \|", text, re.MULTILINE)}
     statuses = {number: int(it.split()[0]) for it, all_of in refusal.STATUSES.items()
                 for number in all_of}
     wanted = {number: (name, statuses[number]) for number, name in refusal.NAMES.items()}
