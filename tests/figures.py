@@ -9,6 +9,7 @@ nothing. Prints what is wrong, and ends with status 1 then.
 """
 import pathlib
 import re
+import subprocess
 import sys
 
 from model import refusal
@@ -180,11 +181,34 @@ def wrong_measurements():
         yield f"README.md says {gate[0]!r}, and MEASUREMENTS.md has another time of the gate"
 
 
+def counts():
+    """What docs/PROOF.md counts: a sentence with its number, and today's."""
+    lines = (TOP / "docs/MEASUREMENTS.md").read_text().partition("<!-- lines: end -->")[0]
+    code, _, specs, proofs = (
+        int(it.replace(",", "")) for it in re.search("together (.*)", lines)[1].split()[:4])
+    bodies = len([*CRATES.glob("*/must-fail/*.edit")])
+    ran = subprocess.run([TOP / "tests/calls.py", "--without"], capture_output=True, text=True)
+    without, calls = map(int, re.match(r"(\d+) of (\d+) calls", ran.stdout).groups())
+    yield f"{ANY} crates have", len([*CRATES.iterdir()])
+    yield f"have {ANY} lines of code", code
+    yield f"code, {ANY} of definitions", specs
+    yield f"definitions and {ANY} of proofs", proofs
+    yield f"contract: {ANY} of", calls - without
+    yield f"contract: [0-9]+ of {ANY} public ones", calls
+    yield f"{ANY} wrong bodies", len([*CRATES.glob("*/wrong-bodies/*.edit")]) + bodies
+    yield f"The gate tries {ANY}", bodies
+    yield f"{ANY} worked rows", len([*(TOP / "tests/rows").glob("*.row")])
+
+
 def wrong_counts():
-    """Counts of files that a sentence gives at least."""
-    rows = len([*(TOP / "tests/rows").glob("*.row")])
-    if "plays over a hundred worked rows" not in plain((TOP / PROOF).read_text()) or rows <= 100:
-        yield f"PROOF.md says 'over a hundred worked rows', and there are {rows}"
+    """Each count of docs/PROOF.md that is too great, or by more than a tenth too small."""
+    text = plain((TOP / PROOF).read_text())
+    for sentence, wanted in counts():
+        found = re.search(sentence, text)
+        if not found:
+            yield f"{PROOF} has no sentence {sentence!r}"
+        elif not int(found[1].replace(",", "")) <= wanted <= 1.1 * int(found[1].replace(",", "")):
+            yield f"{PROOF}: {found[0]!r}, and there are {wanted}"
 
 
 def main():
