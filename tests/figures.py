@@ -19,25 +19,25 @@ CRATES = TOP / "crates"
 CONSTANT = re.compile(r"const (\w+): \w+ = ([\d_]+);")
 RANGE = re.compile(
     r"(?:type|const) (\w+)(?: = Number<\w+, |: Range = Range\()([\w_]+), ([\w_]+)[>)];")
-COMMANDS, HTTP, PLANS, PROOF = (f"docs/{it}.md" for it in ("COMMANDS", "HTTP", "PLANS", "PROOF"))
+COMMANDS, HTTP, PLANS, PROOF, FORMAT = (
+    f"docs/{it}.md" for it in ("COMMANDS", "HTTP", "PLANS", "PROOF", "FILE-FORMAT"))
 ANY = r"([\d,.]+\d|\d)"
 
 # A document, a sentence of it with its numbers in parentheses, and what each of them is: a constant,
 # an end of a type's range, an end times or by some number, or a count.
 SENTENCES = [
-    (COMMANDS, f"ID is an intersection \\({ANY} to {ANY}\\)", "InterId.low", "InterId.high"),
-    (COMMANDS, f"`--wait SECONDS` \\(0 to {ANY}\\)", "WAITS.high"),
-    (COMMANDS, f"open, {ANY} if it is left out", "USUAL_WAIT"),
+    (COMMANDS, f"\\| ID \\| an intersection, {ANY} to {ANY}", "InterId.low", "InterId.high"),
+    (COMMANDS, f"for FILE, 0 to {ANY}; {ANY} if it is left out", "WAITS.high", "USUAL_WAIT"),
     (COMMANDS, f"standard output, at most {ANY}, over", "BATCH_LIMIT"),
     (COMMANDS, f"\\(1 to {ANY}, the default\\)", "COUNTS.high"),
     (COMMANDS, f"every INTERVAL days \\({ANY} to {ANY}\\)", "Interval.low", "Interval.high"),
-    (COMMANDS, f"a pattern \\({ANY} to {ANY}\\)", "PatternNo.low", "PatternNo.high"),
+    (COMMANDS, f"of a pattern \\({ANY} to {ANY}\\)", "PatternNo.low", "PatternNo.high"),
     (COMMANDS, f"at most N \\(1 to {ANY}\\)", "InterId.high"),
-    (COMMANDS, f"`none` after {ANY}\\)", "RecordNo.high"),
-    (COMMANDS, f"- {ANY}: a plan that was checked", "HAS_VIOLATIONS"),
-    (COMMANDS, f"- {ANY}: two plans differ", "DIFFERS"),
-    (COMMANDS, f"- {ANY}: the words were refused", "WORDS_REFUSED"),
-    (COMMANDS, f"`used_part` to `work_order`. The version is {ANY}", "VERSION"),
+    (COMMANDS, f"\\| {ANY} \\| the plan breaks a rule", "HAS_VIOLATIONS"),
+    (COMMANDS, f"\\| {ANY} \\| the plans differ", "DIFFERS"),
+    (COMMANDS, f"\\| {ANY} \\| the arguments were refused", "WORDS_REFUSED"),
+    (FORMAT, f"The version is {ANY}", "VERSION"),
+    (FORMAT, f"64 MiB and {ANY} records", "MOST_RECORDS"),
     (HTTP, f"from the first {ANY} bytes, with at most {ANY} fields", "HEAD_LIMIT", "FIELD_LIMIT"),
     (HTTP, f"Content-Length says, at most {ANY} bytes", "LARGEST_BODY"),
     (HTTP, f"the first {ANY} bytes contain no whole head", "HEAD_LIMIT"),

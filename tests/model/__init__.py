@@ -1,7 +1,7 @@
 """An office in Python, written from the rules alone: a request in, the bytes of its answer out.
 
-It shares nothing with the program but docs/PLANS.md, docs/HTTP.md, docs/COMMANDS.md and the
-definitions in crates/*/specs, and is slow and plain on purpose: a draft is a whole set, a lane a
+It shares nothing with the program but docs/PLANS.md, docs/HTTP.md, docs/COMMANDS.md,
+docs/FILE-FORMAT.md and the definitions in crates/*/specs, and is slow and plain on purpose: a draft is a whole set, a lane a
 list with an entry for each second, what is on hand a sum over all records. tests/draw_rows.py makes
 rows of what it answers, and tests/drawn.py holds it against the program, as tests/drawn_texts.py
 does with whatever people read, and tests/lives.py over files.
