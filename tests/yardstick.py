@@ -192,7 +192,7 @@ class Yardstick(Worker):
     """Counts its commands for those who wait, until nobody does."""
 
     def run(self, *words, **how):
-        if OVER.is_set():
+        if OVER.is_set() or not multiprocessing.parent_process().is_alive():
             sys.exit()
         out = super().run(*words, **how)
         RAN.value += 1
