@@ -39,7 +39,7 @@ mount -t tmpfs tmpfs {over}
 mkdir {over}/upper {over}/work {over}/top
 mount -t overlay overlay -o lowerdir={root},upperdir={over}/upper,workdir={over}/work {over}/top
 cd {over}/top
-cp {packages}/*.deb {packages}/SHA256SUMS srv/
+cp {packages}/* srv/
 mount -t proc proc proc
 mount --bind proc/sys proc/sys
 mount -o remount,ro,bind proc/sys
@@ -59,7 +59,7 @@ mount -t tmpfs -o mode=755 tmpfs run
 mount -t tmpfs tmpfs tmp
 pivot_root . old
 umount -l /old
-exec env -i container=other PATH=/usr/sbin:/usr/bin:/sbin:/bin /lib/systemd/systemd
+exec env -i container=other PATH=/usr/sbin:/usr/bin:/sbin:/bin /lib/systemd/systemd --unit={target}
 """
 
 
@@ -67,8 +67,9 @@ exec env -i container=other PATH=/usr/sbin:/usr/bin:/sbin:/bin /lib/systemd/syst
 def group():
     """A control group of this machine for the system, in which nothing else is."""
     places = (pathlib.Path("/sys/fs/cgroup", it) for it in ("unified", ""))
-    place = next(it for it in places if (it / "cgroup.procs").exists()) / "cayunchis-test"
-    place.mkdir(exist_ok=True)
+    first = next(it for it in places if (it / "cgroup.procs").exists())
+    place = first / f"cayunchis-test-{os.getpid()}"
+    place.mkdir()
     try:
         yield place
     finally:
@@ -114,10 +115,10 @@ class System:
 
 
 @contextlib.contextmanager
-def booted(root, packages):
-    """A system over a root, with the packages."""
+def booted(root, packages, target="multi-user.target"):
+    """A system over a root, with the packages, that runs what its target wants."""
     with tempfile.TemporaryDirectory() as over, group() as place:
-        script = FIRST.format(over=over, root=root, packages=packages)
+        script = FIRST.format(over=over, root=root, packages=packages, target=target)
         kinds = ("mount", "pid", "uts", "ipc", "cgroup", "net")
         words = ["unshare", *(f"--{it}" for it in kinds), "--fork", "--kill-child",
                  "bash", "-ec", script]
@@ -254,6 +255,8 @@ def proxied(system):
         "a long body": code(system, ana, "-d @/usr/bin/signal_office", url),
     }
     system.shell("systemctl stop cayunchis")
+    told = system.shell("curl -sS http://127.0.0.1:8080/stock 2>&1", status=7)
+    expect(f"without the proxy: {told}", "refused" in told or "connect" in told, True)
     came["a server that is down"] = code(system, ana, url)
     system.shell("systemctl start cayunchis")
     system.asked()
@@ -360,6 +363,9 @@ def shared(system):
     """Two users of a group use an office in turn. One who may not write its folder needs a log."""
     system.shell("groupadd signals; useradd -g signals ana; useradd -g signals bo; useradd eve")
     system.shell("\n".join(["set -e", "umask 002", *part("A folder for a group")[0]]))
+    told = system.shell("umask 002; signal_office add --db other.db 12 365 Oak; "
+                        "stat -c %a other.db")
+    expect("the mode of a file under umask 002", told, "added\n644")
     office = "/srv/signals/city.db"
     add = "umask 002; runuser -u {} -- signal_office add --db " + office + " {} 30 Elm 2>&1"
     for user, number in (("ana", 13), ("bo", 14)):
