@@ -608,27 +608,37 @@ def a_server_without_room(program, room):
     return f"once for {refused} answers"
 
 
+def without_room(it, port):
+    """How many changes are refused on a full disk, where a query is answered, and that one is done
+    once there is room."""
+    full = fill(it.path)
+    came = exchange(port, additions(100, 800), PATIENCE)
+    refused = came.count(b"HTTP/1.1 503 ")
+    expect("answers 503", (refused > 10, came.endswith(b'"number":90}')), (True, True))
+    expect("a query", b"HTTP/1.1 200 " in exchange(port, STATE, PATIENCE), True)
+    full.unlink()
+    came = exchange(port, additions(2_000, 1), PATIENCE)
+    expect("a change once there is room", came[-18:-8], b'{"result":')
+    came = exchange(port, b"GET /intersections/2000 HTTP/1.1\r\n\r\n", PATIENCE)
+    expect("what was added", b'"id":2000' in came, True)
+    return refused
+
+
 def a_server_that_gets_room(program, room):
-    """On a full disk it reads and answers 503 to changes, and goes on when there is room."""
+    """On a full disk it reads, answers 503 to changes and says why, and goes on when there is room;
+    also when that comes again after another run had the file."""
     with small_disk(program, room, "512k") as it:
         if not it:
             return "not tried: it needs root, and to mount"
         it.make()
-        with served(it, 4) as (server, port):
-            full = fill(it.path)
-            came = exchange(port, additions(100, 800), 60)
-            refused = came.count(b"HTTP/1.1 503 ")
-            expect("answers 503", (refused > 10, came.endswith(b'"number":90}')), (True, True))
-            expect("a query", b"HTTP/1.1 200 " in exchange(port, STATE, 60), True)
-            full.unlink()
-            came = exchange(port, additions(2_000, 1), 60)
-            expect("a change once there is room", came[-18:], b'{"result":"added"}')
-            came = exchange(port, b"GET /intersections/2000 HTTP/1.1\r\n\r\n", 60)
-            expect("what was added", b'"id":2000' in came, True)
+        with served(it, 8) as (server, port):
+            counts = [without_room(it, port)]
+            expect("a command", it.run("stock", "--db", "office.db"), (0, "", ""))
+            counts.append(without_room(it, port))
             err = server.communicate(timeout=PATIENCE)[1].decode()
-        expect("notes", causes(err), [CAUSE])
+        expect("notes", causes(err), [CAUSE] * 2)
         expect("its end", server.returncode, 0)
-    return f"after {refused} answers 503"
+    return f"after {counts[0]} and {counts[1]} answers 503"
 
 
 # ---- other faults, and what mends them
