@@ -29,7 +29,7 @@ import baseline
 import work
 
 HERE = pathlib.Path(__file__).resolve().parent
-sys.path.insert(0, str(HERE.parent / "tests"))
+sys.path.insert(0, str(HERE.parent / "tests" / "lib"))
 import measured
 from program import found
 

@@ -1,6 +1,6 @@
 """The work of bench/all.py in Python over `sqlite3`, to compare with. It reads, writes and answers
 what the office does, and checks next to nothing; with --checking it also tests rows, plans and
-records, by the rules of tests/model.
+records, by the rules of tests/lib/model.
 
     python3 bench/baseline.py serve [FILE] [--checking]   answers requests, over tables in memory
                                                           or in a file
@@ -17,7 +17,7 @@ import pathlib
 import sqlite3
 import sys
 
-sys.path.insert(0, str(pathlib.Path(__file__).resolve().parent.parent / "tests"))
+sys.path.insert(0, str(pathlib.Path(__file__).resolve().parents[1] / "tests" / "lib"))
 from model import plan, register, rules
 
 IS_CHECKING = "--checking" in sys.argv

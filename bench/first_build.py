@@ -24,7 +24,7 @@ import time
 
 TOP = pathlib.Path(__file__).resolve().parent.parent
 sys.dont_write_bytecode = True
-sys.path[:0] = [str(TOP / "tests"), str(TOP / "building")]
+sys.path[:0] = [str(TOP / "tests" / "lib"), str(TOP / "building")]
 import measured
 import order
 import script

@@ -19,9 +19,9 @@ import threading
 import time
 
 TOP = pathlib.Path(__file__).resolve().parent.parent
-sys.path.insert(0, str(TOP / "tests"))
-import drawing
+sys.path.insert(0, str(TOP / "tests" / "lib"))
 import measured
+import sources
 
 TICKS = os.sysconf("SC_CLK_TCK")
 PAUSE = 0.2  # seconds between two looks at the processes
@@ -139,7 +139,7 @@ def of_record(text):
 def longest_chain(seconds):
     """The chain of crates that takes longest by itself, lowest first, and its seconds."""
     chains = {}
-    for name, lower in drawing.crates()[0].items():
+    for name, lower in sources.crates()[0].items():
         under = max((chains[it] for it in lower if it in chains), default=(0, []))
         chains[name] = under[0] + seconds.get(name, 0), [*under[1], name]
     return max(chains.values())
@@ -154,7 +154,7 @@ def main():
         run(words[0], of_record(pathlib.Path(words[0]).read_text()) if is_there else None)
     heading, rows = of_record(pathlib.Path(words[0]).read_text())
     state, machine, clock, last = heading
-    order = [*drawing.crates()[0]]
+    order = [*sources.crates()[0]]
     rows.sort(key=lambda it: order.index(it[0]) if it[0] in order else len(order))
     of_gate = [row for row in rows if row[0] != SCRIPTS]
     proofs, edits = (sum(row[column] for row in of_gate) for column in (1, 2))

@@ -13,7 +13,7 @@ import subprocess
 import sys
 
 TOP = pathlib.Path(__file__).resolve().parent.parent
-sys.path.insert(0, str(TOP / "tests"))
+sys.path.insert(0, str(TOP / "tests" / "lib"))
 import measured
 
 HEAD = ["Crate", "State", "Refused", "Let through, or without a clause"]

@@ -14,7 +14,7 @@ import sys
 import tempfile
 
 import all as bench
-import drawing
+import sources
 from program import found
 
 WORKS = ("add and ask", "all of 60", "4 of 60", "opening")
@@ -29,7 +29,7 @@ LINE = re.compile(r"^ *[\d,]+ \( *([\d.]+)%\)  \S+?:((?:\w+::)\S+|rattle_\w+)")
 
 
 def is_shown(name):
-    return name.split("::")[0] in {*drawing.crates()[0], *OTHERS} or name in MEMORY
+    return name.split("::")[0] in {*sources.crates()[0], *OTHERS} or name in MEMORY
 
 
 def shares(program, it, folder):

@@ -22,7 +22,7 @@ import tempfile
 import time
 
 TOP = pathlib.Path(__file__).resolve().parent.parent
-sys.path.insert(0, str(TOP / "tests"))
+sys.path.insert(0, str(TOP / "tests" / "lib"))
 from program import found
 
 INTERSECTIONS, INSPECTIONS, ORDERS, PARTS, DELIVERIES, CHANGES = 200, 2, 6, 2, 600, 2

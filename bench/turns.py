@@ -18,8 +18,8 @@ import tempfile
 import time
 
 TOP = pathlib.Path(__file__).resolve().parent.parent
-sys.path.insert(0, str(TOP / "tests"))
-from clients import Caller
+sys.path.insert(0, str(TOP / "tests" / "lib"))
+from callers import Caller
 from pages import requests
 from program import found
 from serving import served

@@ -21,9 +21,9 @@ import sys
 import tempfile
 
 TOP = pathlib.Path(__file__).resolve().parent.parent
-sys.path.insert(0, str(TOP / "tests"))
+sys.path.insert(0, str(TOP / "tests" / "lib"))
 from program import found
-import tour
+import shown
 
 DAY = TOP / "examples" / "README.md"
 OFFICE, SHOWN = "city.db", "103"
@@ -32,11 +32,11 @@ SIZE = "1280,880"  # pixels of the picture
 
 def play(folder, program):
     """Runs the day's commands in a folder, and returns how many printed something else."""
-    tour.furnish(folder, program)
-    day, wrong = tour.Tour(folder), 0
+    shown.furnish(folder, program)
+    day, wrong = shown.Tour(folder), 0
     try:
-        for block in tour.blocks(DAY.read_text()):
-            for command, shown in tour.commands(block):
+        for block in shown.blocks(DAY.read_text()):
+            for command, shown in shown.commands(block):
                 printed = day.run(command, shown)
                 wrong += printed != shown
                 print(f"{'ok   ' if printed == shown else 'WRONG'} {command}", flush=True)

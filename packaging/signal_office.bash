@@ -1,4 +1,4 @@
-# Completion of signal_office in bash, made by tests/words.py of what it says by --help.
+# Completion of signal_office in bash, made by tests/house/words.py of what it says by --help.
 _signal_office() {
     local word=${COMP_WORDS[COMP_CWORD]} before=${COMP_WORDS[COMP_CWORD - 1]}
     local options= others=none

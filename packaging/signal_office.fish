@@ -1,4 +1,4 @@
-# Completion of signal_office in fish, made by tests/words.py of what it says by --help.
+# Completion of signal_office in fish, made by tests/house/words.py of what it says by --help.
 complete -c signal_office -f
 complete -c signal_office -n __fish_use_subcommand -l help -d 'Print help'
 complete -c signal_office -n __fish_use_subcommand -l version -d 'Print version'
