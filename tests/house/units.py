@@ -6,10 +6,11 @@ timer, and what tells that one of them failed.
 
 `systemd-analyze verify` reads copies of the units in which the program is the one named, by default
 the one that `./office` built. Then a systemd is booted over this machine's system, with all changes
-in memory and in name spaces of its own (tests/lib/booting.py): there the archive is unpacked by the
-commands of docs/OPERATING.md, and the units are started, killed, started too often, and brought
-back; copies are made, and where none can be made that is told. Nothing is installed on this
-machine. Without root, systemd, curl, nsenter or overlays the units are only looked at.
+in memory and in name spaces of its own (tests/lib/booting.py): there the program and the units are
+put in place, and made ready and started by the commands of docs/OPERATING.md; they are killed,
+started too often, and brought back; copies are made, and where none can be made that is told.
+Nothing is installed on this machine. Without root, systemd, curl, nsenter or overlays the units are
+only looked at.
 
 It prints what was tried, and ends with status 1 if something was otherwise; it takes a minute.
 """
@@ -21,20 +22,25 @@ import sys
 import tempfile
 
 sys.path.insert(0, str(pathlib.Path(__file__).resolve().parents[1] / "lib"))
-import version
 from booting import STOCK, booted, failed, killed, saved
-from packaged import STATE, packed, part
+from packaged import STATE, part
 from program import TOP, found
 from serving import Off, expect
 
 INSTALLED = "/usr/bin/signal_office"  # where the package puts the program
-TOOLS = ("curl", "dpkg-deb", "mount", "nsenter", "unshare", "useradd")
+UNITS = "/usr/lib/systemd/system"
+TOOLS = ("curl", "mount", "nsenter", "unshare", "useradd")
+
+
+def units():
+    """The paths of the units."""
+    folder = TOP / "packaging"
+    return sorted([*folder.glob("*.service"), *folder.glob("*.timer")])
 
 
 def copied(folder, program):
     """The paths of the copies."""
-    units = TOP / "packaging"
-    for unit in sorted([*units.glob("*.service"), *units.glob("*.timer")]):
+    for unit in units():
         text = unit.read_text()
         is_template = "@" in unit.name
         if unit.suffix == ".service" and INSTALLED not in text and not is_template:
@@ -72,9 +78,11 @@ def lacking():
     return "" if any(map(os.path.exists, places)) else "there are no control groups"
 
 
-def unpacked(system):
-    """The archive, by the commands of the document."""
-    system.shell("\n".join(["set -e", *part("Install the package")[-1]]))
+def laid(system):
+    """The program and its units, in place, and started by the commands of the document."""
+    places = f"install signal_office {INSTALLED}", f"install -m 644 *.service *.timer {UNITS}"
+    lines = [it for it in part("Install the package")[-1] if not it.startswith("tar ")]
+    system.shell("\n".join(["set -e", *places, *lines]))
     expect("the stock", system.asked(), STOCK)
     return system.shell("systemctl is-active cayunchis.service cayunchis-backup.timer").split()
 
@@ -89,9 +97,11 @@ def main():
         if why := lacking():
             return print(f"not run: {why}")
         with tempfile.TemporaryDirectory() as room:
-            packed(pathlib.Path(room), program, version.number())
+            shutil.copy2(program, pathlib.Path(room, "signal_office"))
+            for unit in units():
+                shutil.copy2(unit, room)
             with booted("/", room, "basic.target") as system:
-                for trial in (unpacked, killed, failed, saved):
+                for trial in (laid, killed, failed, saved):
                     print(f"{trial.__name__}: {trial(system)}", flush=True)
     except Off as it:
         sys.exit(f"FAILED: {it}")

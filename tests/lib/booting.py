@@ -133,7 +133,8 @@ def killed(system):
 def failed(system):
     """A server that ends five times is told as failed. It is started no more until what counts the
     starts is reset; then it comes back."""
-    system.shell(f"mv {OFFICE} {OFFICE}.away; echo text > {OFFICE}; systemctl restart cayunchis")
+    system.shell(f"mv {OFFICE} {OFFICE}.away; echo text > {OFFICE}; chown cayunchis: {OFFICE}; "
+                 "systemctl restart cayunchis")
     asked = "systemctl is-failed cayunchis || true"
     system.until("failure", lambda: "failed" in system.shell(asked))
     told = system.until("line of what failed", lambda: system.shell(
