@@ -3,134 +3,31 @@
 
     tests/nightly/booted.py ROOT [PROGRAM]
 
-ROOT is a folder with a Debian that has systemd and curl, as this makes it:
+ROOT is a folder with a Debian that has systemd, curl, nginx and openssl, as this makes it:
 
-    debootstrap --include=systemd-sysv,curl bookworm ROOT
+    debootstrap --include=systemd-sysv,curl,nginx-light,openssl bookworm ROOT
 
 It stays as it is: the system runs over an overlay, in name spaces of its own, without a network.
-The commands of `Install the package` are run there as they stand in the document; then the server
-is killed, gets another port, is backed up, also where no copy can be made, upgraded, restored from
-a copy, given another office, removed and purged. Needs root, and `./office-package`. It prints what
-it tried, and ends with status 1 if something was otherwise; it takes a minute. ./office-tests does
-not run it.
+The commands of the document are run there as they stand in it: the package is installed; the server
+is killed, fails until systemd starts it no more, and comes back; its disk is full; it gets another
+port and a proxy, is backed up, also where no copy can be made, upgraded, restored from a copy,
+given another office, moved to another machine, removed and purged; a group shares an office. Needs
+root, and `./office-package`. It prints what it tried, and ends with status 1 if something was
+otherwise; it takes a minute or two. ./office-tests does not run it.
 """
-import contextlib
 import os
 import pathlib
 import re
 import shutil
-import signal
-import subprocess
 import sys
 import tempfile
-import time
 
 sys.path.insert(0, str(pathlib.Path(__file__).resolve().parents[1] / "lib"))
 import version
-from packaged import COPIES, OFFICE, OLDER, PLAN, packed, part, ran
-from program import found
+from booting import STOCK, booted, failed, killed, saved
+from packaged import COPIES, OFFICE, OLDER, PLAN, STATE, packed, part
+from program import TOP, found
 from serving import Off, expect
-
-PATIENCE = 60  # seconds in which something has to become so
-PACKAGES = "/srv"
-STOCK = '{"hand":[]}'
-FIRST = """
-mount --make-rprivate /
-mount -t tmpfs tmpfs {over}
-mkdir {over}/upper {over}/work {over}/top
-mount -t overlay overlay -o lowerdir={root},upperdir={over}/upper,workdir={over}/work {over}/top
-cd {over}/top
-cp {packages}/*.deb {packages}/SHA256SUMS srv/
-mount -t proc proc proc
-mount --bind proc/sys proc/sys
-mount -o remount,ro,bind proc/sys
-mount -t sysfs -o ro sysfs sys
-mount -t cgroup2 cgroup2 sys/fs/cgroup
-mount -t tmpfs -o mode=755 tmpfs dev
-mknod -m 666 dev/null c 1 3
-mknod -m 666 dev/zero c 1 5
-mknod -m 666 dev/full c 1 7
-mknod -m 666 dev/random c 1 8
-mknod -m 666 dev/urandom c 1 9
-mkdir dev/pts dev/shm old
-mount -t devpts -o newinstance,ptmxmode=0666 devpts dev/pts
-ln -s pts/ptmx dev/ptmx
-mount -t tmpfs tmpfs dev/shm
-mount -t tmpfs -o mode=755 tmpfs run
-mount -t tmpfs tmpfs tmp
-pivot_root . old
-umount -l /old
-exec env -i container=other PATH=/usr/sbin:/usr/bin:/sbin:/bin /lib/systemd/systemd
-"""
-
-
-@contextlib.contextmanager
-def group():
-    """A control group of this machine for the system, in which nothing else is."""
-    places = (pathlib.Path("/sys/fs/cgroup", it) for it in ("unified", ""))
-    place = next(it for it in places if (it / "cgroup.procs").exists()) / "cayunchis-test"
-    place.mkdir(exist_ok=True)
-    try:
-        yield place
-    finally:
-        for folder in sorted(place.rglob("*"), reverse=True):
-            if folder.is_dir():
-                folder.rmdir()
-        place.rmdir()
-
-
-class System:
-    """A system that runs."""
-
-    def __init__(self, process):
-        children = pathlib.Path(f"/proc/{process}/task/{process}/children")
-        self.first = self.until("a first process", lambda: children.read_text().split())[0]
-        self.until("a system that runs", lambda: "running" in self.shell(
-            "systemctl is-system-running || true") or "degraded" in self.told)
-
-    def until(self, what, is_so):
-        """Waits until something is so."""
-        ends = time.monotonic() + PATIENCE
-        while time.monotonic() < ends:
-            with contextlib.suppress(Off):
-                if came := is_so():
-                    return came
-            time.sleep(0.3)
-        raise Off(f"there is no {what} after {PATIENCE} s")
-
-    def shell(self, line, status=0):
-        """What a line prints in the system's shell."""
-        enter = ("nsenter", "--target", self.first, "--all", "env", "-i", "HOME=/srv",
-                 "DEBIAN_FRONTEND=noninteractive", "PATH=/usr/sbin:/usr/bin:/sbin:/bin")
-        self.told = ran(*enter, "bash", "-c", f"cd {PACKAGES} && {{ {line}\n}}", status=status)
-        return self.told
-
-    def asked(self, port="8080"):
-        """The stock that the server shows, once it listens."""
-        line = f"curl -fsS --max-time 40 http://127.0.0.1:{port}/stock"
-        return self.until("server", lambda: self.shell(line))
-
-    def is_active(self, unit="cayunchis"):
-        return self.shell(f"systemctl is-active {unit} || true") == "active"
-
-
-@contextlib.contextmanager
-def booted(root, packages):
-    """A system over a root, with the packages."""
-    with tempfile.TemporaryDirectory() as over, group() as place:
-        script = FIRST.format(over=over, root=root, packages=packages)
-        kinds = ("mount", "pid", "uts", "ipc", "cgroup", "net")
-        words = ["unshare", *(f"--{it}" for it in kinds), "--fork", "--kill-child",
-                 "bash", "-ec", script]
-        enter = lambda: (place / "cgroup.procs").write_text("0")
-        process = subprocess.Popen(words, stdin=subprocess.DEVNULL, stdout=subprocess.DEVNULL,
-                                   stderr=subprocess.DEVNULL, preexec_fn=enter)
-        try:
-            yield System(process.pid)
-        finally:
-            process.send_signal(signal.SIGKILL)
-            process.wait()
-            time.sleep(1)
 
 
 # ---- the trials
@@ -139,8 +36,6 @@ def installed(system):
     """The first block of the document, line by line."""
     told = {}
     for line in part("Install the package")[0]:
-        if line.startswith("curl"):
-            system.asked()
         told[line.split()[0]] = system.shell(line.replace(version.number(), OLDER))
     expect("the stock", told["curl"].splitlines()[-1], STOCK)
     expect("a copy", bool(re.fullmatch(r"city-[\d-]+\.db", told["ls"])), True)
@@ -152,42 +47,87 @@ def installed(system):
     return f"the next copy on {shown}"
 
 
-def killed(system):
-    """A server that was killed is started again; the office is as it was."""
-    line = ("curl -fsS -d '{\"id\":12,\"interval\":365,\"name\":\"Main St\"}' "
-            "http://127.0.0.1:8080/intersections")
-    expect("an intersection", system.shell(line), '{"result":"added"}')
-    system.shell("systemctl kill --signal=KILL cayunchis")
-    time.sleep(1)
-    expect("the stock", system.asked(), STOCK)
-    expect("how often it was started again",
-           system.shell("systemctl show -P NRestarts cayunchis"), "1")
-    return system.shell("curl -fsS http://127.0.0.1:8080/intersections/12")
-
-
-def failed(system):
-    """A server that can't be started is told as failed, and comes back once it can."""
-    system.shell(f"mv {OFFICE} {OFFICE}.away; echo text > {OFFICE}; systemctl restart cayunchis")
-    asked = "systemctl is-failed cayunchis || true"
-    system.until("failure", lambda: "failed" in system.shell(asked))
-    told = system.until("line of what failed", lambda: system.shell(
-        "journalctl --priority alert --output cat || true"))
-    expect("what is told", told, "cayunchis.service failed: see journalctl -u cayunchis.service")
-    note = system.shell("journalctl -u cayunchis --output cat | grep note: | sort -u")
-    expect("the note in the journal", note, f"note: {OFFICE} is no database")
-    system.shell(f"mv {OFFICE}.away {OFFICE}; systemctl reset-failed cayunchis; "
-                 "systemctl start cayunchis")
-    expect("the stock", system.asked(), STOCK)
-    return told
+def checks():
+    """The check of the document that reads, what it adds once, and the check that writes."""
+    text = (TOP / "docs" / "OPERATING.md").read_text()
+    reads = re.search(r"`(curl [^`]*/stock)` once a minute", text)[1]
+    return reads, *("\n".join(block) for block in part("Watch it")[-2:])
 
 
 def watched(system):
     """The two checks of the document: the second one writes."""
-    for block in part("Watch it")[1:]:
-        system.shell("\n".join(block))
+    reads, adds, writes = checks()
+    system.shell("\n".join([reads, "set -e", adds]))
+    system.shell(writes)
     told = system.shell("curl -fsS http://127.0.0.1:8080/intersections/9999")
     expect("the state after a check", '"state":"normal"' in told, True)
     return told
+
+
+def full(system):
+    """On a full disk the check that reads sees nothing, the one that writes does, and the journal
+    says why; once there is room the server goes on by itself."""
+    reads, _, writes = checks()
+    owned = f"chown cayunchis: {STATE}; chmod 700 {STATE}"
+    system.shell(f"systemctl stop cayunchis; cp -a {STATE} /var/lib/kept; mount -t tmpfs "
+                 f"-o size=400k tmpfs {STATE}; {owned}; cp -a /var/lib/kept/city.db* {STATE}")
+    system.shell("systemctl reset-failed cayunchis; systemctl start cayunchis")
+    expect("the stock", system.asked(), STOCK)
+    system.shell(f"dd if=/dev/zero of={STATE}/full bs=4k || true")
+    expect("the check that reads", system.shell(reads), STOCK)
+    told = system.shell(writes, status=22)
+    expect(f"the check that writes: {told}", "503" in told, True)
+    system.shell("systemctl restart cayunchis")
+    expect("the stock of a server that begins there", system.asked(), STOCK)
+    cause = system.shell("journalctl -u cayunchis --output cat | grep 'No space left' | sort -u")
+    expect("the cause", cause, f"note: the system refuses {OFFICE}-wal: No space left on device "
+           "(os error 28)")
+    system.shell(f"rm {STATE}/full")
+    system.shell(writes)
+    system.shell(f"systemctl stop cayunchis; umount {STATE}; rm -r /var/lib/kept; "
+                 "systemctl start cayunchis")
+    expect("the stock on the first disk", system.asked(), STOCK)
+    return cause
+
+
+def code(system, *words):
+    """The status that curl gets."""
+    shown = "-o /dev/null -w '%{http_code}'"
+    return system.shell(" ".join(["curl -sk", shown, *words]))
+
+
+def proxied(system):
+    """The proxy of the document: who may ask, what it refuses, and what it answers for a server
+    that is down."""
+    if not system.shell("command -v nginx openssl || true"):
+        return "not tried: there is no nginx, or no openssl"
+    lines = "\n".join(part("Who may do what")[0])
+    system.shell(
+        "cd /etc/nginx; rm -f sites-enabled/default; openssl req -x509 -newkey rsa:2048 -nodes "
+        "-days 2 -subj /CN=office.example.org -keyout office.key -out office.pem; "
+        "echo \"ana:$(openssl passwd -apr1 secret)\" > office.users; "
+        f"cat > sites-enabled/office <<'END'\n{lines}\nEND\n"
+        "echo 127.0.0.1 office.example.org >> /etc/hosts; nginx -t && systemctl restart nginx")
+    url, ana = "https://office.example.org/stock", "-u ana:secret"
+    came = {
+        "Ana": code(system, ana, url), "nobody": code(system, url),
+        "a page of the office": code(system, ana, "-H 'Origin: https://office.example.org'", url),
+        "a page of another site": code(system, ana, "-H 'Origin: https://example.com'", url),
+        "another name": code(system, ana, "https://127.0.0.1/stock"),
+        "a page, without the proxy": code(system, "-H 'Origin: https://example.com'",
+                                          "http://127.0.0.1:8080/stock"),
+        "a long body": code(system, ana, "-d @/usr/bin/signal_office", url),
+    }
+    system.shell("systemctl stop cayunchis")
+    told = system.shell("curl -sS http://127.0.0.1:8080/stock 2>&1", status=7)
+    expect(f"without the proxy: {told}", "refused" in told or "connect" in told, True)
+    came["a server that is down"] = code(system, ana, url)
+    system.shell("systemctl start cayunchis")
+    system.asked()
+    came["one that is back"] = code(system, ana, url)
+    expect("what is answered", [*came.values()],
+           ["200", "401", "200", "403", "403", "200", "413", "502", "200"])
+    return ", ".join(f"{who} {it}" for who, it in came.items())
 
 
 def ported(system):
@@ -200,26 +140,6 @@ def ported(system):
     system.shell(f"rm -r {folder}; systemctl daemon-reload; systemctl restart cayunchis")
     expect("the stock on the first port", system.asked(), STOCK)
     return lines.replace("\\n", " ")
-
-
-def saved(system):
-    """A copy is made, and where none can be made nothing else is; the server runs on."""
-    server = system.shell("systemctl show -P MainPID cayunchis")
-    system.shell("systemctl start cayunchis-backup")
-    expect("the stock after a copy", system.asked(), STOCK)
-    system.shell(f"mount -t tmpfs -o size=4k tmpfs {COPIES} && systemctl start cayunchis-backup",
-                 status=1)
-    expect("the stock after a copy that failed", system.asked(), STOCK)
-    told = system.until("line of what failed", lambda: system.shell(
-        "journalctl --priority alert --output cat | grep cayunchis-backup || true"))
-    expect("what is told", told, "cayunchis-backup.service failed: see journalctl -u "
-           "cayunchis-backup.service")
-    system.shell(f"umount {COPIES} && systemctl reset-failed")
-    expect("the server", system.shell("systemctl show -P MainPID cayunchis"), server)
-    for turn in range(7):
-        system.shell("sleep 1; systemctl start cayunchis-backup")
-        expect(f"the stock after copy {turn + 1} of seven", system.asked(), STOCK)
-    return system.shell(f"ls {COPIES}").replace("\n", " ")
 
 
 def upgraded(system):
@@ -256,6 +176,54 @@ def brought(system):
     return system.shell("curl -fsS http://127.0.0.1:8080/overdue/2199-12-31")
 
 
+def listed(system):
+    """The intersections and the stock of the office in place."""
+    command = f"runuser -u cayunchis -- signal_office {{}} --db {OFFICE}"
+    return [system.shell(command.format(it)) for it in ("list", "stock")]
+
+
+def moved(system):
+    """The office goes to another machine, for which this one stands with a new office; and back."""
+    before = listed(system)
+    system.shell("\n".join(["set -e", *part("To another machine")[0]]))
+    units = "cayunchis.service", "cayunchis-backup.timer"
+    shown = [system.shell(f"systemctl is-enabled {it} || true") for it in units]
+    expect("the old machine", (shown, system.is_active()), (["disabled"] * 2, False))
+    system.shell(f"mv {STATE} /var/lib/old; mv copy.db city.db; rm -f city.db-wal; systemctl "
+                 f"enable --now {' '.join(units)}")
+    system.asked()
+    bring = "\n".join(["set -e", *part("Install the package")[2]])
+    system.shell(bring.replace("city.db city.db-wal ", "city.db "))
+    system.asked()
+    expect("the office on the new machine", listed(system), before)
+    system.shell(f"systemctl stop {' '.join(units)}; mv {STATE} /var/lib/new; "
+                 f"mv /var/lib/old {STATE}; systemctl enable --now {' '.join(units)}")
+    system.asked()
+    expect("the office on the old machine", listed(system), before)
+    return before[0].replace("\n", "; ")
+
+
+def shared(system):
+    """Two users of a group use an office in turn. One who may not write its folder needs a log."""
+    system.shell("groupadd signals; useradd -g signals ana; useradd -g signals bo; useradd eve")
+    system.shell("\n".join(["set -e", "umask 002", *part("A folder for a group")[0]]))
+    told = system.shell("umask 002; signal_office add --db other.db 12 365 Oak; "
+                        "stat -c %a other.db")
+    expect("the mode of a file under umask 002", told, "added\n644")
+    office = "/srv/signals/city.db"
+    add = "umask 002; runuser -u {} -- signal_office add --db " + office + " {} 30 Elm 2>&1"
+    for user, number in (("ana", 13), ("bo", 14)):
+        expect(f"what {user} adds", system.shell(add.format(user, number)), "added")
+    told = system.shell(add.format("eve", 15), status=1)
+    expect(f"what eve adds: {told}", "Permission denied" in told, True)
+    system.shell("chmod 2750 /srv/signals")
+    expect("beside a log", system.shell(add.format("ana", 16)), "added")
+    system.shell(f"rm -f {office}-wal")
+    told = system.shell(add.format("ana", 17), status=1)
+    expect(f"without a log: {told}", told.splitlines()[-1], "fault: store")
+    return told.replace("\n", "; ")
+
+
 def removed(system):
     """Removed and purged, the server is gone, and the office stays."""
     system.shell("apt remove -y cayunchis")
@@ -266,7 +234,8 @@ def removed(system):
     return system.shell(f"ls {OFFICE}")
 
 
-TRIALS = (installed, killed, failed, watched, ported, saved, upgraded, restored, brought, removed)
+TRIALS = (installed, killed, failed, watched, full, ported, proxied, saved, upgraded, restored,
+          brought, moved, shared, removed)
 
 
 def main():

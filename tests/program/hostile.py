@@ -2,13 +2,15 @@
 """Runs the program on what must not break it, with real files: files that are not its own, that
 another process has open, that can't be written; a full disk, an output without a reader, random
 bytes. Also holds copies of an office against its file, and the numbers of logs against each other.
-Each run must end by itself within 30 seconds with its status and its line on standard error, never
+Each run must end by itself within two minutes with its status and its line on standard error, never
 by a signal. What it refused must stay byte for byte.
 
     tests/program/hostile.py [PROGRAM]      by default the program that ./office built
 
-As root it also tries a file without write permission and a full disk. Prints a line a case, and ok.
+As root it also tries a file without write permission and a full disk. What does not rest on each
+other is tried side by side. Prints a line a case, and ok.
 """
+import concurrent.futures
 import os
 import pathlib
 import random
@@ -53,6 +55,7 @@ ON_FILES = (
 )
 MAKERS = ("batch", "add")  # they make the file where there is none
 STORE = b"fault: store\n"
+PATIENCE = 120  # seconds in which a run has to end, also on a busy machine
 failed = []
 
 
@@ -61,15 +64,15 @@ def run(words, stdin=b"", copies=None, **how):
     perhaps the program among them, it may use copies."""
     how.setdefault("stdout", subprocess.PIPE)
     words = [(copies or {}).get(it, it) for it in (PROGRAM, *words)]
-    ran = subprocess.run(words, input=stdin, stderr=subprocess.PIPE, timeout=30, **how)
+    ran = subprocess.run(words, input=stdin, stderr=subprocess.PIPE, timeout=PATIENCE, **how)
     return ran.returncode, ran.stdout or b"", ran.stderr
 
 
 def case(name, found, wanted):
     if found == wanted:
-        print(f"{name}: as it must be")
+        print(f"{name}: as it must be", flush=True)
     else:
-        print(f"{name}: found {found}, wanted {wanted}")
+        print(f"{name}: found {found}, wanted {wanted}", flush=True)
         failed.append(name)
 
 
@@ -206,7 +209,7 @@ def another_process(folder):
     first.stdin.write(STATE)
     first.stdout.read(1)
     refused("a file that another process holds", path, note=f"another run has {path} open")
-    out, _ = first.communicate(STATE, timeout=30)
+    out, _ = first.communicate(STATE, timeout=PATIENCE)
     case("the process that holds it", (first.returncode, out.count(b'"id":12')), (0, 2))
 
 
@@ -286,7 +289,7 @@ def largest_file(folder):
     refused_for_room("a file at the limit of file sizes", path, lambda: path, preexec_fn=limit)
 
 
-def outputs():
+def outputs(_folder):
     """Outputs that are closed, full or take one byte at a time are tried by outputs.py."""
     how = {"stdin": subprocess.PIPE, "stdout": subprocess.DEVNULL}
     reader = subprocess.Popen(["head", "-c", "10"], **how)
@@ -350,52 +353,54 @@ def keep_to(limit):
     resource.setrlimit(resource.RLIMIT_AS, (limit, limit))
 
 
-def little_memory(folder):
-    """Each command under a limit of memory that rises from where the program can't start: it ends
+# Commands that are tried with little memory, over these files.
+OFFICE, MANY_ROWS, LONG_PLAN = "memory.db", "plan.csv", "long.csv"
+WITH_LITTLE_MEMORY = (
+    ["batch"],
+    ["batch", "--db", OFFICE],
+    ["sheet", "--db", OFFICE, "12"],
+    ["overdue", "--db", OFFICE, "2027-03-02"],
+    ["verify-file", MANY_ROWS],
+    ["import", "--db", OFFICE, os.devnull],
+    ["export", "--db", OFFICE, "12"],
+    ["compare", PLAN, MANY_ROWS],
+    ["diagram", "--file", LONG_PLAN, "1"],
+    ["add", "--db", OFFICE, "12", "365", "Main St"],
+    ["list", "--db", OFFICE],
+    ["stock", "--db", OFFICE],
+    ["orders", "--db", OFFICE],
+    ["used", "--db", OFFICE],
+    ["cabinet", "--db", OFFICE, "12"],
+    ["page", "--db", OFFICE, "12"],
+    ["page", "--file", LONG_PLAN],
+)
+
+
+def little_memory(folder, words):
+    """A command under a limit of memory that rises from where the program can't start: it ends
     done, or tells that memory was refused, or that the database refused, which does not always say
     why."""
-    path = office(folder, "memory.db")
-    plan = os.path.join(folder, "plan.csv")
-    with open(plan, "wb") as file:
-        file.write(b"phase,2,1,8,20,40,40,15,\n" * 1000)
-    long = os.path.join(folder, "long.csv")
-    with open(long, "wb") as file:
-        file.write(held(PLAN) * 200)
+    path = office(folder, OFFICE)
+    for name, text in ((MANY_ROWS, b"phase,2,1,8,20,40,40,15,\n" * 1000),
+                       (LONG_PLAN, held(PLAN) * 200)):
+        with open(os.path.join(folder, name), "wb") as file:
+            file.write(text)
     kept = held(path)
-    for words in (
-        ["batch"],
-        ["batch", "--db", path],
-        ["sheet", "--db", path, "12"],
-        ["overdue", "--db", path, "2027-03-02"],
-        ["verify-file", plan],
-        ["import", "--db", path, os.devnull],
-        ["export", "--db", path, "12"],
-        ["compare", PLAN, plan],
-        ["diagram", "--file", long, "1"],
-        ["add", "--db", path, "12", "365", "Main St"],
-        ["list", "--db", path],
-        ["stock", "--db", path],
-        ["orders", "--db", path],
-        ["used", "--db", path],
-        ["cabinet", "--db", path, "12"],
-        ["page", "--db", path, "12"],
-        ["page", "--file", long],
-    ):
-        told, done, other, refusals = 0, 0, [], (b"fault: memory\n", STORE)
-        for limit in range(1 << 20, 40 << 20, 1 << 17):
-            try:
-                status, out, err = run(words, STATE, preexec_fn=lambda: keep_to(limit))
-            except OSError:
-                continue
-            said = without_notes(err)
-            if status == 1 and said in refusals[: 1 + ("--db" in words)]:
-                told += 1
-            elif status in (0, 3, 4) and not said:
-                done += 1
-            elif told or done:
-                other.append((limit, status, out[:40], err))
-        found = (other, told > 0, done > 0)
-        case(f"{words[0]} with little memory ({told} told, {done} done)", found, ([], True, True))
+    told, done, other, refusals = 0, 0, [], (b"fault: memory\n", STORE)
+    for limit in range(1 << 20, 40 << 20, 1 << 17):
+        try:
+            status, out, err = run(words, STATE, cwd=folder, preexec_fn=lambda: keep_to(limit))
+        except OSError:
+            continue
+        said = without_notes(err)
+        if status == 1 and said in refusals[: 1 + ("--db" in words)]:
+            told += 1
+        elif status in (0, 3, 4) and not said:
+            done += 1
+        elif told or done:
+            other.append((limit, status, out[:40], err))
+    found = (other, told > 0, done > 0)
+    case(f"{words[0]} with little memory ({told} told, {done} done)", found, ([], True, True))
     case("the file after want of memory", held(path), kept)
 
 
@@ -425,17 +430,33 @@ def little_memory_to_migrate(folder):
     case(f"migrate with little memory ({told} told, {done} done)", found, ([], True, True))
 
 
+# What is tried, each in a folder of its own. What takes longest stands first.
 PARTS = (
-    little_memory, little_memory_to_migrate, other_files, versions, another_process, inputs,
-    copies, log_numbers, largest_file,
+    (largest_file,), (little_memory_to_migrate,),
+    *((little_memory, words) for words in WITH_LITTLE_MEMORY),
+    (other_files,), (versions,), (another_process,), (inputs,), (copies,), (log_numbers,),
+    (outputs,),
 )
-with tempfile.TemporaryDirectory() as folder:
-    for part in PARTS:
-        part(folder)
-    outputs()
-    if os.geteuid() == 0:
-        without_leave(folder)
-        full_disk(folder)
-if failed:
-    sys.exit(f"hostile.py: {len(failed)} cases failed: {', '.join(failed)}")
-print("ok")
+BY_ROOT = ((full_disk,), (without_leave,))
+
+
+def tried(part, *words):
+    """Tries a part, in a process of its own, and gives the names of the cases that failed."""
+    failed.clear()
+    with tempfile.TemporaryDirectory() as folder:
+        part(folder, *words)
+    return failed
+
+
+def main():
+    parts = (*(BY_ROOT if os.geteuid() == 0 else ()), *PARTS)
+    with concurrent.futures.ProcessPoolExecutor(len(os.sched_getaffinity(0))) as pool:
+        runs = [pool.submit(tried, *part) for part in parts]
+        wrong = [name for it in runs for name in it.result()]
+    if wrong:
+        sys.exit(f"hostile.py: {len(wrong)} cases failed: {', '.join(wrong)}")
+    print("ok")
+
+
+if __name__ == "__main__":
+    main()

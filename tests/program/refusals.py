@@ -5,20 +5,28 @@ what it says against what docs/OPERATING.md tells of each fault.
     tests/program/refusals.py [PROGRAM]     by default the program that ./office built
 
 - Each call of files while an office is opened and closed fails once, with an input or output error
-  and with a full disk: the run says what the system said, and the office stays as it was.
+  and with a full disk: the run says what the system said, and the office stays as it was. So it is
+  over a disk that is full, on which the office is as it was once there is room.
 - `backup` replaces nothing but a plain file that is no part of an office and that no run has open.
-- A CSV file that is too long is named and not read as records, and of keys that come again a
-  hundred are noted. The longest file of records that is taken needs less than 300 MB.
-- A server says once on standard error why it answers 503.
+- A CSV file that is too long is named and not read as records, and its parts are taken by their
+  lines. Of each kind of note a hundred are told. The longest files of records that are taken, and
+  those that are refused, need less than 300 MB.
+- A port that the user may not have is named.
+- A server says once on standard error why it answers 503, and goes on once the disk has room.
 
-Prints a line for each, and ends with status 1 if anything else happened. Needs a C compiler, `cc`;
-as root it also tries a device, in a folder of its own. Takes a minute.
+What does not rest on each other is tried side by side. Prints a line for each, and ends with status
+1 if anything else happened. Needs a C compiler, `cc`; as root it also tries a device, full disks
+and a low port, in folders of its own. Takes some ten seconds.
 """
+import concurrent.futures
 import contextlib
 import os
 import pathlib
 import re
+import shutil
+import signal
 import socket
+import sqlite3
 import stat
 import subprocess
 import sys
@@ -147,6 +155,24 @@ def folder(program):
         yield Folder(program, pathlib.Path(name))
 
 
+@contextlib.contextmanager
+def small_disk(program, room, size):
+    """A disk of its own, of this size, or None where nothing can be mounted."""
+    disk = pathlib.Path(tempfile.mkdtemp(dir=room))
+    words = ["mount", "-t", "tmpfs", "-o", f"size={size}", "none", disk]
+    if os.geteuid() or subprocess.run(words, stderr=subprocess.DEVNULL).returncode:
+        yield None
+        return
+    try:
+        yield Folder(program, disk)
+    finally:
+        subprocess.run(["umount", disk], check=True)
+
+
+def processors():
+    return concurrent.futures.ThreadPoolExecutor(len(os.sched_getaffinity(0)))
+
+
 # ---- calls that fail
 
 def with_log(it):
@@ -207,35 +233,77 @@ def says(err, error):
     return re.fullmatch(rf"({note})+{STORE}", err)
 
 
-def one_fails(program, library, begin, words, lists, error):
-    """How many calls failed in turn, and how many of them ended the run."""
-    call, ended = 0, 0
-    while True:
-        call += 1
-        with folder(program) as it:
-            begin(it)
-            env = {"LD_PRELOAD": str(library), "FAILING": f"{call} {error}"}
-            status, out, err = it.run(*words, env=env)
-            which = re.search(r"^failed (\w+)\n", err, re.M)
-            if not which:
-                return call - 1, ended
-            err = err.replace(which[0], "", 1)
-            what = f"{begin.__name__}, {words[0]}, call {call}, {which[1]}, error {error}"
-            if status:
-                ended += 1
-                expect(f"{what}: {err!r}", (status, out, bool(says(err, error))), (1, "", True))
-            if (listed := left(it)) not in lists:
-                raise Off(f"{what}: left {listed!r}")
+def fails_at(it, library, call, error, words, lists, what):
+    """Whether a call failed, and whether that ended the run. The first call is 1."""
+    env = {"LD_PRELOAD": str(library), "FAILING": f"{call} {error}"}
+    status, out, err = it.run(*words, env=env)
+    which = re.search(r"^failed (\w+)\n", err, re.M)
+    if not which:
+        return False, False
+    err = err.replace(which[0], "", 1)
+    what = f"{what}, call {call}, {which[1]}, error {error}"
+    if status:
+        expect(f"{what}: {err!r}", (status, out, bool(says(err, error))), (1, "", True))
+    if (listed := left(it)) not in lists:
+        raise Off(f"{what}: left {listed!r}")
+    return True, status != 0
+
+
+def each_fails(program, library, begin, words, lists, error):
+    """How many calls failed in turn, and how many of them ended the run. Each time the office is a
+    copy of one that began so."""
+    ended, what = [], f"{begin.__name__}, {words[0]}"
+    with folder(program) as first:
+        begin(first)
+        while True:
+            with folder(program) as it:
+                shutil.copytree(first.path, it.path, dirs_exist_ok=True)
+                call = len(ended) + 1
+                failed, is_end = fails_at(it, library, call, error, words, lists, what)
+            if not failed:
+                return len(ended), sum(ended)
+            ended.append(is_end)
 
 
 def calls_that_fail(program, room):
-    library, total, all_ended = built(room, "failing", FAILING), 0, 0
-    for error in ERRORS:
-        for begin, words, lists in BEGUN:
-            count, ended = one_fails(program, library, begin, words, lists, error)
-            total, all_ended = total + count, all_ended + ended
+    library = built(room, "failing", FAILING)
+    with processors() as pool:
+        runs = [pool.submit(each_fails, program, library, *begun, error)
+                for error in ERRORS for begun in BEGUN]
+        counts = [it.result() for it in runs]
+    total, ended = map(sum, zip(*counts))
     expect("enough calls", total > 200, True)
-    return f"{total} calls failed, of which {all_ended} ended the run"
+    return f"{total} calls failed, of which {ended} ended the run"
+
+
+def fill(disk):
+    """Fills a disk, and gives the file that does so."""
+    path = disk / "full"
+    with contextlib.suppress(OSError), open(path, "wb", buffering=0) as file:
+        while file.write(b"0" * 4096):
+            pass
+    return path
+
+
+def full_disks(program, room):
+    """An office on a full disk, with a log or without one: it is told as that, and comes back."""
+    count, refused, full_disk = 0, 0, 28
+    for begin, words, lists in BEGUN:
+        with small_disk(program, room, "256k") as it:
+            if not it:
+                return "not tried: it needs root, and to mount"
+            begin(it)
+            full = fill(it.path)
+            status, out, err = it.run(*words)
+            what = f"{begin.__name__}, {words[0]}: {err!r}"
+            is_told = bool(says(err, full_disk)) if status else True
+            expect(what, (is_told, status in (0, 1)), (True, True))
+            full.unlink()
+            if (listed := left(it)) not in lists:
+                raise Off(f"{what}: left {listed!r}")
+            count, refused = count + 1, refused + status
+    expect("enough are refused", refused > 2, True)
+    return f"{refused} of {count} offices were refused, and all come back"
 
 
 def links_that_lead_nowhere(program, room):
@@ -266,7 +334,9 @@ def places(it):
         yield "device", "is no file"
     for end in ("", "-wal", "-turn", ".part", "-journal", "-shm"):
         name = f"./office.db{end}"
-        yield name, f"belongs to ./office.db" if end else "is the office itself"
+        yield name, "belongs to ./office.db" if end else "is the office itself"
+        if end:
+            yield f"other.db{end}", "belongs to other.db"
 
 
 def state_of(path):
@@ -282,11 +352,12 @@ def copies_over(program, room):
     count = 0
     with folder(program) as it:
         it.make()
+        it.make("other.db")
         for name, why in places(it):
             before, count = state_of(it.path / name), count + 1
             came = it.run("backup", "--db", "office.db", "--force", name)
             expect(name, came, (1, "", f"note: {name} {why}\n{EXISTS}"))
-            if not name.endswith("-wal"):
+            if name != "./office.db-wal":
                 expect(f"what stands at {name}", state_of(it.path / name), before)
         expect("the office", left(it), LISTED)
         expect("the linked file", (it.path / "plain.db").read_text(), "text")
@@ -300,8 +371,7 @@ def copies_over(program, room):
 
 
 def busy(it):
-    """An office that another run has open is not replaced."""
-    it.run("add", "--db", "other.db", "7", "30", "Elm")
+    """An office that another run has open is not replaced, also where its log is empty."""
     (it.path / "other.db-wal").write_bytes(b"")
     words = [it.program, "batch", "--db", "other.db"]
     with subprocess.Popen(words, cwd=it.path, stdin=subprocess.PIPE,
@@ -317,7 +387,7 @@ def busy(it):
         run.stdin.close()
         run.stdout.read()
     came = it.run("list", "--db", "other.db", "--csv")
-    expect("the one in use", came, (0, "7,0,normal,,0,Elm,30\n", ""))
+    expect("the one in use", came, (0, LISTED, ""))
 
 
 def copies_without_room(program, room):
@@ -378,85 +448,294 @@ def longest_files(program, room):
     return "read"
 
 
-def many_deliveries(program, room):
-    """The memory of the longest import, and that a million records are refused."""
+def measured(it, *words):
+    """What came of a run as by `run`, and how many bytes of memory it had at most."""
+    with subprocess.Popen([it.program, *words], cwd=it.path, stdout=subprocess.PIPE,
+                          stderr=subprocess.PIPE) as run:
+        out, err = (pipe.read().decode() for pipe in (run.stdout, run.stderr))
+        _, status, used = os.wait4(run.pid, 0)
+        run.returncode = os.waitstatus_to_exitcode(status)
+    return (run.returncode, out, err), used.ru_maxrss * 1024
+
+
+def deliveries(count):
+    return "".join(f"delivery,PART-{at % 9_000:04},{at // 9_000 + 1},2026-05-01,100\n"
+                   for at in range(count))
+
+
+def inspections(count):
+    """The longest records."""
+    return "".join(f"inspection,12,{at + 1},2026-05-01,{'c' * 40},{'t' * 200}\n"
+                   for at in range(count))
+
+
+def long_imports(program, room):
+    """The memory of the longest imports, and of files that are refused."""
+    most = 0
     with folder(program) as it:
         it.make()
-        records = [b"delivery,PART-%04d,%d,2026-05-01,100\n" % (n % 9_000, n // 9_000 + 1)
-                   for n in range(MOST_RECORDS)]
-        (it.path / "most.csv").write_bytes(b"".join(records))
-        (it.path / "million.csv").write_bytes(b"".join(records) * 10)
-        words = [program, "import", "--db", "office.db", "most.csv"]
-        with subprocess.Popen(words, cwd=it.path, stdout=subprocess.PIPE) as run:
-            out = run.stdout.read()
-            _, status, used = os.wait4(run.pid, 0)
-            run.returncode = os.waitstatus_to_exitcode(status)
-        expect("the longest import", (run.returncode, out), (0, b"added 100000, same 0\n"))
-        memory = used.ru_maxrss * 1024
-        expect(f"{memory:,} bytes are few", memory < MOST_MEMORY, True)
-        told = "note: million.csv has more than 100000 records; split it, as by split "
-        came = it.run("import", "--db", "office.db", "million.csv")
-        expect("a million", came, (1, "", f"{told}--lines=50000\n{FILE}"))
-    return f"{memory / 1e6:.0f} MB"
+        for record in (deliveries, inspections):
+            (it.path / "most.csv").write_text(record(MOST_RECORDS))
+            (status, out, err), memory = measured(it, "import", "--db", "office.db", "most.csv")
+            told = 0, f"added {MOST_RECORDS}, same 0\n"
+            expect(f"{record.__name__}, {err[:200]}", (status, out), told)
+            most = max(most, memory)
+        split = "split it, as by split --lines=50000"
+        for count, told in ((1_000_000, f"has more than 100000 records; {split}"),
+                            (2_500_000, "has more than 64 MiB")):
+            (it.path / "million.csv").write_text(deliveries(count))
+            came, memory = measured(it, "import", "--db", "office.db", "million.csv")
+            expect(f"{count} deliveries", came, (1, "", f"note: million.csv {told}\n{FILE}"))
+            most = max(most, memory)
+    expect(f"{most:,} bytes are few", most < MOST_MEMORY, True)
+    return f"at most {most / 1e6:.0f} MB"
+
+
+def parts_of_a_file(program, room):
+    """A file that is too long is imported in parts, by the command that the note shows; of a part
+    with a bad record nothing is taken."""
+    with folder(program) as it:
+        it.make()
+        (it.path / "records.csv").write_text(deliveries(MOST_RECORDS + 1))
+        subprocess.run(["split", "--lines=50000", "records.csv", "part-"], cwd=it.path, check=True)
+        parts = sorted(path.name for path in it.path.glob("part-*"))
+        counts = [it.run("import", "--db", "office.db", part)[1] for part in parts]
+        expect("the parts", counts, [f"added {n}, same 0\n" for n in (50_000, 50_000, 1)])
+        came = it.run("import", "--db", "office.db", parts[-1])
+        told = "note: record 1 is there already\n"
+        expect("a part again", came, (0, "added 0, same 1\n", told))
+        (it.path / "bad.csv").write_text("delivery,NEW,1,2026-05-01,9\ndelivery,NEW,2,today,9\n")
+        status, out, err = it.run("import", "--db", "office.db", "bad.csv")
+        expect("a bad part", (status, out, err.splitlines()[-1]), (1, "", "fault: record 2: Day 4"))
+        came = it.run("stock", "--db", "office.db", "NEW")[1]
+        expect("what is taken of it", "NEW,1" in came, False)
+    return f"{len(parts)} parts"
+
+
+def noted(it, words, last, out=None):
+    """A run that notes a hundred records, and then how many more there are."""
+    status, came, err = it.run(*words)
+    notes = [line for line in err.splitlines() if not line.startswith("fault: ")]
+    expect(f"notes of {words[0]}", (len(notes), notes[-1:]), (NOTES + 1, [last]))
+    if out is not None:
+        expect(f"what {words[0]} prints", (status, came), (0, out))
 
 
 def many_notes(program, room):
+    """Of each kind of note on records."""
     with folder(program) as it:
+        it.make()
         row = PLAN.read_text().splitlines()[-1] + "\n"
         (it.path / "again.csv").write_text(PLAN.read_text() + row * 1_000)
-        status, out, err = it.run("verify-file", "again.csv")
-        lines = err.splitlines()
-        expect("how it ends", (status, out, len(lines)), (0, "no violations\n", NOTES + 1))
-        expect("the last note", lines[-1], "note: 900 more records put or remove a key again")
-        status, _, err = it.run("compare", PLAN, "again.csv")
-        told = "note: 900 more other records put or remove a key again"
-        expect("of two files", (status, err.splitlines()[-1]), (0, told))
+        again = "more records put or remove a key again"
+        noted(it, ["verify-file", "again.csv"], f"note: 900 {again}", "no violations\n")
+        other = "note: 900 more other records put or remove a key again"
+        noted(it, ["compare", PLAN, "again.csv"], other, "")
+        edit = ["edit", "--db", "office.db", "--clerk", "Ana", "12", "again.csv"]
+        noted(it, edit, f"note: 900 {again}")
+        (it.path / "records.csv").write_text(deliveries(1_000))
+        told = "note: 900 more records are of a new part or there already"
+        take = ["import", "--db", "office.db", "records.csv"]
+        noted(it, [*take, "--check"], told)
+        noted(it, take, told, "added 1000, same 0\n")
+        noted(it, take, told, "added 0, same 1000\n")
+        (it.path / "bad.csv").write_text("phase,300\n" * 1_000)
+        for words in (["verify-file"], ["import", "--db", "office.db"]):
+            noted(it, [*words, "--explain", "bad.csv"], "900 more bad records")
     return f"{NOTES} and one"
 
 
-# ---- a server
+# ---- ports and servers
+
+def low_ports(program, room):
+    """A port that only root may have, for another user."""
+    low = pathlib.Path("/proc/sys/net/ipv4/ip_unprivileged_port_start").read_text()
+    if os.geteuid() or int(low) < 2:
+        return "not tried: it needs root, and ports that another user may not have"
+    with folder(program) as it:
+        it.path.chmod(0o755)
+        copy = shutil.copy(program, it.path)
+        ran = subprocess.run([copy, "serve", "--port", "1"], cwd=it.path, capture_output=True,
+                             user=65534, group=65534, extra_groups=[], timeout=PATIENCE)
+        told = b"note: the system refuses port 1 of 127.0.0.1: Permission denied (os error 13)\n"
+        came = ran.returncode, ran.stdout, ran.stderr
+        expect("port 1", came, (1, b"", told + b"fault: bind\n"))
+    return "named"
+
+
+def additions(first, count):
+    """Requests that add intersections."""
+    bodies = [b'{"id":%d,"interval":30,"name":"%s"}' % (first + at, b"x" * 100)
+              for at in range(count)]
+    return b"".join(b"POST /intersections HTTP/1.1\r\nContent-Length: %d\r\n\r\n%s"
+                    % (len(body), body) for body in bodies)
+
+
+@contextlib.contextmanager
+def served(it, count, **how):
+    """A server of so many connections over the office, and its port."""
+    with socket.create_server(("127.0.0.1", 0)) as free:
+        port = free.getsockname()[1]
+    words = [it.program, "serve", "--port", str(port), "--count", str(count), "--db", "office.db"]
+    with subprocess.Popen(words, cwd=it.path, stdout=subprocess.PIPE, stderr=subprocess.PIPE,
+                          **how) as server:
+        try:
+            expect("a server", server.stdout.readline(), b"listening on 127.0.0.1:%d\n" % port)
+            yield server, port
+        finally:
+            server.kill()
+
+
+def causes(err):
+    """The notes of a server."""
+    return [line for line in err.splitlines() if line.startswith("note: ")]
+
+
+CAUSE = "note: the system refuses office.db-wal: No space left on device (os error 28)"
+
 
 def a_server_without_room(program, room):
     """It answers 503 to each change, and says once why."""
     library = built(room, "disk", DISK)
-    with folder(program) as it, socket.create_server(("127.0.0.1", 0)) as free:
-        port = free.getsockname()[1]
-        free.close()
+    with folder(program) as it:
         it.make()
-        bodies = [b'{"id":%d,"interval":30,"name":"%s"}' % (n, b"x" * 100) for n in range(100, 900)]
-        sent = b"".join(b"POST /intersections HTTP/1.1\r\nContent-Length: %d\r\n\r\n%s"
-                        % (len(body), body) for body in bodies)
         env = {**os.environ, **Trouble(room=40_000).env(library)}
-        words = [program, "serve", "--port", str(port), "--count", "1", "--db", "office.db"]
-        with subprocess.Popen(words, cwd=it.path, stdout=subprocess.PIPE, stderr=subprocess.PIPE,
-                              env=env) as server:
-            server.stdout.readline()
-            came = exchange(port, sent, 60)
-            err = server.communicate()[1].decode()
+        with served(it, 1, env=env) as (server, port):
+            came = exchange(port, additions(100, 800), 60)
+            err = server.communicate(timeout=PATIENCE)[1].decode()
         refused = came.count(b"HTTP/1.1 503 ")
         expect("answers 503", refused > 10, True)
-        notes = [line for line in err.splitlines() if line.startswith("note: ")]
-        told = "note: the system refuses office.db-wal: No space left on device (os error 28)"
-        expect("notes", notes, [told])
+        expect("notes", causes(err), [CAUSE])
     return f"once for {refused} answers"
 
 
-TRIALS = (calls_that_fail, links_that_lead_nowhere, copies_over, copies_without_room, long_files,
-          longest_files, many_deliveries, many_notes, a_server_without_room)
+def without_room(it, port):
+    """How many changes are refused on a full disk, where a query is answered, and that one is done
+    once there is room."""
+    full = fill(it.path)
+    came = exchange(port, additions(100, 800), PATIENCE)
+    refused = came.count(b"HTTP/1.1 503 ")
+    expect("answers 503", (refused > 10, came.endswith(b'"number":90}')), (True, True))
+    expect("a query", b"HTTP/1.1 200 " in exchange(port, STATE, PATIENCE), True)
+    full.unlink()
+    came = exchange(port, additions(2_000, 1), PATIENCE)
+    expect("a change once there is room", came[-18:-8], b'{"result":')
+    came = exchange(port, b"GET /intersections/2000 HTTP/1.1\r\n\r\n", PATIENCE)
+    expect("what was added", b'"id":2000' in came, True)
+    return refused
+
+
+def a_server_that_gets_room(program, room):
+    """On a full disk it reads, answers 503 to changes and says why, and goes on when there is room;
+    also when that comes again after another run had the file."""
+    with small_disk(program, room, "512k") as it:
+        if not it:
+            return "not tried: it needs root, and to mount"
+        it.make()
+        with served(it, 8) as (server, port):
+            counts = [without_room(it, port)]
+            expect("a command", it.run("stock", "--db", "office.db"), (0, "", ""))
+            counts.append(without_room(it, port))
+            err = server.communicate(timeout=PATIENCE)[1].decode()
+        expect("notes", causes(err), [CAUSE] * 2)
+        expect("its end", server.returncode, 0)
+    return f"after {counts[0]} and {counts[1]} answers 503"
+
+
+# ---- other faults, and what mends them
+
+def a_rollback_journal(program, room):
+    """The journal of a change that SQLite did not end: sqlite3 ends it, and the office is open."""
+    with folder(program) as it:
+        path = it.make()
+        with contextlib.closing(sqlite3.connect(path, isolation_level=None)) as db:
+            db.execute("PRAGMA journal_mode = DELETE")
+            db.execute("PRAGMA cache_size = 1")
+            db.execute("BEGIN")
+            db.execute("CREATE TABLE other (text TEXT)")
+            db.executemany("INSERT INTO other VALUES (?)", [("x" * 100,)] * 10_000)
+            for end in ("", "-journal"):
+                shutil.copy(f"{path}{end}", f"{it.path}/stopped.db{end}")
+        words = ["list", "--db", "stopped.db", "--csv"]
+        told = "note: stopped.db has a rollback journal; open it by sqlite3 first\n"
+        expect("a journal", it.run(*words), (1, "", told + STORE))
+        with contextlib.closing(sqlite3.connect(it.path / "stopped.db")) as db:
+            db.execute("SELECT * FROM intersection").fetchall()
+        expect("without it", it.run(*words), (0, LISTED, ""))
+    return "ended by sqlite3"
+
+
+def a_limit_of_file_sizes(program, room):
+    """A run that a signal ends for want of room under a limit: what it answered is there."""
+    with folder(program) as it:
+        it.make()
+        (it.path / "sent").write_bytes(additions(100, 800))
+        limit = 'ulimit -f 64; exec "$0" batch --db office.db < sent'
+        ran = subprocess.run(["bash", "-c", limit, program], cwd=it.path, capture_output=True)
+        expect("how it ends", ran.returncode, -signal.SIGXFSZ)
+        answered = ran.stdout.count(b'{"result":"added"}')
+        rows = left(it).count("\n") - 1
+        expect("what it answered", (0 < answered <= rows < 800), True)
+    return f"{answered} answers"
+
+
+def faults_with_their_objects(program, room):
+    """Faults of which a row or another script has not each object."""
+    with folder(program) as it:
+        it.make()
+        office, ana = ["--db", "office.db"], ["--clerk", "Ana"]
+        it.run("edit", *office, *ana, "12", PLAN)
+        for words, told in (
+            (["edit", *office, "--clerk", "Bo", "12", PLAN],
+             "Bo does not have the draft of intersection 12; list says who has it"),
+            (["abandon", *office, *ana, "9"], "there is no intersection 9 in office.db"),
+            (["page", *office, "9"], "there is no intersection 9 in office.db"),
+            (["diagram", *office, "12", "3"],
+             "there is no pattern 3 in the plan of intersection 12"),
+            (["diagram", "--file", PLAN, "3"], f"there is no pattern 3 in the plan of {PLAN}"),
+            (["compare", "-", "-"],
+             "- is standard input, which is read once; name another file"),
+            (["verify-file", "none.csv"],
+             "the system refuses none.csv: No such file or directory (os error 2)"),
+            (["stock", "--db", "none.db"], "there is no file none.db"),
+            (["export", *office, "--all", "office.db"],
+             "the system refuses office.db: File exists (os error 17)"),
+            (["pages", *office, "none/pages"],
+             "the system refuses none/pages: No such file or directory (os error 2)"),
+        ):
+            status, out, err = it.run(*words)
+            lines = err.splitlines()
+            is_fault = len(lines) == 2 and lines[1].startswith("fault: ")
+            expect(f"{words[0]}: {err!r}", (status, out, lines[:1], is_fault),
+                   (1, "", [f"note: {told}"], True))
+    return "named"
+
+
+# What takes longest stands first.
+TRIALS = (calls_that_fail, long_imports, long_files, parts_of_a_file, full_disks,
+          a_server_without_room, a_server_that_gets_room, links_that_lead_nowhere, copies_over,
+          copies_without_room, longest_files, many_notes, low_ports, a_rollback_journal,
+          a_limit_of_file_sizes, faults_with_their_objects)
+
+
+def tried(trial, program):
+    """What a trial tells, in a folder of its own, and whether it went as it must."""
+    with tempfile.TemporaryDirectory() as room:
+        try:
+            return trial(program, pathlib.Path(room)), True
+        except (Off, subprocess.TimeoutExpired) as wrong:
+            return f"WRONG: {str(wrong)[:2000]}", False
 
 
 def main():
     program, names, failed = found(sys.argv[1:2]), sys.argv[2:], 0
-    with tempfile.TemporaryDirectory() as name:
-        for trial in TRIALS:
-            if names and trial.__name__ not in names:
-                continue
-            told = trial.__name__.replace("_", " ")
-            try:
-                print(f"{told}: {trial(program, pathlib.Path(name))}", flush=True)
-            except (Off, subprocess.TimeoutExpired) as wrong:
-                failed += 1
-                print(f"{told}: WRONG: {str(wrong)[:2000]}", flush=True)
+    trials = [it for it in TRIALS if not names or it.__name__ in names]
+    with processors() as pool:
+        runs = [pool.submit(tried, it, program) for it in trials]
+        for trial, run in zip(trials, runs):
+            told, is_right = run.result()
+            failed += not is_right
+            print(f"{trial.__name__.replace('_', ' ')}: {told}", flush=True)
     if failed:
         sys.exit(f"refusals.py: {failed} trials failed")
     print("ok")
