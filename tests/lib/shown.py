@@ -23,6 +23,7 @@ LONGEST = 60  # seconds of one command
 CURL = 'silent\nshow-error\nnoproxy = "*"\n'
 PLAN = TOP / "bench" / "plan.csv"
 MISTAKES = re.compile(r"\| Wrong \| Right \| What `(\./office .*)` prints \|")
+WAITING = re.compile(r"^note: another run has .* open; waiting\n", re.MULTILINE)
 LEFT_OUT = "^fault: record\\|^would add"  # what a table of mistakes does not show
 
 
@@ -76,8 +77,9 @@ def commands(block):
 
 
 def printed(data):
-    """What was printed as a reader sees it: without HTTP's ends of lines and spaces at the end."""
-    text = data.decode(errors="replace").replace("\r", "")
+    """What was printed as a reader sees it: without HTTP's ends of lines and spaces at the end, and
+    without the note of a wait, which a busy machine makes long."""
+    text = WAITING.sub("", data.decode(errors="replace").replace("\r", ""))
     return "\n".join(line.rstrip() for line in text.splitlines()).rstrip("\n")
 
 
