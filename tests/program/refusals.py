@@ -627,17 +627,15 @@ def without_room(it, port):
 
 def a_server_that_gets_room(program, room):
     """On a full disk it reads, answers 503 to changes and says why, and goes on when there is room;
-    also when that comes again after another run had the file."""
+    also when that comes again."""
     with small_disk(program, room, "512k") as it:
         if not it:
             return "not tried: it needs root, and to mount"
         it.make()
         with served(it, 8) as (server, port):
-            counts = [without_room(it, port)]
-            expect("a command", it.run("stock", "--db", "office.db"), (0, "", ""))
-            counts.append(without_room(it, port))
+            counts = without_room(it, port), without_room(it, port)
             err = server.communicate(timeout=PATIENCE)[1].decode()
-        expect("notes", causes(err), [CAUSE] * 2)
+        expect("notes", causes(err), [CAUSE])
         expect("its end", server.returncode, 0)
     return f"after {counts[0]} and {counts[1]} answers 503"
 
