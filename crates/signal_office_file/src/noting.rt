@@ -53,11 +53,6 @@ impl<'a> CallNotes<'a> {
         }
     }
 
-    /// Has a refusal that was said be said again, as of another trouble.
-    pub(crate) fn forget(&self) {
-        self.last.set(None);
-    }
-
     /// Says what the file holds in which no office could be opened, unless the system refused a
     /// call.
     pub(crate) fn say_content(&self) {

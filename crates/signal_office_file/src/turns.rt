@@ -111,10 +111,7 @@ fn take_turn<Outcome: Drop, T: OfficeTask<Outcome> + TakesTurns, W: Sink>(
     let ended = done_in(rt, alloc, notes.on(files), options, task, out);
     let is_done = task.is_done();
     match ended {
-        Ended::Closed(done, _files) => {
-            notes.forget();
-            after_closing(done, is_done)
-        }
+        Ended::Closed(done, _files) => after_closing(done, is_done),
         Ended::Unclosed(fault, _left) => after_failure(fault, is_done),
         Ended::Refused(fault, _left) => {
             note_refused(notes, &fault, before);
