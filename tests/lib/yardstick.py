@@ -18,7 +18,7 @@ from serving import Off, delivery, spelled
 PLAN = TOP / "bench" / "plan.csv"
 STREETS = 120  # intersections of an office
 LONGEST = 3  # seconds that a call or a command may wait
-MOST = 60  # commands that the yardstick may run meanwhile, where it is longer
+MOST = 40  # commands that the yardstick may run meanwhile, where it is longer
 PATIENCE = 60  # seconds after which a command gives up, and a client too
 FORKED = multiprocessing.get_context("fork")
 RAN = FORKED.Value("Q", 0)  # commands that the yardstick ran

@@ -27,8 +27,8 @@ Each part has a file and a server of its own, beside which each command is done:
 
 Meanwhile a yardstick runs: a process that runs the same commands one after the other over a file of
 its own. Whoever waits for over three seconds has waited too long only if the yardstick ran more
-than 60 commands meanwhile. On an idle machine it runs more in three seconds; a busy one slows it as
-it slows the others. `busy` lasts until it ran 120.
+than 40 commands meanwhile. On an idle machine it runs more in three seconds; a busy one slows it as
+it slows the others. `busy` lasts until it ran 80.
 
 Prints what it tries, and ends with status 1 if a part failed. Needs cc. Takes 70 seconds.
 """
