@@ -619,7 +619,7 @@ def without_room(it, port):
     expect("a query", b"HTTP/1.1 200 " in exchange(port, STATE, PATIENCE), True)
     full.unlink()
     came = exchange(port, additions(2_000, 1), PATIENCE)
-    expect("a change once there is room", came[-18:-8], b'{"result":')
+    expect("a change once there is room", b'{"result":' in came, True)
     came = exchange(port, b"GET /intersections/2000 HTTP/1.1\r\n\r\n", PATIENCE)
     expect("what was added", b'"id":2000' in came, True)
     return refused
