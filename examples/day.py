@@ -1,11 +1,11 @@
 #!/usr/bin/env python3
-"""Plays the day that examples/README.md shows, and can make the picture of a page from it.
+"""Plays the day of docs/TUTORIAL.md, and can make the picture of a page from it.
 
     examples/day.py [--picture FILE] [--program PROGRAM] [FOLDER]
 
-It runs each command of examples/README.md in FOLDER, which must be new or empty, and keeps what the
-day leaves there: the office `city.db` with its log, the folders `pages` and `city`, a backup, and
-links to the program and the files of the repository, so that the commands go on working there.
+It runs each command of the tutorial in FOLDER, which must be new or empty, and keeps what the day
+leaves there: the folder `riverside` with the database, pages, files under git and a copy, and links
+to the program and the files of the repository, so that the commands go on working there.
 Without FOLDER all of that is gone at the end. It says for each command whether it printed what the
 document shows, and ends with status 1 if one did not.
 
@@ -25,8 +25,8 @@ sys.path.insert(0, str(TOP / "tests" / "lib"))
 from program import found
 import shown
 
-DAY = TOP / "examples" / "README.md"
-OFFICE, SHOWN = "city.db", "103"
+DAY = TOP / "docs" / "TUTORIAL.md"
+OFFICE, SHOWN = "riverside/city.db", "103"
 SIZE = "1280,880"  # pixels of the picture
 
 
@@ -36,11 +36,11 @@ def play(folder, program):
     day, wrong = shown.Tour(folder), 0
     try:
         for block in shown.blocks(DAY.read_text()):
-            for command, shown in shown.commands(block):
-                printed = day.run(command, shown)
-                wrong += printed != shown
-                print(f"{'ok   ' if printed == shown else 'WRONG'} {command}", flush=True)
-                if printed != shown:
+            for command, wanted in shown.commands(block):
+                printed = day.run(command, wanted)
+                wrong += printed != wanted
+                print(f"{'ok   ' if printed == wanted else 'WRONG'} {command}", flush=True)
+                if printed != wanted:
                     print(f"--- printed\n{printed}\n---", flush=True)
     finally:
         day.end()
@@ -59,7 +59,7 @@ def draw(folder, program, picture):
 
 
 def words_given():
-    parser = argparse.ArgumentParser(description="Plays the day that examples/README.md shows.")
+    parser = argparse.ArgumentParser(description="Plays the day of docs/TUTORIAL.md.")
     parser.add_argument("--picture", type=pathlib.Path, metavar="FILE")
     parser.add_argument("--program", metavar="PROGRAM")
     parser.add_argument("folder", nargs="?", type=pathlib.Path, metavar="FOLDER")

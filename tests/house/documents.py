@@ -217,8 +217,8 @@ def wrong_commands():
     """Commands that are shown and are none, and those and routes that their document lacks."""
     paths = (TOP / "crates/signal_office_line/src").glob("*.rt")
     source = "\n".join(it.read_text() for it in paths)
-    listed = (TOP / "docs/COMMANDS.md").read_text().partition("## Files")[0]
-    known = set(re.findall(r"^- `([\w-]+) ", listed, re.MULTILINE))
+    listed = (TOP / "docs/COMMANDS.md").read_text().partition("\n## Files")[0]
+    known = set(re.findall(r"^### ([\w-]+)$", listed, re.MULTILINE))
     yield from (f"COMMANDS.md lists {it}, which is no command" for it in sorted(known)
                 if f'"{it}"' not in source)
     yield from (f"COMMANDS.md lacks {it}" for it in re.findall(r'Usage\(\s*"([\w-]+)"', source)
@@ -228,7 +228,7 @@ def wrong_commands():
         yield from (f"{named(document)} shows {it}, which is no command" for it in shown - known)
     faults = (TOP / "docs/COMMANDS.md").read_text().partition("## Faults")[2].partition("## ")[0]
     after = (TOP / "docs/OPERATING.md").read_text().partition("## After a fault")[2]
-    for names in re.findall(r"^- ((?:`[\w ]+`(?:, )?)+)", faults, re.MULTILINE):
+    for names in re.findall(r"^\| ((?:`[\w ]+`(?:, )?)+) \|", faults, re.MULTILINE):
         yield from (f"OPERATING.md does not say what to do after {it}" for it in NAME.findall(names)
                     if not re.search(rf"\b{it.split()[0]}\b", after))
     routes = (TOP / "crates/office_http_requests/src/route.rt").read_text()

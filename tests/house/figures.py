@@ -9,6 +9,7 @@ nothing. Prints what is wrong, and ends with status 1 then.
 """
 import pathlib
 import re
+import subprocess
 import sys
 
 sys.path.insert(0, str(pathlib.Path(__file__).resolve().parents[1] / "lib"))
@@ -19,28 +20,28 @@ CRATES = TOP / "crates"
 CONSTANT = re.compile(r"const (\w+): \w+ = ([\d_]+);")
 RANGE = re.compile(
     r"(?:type|const) (\w+)(?: = Number<\w+, |: Range = Range\()([\w_]+), ([\w_]+)[>)];")
-COMMANDS, HTTP, PLANS, PROOF = (f"docs/{it}.md" for it in ("COMMANDS", "HTTP", "PLANS", "PROOF"))
+COMMANDS, HTTP, PLANS, PROOF, FORMAT = (
+    f"docs/{it}.md" for it in ("COMMANDS", "HTTP", "PLANS", "PROOF", "FILE-FORMAT"))
 ANY = r"([\d,.]+\d|\d)"
 
 # A document, a sentence of it with its numbers in parentheses, and what each of them is: a constant,
 # an end of a type's range, an end times or by some number, or a count.
 SENTENCES = [
-    (COMMANDS, f"ID is an intersection \\({ANY} to {ANY}\\)", "InterId.low", "InterId.high"),
-    (COMMANDS, f"`--wait SECONDS` \\(0 to {ANY}\\)", "WAITS.high"),
-    (COMMANDS, f"open, {ANY} if it is left out", "USUAL_WAIT"),
+    (COMMANDS, f"\\| ID \\| an intersection, {ANY} to {ANY}", "InterId.low", "InterId.high"),
+    (COMMANDS, f"for FILE, 0 to {ANY}; {ANY} if it is left out", "WAITS.high", "USUAL_WAIT"),
     (COMMANDS, f"standard output, at most {ANY}, over", "BATCH_LIMIT"),
     (COMMANDS, f"\\(1 to {ANY}, the default\\)", "COUNTS.high"),
     (COMMANDS, f"every INTERVAL days \\({ANY} to {ANY}\\)", "Interval.low", "Interval.high"),
-    (COMMANDS, f"a pattern \\({ANY} to {ANY}\\)", "PatternNo.low", "PatternNo.high"),
+    (COMMANDS, f"of a pattern \\({ANY} to {ANY}\\)", "PatternNo.low", "PatternNo.high"),
     (COMMANDS, f"at most N \\(1 to {ANY}\\)", "InterId.high"),
-    (COMMANDS, f"`none` after {ANY}\\)", "RecordNo.high"),
-    (COMMANDS, f"- {ANY}: a plan that was checked", "HAS_VIOLATIONS"),
-    (COMMANDS, f"- {ANY}: two plans differ", "DIFFERS"),
-    (COMMANDS, f"- {ANY}: the words were refused", "WORDS_REFUSED"),
-    (COMMANDS, f"`used_part` to `work_order`. The version is {ANY}", "VERSION"),
+    (COMMANDS, f"\\| {ANY} \\| the plan breaks a rule", "HAS_VIOLATIONS"),
+    (COMMANDS, f"\\| {ANY} \\| the plans differ", "DIFFERS"),
+    (COMMANDS, f"\\| {ANY} \\| the arguments were refused", "WORDS_REFUSED"),
+    (FORMAT, f"The version is {ANY}", "VERSION"),
+    (FORMAT, f"64 MiB and {ANY} records", "MOST_RECORDS"),
     (HTTP, f"from the first {ANY} bytes, with at most {ANY} fields", "HEAD_LIMIT", "FIELD_LIMIT"),
     (HTTP, f"Content-Length says, at most {ANY} bytes", "LARGEST_BODY"),
-    (HTTP, f"the first {ANY} bytes contain no whole head", "HEAD_LIMIT"),
+    (HTTP, f"no whole head in the first {ANY} bytes", "HEAD_LIMIT"),
     (HTTP, f"the body is longer than {ANY} bytes", "LARGEST_BODY"),
     (HTTP, f"`id`, `{{id}}`: {ANY} to {ANY}", "InterId.low", "InterId.high"),
     (HTTP, f"`interval`: {ANY} to {ANY} days", "Interval.low", "Interval.high"),
@@ -53,14 +54,15 @@ SENTENCES = [
     (HTTP, f"or has had {ANY} answers", "CONNECTION_LIMIT"),
     (HTTP, f"it stays open for {ANY} seconds", "LONGEST_WAIT of from_listener"),
     (HTTP, f"has {ANY} milliseconds", "FIRST_WAIT"),
-    (PLANS, f"phase numbers: {ANY} to {ANY}", "PhaseNo.low", "PhaseNo.high"),
-    (PLANS, f"ring: {ANY} to {ANY}", "RingNo.low", "RingNo.high"),
-    (PLANS, f"sequence, split; pattern: {ANY} to {ANY}; {ANY} to {ANY}", "SeqNo.low",
-     "SplitNo.high", "PatternNo.low", "PatternNo.high"),
-    (PLANS, f"width: {ANY} to {ANY} tenths", "Width.low", "Width.high"),
-    (PLANS, f"setback: {ANY} to {ANY} tenths", "Setback.low", "Setback.high"),
-    (PLANS, f"lead: {ANY} to {ANY} seconds", "Lead.low", "Lead.high"),
-    (PLANS, f"cycle: {ANY} to {ANY} seconds", "Cycle.low", "Cycle.high"),
+    (PLANS, f"`phaseNumber`, `splitPhase` \\| {ANY} to {ANY} ", "PhaseNo.low", "PhaseNo.high"),
+    (PLANS, f"`sequenceRingNumber` \\| {ANY} to {ANY} ", "RingNo.low", "RingNo.high"),
+    (PLANS, f"`patternNumber` \\| {ANY} to {ANY}; {ANY} to {ANY}; {ANY} to {ANY} ", "SeqNo.low",
+     "SeqNo.high", "SplitNo.low", "SplitNo.high", "PatternNo.low", "PatternNo.high"),
+    (PLANS, f"from curb to curb \\| none \\| {ANY} to {ANY} tenths", "Width.low", "Width.high"),
+    (PLANS, f"a pedestrian starts \\| none \\| {ANY} to {ANY} tenths", "Setback.low",
+     "Setback.high"),
+    (PLANS, f"before the green \\| none \\| {ANY} to {ANY} seconds", "Lead.low", "Lead.high"),
+    (PLANS, f"`patternCycleTime` \\| {ANY} to {ANY} seconds", "Cycle.low", "Cycle.high"),
     (PLANS, f"at revision {ANY};", "LAST_REVISION"),
     (PLANS, f"more than {ANY} on hand", "MOST_ON_HAND"),
     ("docs/ARCHITECTURE.md", f"its buffer of {ANY} bytes", "BUFFER_LEN"),
@@ -152,7 +154,7 @@ def wrong_refusals():
     does not have."""
     text = (TOP / HTTP).read_text()
     shown = {int(number): (name, int(status)) for number, name, status
-             in re.findall(r"^- (\d+) (\w+) \((\d+)\)", text, re.MULTILINE)}
+             in re.findall(r"^\| (\d+) (\w+) \| (\d+) \|", text, re.MULTILINE)}
     statuses = {number: int(it.split()[0]) for it, all_of in refusal.STATUSES.items()
                 for number in all_of}
     wanted = {number: (name, statuses[number]) for number, name in refusal.NAMES.items()}
@@ -181,11 +183,34 @@ def wrong_measurements():
         yield f"README.md says {gate[0]!r}, and MEASUREMENTS.md has another time of the gate"
 
 
+def counts():
+    """What docs/PROOF.md counts: a sentence with its number, and today's."""
+    lines = (TOP / "docs/MEASUREMENTS.md").read_text().partition("<!-- lines: end -->")[0]
+    code, _, specs, proofs = (
+        int(it.replace(",", "")) for it in re.search("together (.*)", lines)[1].split()[:4])
+    bodies = len([*CRATES.glob("*/must-fail/*.edit")])
+    ran = subprocess.run([TOP / "tools/calls.py", "--without"], capture_output=True, text=True)
+    without, calls = map(int, re.match(r"(\d+) of (\d+) calls", ran.stdout).groups())
+    yield f"{ANY} crates have", len([*CRATES.iterdir()])
+    yield f"have {ANY} lines of code", code
+    yield f"code, {ANY} of definitions", specs
+    yield f"definitions and {ANY} of proofs", proofs
+    yield f"contract: {ANY} of", calls - without
+    yield f"contract: [0-9]+ of {ANY} public ones", calls
+    yield f"{ANY} wrong bodies", len([*CRATES.glob("*/wrong-bodies/*.edit")]) + bodies
+    yield f"The gate tries {ANY}", bodies
+    yield f"{ANY} worked rows", len([*(TOP / "tests/rows").glob("*.row")])
+
+
 def wrong_counts():
-    """Counts of files that a sentence gives at least."""
-    rows = len([*(TOP / "tests/rows").glob("*.row")])
-    if "plays over a hundred worked rows" not in plain((TOP / PROOF).read_text()) or rows <= 100:
-        yield f"PROOF.md says 'over a hundred worked rows', and there are {rows}"
+    """Each count of docs/PROOF.md that is too great, or by more than a tenth too small."""
+    text = plain((TOP / PROOF).read_text())
+    for sentence, wanted in counts():
+        found = re.search(sentence, text)
+        if not found:
+            yield f"{PROOF} has no sentence {sentence!r}"
+        elif not int(found[1].replace(",", "")) <= wanted <= 1.1 * int(found[1].replace(",", "")):
+            yield f"{PROOF}: {found[0]!r}, and there are {wanted}"
 
 
 def main():

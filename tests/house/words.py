@@ -30,20 +30,22 @@ COLUMNS = 100  # of a document
 STATE = re.compile("[0-9a-f]{12}|unknown")  # by ./office, or by something else
 
 
-def item_of(command):
-    """The synopsis of a command, with which its item in docs/COMMANDS.md begins. No option is broken
-    off from its value."""
-    words = "\n".join([command.name, *(it.shown() for it in command.words)])
-    kept = f"- `{words}`".replace(" ", "\0").replace("\n", " ")
-    return textwrap.fill(kept, COLUMNS, subsequent_indent="  ", break_long_words=False,
-                         break_on_hyphens=False).replace("\0", " ")
+def synopsis(command):
+    """The heading of a command in docs/COMMANDS.md, with its synopsis. No option is broken off from
+    its value."""
+    words = " ".join(it.shown().replace(" ", "\0") for it in command.words)
+    shown = textwrap.fill(words, COLUMNS, initial_indent=f"    {command.name} ",
+                          subsequent_indent=" " * len(f"    {command.name} "),
+                          break_long_words=False, break_on_hyphens=False)
+    return f"### {command.name}\n\n" + shown.replace("\0", " ") + "\n"
 
 
 def commands_text(words):
-    """docs/COMMANDS.md with today's synopses: the first lines of each command of its list."""
+    """docs/COMMANDS.md with today's synopses, each below the heading of its command."""
     text = COMMANDS.read_text()
     for it in words.commands:
-        text = re.sub(rf"^- `{it.name} [^`]*`$", lambda _: item_of(it), text, flags=re.MULTILINE)
+        text = re.sub(rf"^### {it.name}\n(?:\n(?: {{4}}.*\n)+)?", lambda _: synopsis(it), text,
+                      flags=re.MULTILINE)
     return text
 
 
@@ -63,7 +65,7 @@ def out_of_date():
         if not path.is_file() or path.read_text() != text:
             yield f"{path.relative_to(TOP)} is out of date: tests/house/words.py --write"
     for it in words.commands:
-        if f"{item_of(it)}\n" not in files[COMMANDS]:
+        if synopsis(it) not in files[COMMANDS]:
             yield f"COMMANDS.md lacks the synopsis of {it.name}"
 
 

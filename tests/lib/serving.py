@@ -121,8 +121,8 @@ def expect(what, came, wanted):
 class Wire:
     """A connection whose answers are read one by one."""
 
-    def __init__(self, port):
-        self.socket = socket.create_connection(("127.0.0.1", int(port)), timeout=PATIENCE)
+    def __init__(self, port, patience=PATIENCE):
+        self.socket = socket.create_connection(("127.0.0.1", int(port)), timeout=patience)
         self.socket.setsockopt(socket.IPPROTO_TCP, socket.TCP_NODELAY, 1)
         self.came = b""
 

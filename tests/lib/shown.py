@@ -2,9 +2,17 @@
 
 A command is an indented line that begins with `$ `; a backslash at its end continues it on the next
 line. What it prints stands below it, up to the next command or the end of the block. One that ends
-in ` &` runs on, once its first line was seen, until its document is done."""
+in ` &` runs on, once its first line was seen, until its document is done.
+
+A table of mistakes has the head `| Wrong | Right | What COMMAND prints |`. In each row the wrong
+lines are put in the place of the right ones, in `bench/plan.csv` for `verify-file` and else alone,
+and COMMAND must print of that file what stands in the row, apart from the fault of a record and the
+counts of an import. With the right lines it must end with status 0.
+"""
 import os
+import re
 import select
+import shlex
 import signal
 import subprocess
 import textwrap
@@ -13,12 +21,39 @@ from program import TOP
 
 LONGEST = 60  # seconds of one command
 CURL = 'silent\nshow-error\nnoproxy = "*"\n'
+PLAN = TOP / "bench" / "plan.csv"
+MISTAKES = re.compile(r"\| Wrong \| Right \| What `(\./office .*)` prints \|")
+WAITING = re.compile(r"^note: another run has .* open; waiting\n", re.MULTILINE)
+LEFT_OUT = "^fault: record\\|^would add"  # what a table of mistakes does not show
+
+
+def mistake(command, row):
+    """The lines of a block that plays a row of a table of mistakes."""
+    wrong, right, told = (re.findall("`([^`]*)`", cell) for cell in row.strip("|").split("|"))
+    whole = PLAN.read_text().splitlines() if " verify-file " in command else right
+    at = whole.index(right[0]) if right else 0
+    files = ([*whole[:at], *wrong, *whole[at + len(right):]], whole)
+    wrong_file, right_file = (shlex.join(["printf", r"%s\n", *lines]) for lines in files)
+    yield f"    $ {wrong_file} > wrong.csv; {command} wrong.csv 2>&1 | grep -v '{LEFT_OUT}'"
+    yield from (f"    {it}" for it in told)
+    yield f"    $ {right_file} > right.csv; {command} right.csv > /dev/null 2>&1; echo status $?"
+    yield "    status 0"
+
+
+def with_mistakes(text):
+    """The lines of a document, with its tables of mistakes as blocks of commands."""
+    command = None
+    for line in text.splitlines():
+        head = MISTAKES.fullmatch(line)
+        command = head[1] if head else command if line.startswith("|") else None
+        is_row = command and not head and not line.startswith("|--")
+        yield from mistake(command, line) if is_row else [line]
 
 
 def blocks(text):
     """The indented blocks of a document, without their indents."""
     block = []
-    for line in [*text.splitlines(), "the end"]:
+    for line in [*with_mistakes(text), "the end"]:
         if line.startswith("    ") or not line.strip():
             block.append(line)
         elif block:
@@ -42,15 +77,17 @@ def commands(block):
 
 
 def printed(data):
-    """What was printed as a reader sees it: without HTTP's ends of lines and spaces at the end."""
-    text = data.decode(errors="replace").replace("\r", "")
+    """What was printed as a reader sees it: without HTTP's ends of lines and spaces at the end, and
+    without the note of a wait, which a busy machine makes long."""
+    text = WAITING.sub("", data.decode(errors="replace").replace("\r", ""))
     return "\n".join(line.rstrip() for line in text.splitlines()).rstrip("\n")
 
 
 def furnish(folder, program):
-    """Makes a folder look like the repository, with this program."""
+    """Makes a folder look like the repository without what git ignores, and with this program."""
+    ignored = {it.rstrip("/") for it in (TOP / ".gitignore").read_text().splitlines()}
     for path in TOP.iterdir():
-        if path.name != "office" and not path.name.startswith("."):
+        if path.name not in ignored | {"office"} and not path.name.startswith("."):
             (folder / path.name).symlink_to(path)
     (folder / "office").symlink_to(program)
     (folder / ".curlrc").write_text(CURL)

@@ -4,8 +4,8 @@
     tests/program/tour.py [PROGRAM]
 
 The commands of a document run in order in one new folder, in which `./office` is the program and
-everything else is as in the repository (tests/lib/shown.py). Needs bash, and curl for requests over
-HTTP. It prints a line for each command, and ends with status 1 if one printed something else.
+everything else is as in the repository (tests/lib/shown.py). Needs bash, git, and curl for requests
+over HTTP. It prints a line for each command, and ends with status 1 if one printed something else.
 """
 import pathlib
 import sys
@@ -15,8 +15,8 @@ sys.path.insert(0, str(pathlib.Path(__file__).resolve().parents[1] / "lib"))
 import shown
 from program import TOP, found
 
-DOCUMENTS = ("README.md", "docs/COMMANDS.md", "docs/HTTP.md", "docs/ARCHITECTURE.md",
-             "docs/FIRST-DAY.md", "docs/OPERATING.md", "examples/README.md")
+DOCUMENTS = ("README.md", "docs/TUTORIAL.md", "docs/FROM-EXCEL.md", "docs/COMMANDS.md",
+             "docs/HTTP.md", "docs/OPERATING.md", "docs/ARCHITECTURE.md")
 
 
 def wrong_in(document, program):

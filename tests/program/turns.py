@@ -25,19 +25,19 @@ Each part has a file and a server of its own, beside which each command is done:
 - `kept`: `batch` keeps the file for over a minute. From then on requests are answered 503, until
   the file is free. It runs beside the other parts.
 
-Time in which some process of this machine waits for a processor or a disk is no waiting, so a busy
-machine does not count. Prints what it tries, and ends with status 1 if a part failed. Needs cc.
-Takes 70 seconds.
+Meanwhile a yardstick runs: a process that runs the same commands one after the other over a file of
+its own. Whoever waits for over three seconds has waited too long only if the yardstick ran more
+than 60 commands meanwhile. On an idle machine it runs more in three seconds; a busy one slows it as
+it slows the others. `busy` lasts until it ran 120.
+
+Prints what it tries, and ends with status 1 if a part failed. Needs cc. Takes 70 seconds.
 """
 import concurrent.futures
 import contextlib
 import http.client
 import json
-import multiprocessing
 import os
 import pathlib
-import random
-import re
 import signal
 import sqlite3
 import subprocess
@@ -49,14 +49,12 @@ import time
 sys.path.insert(0, str(pathlib.Path(__file__).resolve().parents[1] / "lib"))
 from callers import Caller
 from preloaded import built
-from program import TOP, found
+from program import found
 from serving import STOCK, Off, Wire, delivery, expect, on_hand, served, spelled
+from yardstick import (FORKED, MOST, PATIENCE, STREETS, Command, Waited, Worker, begin,
+                       end_yardstick, is_done, keep_pace, longest, new_office, soon)
 
-PLAN = TOP / "bench" / "plan.csv"
-STREETS = 120  # intersections of an office
 SECONDS = 6  # for which a server and commands are busy
-LONGEST = 3  # seconds that a call or a command may wait
-PATIENCE = 60  # seconds after which a command gives up, and a client too
 CLIENTS, WORKERS = 3, 4  # processes that call the server, and that run commands
 PIPELINED = 5_000
 IDLE, SHARE = 3, 0.003  # seconds, and how much of a processor an idle server may take
@@ -90,90 +88,14 @@ ssize_t pwrite64(int, const void *, size_t, off_t) __attribute__((alias("pwrite"
 """
 
 
-def requests(count):
-    """An office of so many intersections, each with a committed plan."""
-    rows = [line.split(",") for line in PLAN.read_text().splitlines()]
-    for number in range(1, count + 1):
-        yield spelled("/intersections", {"id": number, "interval": 365, "name": f"{number} St"})
-        steps = ({"clerk": "Ana"}, {"clerk": "Ana", "rows": rows}, *[{"clerk": "Ana"}] * 3)
-        for name, keys in zip(("begin", "edit", "verify", "check", "commit"), steps):
-            yield spelled(f"/intersections/{number}/{name}", keys)
-
-
-def crowded():
-    """The seconds for which some process of this machine waited for a processor or a disk, as Linux
-    counts them; 0 where it does not."""
-    with contextlib.suppress(OSError):
-        texts = [pathlib.Path("/proc/pressure", it).read_text() for it in ("cpu", "io")]
-        return sum(int(re.search(r"some .*total=(\d+)", it)[1]) for it in texts) / 1e6
-    return 0
-
-
-class Waited:
-    """How long something is waited for, while there is a processor and a disk for everybody."""
-
-    def __init__(self):
-        self.begun = time.monotonic(), crowded()
-
-    def seconds(self):
-        return time.monotonic() - self.begun[0] - (crowded() - self.begun[1])
-
-
-@contextlib.contextmanager
-def soon(what):
-    """Something that may be waited for so long."""
-    waited = Waited()
-    yield
-    if (took := waited.seconds()) > LONGEST:
-        raise Off(f"{what} waited {took:.2f} s, and may wait {LONGEST} s")
-
-
-class Command:
-    """A command over a file, which has begun."""
-
-    def __init__(self, program, db, *words, sent=b""):
-        self.words, self.out, self.err = words, *(tempfile.TemporaryFile() for _ in range(2))
-        with tempfile.TemporaryFile() as given:
-            given.write(sent)
-            given.seek(0)
-            words = [program, words[0], "--db", db, "--wait", str(PATIENCE), *map(str, words[1:])]
-            self.since, self.waited = Waited(), PATIENCE
-            self.run = subprocess.Popen(words, stdin=given, stdout=self.out, stderr=self.err)
-        self.watcher = threading.Thread(target=self.watch)
-        self.watcher.start()
-
-    def watch(self):
-        """Waits for its end, and notes how long it took."""
-        os.waitid(os.P_PID, self.run.pid, os.WEXITED | os.WNOWAIT)
-        self.waited = self.since.seconds()
-
-    def came(self):
-        """Its status, what it printed, and its standard error. It is killed where it does not
-        end."""
-        self.watcher.join(2 * PATIENCE)
-        if self.watcher.is_alive():
-            self.run.kill()
-            self.watcher.join()
-        self.run.wait()
-        for it in (self.out, self.err):
-            it.seek(0)
-        with self.out, self.err:
-            came = self.run.returncode, self.out.read().decode(), self.err.read().decode()
-        if self.waited > LONGEST:
-            raise Off(f"{self.words} waited {self.waited:.2f} s, and may wait {LONGEST} s: {came}")
-        return came
-
-
 class Place:
     """A file with an office, which a server has as the others see it: its port, and what it says on
     standard error."""
 
     def __init__(self, program, folder):
         self.program, self.folder = program, pathlib.Path(folder)
-        self.db, self.told = self.folder / "city.db", self.folder / "told"
+        self.db, self.told = new_office(program, folder), self.folder / "told"
         self.port = None
-        subprocess.run([program, "batch", "--db", self.db], input=b"".join(requests(STREETS)),
-                       stdout=subprocess.DEVNULL, check=True)
 
     @contextlib.contextmanager
     def served(self, *more, **env):
@@ -221,111 +143,53 @@ class Place:
                 here.rename(there)
 
 
-def is_done(command, wanted=""):
-    """What a command printed that must be done: it begins so, and beside it are only notes."""
-    status, out, err = command.came()
-    is_quiet = all(line.startswith("note: ") for line in err.splitlines())
-    if (status, is_quiet) != (0, True) or not out.startswith(wanted):
-        raise Off(f"{command.words}: {status}, {out[-200:]!r}, {err!r}")
-    return out
-
-
 # ---- a server, clients and commands at once
 
-class Worker:
-    """Runs commands of every kind, and counts what they did."""
-
-    def __init__(self, program, db, number):
-        self.program, self.db, self.number = program, db, number
-        self.added, self.delivered, self.sent, self.commits, self.runs = [], 0, 0, 0, 0
-        self.own = number + 1  # an intersection that nobody else edits
-
-    def run(self, *words, sent="", wanted=""):
-        self.runs += 1
-        return is_done(Command(self.program, self.db, *words, sent=sent.encode()), wanted)
-
-    def look(self):
-        for words in (("list",), ("sheet", 7), ("page", 8), ("export", 9), ("diagram", 7, 1),
-                      ("stock",), ("orders",), ("used", "--csv"), ("cabinet", 9),
-                      ("overdue", "2027-01-01"), ("export", "--cabinet", self.own)):
-            self.run(*words)
-
-    def add(self):
-        self.added.append(1_000 * self.own + len(self.added))
-        self.run("add", self.added[-1], 365, "New St", wanted="added\n")
-
-    def take(self):
-        numbers = range(self.delivered + 1, self.delivered + 4)
-        lines = "".join(f"delivery,C{self.number},{it},2026-05-01,1\n" for it in numbers)
-        self.run("import", "-", sent=lines, wanted="added 3, same 0\n")
-        self.delivered += 3
-
-    def send(self):
-        self.sent += 1
-        request = spelled("/deliveries", delivery(f"B{self.number}", self.sent)).decode()
-        out = self.run("batch", sent=request)
-        if '{"result":"added"}' not in out:
-            raise Off(f"batch answered {out!r}")
-
-    def edit(self):
-        """Commits a plan that differs in a longest green, and begins a draft that it drops."""
-        plans = [f"phase,2,1,8,20,{it + 41},40,15,6,7,12,490,60,0,0\n" for it in range(3)]
-        words = "edit", "--clerk", "Ana", "--commit", self.own, "-"
-        self.commits += 1
-        self.run(*words, sent=plans[self.commits % 2], wanted="no violations\ncommitted")
-        self.run("edit", "--clerk", "Bo", self.own, "-", sent=plans[2])
-        self.run("abandon", "--clerk", "Ana", self.own, wanted="abandoned")
-
-    def keep(self):
-        folder = self.db.parent
-        copy = folder / f"copy{self.number}.db"
-        self.run("backup", "--force", copy, wanted="copied\n")
-        self.run("migrate", wanted="migrated 0 rows\n")
-        self.run("pages", folder / f"pages{self.number}")
+def is_on(since):
+    """Whether clients and commands go on that began then."""
+    return since.may_go_on(SECONDS, 2 * MOST)
 
 
 def work(program, db, number):
-    """A process: the commands that it ran for some seconds."""
-    worker, dice = Worker(program, db, number), random.Random(f"worker {number}")
-    ends = time.monotonic() + SECONDS
-    turns = (worker.look, worker.add, worker.take, worker.send, worker.edit, worker.keep)
-    while time.monotonic() < ends:
-        for turn in dice.sample(turns, len(turns)):
-            turn()
+    """A process: the commands that it ran."""
+    worker, since = Worker(program, db, number), Waited()
+    while is_on(since):
+        worker.run_all()
     return worker
 
 
 def deliver(port, number):
-    """A process: how often it delivered a part over a connection that it keeps."""
-    caller, ends, count = Caller(port, PATIENCE), time.monotonic() + SECONDS, 0
-    while time.monotonic() < ends:
-        count += 1
-        with soon(f"delivery {count} of P{number}"):
-            came = caller.call("POST", "/deliveries", delivery(f"P{number}", count))
-        expect(f"delivery {count} of P{number}", json.loads(came), {"result": "added"})
-    return count
+    """A process: the waits for the deliveries of a part over a connection that it keeps."""
+    caller, since, waits = Caller(port, PATIENCE), Waited(), []
+    while is_on(since):
+        keys = delivery(f"P{number}", len(waits) + 1)
+        with soon(f"an answer to {keys}") as waited:
+            came = caller.call("POST", "/deliveries", keys)
+        expect(f"{keys}", json.loads(came), {"result": "added"})
+        waits.append(waited)
+    return waits
 
 
 def watch(port):
-    """A dashboard: how often it polled. No count ever falls."""
-    caller, ends, count, seen = Caller(port, PATIENCE), time.monotonic() + SECONDS, 0, {}
-    while time.monotonic() < ends:
-        count += 1
-        with soon(f"poll {count} of the dashboard"):
+    """A dashboard: the waits for its polls. No count ever falls."""
+    caller, since, waits, seen = Caller(port, PATIENCE), Waited(), [], {}
+    while is_on(since):
+        with soon(f"poll {len(waits) + 1} of the dashboard") as waited:
             now = on_hand(caller.call("GET", "/stock"))
+        waits.append(waited)
         if any(now.get(part, 0) < there for part, there in seen.items()):
             raise Off(f"the dashboard saw {now} after {seen}")
         seen = now
         time.sleep(0.05)
-    return count
+    return waits
 
 
 def check_office(place, calls, workers):
     """The office has exactly what clients and commands were told."""
-    stock = {f"P{number}": count for number, count in enumerate(calls)}
+    stock = {f"P{number}": len(waits) for number, waits in enumerate(calls)}
     for it in workers:
         stock |= {f"C{it.number}": it.delivered, f"B{it.number}": it.sent}
-    with Wire(place.port) as wire:
+    with Wire(place.port, PATIENCE) as wire:
         expect("on hand", on_hand(wire.ask()), stock)
         for it in workers:
             came = json.loads(wire.ask(b"GET /intersections/%d HTTP/1.1\r\n\r\n" % it.own))
@@ -336,16 +200,17 @@ def check_office(place, calls, workers):
 
 
 def busy(place):
-    context = multiprocessing.get_context("fork")
     count = CLIENTS + 1 + WORKERS
-    with concurrent.futures.ProcessPoolExecutor(count, mp_context=context) as pool:
+    with concurrent.futures.ProcessPoolExecutor(count, mp_context=FORKED) as pool:
         clients = [pool.submit(deliver, place.port, it) for it in range(CLIENTS)]
         board = pool.submit(watch, place.port)
         workers = [pool.submit(work, place.program, place.db, it) for it in range(WORKERS)]
         calls, workers = [it.result() for it in clients], [it.result() for it in workers]
     check_office(place, calls, workers)
-    runs = sum(it.runs for it in workers)
-    return f"{sum(calls)} deliveries, {board.result()} polls, {runs} commands"
+    calls, runs = sum(calls, []), [wait for it in workers for wait in it.waits]
+    told = f"{len(calls)} deliveries, {len(board.result())} polls, {len(runs)} commands"
+    calls = [*calls, *board.result()]
+    return f"{told}; the longest call {longest(calls)}, the longest command {longest(runs)}"
 
 
 # ---- one thing at a time
@@ -380,7 +245,7 @@ def sixteen(place):
         runs = [place.begun("add", it, 365, f"{it} St") for it in ids]
         for run in runs:
             is_done(run, "added\n")
-    return f"{len(ids)} commands"
+    return f"{len(ids)} commands, the longest {longest(it.waited for it in runs)}"
 
 
 def half(place):
@@ -388,7 +253,7 @@ def half(place):
     cuts = 9, len(post) - 40, len(post) - 1
     for count, cut in enumerate(cuts):
         post = spelled("/deliveries", delivery("HALF", count + 1))
-        with Wire(place.port) as wire:
+        with Wire(place.port, PATIENCE) as wire:
             wire.ask()
             wire.socket.sendall(post[:cut])
             for _ in range(2):
@@ -403,7 +268,7 @@ def pipelined(place):
         sent += [spelled("/deliveries", delivery("PIPE", count)), *[STOCK] * 49]
         stock = b'{"hand":[{"count":%d,"part":"PIPE"}]}' % count
         wanted += [b'{"result":"added"}', *[stock] * 49]
-    with Wire(place.port) as wire:
+    with Wire(place.port, PATIENCE) as wire:
         sender = threading.Thread(target=wire.socket.sendall, args=(b"".join(sent),))
         sender.start()
         runs = [place.begun("add", it, 365, "New St") for it in (301, 302)]
@@ -448,7 +313,7 @@ def is_away(place, fault):
     for count in range(2):
         with contextlib.ExitStack() as wires:
             for _ in range(3):
-                wires.enter_context(Wire(place.port)).socket.sendall(STOCK)
+                wires.enter_context(Wire(place.port, PATIENCE)).socket.sendall(STOCK)
             expect("an answer", place.asked()[0], 503)
     expect("what the server says", place.told.read_text(), AWAY.format(place.db, fault))
 
@@ -538,7 +403,7 @@ def mended(place, fault):
     fault.unlink()
     for number in (2, 3, 4):
         place.served_again("a delivery", delivery("DISK", number))
-    with Wire(place.port) as wire:
+    with Wire(place.port, PATIENCE) as wire:
         expect("the stock", on_hand(wire.ask()), {"DISK": 4})
     place.done("list")
     return "503, and mended"
@@ -595,24 +460,22 @@ def comes_of(program, part):
     return False
 
 
+def failing(program, parts):
+    """The names of those that failed, `kept` beside the others, and the yardstick beside all."""
+    yardstick = begin(keep_pace, program)
+    beside = [begin(comes_of, program, it) for it in parts if it is kept]
+    wrong = [it.__name__ for it in parts if it is not kept and not comes_of(program, it)]
+    for it in beside:
+        it.join()
+        wrong += [kept.__name__] * bool(it.exitcode)
+    return wrong if end_yardstick(yardstick) else [*wrong, "yardstick"]
+
+
 def main():
     program, names = found(sys.argv[1:2]), sys.argv[2:]
     signal.signal(signal.SIGTERM, lambda *_: sys.exit(1))  # ends the servers too
-    wrong, beside = [], None
-    if not names:
-        beside = subprocess.Popen([sys.executable, __file__, program, kept.__name__])
-    try:
-        for part in PARTS:
-            if part.__name__ in names or not names and part is not kept:
-                wrong += [] if comes_of(program, part) else [part.__name__]
-        if beside and beside.wait():
-            wrong.append(kept.__name__)
-    finally:
-        if beside and beside.poll() is None:
-            beside.terminate()
-            beside.wait()
-    if names != [kept.__name__]:
-        print(f"turns.py: failed: {', '.join(wrong)}" if wrong else "ok")
+    wrong = failing(program, [it for it in PARTS if not names or it.__name__ in names])
+    print(f"turns.py: failed: {', '.join(wrong)}" if wrong else "ok")
     sys.exit(bool(wrong))
 
 

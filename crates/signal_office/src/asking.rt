@@ -185,7 +185,7 @@ pub(crate) fn ask<R: Source, W: Sink, E: Sink>(
             Ok(status)
         }
         Err(fault) => {
-            note_refused(rt, path, request, fault);
+            note_refused(rt, path, request, &fault);
             Err(fault)
         }
     }

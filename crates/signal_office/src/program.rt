@@ -4,7 +4,7 @@ use crate::asking::ask;
 use crate::backup::backup;
 use crate::memory::{open_in_memory, serve_new_office};
 use crate::reading::{INPUT, read_plan};
-use crate::refusal_notes::note_pattern;
+use crate::refusal_notes::note_unshown;
 use crate::serving::Serving;
 use crate::version::VERSION;
 use arrayvec::ArrayString;
@@ -16,6 +16,7 @@ use signal_office_file::{answer_stream, do_in_turns, migrate_at};
 use signal_office_line::{
     BadWord, CsvFile, Job, JobFault, OfficeFile, PlanShown, Request, Shown, job_of,
 };
+use signal_values::PatternNo;
 use std::alloc::Global;
 use std::fmt::Write;
 
@@ -120,6 +121,14 @@ fn compare<R: Source, W: Sink, E: Sink>(
     print_done(done, out)
 }
 
+/// The pattern that is to be drawn, if one is.
+fn pattern_of(shown: &PlanShown) -> Option<PatternNo> {
+    match shown {
+        PlanShown::Diagram { pattern } => Some(*pattern),
+        PlanShown::Violations { .. } | PlanShown::Page => None,
+    }
+}
+
 /// Prints what is shown of the plan in a CSV file.
 fn show<R: Source, W: Sink, E: Sink>(
     rt: &HostRuntime,
@@ -131,10 +140,9 @@ fn show<R: Source, W: Sink, E: Sink>(
     err: &mut E,
 ) -> Result<u8, Fault> {
     let plan = read_plan(rt, alloc, file, false, source, err)?;
+    let pattern = pattern_of(&shown);
     let done = show_plan(alloc, file.path.as_str(), &plan.text, shown);
-    if let (Err(Fault::UnknownPattern), PlanShown::Diagram { pattern }) = (&done, shown) {
-        note_pattern(rt, file.path.as_str(), pattern);
-    }
+    note_unshown(rt, file.path.as_str(), &done, &pattern);
     print_done(done, out)
 }
 

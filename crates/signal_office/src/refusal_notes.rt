@@ -3,7 +3,7 @@
 
 use draft_core::refusal::DraftRefusal;
 use office_machine::refusal::Refusal;
-use signal_office_faults::{Fault, note, note_text};
+use signal_office_faults::{Done, Fault, note, note_text};
 use signal_office_line::{Request, Shown};
 use signal_values::{InterId, PatternNo};
 
@@ -40,12 +40,24 @@ fn note_intersection(rt: &HostRuntime, path: &str, id: InterId) {
 }
 
 /// Says that the plan of a CSV file, or the committed plan of an intersection, has no such pattern.
-pub(crate) fn note_pattern(rt: &HostRuntime, plan: &str, pattern: PatternNo) {
+fn note_pattern(rt: &HostRuntime, plan: &str, pattern: PatternNo) {
     if let Ok(before) = format!(in rt.alloc();
         "there is no pattern {} in the plan of ",
         pattern.get()
     ) {
         note(rt, before.as_str(), plan, "");
+    }
+}
+
+/// Says that the plan of a CSV file lacks a pattern, where that is why it was not shown.
+pub(crate) fn note_unshown(
+    rt: &HostRuntime,
+    plan: &str,
+    done: &Result<Done, Fault>,
+    pattern: &Option<PatternNo>,
+) {
+    if let (Err(Fault::UnknownPattern), Some(pattern)) = (done, pattern) {
+        note_pattern(rt, plan, *pattern);
     }
 }
 
@@ -68,7 +80,7 @@ fn note_owner(rt: &HostRuntime, clerk: &str, id: InterId) {
 
 /// Says of a request that ended with a fault which intersection, pattern or draft was refused, if
 /// one was.
-pub(crate) fn note_refused(rt: &HostRuntime, path: &str, request: &Request<'_>, fault: Fault) {
+pub(crate) fn note_refused(rt: &HostRuntime, path: &str, request: &Request<'_>, fault: &Fault) {
     match (fault, request) {
         (Fault::UnknownPattern, Request::Show(Shown::Diagram { id, pattern })) => {
             note_running(rt, *id, *pattern)

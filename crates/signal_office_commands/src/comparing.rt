@@ -9,23 +9,32 @@ use office_desk::office::Office;
 use office_files::{CsvFault, changes_csv, read_plan_csv};
 use office_tables_shelf::shelf::Shelf;
 use signal_office_faults::{Done, Fault};
-use signal_plans::{changes, compare, comparison_text};
-use signal_records::{InterId, TimingSet};
+use signal_plans::{Difference, changes, compare, comparison_text};
+use signal_records::{InterId, NoMemory, TimingSet};
 use std::alloc::Global;
 
 /// The status with which the program ends where plans differ.
 const DIFFERS: u8 = 4;
 
-/// What two plans differ in, in the order of the keys: a text, or as CSV the changes that make the
-/// second of the first. The status is 4 where they differ, else 0.
+/// Differences as a text, or as CSV the changes that make the second plan of the first.
+fn differences_text(
+    alloc: Global,
+    differences: &[Difference],
+    csv: bool,
+) -> Result<Vec<u8>, NoMemory> {
+    if csv {
+        let changes = changes(alloc, differences)?;
+        changes_csv(alloc, &changes)
+    } else {
+        comparison_text(alloc, differences)
+    }
+}
+
+/// What two plans differ in, in the order of the keys. The status is 4 where they differ, else 0.
 fn comparison(alloc: Global, before: &TimingSet, after: &TimingSet, csv: bool) -> Report {
     let differences = compare(alloc, before, after)?;
-    let text = if csv {
-        changes_csv(alloc, &changes(alloc, &differences)?)?
-    } else {
-        comparison_text(alloc, &differences)?
-    };
     let status = if differences.is_empty() { 0 } else { DIFFERS };
+    let text = differences_text(alloc, &differences, csv)?;
     Ok(Done::ending(text, status))
 }
 

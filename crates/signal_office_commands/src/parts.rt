@@ -16,6 +16,9 @@ use signal_office_line::Part;
 use signal_records::{Amount, NoMemory, RecordNo};
 use std::alloc::Global;
 
+/// The first number that no delivery can have.
+const NUMBERS_END: u32 = 1_000_000;
+
 /// How many pieces of a part are on hand, if there ever was a delivery of it.
 fn hand_of(parts: &[(PartCode, Hand)], part: &PartCode) -> Option<Hand> {
     for (code, hand) in parts {
@@ -108,30 +111,49 @@ fn take_delivery(
     Ok(rest)
 }
 
-/// The deliveries of a part by number, which together had so many pieces: no number past the last
-/// of them is looked for.
+/// Adds the delivery of a part with this number, if there is one, and gives how many of so many
+/// pieces are left.
+fn add_delivery<S: Shelf>(
+    alloc: Global,
+    office: &mut Office<S>,
+    part: &PartCode,
+    number: u32,
+    deliveries: &mut Vec<Delivery>,
+    left: u64,
+) -> Result<u64, Fault>
+    ensures { KeepsOffice S.Shelf office.old office.new }
+{
+    let Some(number) = RecordNo::new(number) else {
+        return Ok(left);
+    };
+    let found = read_delivery(alloc, office, part, number)?;
+    Ok(take_delivery(deliveries, found, left)?)
+}
+
+/// The deliveries of a part by number, below this number, which together had so many pieces: no
+/// number past the last of them is looked for.
 fn read_deliveries<S: Shelf>(
     alloc: Global,
     office: &mut Office<S>,
     part: &PartCode,
     pieces: u64,
+    end: u32,
 ) -> Result<Vec<Delivery>, Fault>
     ensures { KeepsOffice S.Shelf office.old office.new }
 {
     let mut deliveries = Vec::new(alloc);
     let mut left = pieces;
-    for number in RecordNo::all() {
+    for number in 1..end {
         if left == 0 {
             break;
         }
-        let found = read_delivery(alloc, office, part, number)?;
-        left = take_delivery(&mut deliveries, found, left)?;
+        left = add_delivery(alloc, office, part, number, &mut deliveries, left)?;
     }
     Ok(deliveries)
 }
 
 /// How many pieces of a part ever came: those on hand, and those that were used.
-fn pieces_of(hand: Option<Hand>, used: &[UsedPart]) -> u64 {
+fn pieces_of(hand: &Option<Hand>, used: &[UsedPart]) -> u64 {
     let on_hand = match hand {
         Some(hand) => u64::from(hand.get()),
         None => 0,
@@ -139,6 +161,35 @@ fn pieces_of(hand: Option<Hand>, used: &[UsedPart]) -> u64 {
     used.iter().fold(on_hand, |sum, it| {
         sum.saturating_add(u64::from(it.used.count.get()))
     })
+}
+
+/// The uses of a part.
+fn uses_of<S: Shelf>(
+    alloc: Global,
+    office: &mut Office<S>,
+    part: &Part<'_>,
+) -> Result<Vec<UsedPart>, Fault>
+    ensures { KeepsOffice S.Shelf office.old office.new }
+{
+    let asked = Some(part.to_code(alloc)?);
+    used_parts(alloc, office, &asked, &None)
+}
+
+/// What a part is shown as.
+fn text_of<'a>(
+    alloc: Global,
+    part: &'a PartCode,
+    hand: Option<Hand>,
+    deliveries: &'a [Delivery],
+    used: &'a [UsedPart],
+) -> Result<Vec<u8>, NoMemory> {
+    let shown = PartShown {
+        part,
+        hand,
+        deliveries,
+        used,
+    };
+    part_text(alloc, &shown)
 }
 
 /// What is on hand of a part, its deliveries and its uses.
@@ -149,16 +200,10 @@ pub(crate) fn report_part<S: Shelf>(
 ) -> Report
     ensures { KeepsOffice S.Shelf office.old office.new }
 {
+    let used = uses_of(alloc, office, part)?;
     let code = part.to_code(alloc)?;
-    let asked = Some(part.to_code(alloc)?);
-    let used = used_parts(alloc, office, &asked, &None)?;
     let hand = read_hand(alloc, office, &code)?;
-    let deliveries = read_deliveries(alloc, office, &code, pieces_of(hand, &used))?;
-    let shown = PartShown {
-        part: &code,
-        hand,
-        deliveries: &deliveries,
-        used: &used,
-    };
-    report_of(part_text(alloc, &shown))
+    let pieces = pieces_of(&hand, &used);
+    let deliveries = read_deliveries(alloc, office, &code, pieces, NUMBERS_END)?;
+    report_of(text_of(alloc, &code, hand, &deliveries, &used))
 }

@@ -60,4 +60,5 @@ def manual(words):
         "The log of the office in \\fIFILE\\fR. It belongs to that file: move, copy and remove",
         "both or neither.",
         ".SH SEE ALSO",
-        "COMMANDS.md, HTTP.md, PLANS.md and OPERATING.md in /usr/share/doc/cayunchis/docs", ""])
+        "COMMANDS.md, HTTP.md, PLANS.md, FILE-FORMAT.md and OPERATING.md in",
+        "/usr/share/doc/cayunchis/docs", ""])

@@ -101,22 +101,31 @@ def fish_text(text):
     return "'" + text.replace("\\", "\\\\").replace("'", "\\'") + "'"
 
 
-def fish(words):
-    """The completion of fish."""
-    first = f"complete -c {PROGRAM} -n __fish_use_subcommand"
-    lines = [f"# Completion of {PROGRAM} in fish, made by tests/house/words.py of what it says by "
-             "--help.", f"complete -c {PROGRAM} -f",
-             f"{first} -l help -d 'Print help'", f"{first} -l version -d 'Print version'"]
-    lines += [f"{first} -a {it.name} -d {fish_text(it.about)}" for it in words.commands]
+def fish_parts(command):
+    """What fish is told of each word of a command, behind the names of those that take it."""
     takes = {"files": "-r -F", "folders": "-x -a '(__fish_complete_directories)'", None: "-x"}
+    for it in command.options():
+        value = f"{takes[PATHS.get(it.value)]} " if it.value else ""
+        yield f"-l {it.name.removeprefix('--')} {value}-d {fish_text(it.about)}"
+    others = {PATHS.get(it.name) for it in command.others()}
+    if "files" in others:
+        yield "-F"
+    if "folders" in others:
+        yield "-a '(__fish_complete_directories)'"
+
+
+def fish(words):
+    """The completion of fish. What several commands take alike is one line."""
+    all_of = f"complete -c {PROGRAM}"
+    first = f"{all_of} -n __fish_use_subcommand"
+    lines = [f"# Completion of {PROGRAM} in fish, made by tests/house/words.py of what it says by "
+             "--help.", f"{all_of} -f", f"{all_of} -l help -d 'Print help'",
+             f"{first} -l version -d 'Print version'"]
+    lines += [f"{first} -a {it.name} -d {fish_text(it.about)}" for it in words.commands]
+    takers = {}
     for it in words.commands:
-        here = f"complete -c {PROGRAM} -n '__fish_seen_subcommand_from {it.name}'"
-        for one in it.options():
-            value = f"{takes[PATHS.get(one.value)]} " if one.value else ""
-            name = one.name.removeprefix("--")
-            lines.append(f"{here} -l {name} {value}-d {fish_text(one.about)}")
-        others = {PATHS.get(one.name) for one in it.others()} - {None}
-        lines += [f"{here} -F"] if "files" in others else []
-        lines += [f"{here} -a '(__fish_complete_directories)'"] if "folders" in others else []
-        lines.append(f"{here} -l help -d 'Print help'")
+        for part in fish_parts(it):
+            takers.setdefault(part, []).append(it.name)
+    lines += [f"{all_of} -n '__fish_seen_subcommand_from {' '.join(names)}' {part}"
+              for part, names in takers.items()]
     return "\n".join([*lines, ""])

@@ -1,10 +1,10 @@
 """An office in Python, written from the rules alone: a request in, the bytes of its answer out.
 
-It shares nothing with the program but docs/PLANS.md, docs/HTTP.md, docs/COMMANDS.md and the
-definitions in crates/*/specs, and is slow and plain on purpose: a draft is a whole set, a lane a
-list with an entry for each second, what is on hand a sum over all records. tools/draw_rows.py makes
-rows of what it answers, and tests/program/second_office.py holds it against the program, and
-tests/program/lives.py does so over files.
+It shares nothing with the program but docs/PLANS.md, docs/HTTP.md, docs/COMMANDS.md,
+docs/FILE-FORMAT.md and the definitions in crates/*/specs, and is slow and plain on purpose: a draft
+is a whole set, a lane a list with an entry for each second, what is on hand a sum over all records.
+tools/draw_rows.py makes rows of what it answers, and tests/program/second_office.py holds it
+against the program, and tests/program/lives.py does so over files.
 
     fields.py     numbers, days, words and codes, as rows, paths and bodies spell them; CSV
     plan.py       rows of a timing plan, and their one spelling

@@ -1,5 +1,4 @@
-"""An office as the rows of its tables, of today's version or of version 1 (docs/COMMANDS.md,
-"Tables" and "Files of version 1")."""
+"""An office as the rows of its tables, of today's version or of version 1 (docs/FILE-FORMAT.md)."""
 import datetime
 
 from .plan import Phase, spelled

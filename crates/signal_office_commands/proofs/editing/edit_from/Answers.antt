@@ -4,7 +4,7 @@ use Rattle.signal_office_commands.proofs.editing.edit_from.Goals as goal
 
 pub returns-in-Ok : goal.returns-in-Ok
 returns-in-Ok g c =
-    changes_weaker (asks_after c.in-Ok.ensures c.edit_notes.ensures) (λ tables made both. (_, both.0, (_, refl, refl))) (λ tables found after. after)
+    changes_weaker (asks_after c.in-Ok.ensures c.edit_notes-notes.ensures) (λ tables made both. (_, both.0, (_, refl, refl))) (λ tables found after. after)
 
 pub returns-in-Err : goal.returns-in-Err
 returns-in-Err g c = changes_weaker c.in-Err.ensures (λ tables made edits. (_, edits, refl)) (λ tables found after. after)
