@@ -118,6 +118,7 @@ MOST_BYTES, MOST_RECORDS, MOST_RECORD = 64 << 20, 100_000, 1 << 20
 MOST_MEMORY = 300_000_000
 PATIENCE = 300  # seconds of a run
 NOTES = 100
+APART = "REFUSALS_APART"  # in the environment of a run that has mounts of its own
 
 
 class Off(Exception):
@@ -619,7 +620,7 @@ def without_room(it, port):
     expect("a query", b"HTTP/1.1 200 " in exchange(port, STATE, PATIENCE), True)
     full.unlink()
     came = exchange(port, additions(2_000, 1), PATIENCE)
-    expect("a change once there is room", came[-18:-8], b'{"result":')
+    expect("a change once there is room", b'{"result":' in came, True)
     came = exchange(port, b"GET /intersections/2000 HTTP/1.1\r\n\r\n", PATIENCE)
     expect("what was added", b'"id":2000' in came, True)
     return refused
@@ -725,7 +726,16 @@ def tried(trial, program):
             return f"WRONG: {str(wrong)[:2000]}", False
 
 
+def go_apart():
+    """Goes on with mounts of its own, as root: no disk stays mounted, however this ends."""
+    if os.geteuid() == 0 and shutil.which("unshare") and APART not in os.environ:
+        os.environ[APART] = "yes"
+        alone = ["unshare", "--mount", "--propagation", "private"]
+        os.execvp(alone[0], [*alone, sys.executable, *sys.argv])
+
+
 def main():
+    go_apart()
     program, names, failed = found(sys.argv[1:2]), sys.argv[2:], 0
     trials = [it for it in TRIALS if not names or it.__name__ in names]
     with processors() as pool:
