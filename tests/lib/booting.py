@@ -12,7 +12,7 @@ import time
 from packaged import COPIES, OFFICE, part, ran
 from serving import Off, expect
 
-PATIENCE = 180  # seconds in which something has to become so
+PATIENCE = 400  # seconds in which something has to become so
 PACKAGES = "/srv"
 STOCK = '{"hand":[]}'
 FIRST = """
