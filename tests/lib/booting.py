@@ -2,10 +2,12 @@
 do under it. It runs over an overlay, in name spaces of its own, without a network: what stands
 below stays as it is. It needs root."""
 import contextlib
+import ctypes
 import os
 import pathlib
 import signal
 import subprocess
+import sys
 import tempfile
 import time
 
@@ -104,7 +106,14 @@ def booted(root, packages, target="multi-user.target"):
         kinds = ("mount", "pid", "uts", "ipc", "cgroup", "net")
         words = ["unshare", *(f"--{it}" for it in kinds), "--fork", "--kill-child",
                  "bash", "-ec", script]
-        enter = lambda: (place / "cgroup.procs").write_text("0")
+
+        def enter():
+            """Called in the child: it is of the group, and ends when this process does."""
+            set_signal_of_parents_death = 1
+            ctypes.CDLL(None).prctl(set_signal_of_parents_death, signal.SIGKILL)
+            (place / "cgroup.procs").write_text("0")
+
+        signal.signal(signal.SIGTERM, lambda *_: sys.exit(1))
         process = subprocess.Popen(words, stdin=subprocess.DEVNULL, stdout=subprocess.DEVNULL,
                                    stderr=subprocess.DEVNULL, preexec_fn=enter)
         try:
