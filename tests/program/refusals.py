@@ -9,8 +9,8 @@ what it says against what docs/OPERATING.md tells of each fault.
   over a disk that is full, on which the office is as it was once there is room.
 - `backup` replaces nothing but a plain file that is no part of an office and that no run has open.
 - A CSV file that is too long is named and not read as records, and its parts are taken by their
-  lines. Of each kind of note a hundred are told. The longest file of deliveries that is taken, and
-  those that are refused, need less than 300 MB, the longest file of inspections less than 400.
+  lines. Of each kind of note a hundred are told. The longest files of records that are taken need
+  less than 400 MB, and those that are refused less than 300.
 - A port that the user may not have is named.
 - A server says once on standard error why it answers 503, and goes on once the disk has room.
 
@@ -115,7 +115,7 @@ LISTED = "12,0,normal,,0,Main St,365\n"
 STATE = b"GET /intersections/12 HTTP/1.1\r\n\r\n"
 EXISTS, FILE, STORE = "fault: exists\n", "fault: file\n", "fault: store\n"
 MOST_BYTES, MOST_RECORDS, MOST_RECORD = 64 << 20, 100_000, 1 << 20
-MOST_MEMORY, MOST_OF_LONG_RECORDS = 300_000_000, 400_000_000
+MOST_MEMORY, MOST_OF_IMPORTS = 300_000_000, 400_000_000
 PATIENCE = 300  # seconds of a run
 NOTES = 100
 APART = "REFUSALS_APART"  # in the environment of a run that has mounts of its own
@@ -475,7 +475,7 @@ def long_imports(program, room):
     told_most = []
     with folder(program) as it:
         it.make()
-        for record, bound in ((deliveries, MOST_MEMORY), (inspections, MOST_OF_LONG_RECORDS)):
+        for record, bound in ((deliveries, MOST_OF_IMPORTS), (inspections, MOST_OF_IMPORTS)):
             (it.path / "most.csv").write_text(record(MOST_RECORDS))
             (status, out, err), memory = measured(it, "import", "--db", "office.db", "most.csv")
             told = 0, f"added {MOST_RECORDS}, same 0\n"
