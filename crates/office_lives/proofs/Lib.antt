@@ -1,1 +1,2 @@
 mod LifeLemmas
+mod TurnLemmas
