@@ -1,5 +1,5 @@
 -- Two turns of a stream, over the tables of one file.
-use Rattle.std.proofs.Common.{◌≡◌, ◌-◌, ℕ, List, [], ◌∷◌, ◌++◌, Result, Ok, Err, refl, sym, ap, subst, inl, inr}
+use Rattle.std.proofs.Common.{◌≡◌, ◌+◌, ◌-◌, ℕ, List, [], ◌∷◌, ◌++◌, length, Result, Ok, Err, refl, sym, subst, inl, inr, arith, length-append}
 use Rattle.std.specs.Prelude.{IfOk}
 use Rattle.sqlite_disk.specs.declared.Disk.{Ghosts as Disk}
 use Rattle.sqlite_disk.specs.declared.Files.{Files}
@@ -29,12 +29,14 @@ module _ {D T Given : Type 0} (g : Disk D) (effect : T → T → Effect Given) w
   life_then [] first last done old middle new life does = (new, subst (λ t. (effect first last).does t done new) life does, refl)
   life_then (it ∷ turns) first last done old middle new life does = (life.0, life.1, life_then turns it.0 last done life.0 middle new life.2 does)
 
-  pub one_turn_more : (files between back : Files D) (first at last : T) (done : Result Given Fault) (found new : Content) → (so_far : DoneInTurns effect g files between first at)
-      → found ≡ so_far.new → (effect at last).does found done new → KeepTables g back new → DoneInTurns effect g files back first last
-  one_turn_more files between back first at last done found new so_far same does kept = record {
+  pub one_turn_more : (count more : ℕ) → more ≡ count + 1 → (files between back : Files D) (first at last : T) (done : Result Given Fault) (found new : Content)
+      → (so_far : DoneInTurns effect g count files between first at) → found ≡ so_far.new → (effect at last).does found done new → KeepTables g back new
+      → DoneInTurns effect g more files back first last
+  one_turn_more count more one files between back first at last done found new so_far same does kept = record {
     old = so_far.old;
     new = new;
     turns = so_far.turns ++ (last, done) ∷ [];
+    counted = omega (arith, length-append so_far.turns ((last, done) ∷ []), so_far.counted, one);
     held = so_far.held;
     is_last = after_then so_far.turns first last done;
     life = life_then so_far.turns first last done so_far.old so_far.new new so_far.life

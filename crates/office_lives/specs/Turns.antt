@@ -1,5 +1,5 @@
 -- A stream that is served in turns over a file, which other runs may have between two of them.
-use Rattle.std.specs.Prelude.{◌≡◌, ◌-◌, ℕ, List, [], ◌∷◌, IfOk, Result, Ok}
+use Rattle.std.specs.Prelude.{◌≡◌, ◌-◌, ℕ, List, [], ◌∷◌, length, IfOk, Result, Ok}
 use Rattle.sqlite.specs.Files.{image_of}
 use Rattle.sqlite_disk.specs.declared.Disk.{Ghosts as Disk}
 use Rattle.sqlite_disk.specs.declared.Files.{Files}
@@ -36,12 +36,13 @@ module _ {T Given : Type 0} (effect : T → T → Effect Given) where
   after_turns first [] = first
   after_turns first (it ∷ turns) = after_turns it.0 turns
 
-  -- The task was done in turns over the tables in the files, which were closed after each: each turn found what the one before it left, and the tables of
+  -- The task was done in so many turns over the tables in the files, which were closed after each: each turn found what the one before it left, and the tables of
   -- the last one are kept in the files that came back.
-  pub record DoneInTurns {D : Type 0} (g : Disk D) (files back : Files D) (first last : T) : Type 0 where
+  pub record DoneInTurns {D : Type 0} (g : Disk D) (count : ℕ) (files back : Files D) (first last : T) : Type 0 where
     pub old : Content
     pub new : Content
     pub turns : List (T × Result Given Fault)
+    pub counted : length turns ≡ count
     pub held : HoldIn (image_of g files) old
     pub is_last : last ≡ after_turns first turns
     pub life : Life g old (turns_of first turns) new

@@ -1,7 +1,7 @@
 //! A task that is done in turns over a file, as a server serves its streams: between two turns the
 //! file is closed, and another run may have it.
 
-ghost use Rattle.std.specs.Prelude.{◌≡◌, ◌∷◌, ◌-◌, [], IfOk, IfSome};
+ghost use Rattle.std.specs.Prelude.{◌≡◌, ◌∷◌, ◌+◌, ◌-◌, [], IfOk, IfSome};
 ghost use Rattle.sqlite.specs.Files.{image_of};
 ghost use Rattle.sqlite.specs.WalReads.{AreClean};
 ghost use Rattle.office_http.specs.Listening.{ConnectionState};
@@ -31,7 +31,7 @@ pub fn done_in_turns<D: Disk + Drop, Given: Drop, T: OfficeTask<Given>, O: Sink>
     more: u32,
 ) -> Option<Files<D>>
     ensures { IfSome result (λ back. AreClean D.Disk back.log back.db →
-        DoneInTurns T.effect D.Disk files back task.old task.new) }
+        DoneInTurns T.effect D.Disk (more + 1) files back task.old task.new) }
 {
     let (_done, mut files) = done_once(rt, alloc, files, task, out)?;
     let mut left = more;
