@@ -1,6 +1,7 @@
 -- Two turns of a stream, over the tables of one file.
 use Rattle.std.proofs.Common.{◌≡◌, ◌+◌, ◌-◌, ℕ, List, [], ◌∷◌, ◌++◌, length, Result, Ok, Err, refl, sym, subst, inl, inr, arith, length-append}
 use Rattle.std.specs.Prelude.{IfOk}
+use Rattle.sqlite.specs.Files.{image_of}
 use Rattle.sqlite_disk.specs.declared.Disk.{Ghosts as Disk}
 use Rattle.sqlite_disk.specs.declared.Files.{Files}
 use Rattle.office_desk.specs.StandFor.{StandForSound}
@@ -13,7 +14,7 @@ use Rattle.office_http_framing.proofs.{CutLemmas.joins_parts, ServeLemmas.DidPar
 use Rattle.office_machine.specs.Office.{Office}
 use Rattle.office_tables_shelf.specs.{Content.Content, declared.shelf.Shelf.Ghosts}
 use Rattle.signal_office_faults.specs.declared.fault.Fault.{Fault}
-use Rattle.signal_office_file.specs.{Ended.RunsOver, Files.KeepTables, Task.Effect}
+use Rattle.signal_office_file.specs.{Ended.RunsOver, Files.HoldIn, Files.KeepTables, Task.Effect}
 use Rattle.signal_office_file.proofs.StopLemmas.{left_of_run}
 use Rattle.office_lives.specs.Life.{Life}
 use Rattle.office_lives.specs.Turns.{AfterTurn, DoneInTurns, ServesPart, ServesTurn, after_turns, turns_of}
@@ -28,6 +29,19 @@ module _ {D T Given : Type 0} (g : Disk D) (effect : T → T → Effect Given) w
       → (effect (after_turns effect first turns) last).does middle done new → Life g old (turns_of effect first (turns ++ (last, done) ∷ [])) new
   life_then [] first last done old middle new life does = (new, subst (λ t. (effect first last).does t done new) life does, refl)
   life_then (it ∷ turns) first last done old middle new life does = (life.0, life.1, life_then turns it.0 last done life.0 middle new life.2 does)
+
+  pub first_turn : (files back : Files D) (first last : T) (done : Result Given Fault) (old new : Content) → HoldIn (image_of g files) old → (effect first last).does old done new
+      → KeepTables g back new → DoneInTurns effect g 1 files back first last
+  first_turn files back first last done old new held does kept = record {
+    old = old;
+    new = new;
+    turns = (last, done) ∷ [];
+    counted = refl;
+    held = held;
+    is_last = refl;
+    life = (new, does, refl);
+    kept = kept;
+  }
 
   pub one_turn_more : (count more : ℕ) → more ≡ count + 1 → (files between back : Files D) (first at last : T) (done : Result Given Fault) (found new : Content)
       → (so_far : DoneInTurns effect g count files between first at) → found ≡ so_far.new → (effect at last).does found done new → KeepTables g back new
