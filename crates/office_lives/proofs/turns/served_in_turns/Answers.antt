@@ -1,7 +1,7 @@
-use Rattle.std.proofs.Common.{inl, refl, sym, subst, ◌∙◌}
+use Rattle.std.proofs.Common.{inl, refl, subst}
 use Rattle.signal_office_file.proofs.FilesLemmas.{found_tables}
-use Rattle.office_lives.specs.Turns.{ServesTurn, state_in}
-use Rattle.office_lives.proofs.TurnLemmas.{one_part}
+use Rattle.office_lives.specs.Turns.{state_in}
+use Rattle.office_lives.proofs.StreamLemmas.{one_part, turn_over}
 use Rattle.office_lives.proofs.turns.served_in_turns.Goals as goal
 
 pub returns : goal.returns
@@ -12,18 +12,15 @@ returns g c clean =
     let one = c.in_ok-first.ensures.made (c.in_ok-done.ensures.clean after_two) in
     let first = found_tables g.D.Disk c.in_ok-first.files one.1 one.4 _ (inl refl) two.0 two.2 in
     let second = found_tables g.D.Disk c.in_ok-done.files two.1 two.4 _ (inl refl) three.0 three.2 in
-    let start = state_in g.R.Source.told g.W.Sink.told c.args.stream.now in
-    let middle = state_in g.R.Source.told g.W.Sink.told c.done_once.new.task in
-    let end = state_in g.R.Source.told g.W.Sink.told c.done_once-3.new.task in
     let task = subst (λ old. (g.T.OfficeTask.effect c.args.task.now c.done_once-2.new.task).does old c.in_ok-done.done two.1) first two.3 in
-    let later = subst (λ old. ServesTurn middle end old c.in_ok-second.second three.1) second three.3 in (
+    let later = turn_over second three.3 in (
       one.0,
       three.1,
-      middle,
+      state_in g.R.Source.told g.W.Sink.told c.done_once.new.task,
       one.2,
       (one.1, one.3, (two.1, task, (three.1, later, refl))),
       three.4,
       λ nothing n paused.
-          let same = subst (λ old. ServesTurn middle end old c.in_ok-second.second three.1) (nothing one.1 two.1 c.in_ok-done.done task) later in
-          (same.outcome, same.is, one_part start middle end one.0 one.1 three.1 c.in_ok-first.first c.in_ok-second.second n one.3 same paused),
+          let same = turn_over (nothing one.1 two.1 c.in_ok-done.done task) later in
+          (same.outcome, same.is, one_part _ _ _ _ _ _ _ _ n one.3 same paused),
     )
