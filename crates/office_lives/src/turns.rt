@@ -19,9 +19,9 @@ use signal_office_file::OfficeTask;
 use sqlite_disk::{Disk, Files};
 use std::alloc::Global;
 
-/// Does a task for a turn and then for `more` turns over the tables in the two files, with its turns
-/// as a server has them: the files are closed after each, and those that came back are opened for
-/// the next. `None` says that once they were refused or could not be closed.
+/// Does a task for a turn and then for `more` turns over the tables in the two files, as a server
+/// has its turns: the files are closed after each, and those that came back are opened for the
+/// next. `None` says that once they were refused or could not be closed.
 pub fn done_in_turns<D: Disk + Drop, Given: Drop, T: OfficeTask<Given>, O: Sink>(
     rt: &HostRuntime,
     alloc: Global,
