@@ -1,1 +1,3 @@
 mod LifeLemmas
+mod StreamLemmas
+mod TurnLemmas

@@ -29,7 +29,7 @@ pub struct Around<D: Disk, Given> {
 
 /// Does a task by the office over the tables in the two files, and closes them. `None` says that
 /// they were refused or could not be closed.
-fn done_once<D: Disk + Drop, Given: Drop, T: OfficeTask<Given>, W: Sink>(
+pub(crate) fn done_once<D: Disk + Drop, Given: Drop, T: OfficeTask<Given>, W: Sink>(
     rt: &HostRuntime,
     alloc: Global,
     files: Files<D>,
