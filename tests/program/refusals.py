@@ -9,8 +9,8 @@ what it says against what docs/OPERATING.md tells of each fault.
   over a disk that is full, on which the office is as it was once there is room.
 - `backup` replaces nothing but a plain file that is no part of an office and that no run has open.
 - A CSV file that is too long is named and not read as records, and its parts are taken by their
-  lines. Of each kind of note a hundred are told. The longest files of records that are taken need
-  less than 400 MB, and those that are refused less than 300.
+  lines. Of each kind of note a hundred are told. The longest files of records that are taken, and
+  those that are refused, need less than 300 MB.
 - A port that the user may not have is named.
 - A server says once on standard error why it answers 503, and goes on once the disk has room.
 
@@ -115,7 +115,14 @@ LISTED = "12,0,normal,,0,Main St,365\n"
 STATE = b"GET /intersections/12 HTTP/1.1\r\n\r\n"
 EXISTS, FILE, STORE = "fault: exists\n", "fault: file\n", "fault: store\n"
 MOST_BYTES, MOST_RECORDS, MOST_RECORD = 64 << 20, 100_000, 1 << 20
-MOST_MEMORY, MOST_OF_IMPORTS = 300_000_000, 400_000_000
+MOST_MEMORY = 300_000_000
+STARTER = """
+import os, sys
+words = sys.argv[2:]
+_, status, used = os.wait4(os.posix_spawn(words[0], words, os.environ), 0)
+os.write(int(sys.argv[1]), str(used.ru_maxrss).encode())
+sys.exit(os.waitstatus_to_exitcode(status))
+"""  # tells the memory of a run in kB
 PATIENCE = 300  # seconds of a run
 NOTES = 100
 APART = "REFUSALS_APART"  # in the environment of a run that has mounts of its own
@@ -437,9 +444,10 @@ def long_files(program, room):
 
 
 def longest_files(program, room):
-    """What is as long as it may be is read."""
+    """What is as long as it may be is read. The end of its line is a part of a record."""
     with folder(program) as it:
-        (it.path / "large.csv").write_bytes(b"#" * MOST_RECORD + b"\n" * (MOST_BYTES - MOST_RECORD))
+        record = b"#" * (MOST_RECORD - 1)
+        (it.path / "large.csv").write_bytes(record + b"\n" * (MOST_BYTES - len(record)))
         came = it.run("verify-file", "large.csv")
         expect("the longest file", came, (1, "", "fault: record 1: Kind\n"))
         (it.path / "more.csv").write_bytes(b"#" * (MOST_RECORD + 1))
@@ -450,13 +458,15 @@ def longest_files(program, room):
 
 
 def measured(it, *words):
-    """What came of a run as by `run`, and how many bytes of memory it had at most."""
-    with subprocess.Popen([it.program, *words], cwd=it.path, stdout=subprocess.PIPE,
-                          stderr=subprocess.PIPE) as run:
-        out, err = (pipe.read().decode() for pipe in (run.stdout, run.stderr))
-        _, status, used = os.wait4(run.pid, 0)
-        run.returncode = os.waitstatus_to_exitcode(status)
-    return (run.returncode, out, err), used.ru_maxrss * 1024
+    """What came of a run as by `run`, and how many bytes of memory it had at most. A small process
+    starts it, since a process has at least the memory of the one that it came from."""
+    told, tell = os.pipe()
+    ran = subprocess.run([sys.executable, "-c", STARTER, str(tell), it.program, *words],
+                         cwd=it.path, capture_output=True, pass_fds=[tell])
+    os.close(tell)
+    with open(told) as pipe:
+        memory = 1024 * int(pipe.read())
+    return (ran.returncode, ran.stdout.decode(), ran.stderr.decode()), memory
 
 
 def deliveries(count):
@@ -475,12 +485,12 @@ def long_imports(program, room):
     told_most = []
     with folder(program) as it:
         it.make()
-        for record, bound in ((deliveries, MOST_OF_IMPORTS), (inspections, MOST_OF_IMPORTS)):
+        for record in (deliveries, inspections):
             (it.path / "most.csv").write_text(record(MOST_RECORDS))
             (status, out, err), memory = measured(it, "import", "--db", "office.db", "most.csv")
             told = 0, f"added {MOST_RECORDS}, same 0\n"
             expect(f"{record.__name__}, {err[:200]}", (status, out), told)
-            expect(f"{memory:,} bytes are few", memory < bound, True)
+            expect(f"{memory:,} bytes are few", memory < MOST_MEMORY, True)
             told_most.append(f"{record.__name__} {memory / 1e6:.0f} MB")
         split = "split it, as by split --lines=50000"
         for count, told in ((1_000_000, f"has more than 100000 records; {split}"),
