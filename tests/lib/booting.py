@@ -142,8 +142,9 @@ def killed(system):
 def failed(system):
     """A server that ends five times is told as failed. It is started no more until what counts the
     starts is reset; then it comes back."""
-    system.shell(f"mv {OFFICE} {OFFICE}.away; echo text > {OFFICE}; chown cayunchis: {OFFICE}; "
-                 "systemctl restart cayunchis")
+    system.shell(f"systemctl stop cayunchis; mv {OFFICE} {OFFICE}.away; "
+                 f"mv {OFFICE}-wal {OFFICE}.log; echo text > {OFFICE}; "
+                 f"chown cayunchis: {OFFICE}; systemctl start cayunchis")
     asked = "systemctl is-failed cayunchis || true"
     system.until("failure", lambda: "failed" in system.shell(asked))
     told = system.until("line of what failed", lambda: system.shell(
@@ -151,9 +152,11 @@ def failed(system):
     expect("what is told", told, "cayunchis.service failed: see journalctl -u cayunchis.service")
     note = system.shell("journalctl -u cayunchis --output cat | grep note: | sort -u")
     expect("the note in the journal", note, f"note: {OFFICE} is no database")
-    system.shell(f"mv {OFFICE}.away {OFFICE}")
-    refused = system.shell("systemctl start cayunchis 2>&1", status=1)
-    expect(f"a start that is one too many: {refused}", "too often" in refused, True)
+    system.shell(f"mv {OFFICE}.away {OFFICE}; mv {OFFICE}.log {OFFICE}-wal")
+    count = "journalctl -u cayunchis --output cat | grep -c 'repeated too quickly' || true"
+    before = int(system.shell(count))
+    system.shell("systemctl start cayunchis", status=1)
+    expect("refusals of a start that is one too many", int(system.shell(count)), before + 1)
     expect("the server", system.is_active(), False)
     system.shell("\n".join(["set -e", *part("Watch it")[1]]))
     expect("the stock", system.asked(), STOCK)
