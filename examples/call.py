@@ -4,7 +4,7 @@
     examples/call.py                                    lists the operations with their keys
     examples/call.py OFFICE OPERATION KEY=VALUE..       OFFICE as http://127.0.0.1:8080
 
-VALUE is a number, a text, JSON for a list, or @FILE for what stands in FILE. The status is 0 if the
+VALUE is a number, a text, JSON for a list, or @FILE for the text in FILE. The status is 0 if the
 answer's is 200, and else 1.
 """
 import json

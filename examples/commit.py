@@ -1,5 +1,6 @@
 #!/usr/bin/env python3
-"""Commits a plan over HTTP, or says why not: begin, edit-csv, verify, check, commit.
+"""Puts the rows of a CSV file into the committed plan over HTTP, and commits the result, or says why
+not: begin, edit-csv, verify, check, commit.
 
     examples/commit.py OFFICE ID CLERK CSV      OFFICE as http://127.0.0.1:8080
 
@@ -13,6 +14,7 @@ import time
 import urllib.error
 import urllib.request
 
+NO_ANSWER = (502, 503, 504)  # the office is unavailable, or a proxy has no answer of it
 AFTER = {"begin": "transaction", "edit-csv": "transaction", "verify": "verify", "check": "done",
          "commit": "normal", "abandon": "normal"}  # the state after each step
 TRIES = 5
@@ -22,6 +24,14 @@ class Refused(Exception):
     """The office refused, or another clerk has the draft."""
 
 
+def name_of(refusal):
+    """The name of a refusal; an answer that a proxy made has a status alone."""
+    try:
+        return json.load(refusal)["error"]
+    except (ValueError, KeyError, TypeError):
+        return f"status {refusal.code}"
+
+
 def ask(url, keys=None):
     """What the office answers; a refusal is an error, and so is an answer that is missing."""
     try:
@@ -29,9 +39,9 @@ def ask(url, keys=None):
         with urllib.request.urlopen(url, body, timeout=35) as answer:
             return json.load(answer)
     except urllib.error.HTTPError as refusal:
-        if refusal.code == 503:
+        if refusal.code in NO_ANSWER:
             raise ConnectionError("unavailable") from None
-        raise Refused(json.load(refusal)["error"]) from None
+        raise Refused(name_of(refusal)) from None
     except urllib.error.URLError as it:
         raise ConnectionError(it.reason) from None
 

@@ -1,5 +1,6 @@
 #!/usr/bin/env python3
-"""Commits the plan in a CSV file over HTTP, or prints which rules it breaks.
+"""Puts the rows of a CSV file into the committed plan over HTTP, and commits the result, or prints
+which rules it breaks. Rows that the file does not name stay.
 
     examples/plan.py OFFICE ID CLERK CSV      OFFICE as http://127.0.0.1:8080
 
@@ -22,7 +23,8 @@ def ask(url, keys=None):
     except urllib.error.HTTPError as refusal:
         sys.exit(f"{url}: {refusal.code} {refusal.read().decode(errors='replace')}")
     except OSError as it:
-        sys.exit(f"{url}: {it}. Ask for the intersection: it shows whether the step was done.")
+        sys.exit(f"{url}: {it}. Ask for the intersection: a changed state or revision shows that the "
+                 "step was done. edit-csv changes neither: compare the draft.")
 
 
 def main():

@@ -178,6 +178,6 @@ def saved(system):
     system.shell(f"umount {COPIES} && systemctl reset-failed")
     expect("the server", system.shell("systemctl show -P MainPID cayunchis"), server)
     for turn in range(7):
-        system.shell("sleep 1; systemctl start cayunchis-backup")
+        system.shell("sleep 1; systemctl reset-failed; systemctl start cayunchis-backup")
         expect(f"the stock after copy {turn + 1} of seven", system.asked(), STOCK)
     return system.shell(f"ls {COPIES}").replace("\n", " ")

@@ -159,7 +159,7 @@ def upgraded(system):
 def restored(system):
     """An older copy is restored by the commands of the document: the plan is gone again."""
     name = system.shell(f"ls {COPIES} | grep city- | tail -1")
-    lines = "\n".join(part("Restore")[0])
+    lines = "\n".join(sum(part("Restore")[:2], []))
     system.shell("set -e\n" + re.sub(r"city-\d[\d-]*\.db", name, lines))
     expect("the stock of the copy", system.asked(), STOCK)
     told = system.shell("curl -fsS http://127.0.0.1:8080/intersections/12")
@@ -170,8 +170,8 @@ def restored(system):
 def brought(system):
     """Another office is put in place of the one that is there."""
     system.shell("signal_office add --db city.db 7 30 Elm")
-    told = system.shell("set -e\n" + "\n".join(part("Install the package")[2]))
-    expect("the migration", told, "migrated 0 rows")
+    told = system.shell("\n".join(["set -e", *sum(part("Install the package")[2:4], [])]))
+    expect("the migration", told.splitlines()[-1], "migrated 0 rows")
     system.asked()
     return system.shell("curl -fsS http://127.0.0.1:8080/overdue/2199-12-31")
 
@@ -192,7 +192,7 @@ def moved(system):
     system.shell(f"mv {STATE} /var/lib/old; mv copy.db city.db; rm -f city.db-wal; systemctl "
                  f"enable --now {' '.join(units)}")
     system.asked()
-    bring = "\n".join(["set -e", *part("Install the package")[2]])
+    bring = "\n".join(["set -e", *sum(part("Install the package")[2:4], [])])
     system.shell(bring.replace("city.db city.db-wal ", "city.db "))
     system.asked()
     expect("the office on the new machine", listed(system), before)

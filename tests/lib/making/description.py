@@ -183,12 +183,18 @@ def refusals(method, path, keys, own):
     return found | ({8} if method == "POST" else set()) | ({9} if keys or "{" in path else set())
 
 
+def summary(about):
+    """What a request does, as a command: `shows a plan` as `Show a plan`."""
+    verb, _, rest = about.partition(" ")
+    return f"{verb.capitalize().removesuffix('s')} {rest}"
+
+
 def operation(method, path, keys, about):
     """The operation of a route."""
     name, *own = BY_ROUTE[f"{method} {path}".replace("/intersections/{id}/", "../")]
     words = re.findall(r"\w+", re.sub(r"\{\w+\}", "", path))
     made = {"operationId": method.lower() + "".join(it.capitalize() for it in words),
-            "summary": about,
+            "summary": summary(about),
             "parameters": [{"name": it, "in": "path", "required": True, "schema": field(it)}
                            for it in re.findall(r"\{(\w+)\}", path)]}
     if method == "POST":
