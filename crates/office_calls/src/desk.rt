@@ -169,6 +169,7 @@ fn desk(rt: HostRuntime) -> Result<(), Fail> {
     assert_eq!(rt; came.as_str(), wanted);
     assert_eq!(rt; Refusal::UnknownIntersection.number(), 10);
     let shelf: MapShelf = office.into_shelf();
-    assert_eq!(rt; shelf.writes(Table::Intersection), 3);
+    // one for the addition, and one for each of six moves
+    assert_eq!(rt; shelf.writes(Table::Intersection), 7);
     Ok(())
 }
