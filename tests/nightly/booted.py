@@ -76,7 +76,7 @@ def full(system):
     system.shell(f"dd if=/dev/zero of={STATE}/full bs=4k || true")
     expect("the check that reads", system.shell(reads), STOCK)
     told = system.shell(writes, status=22)
-    expect(f"the check that writes: {told}", "503" in told, True)
+    expect(f"the check that writes: {told}", "Unavailable" in told, True)
     system.shell("systemctl restart cayunchis")
     expect("the stock of a server that begins there", system.asked(), STOCK)
     cause = system.shell("journalctl -u cayunchis --output cat | grep 'No space left' | sort -u")
