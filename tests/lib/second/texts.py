@@ -30,6 +30,7 @@ from model.wire import answer
 
 from . import plans, printed
 
+LONG_NAME = "Avenue of the <Boulevards> & Streets, at the corner of a long name"
 ROOM = "/dev/shm" if os.access("/dev/shm", os.W_OK) else None  # files in memory, if there are any
 
 ASKED = 60  # requests that draw an office
@@ -76,6 +77,12 @@ def draw_office(dice):
             if getattr(it, "closer", None):
                 records[key] = records[key]._replace(closer=asking.told(dice, it.closer))
     return office
+
+
+def lengthen(office):
+    """Gives each intersection a name that is too long for the columns of a picture."""
+    for it in office.intersections.values():
+        it.name = LONG_NAME
 
 
 def spelled(data):
@@ -249,6 +256,8 @@ def tried(asked):
     path, empty, seed = asked
     dice = random.Random(f"texts {seed}")
     office, is_old = draw_office(dice), dice.random() < OLD
+    if seed.endswith("7"):
+        lengthen(office)
     if is_old:
         tables.age(office)
     if not unseen:
