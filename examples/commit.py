@@ -1,5 +1,5 @@
 #!/usr/bin/env python3
-"""Puts the rows of a CSV file into the committed plan over HTTP, and commits the result, or says why
+"""Puts the rows of a CSV file into the committed plan over HTTP and commits the result, or says why
 not: begin, edit-csv, verify, check, commit.
 
     examples/commit.py OFFICE ID CLERK CSV      OFFICE as http://127.0.0.1:8080

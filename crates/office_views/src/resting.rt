@@ -1,5 +1,5 @@
-//! Rings that do not fill the cycle, and lack exactly what another ring times beside them: they have
-//! no phase there, not one that rests.
+//! Rings that do not fill the cycle, and lack exactly what another ring times beside them: they
+//! have no phase there, not one that rests.
 
 use signal_records::{NoMemory, Pattern, PatternNo, PhaseNo, RingNo, TimingSet};
 use signal_rules::{

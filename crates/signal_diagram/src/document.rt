@@ -84,8 +84,8 @@ fn svg_of(
     }
 }
 
-/// The most seconds that a picture of a pattern of a set has; 0 if the set has no pattern. With room
-/// for them all pictures of the set have one scale. `NoMemory` means that a growth was refused.
+/// The most seconds that a picture of a pattern of a set has; 0 if the set has no pattern. With
+/// room for them all pictures of the set have one scale. `NoMemory` means that a growth was refused.
 pub fn most_seconds(alloc: Global, set: &TimingSet) -> Result<u16, NoMemory> {
     let mut most = 0;
     for n in PatternNo::all() {

@@ -26,8 +26,8 @@ pub(crate) struct CsvText {
     pub(crate) lines: Vec<usize>,
 }
 
-/// All the bytes that the input gives, up to its end. The fault is Read if the input failed, File if
-/// it has more than 64 MiB, and Memory if a growth was refused; some bytes may be taken by then.
+/// All the bytes that the input gives, up to its end. The fault is Read if the input failed, File
+/// if it has more than 64 MiB, and Memory if a growth was refused; some bytes may be taken by then.
 fn read_input<R: Source>(
     rt: &HostRuntime,
     alloc: Global,

@@ -42,8 +42,8 @@ pub enum Folder {
 /// An edit of an intersection's plan by a CSV file, in the draft of a clerk. Without a file, which
 /// only `commit` without `replace` allows, the draft is taken as it is. `replace` removes the rows
 /// that the file lacks, and `commit` commits a draft that breaks no rule. `revision`, 0 to 999,999,
-/// is the one that has to be committed before. `explain` adds the reasons of broken rules, the owner
-/// of a draft and what a commit changed, and `advise` warnings.
+/// is the one that has to be committed before. `explain` adds the reasons of broken rules, the
+/// owner of a draft and what a commit changed, and `advise` warnings.
 #[derive(Drop)]
 pub struct Edit<'a> {
     pub id: InterId,
