@@ -23,7 +23,7 @@ import tempfile
 
 sys.path.insert(0, str(pathlib.Path(__file__).resolve().parents[1] / "lib"))
 from booting import STOCK, booted, failed, killed, saved
-from packaged import STATE, part
+from packaged import lacking, part
 from program import TOP, found
 from serving import Off, expect
 
@@ -61,19 +61,12 @@ def looked_at(program):
     return f"{len(copies)} units"
 
 
-def lacking():
-    """Why the units can't be run here, if so."""
-    tools = [it for it in TOOLS if not shutil.which(it)]
-    if tools:
-        return f"there is no {', '.join(tools)}"
-    if os.geteuid():
-        return "only root may boot a system"
-    if os.path.exists(STATE):
-        return f"this machine has an office in {STATE}"
+def unbootable():
+    """Why no systemd can be booted here, if so."""
+    if why := lacking(TOOLS):
+        return why
     if not os.path.exists("/lib/systemd/systemd"):
         return "there is no systemd"
-    if "overlay" not in pathlib.Path("/proc/filesystems").read_text():
-        return "the kernel has no overlays"
     places = "/sys/fs/cgroup/unified/cgroup.procs", "/sys/fs/cgroup/cgroup.procs"
     return "" if any(map(os.path.exists, places)) else "there are no control groups"
 
@@ -94,7 +87,7 @@ def main():
         sys.exit(77)
     try:
         print(f"looked at: {looked_at(program)}", flush=True)
-        if why := lacking():
+        if why := unbootable():
             return print(f"not run: {why}")
         with tempfile.TemporaryDirectory() as room:
             shutil.copy2(program, pathlib.Path(room, "signal_office"))

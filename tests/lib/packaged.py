@@ -1,6 +1,9 @@
 """Packages of the program for tests, where an installed one keeps its files, and commands of
 docs/OPERATING.md."""
+import os
+import pathlib
 import shlex
+import shutil
 import subprocess
 
 from program import TOP
@@ -11,6 +14,20 @@ STATE, COPIES = "/var/lib/cayunchis", "/var/backups/cayunchis"
 OFFICE = f"{STATE}/city.db"
 OLDER = "0.0.1"
 PLAN = "/usr/share/doc/cayunchis/bench/plan.csv"
+
+
+def lacking(tools):
+    """Why no root can be laid over this machine's with these tools of its administrator, if so."""
+    missing = [it for it in tools if not shutil.which(it, path="/usr/sbin:/usr/bin:/sbin:/bin")]
+    if missing:
+        return f"there is no {', '.join(missing)}"
+    if os.geteuid():
+        return "only root may mount"
+    if os.path.exists(STATE):
+        return f"this machine has an office in {STATE}"
+    if "overlay" not in pathlib.Path("/proc/filesystems").read_text():
+        return "the kernel has no overlays"
+    return ""
 
 
 def part(title):

@@ -30,7 +30,7 @@ import time
 
 sys.path.insert(0, str(pathlib.Path(__file__).resolve().parents[1] / "lib"))
 import version
-from packaged import COPIES, OFFICE, OLDER, PLAN, STATE, packed, part, ran
+from packaged import COPIES, OFFICE, OLDER, PLAN, STATE, lacking, packed, part, ran
 from program import found
 from serving import Off, expect
 
@@ -320,17 +320,10 @@ def inside(program, room):
         sys.exit(f"FAILED: {it}")
 
 
-def lacking():
+def untried():
     """Why it can't be tried here, if so."""
-    tools = [it for it in TOOLS if not shutil.which(it, path="/usr/sbin:/usr/bin:/sbin:/bin")]
-    if tools:
-        return f"there is no {', '.join(tools)}"
-    if os.geteuid():
-        return "only root may mount"
-    if os.path.exists(STATE):
-        return f"this machine has an office in {STATE}"
-    if "overlay" not in pathlib.Path("/proc/filesystems").read_text():
-        return "the kernel has no overlays"
+    if why := lacking(TOOLS):
+        return why
     with socket.socket() as wire:
         wire.setsockopt(socket.SOL_SOCKET, socket.SO_REUSEADDR, 1)
         return f"port {PORT} is taken" if wire.connect_ex(("127.0.0.1", int(PORT))) == 0 else ""
@@ -339,7 +332,7 @@ def lacking():
 def main():
     if sys.argv[1:2] == [INSIDE]:
         return inside(*sys.argv[2:])
-    program, why = found(sys.argv[1:2]), lacking()
+    program, why = found(sys.argv[1:2]), untried()
     if why:
         print(f"package.py: {why}")
         sys.exit(SKIPPED)

@@ -1,5 +1,5 @@
 //! Notes on an edit of a plan that was made: what its clerk may not have meant.
-#![tactic(auto, using(office_desk::proofs::Looks::keeps, office_desk::proofs::Looks::keeps_then, office_desk::proofs::Looks::keeps_none))]
+#![tactic(auto, using(office_desk::proofs::Looks::keeps, office_desk::proofs::Looks::keeps_then))]
 
 ghost use Rattle.office_desk.specs.Asks.{KeepsOffice};
 

@@ -1,6 +1,6 @@
 //! Notes on records that are to be imported: those of a part that the office never had, and those
 //! that are there already.
-#![tactic(auto, using(office_desk::proofs::Looks::keeps, office_desk::proofs::Looks::keeps_then, office_desk::proofs::Looks::keeps_none, crate::proofs::LookLemmas::keeps_shelf))]
+#![tactic(auto, using(office_desk::proofs::Looks::keeps, office_desk::proofs::Looks::keeps_then))]
 
 ghost use Rattle.office_desk.specs.Asks.{KeepsOffice};
 
