@@ -3,9 +3,13 @@
     python3 bench/first_build.py [--write]
     python3 bench/first_build.py --simulate [SECONDS]
 
-The first clones the repository, runs `./office batch` there without requests, and says how many
-crates were proved after how many minutes. With --write that goes into docs/MEASUREMENTS.md. Nothing
-else should run meanwhile. It needs some gigabytes in the folder for temporary files.
+The first clones the repository, runs README's first three commands there by `./office --trial` and
+then the first of them by `./office`. It says how long the trial took to answer all three, how many
+crates were proved after how many minutes, and when the proved program answered. Beside that it says
+what bench/baseline.c takes for 200,000 requests in memory, which is the same work on each machine.
+With --write that goes into docs/MEASUREMENTS.md, in place of what was measured on so many
+processors before. Nothing else should run meanwhile. It needs some gigabytes in the folder for
+temporary files. `taskset` and a limit of memory, as of systemd-run, make a smaller machine.
 
 The second proves nothing. It goes through the order of `./office` on 2, 4 and 8 processors, by the
 seconds of each crate in the table of the gate, or as `./office` estimates them where the table does
@@ -13,6 +17,7 @@ not have it. Beside the minutes it prints those of the best order that it finds 
 seconds (20) for each number of processors, the work, shared out, and the longest chain of crates;
 then when each crate ends on 4 processors.
 """
+import contextlib
 import math
 import pathlib
 import random
@@ -25,47 +30,98 @@ import time
 TOP = pathlib.Path(__file__).resolve().parent.parent
 sys.dont_write_bytecode = True
 sys.path[:0] = [str(TOP / "tests" / "lib"), str(TOP / "building")]
+import all as everything
 import measured
 import order
 import script
+import work
 
-MINUTES = (10, 20, 30, 40, 50)
-HEAD = ["State and machine", "Crates", *(f"{it} min" for it in MINUTES), "All"]
+MINUTES = (5, 10, 15, 20, 30, 40)
+HEAD = ["State and machine", "C, s", "Trial", "Crates", *(f"{it} min" for it in MINUTES), "Proved"]
+CHECK = ["verify-file", "bench/plan.csv"]
+TRIED = (  # the first three commands of README
+    CHECK,
+    ["add", "--db", "demo/city.db", "12", "365", "Main St"],
+    ["edit", "--db", "demo/city.db", "--clerk", "Ana", "--commit", "12", "bench/plan.csv"],
+)
 PROCESSORS, SHOWN = (2, 4, 8), 4
 MEMORY = 4_000_000_000  # bytes for each processor
 PATIENCE = 20  # seconds of a search
 WARM = 20  # seconds by which an order may be worse at first, and still be gone on from
 
 
-def built(folder):
-    """How many crates there are, how many were proved in which minute, and the minutes of all."""
-    subprocess.run(["git", "clone", "--quiet", TOP, folder], check=True)
-    how = {"cwd": folder, "stdin": subprocess.DEVNULL, "stderr": subprocess.PIPE, "text": True}
-    build = subprocess.Popen(["./office", "batch"], **how)
-    crates, proved, minutes = 0, {}, None
+def seconds_of_c():
+    """What the C program takes for 200,000 requests in memory: the least of three runs."""
+    requests = b"".join(work.adding_and_asking(200_000))
+    with tempfile.TemporaryDirectory() as folder:
+        words = everything.built(folder)
+        if not words:
+            return ""
+        runs = [everything.ran(words, requests, folder)[0] for _ in range(everything.RUNS)]
+    return f"{min(runs):.2f}"
+
+
+def ask(folder, *words, **more):
+    return subprocess.Popen(["./office", *words], cwd=folder, stdin=subprocess.DEVNULL, text=True,
+                            **more)
+
+
+def try_out(folder):
+    """The minutes until a trial has answered the first three commands."""
+    begun = time.monotonic()
+    (folder / "demo").mkdir()
+    for words in TRIED:
+        if ask(folder, "--trial", *words).wait():
+            sys.exit("the trial did not end well")
+    return (time.monotonic() - begun) / 60
+
+
+def prove(folder):
+    """How many crates there are, how many were proved in which minute, and the minutes until the
+    proved program has answered."""
+    begun = time.monotonic()
+    build = ask(folder, *CHECK, stderr=subprocess.PIPE)
+    crates, proved = 0, {}
     for line in build.stderr:
         print(line, end="", file=sys.stderr, flush=True)
         done = re.search(r"(\d+) of (\d+) crates proved after (\d+) min", line)
-        ended = re.search(r"built after (\d+) min", line)
         if done:
             crates, proved[int(done[3])] = int(done[2]), int(done[1])
-        minutes = int(ended[1]) if ended else minutes
-    if build.wait() or minutes is None:
+    if build.wait():
         sys.exit("the build did not end well")
-    return crates, proved, minutes
+    return crates, proved, (time.monotonic() - begun) / 60
+
+
+def memory():
+    """The memory that there is, or that the group of this process may have, if that is less."""
+    kib = int(re.search(r"MemTotal:\s*(\d+)", pathlib.Path("/proc/meminfo").read_text())[1])
+    limits = [kib * 1024]
+    for line in pathlib.Path("/proc/self/cgroup").read_text().splitlines():
+        _, kinds, path = line.split(":", 2)
+        for root, name in (("memory", "memory.limit_in_bytes"), ("", "memory.max")):
+            limit = pathlib.Path("/sys/fs/cgroup", root, path.lstrip("/"), name)
+            with contextlib.suppress(OSError, ValueError):
+                limits.append(int(limit.read_text()))
+    return f"{min(limits) / 1e9:.0f} GB"
 
 
 def measure(is_written):
-    begun = measured.ticks()
+    seconds, begun = seconds_of_c(), measured.ticks()
     with tempfile.TemporaryDirectory() as room:
-        crates, proved, minutes = built(pathlib.Path(room) / "clone")
+        folder = pathlib.Path(room) / "clone"
+        subprocess.run(["git", "clone", "--quiet", TOP, folder], check=True)
+        trial = try_out(folder)
+        crates, proved, minutes = prove(folder)
     after = lambda limit: max((many for at, many in proved.items() if at < limit), default=0)
     shown = [str(after(it)) if it <= minutes else "" for it in MINUTES]
-    where = f"{measured.state()}, {measured.machine(begun)}"
-    cells = [where, str(crates), *shown, f"{minutes} min"]
-    print(measured.table(HEAD, [cells]), end="")
+    where = f"{measured.state()}, {measured.machine(begun)}, {memory()}"
+    row = [where, seconds, f"{trial:.1f} min", str(crates), *shown, f"{minutes:.0f} min"]
+    print(measured.table(HEAD, [row]), end="")
     if is_written:
-        measured.written("first build", measured.table(HEAD, [cells]))
+        same = f", {measured.machine().split(' of ')[0]} of "
+        others = [it for it in measured.rows_of("first build") if same not in it[0]]
+        rows = sorted([row, *(it for it in others if len(it) == len(HEAD))])
+        measured.written("first build", measured.table(HEAD, rows))
 
 
 def seconds_of_gate():

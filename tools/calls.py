@@ -3,6 +3,7 @@
 these name.
 
     tools/calls.py [CRATE..]      by default of all crates of libraries
+    tools/calls.py CALL..         where a call is, and its clauses: serve, office_http::serve
     tools/calls.py --without      how many calls have no clause, and which
 
 A call is a `pub fn`, a method of a `pub trait`, or a method of an impl of a trait that states a
@@ -33,6 +34,7 @@ class Call:
     owner: str
     name: str
     is_public: bool
+    line: int
     clauses: list = dataclasses.field(default_factory=list)  # ensures or requires, name, text
 
     def is_shown(self, kind):
@@ -67,7 +69,7 @@ def owner_of(line):
 def calls_in(text):
     """The calls of a file that the page shows, each with its clauses."""
     owner, kind, found, open_clause, depth = "", "", [], None, 0
-    for line in text.splitlines():
+    for at, line in enumerate(text.splitlines(), 1):
         if open_clause is not None:
             open_clause[2] += "\n" + line
             depth += line.count("{") - line.count("}")
@@ -79,7 +81,8 @@ def calls_in(text):
             owner, kind = owner_of(line)
         call, clause = CALL.match(line), CLAUSE.match(line)
         if call:
-            found.append((Call(owner if call[1] else "", call[3], bool(call[2])), kind))
+            owned = owner if call[1] else ""
+            found.append((Call(owned, call[3], bool(call[2]), at), kind))
         elif clause and found:
             said = [clause[1], clause[2], clause[3]]
             found[-1][0].clauses.append(said)
@@ -127,6 +130,31 @@ def shown(crate):
         yield f"    {name:{WIDTH}} {said}".rstrip()
 
 
+def file_of(place, crate):
+    """The path of a file of definitions, of which a crate's own ones are named without it."""
+    *other, name = place.split("/")
+    return f"crates/{other[0] if other else crate}/specs/{name}.antt"
+
+
+def clauses_of(asked):
+    """The calls of a name, each with its place, its clauses, and where what they name is."""
+    *owners, name = asked.split("::")
+    for crate in libraries():
+        for path in sorted((TOP / "crates" / crate / "src").rglob("*.rt")):
+            text = path.read_text()
+            files = definitions_of(text, crate)
+            for it in calls_in(text):
+                if it.name != name or not {*owners} <= {crate, path.stem, it.owner}:
+                    continue
+                said = [f"    {kind} {label or ''} {text}".replace("  {", " {")
+                        for kind, label, text in it.clauses]
+                words = {word for line in said for word in re.findall(r"[\w◌]+", line)}
+                places = [f"    {word}: {file_of(files[word], crate)}" for word in sorted(words)
+                          if word in files]
+                head = f"{path.relative_to(TOP)}:{it.line}: {'::'.join(filter(None, (it.owner, name)))}"
+                yield "\n".join([head, *(said or ["    no clause"]), *places, ""])
+
+
 def libraries():
     """The crates whose calls others use."""
     return [it for it in sources.crates()[0] if it not in sources.TESTS and it != MAIN]
@@ -149,8 +177,11 @@ def main():
     words, known = sys.argv[1:], libraries()
     if words == ["--without"]:
         print(without_clause())
-    elif wrong := [it for it in words if it not in known]:
-        sys.exit(f"calls.py: {', '.join(wrong)}: no crate of a library")
+    elif calls := [it for it in words if it not in known]:
+        found = {it: [*clauses_of(it)] for it in calls}
+        if wrong := [it for it in calls if not found[it]]:
+            sys.exit(f"calls.py: {', '.join(wrong)}: neither a crate of a library nor a public call")
+        print("\n".join(text for it in calls for text in found[it]), end="")
     else:
         print("\n".join(listed(words or known)), end="")
 
