@@ -72,7 +72,6 @@ SENTENCES = [
      "WAITS.high"),
     ("docs/OPERATING.md", f"within {ANY} bytes, more than {ANY} bytes of body", "HEAD_LIMIT",
      "LARGEST_BODY"),
-    ("README.md", "needs (\\w+) processors", "four"),
 ]
 
 # A definition as it stands in specs/, and the places of docs/PLANS.md that have its numbers, in the
@@ -171,13 +170,13 @@ def wrong_measurements():
     """What README.md says of measured times, where docs/MEASUREMENTS.md has others."""
     readme = plain((TOP / "README.md").read_text())
     text = plain((TOP / "docs/MEASUREMENTS.md").read_text())
-    took = re.search(r"this took ([\d, and]+) minutes", readme)
-    gate = re.search(r"the gate, `rt ci`, and the\s+scripts behind it took (\d+) minutes", readme)
-    first = re.search(r"first build: begin.*\| (\d+) min \|", text)
-    builds = [*first.groups(), *re.findall(r"the first build took (\d+) minutes", text)]
+    took = re.search(r"the trial took (\d+) minutes and the full build (\d+)", readme)
+    gate = re.search(r"runs the scripts of\s+`tests/`: (\d+) minutes", readme)
+    first = re.search(r", 4 processors of [^|]*\|[^|]*\| ([\d.]+) min .*\| (\d+) min \|", text)
+    builds = [f"{float(first[1]):.0f}", first[2]]
     if not took or not gate:
         yield "README.md does not say how long the first build and the gate took"
-    elif re.findall(r"\d+", took[1]) != builds:
+    elif [*took.groups()] != builds:
         yield f"README.md says {took[0]!r}, and MEASUREMENTS.md has {', '.join(builds)}"
     elif f"{gate[1]} min by the clock" not in text:
         yield f"README.md says {gate[0]!r}, and MEASUREMENTS.md has another time of the gate"
