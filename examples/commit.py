@@ -5,7 +5,8 @@ not: begin, edit-csv, verify, check, commit.
     examples/commit.py OFFICE ID CLERK CSV      OFFICE as http://127.0.0.1:8080
 
 If the answer to a step is missing, the intersection shows whether it was done, and only a step that
-was not done is sent again; `edit-csv` may be sent twice. A draft that breaks rules is dropped.
+was not done is sent again; `edit-csv` may be sent twice. A draft that is refused is dropped; if a
+draft is open already, nothing is done.
 """
 import json
 import pathlib
@@ -24,11 +25,13 @@ class Refused(Exception):
     """The office refused, or another clerk has the draft."""
 
 
-def name_of(refusal):
-    """The name of a refusal; an answer that a proxy made has a status alone."""
+def said_by(refusal):
+    """The name of a refusal and what else it says; an answer of a proxy has a status alone."""
     try:
-        return json.load(refusal)["error"]
-    except (ValueError, KeyError, TypeError):
+        keys = json.load(refusal)
+        more = [f"{name} {keys[name]}" for name in sorted(keys.keys() - {"error", "number"})]
+        return ", ".join([keys["error"], *more])
+    except (ValueError, KeyError, TypeError, AttributeError):
         return f"status {refusal.code}"
 
 
@@ -41,7 +44,7 @@ def ask(url, keys=None):
     except urllib.error.HTTPError as refusal:
         if refusal.code in NO_ANSWER:
             raise ConnectionError("unavailable") from None
-        raise Refused(name_of(refusal)) from None
+        raise Refused(said_by(refusal)) from None
     except urllib.error.URLError as it:
         raise ConnectionError(it.reason) from None
 
@@ -79,10 +82,24 @@ def step(at, name, clerk, before, **keys):
     raise ConnectionError("no answer")
 
 
+def edit(at, clerk, csv):
+    """Begins a draft and puts the rows into it. Where they are refused, the draft is dropped."""
+    now = look(at)
+    if now["owner"] is not None:
+        raise Refused(f"{now['owner']} has a draft in state {now['state']}")
+    now = step(at, "begin", clerk, now)
+    try:
+        return step(at, "edit-csv", clerk, now, csv=csv)
+    except Refused:
+        now = look(at)
+        if now["owner"] == clerk:
+            step(at, "abandon", clerk, now)
+        raise
+
+
 def commit(at, clerk, csv):
     """The revision of the committed plan. A draft that breaks rules is dropped and refused."""
-    now = step(at, "begin", clerk, look(at))
-    now = step(at, "edit-csv", clerk, now, csv=csv)
+    now = edit(at, clerk, csv)
     for name in ("verify", "check"):
         now = step(at, name, clerk, now)
     if now["verify"] == "doneWithError":

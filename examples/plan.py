@@ -5,13 +5,18 @@ which rules it breaks. Rows that the file does not name stay.
     examples/plan.py OFFICE ID CLERK CSV      OFFICE as http://127.0.0.1:8080
 
 Each step is sent once; commit.py copes with answers that are missing. The status is 3 if the plan
-breaks a rule, and its draft is dropped then; any other refusal ends with status 1 and what came.
+breaks a rule; any other refusal ends with status 1 and what came. Its draft is dropped then, and if
+a row is bad.
 """
 import json
 import pathlib
 import sys
 import urllib.error
 import urllib.request
+
+
+class Refused(SystemExit):
+    """A bad request: the draft is as it was."""
 
 
 def ask(url, keys=None):
@@ -21,7 +26,8 @@ def ask(url, keys=None):
         with urllib.request.urlopen(url, body, timeout=35) as answer:
             return json.load(answer)
     except urllib.error.HTTPError as refusal:
-        sys.exit(f"{url}: {refusal.code} {refusal.read().decode(errors='replace')}")
+        said = f"{url}: {refusal.code} {refusal.read().decode(errors='replace')}"
+        raise Refused(said) if refusal.code == 400 else SystemExit(said)
     except OSError as it:
         sys.exit(f"{url}: {it}. Ask for the intersection: a changed state or revision shows that the "
                  "step was done. edit-csv changes neither: compare the draft.")
@@ -35,7 +41,11 @@ def main():
         return ask(f"{at}/{name}", {"clerk": clerk, **keys})
 
     step("begin")
-    step("edit-csv", csv=csv)
+    try:
+        step("edit-csv", csv=csv)
+    except Refused:
+        step("abandon")
+        raise
     step("verify")
     if step("check")["verify"] == "doneWithError":
         for it in ask(f"{at}/draft")["violations"]:

@@ -174,7 +174,7 @@ def responses(name, numbers):
     for number in sorted(numbers):
         by_status.setdefault(status_of(number), []).append(ALL_NAMES[number])
     refused = {it: refusal(names) for it, names in sorted(by_status.items())}
-    return {"200": answered(f"{name}: done, or shown", [name]), **refused}
+    return {"200": answered(f"{name}, done or shown", [name]), **refused}
 
 
 def refusals(method, path, keys, own):
