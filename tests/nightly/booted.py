@@ -101,7 +101,7 @@ def proxied(system):
     that is down."""
     if not system.shell("command -v nginx openssl || true"):
         return "not tried: there is no nginx, or no openssl"
-    lines = "\n".join(part("Who may do what")[0])
+    lines = "\n".join(part("Behind nginx, with passwords")[0])
     system.shell(
         "cd /etc/nginx; rm -f sites-enabled/default; openssl req -x509 -newkey rsa:2048 -nodes "
         "-days 2 -subj /CN=office.example.org -keyout office.key -out office.pem; "
