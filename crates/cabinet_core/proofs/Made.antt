@@ -1,7 +1,7 @@
 -- The changes of a decision make the register with the record.
 use Rattle.std.proofs.Common.{◌≡◌, ◌⊎◌, inl, inr, ◌≤◌, ℕ, true, false, List, [], ◌∷◌, cond, Option, None, Some, Result, Ok, Err, refl, sym, ap, subst, ◌∙◌, arith}
 use Rattle.std.proofs.lemmas.Bool.{cases_Bool}
-use Rattle.std.specs.{Prelude.IfSome, FinMap.get, FinMap.insert, Str.bytes_eq}
+use Rattle.std.specs.{Prelude.IfSome, FinMap.get, FinMap.insert, Int.IsInRange, Str.bytes_eq}
 use Rattle.cabinet_core.specs.Cabinet.{Records, added, close_line, record_of, with_closing, use_changes, close_changes, receive_changes}
 use Rattle.cabinet_core.specs.{Changes.ChangesMake, Changes.MakesIn, Changes.Makes, Stock.hand_of, Register.Register, Register.LineKey, Register.DeliveryKey, Sound.IsOrderAt, Sound.IsSoundRegister, declared.record.Order.Order, Step.Standing, declared.record.Closing.Closing, Within.IsInspectionWithin, Within.IsClosingWithin, Within.IsOpeningWithin, Within.IsUsedLineWithin, Within.IsDeliveryWithin, declared.command.RecordCommand.RecordCommand, declared.record.UsedLine.UsedLine, declared.refusal.CabinetRefusal.CabinetRefusal}
 use Rattle.cabinet_core.specs.Step.{standing_in, line_on, line_at, with_closed, with_record}
@@ -23,9 +23,9 @@ place_or any (UsePart id asked) = id
 place_or any (CloseOrder id number asked) = id
 place_or any (Receive asked) = any
 
--- its record is within its limits
+-- its record is within its limits, and an inspection of an intersection 1 to 9999
 abbrev pub BringsWithin : RecordCommand → Type 0
-BringsWithin (Inspect id asked) = IsInspectionWithin asked
+BringsWithin (Inspect id asked) = IsInRange 1 9999 id × IsInspectionWithin asked
 BringsWithin (OpenOrder id asked) = IsOpeningWithin asked
 BringsWithin (UsePart id asked) = IsUsedLineWithin asked
 BringsWithin (CloseOrder id number asked) = IsClosingWithin asked
@@ -123,7 +123,7 @@ adding_makes : (any : ℕ) (r : Register) (command : RecordCommand) → IsSoundR
     → ChangesMake (place_or any command) r (changes_on command (standing_in r command))
     (with_record r command)
 adding_makes any r (Inspect id asked) sound within adds =
-    let next_sound = inspection_sound r id asked sound within in
+    let next_sound = inspection_sound r id asked sound within.0 within.1 in
     record { records = refl; hands = λ code. refl; sound = next_sound }
 adding_makes any r (OpenOrder id asked) sound within adds =
     record { records = refl; hands = λ code. refl; sound = opened r id asked sound within }

@@ -1,7 +1,7 @@
 -- A register stays sound with what a command adds.
 use Rattle.std.proofs.Common.{◌≡◌, ◌≤◌, ◌+◌, ℕ, Bool, true, false, cond, Option, None, Some, refl, arith}
 use Rattle.std.proofs.lemmas.Bool.Decides.{nat_tests}
-use Rattle.std.specs.{Prelude.IfSome, Prelude.IsSome, Prelude.nat_lt, Prelude.is_some, FinMap.get, FinMap.insert}
+use Rattle.std.specs.{Prelude.IfSome, Prelude.IsSome, Prelude.nat_lt, Prelude.is_some, FinMap.get, FinMap.insert, Int.IsInRange}
 use Rattle.cabinet_core.specs.Cabinet.{added, same, refused, on_hand, is_same_closing, is_same_line, is_same_delivery, use_line, close_order_line, close_line, receive_line, with_closing}
 use Rattle.cabinet_core.specs.Register.{Register, RecordKey, LineKey}
 use Rattle.cabinet_core.specs.Sound.{IsInspectionAt, IsOrderAt, IsLineAt, IsDeliveryAt, IsSoundRegister}
@@ -37,9 +37,13 @@ second_refusal false c why other is = no_refusal c other is
 
 -- ---- inspections and orders
 
-pub inspection_sound : (r : Register) (id : ℕ) (inspection : Inspection) → IsSoundRegister r → IsInspectionWithin inspection → IsSoundRegister (with_record r (Inspect id inspection))
-inspection_sound r id inspection sound within = record {
-  inspections = all_put record_total record_exact IsInspectionAt r.inspections (id, inspection.number) inspection sound.inspections (record { number = refl; within = within });
+pub inspection_sound : (r : Register) (id : ℕ) (inspection : Inspection) → IsSoundRegister r
+    → IsInRange 1 9999 id → IsInspectionWithin inspection
+    → IsSoundRegister (with_record r (Inspect id inspection))
+inspection_sound r id inspection sound of within = record {
+  inspections = all_put record_total record_exact IsInspectionAt r.inspections
+      (id, inspection.number) inspection sound.inspections
+      (record { of = of; number = refl; within = within });
   orders = sound.orders;
   lines = λ key. if_more (IsLineAt r key) (IsLineAt (with_record r (Inspect id inspection)) key) (λ line at. record { of = at.of; number = at.number; within = at.within; order = at.order }) (get r.lines key) (sound.lines key);
   deliveries = sound.deliveries;

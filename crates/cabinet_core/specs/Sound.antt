@@ -1,6 +1,7 @@
 -- When a register is sound: its records are within their limits, each under its own key, and its stock covers what was used.
 use Rattle.std.specs.Prelude.{◌≡◌, ℕ, ◌≤◌, List, IfSome, IsSome}
 use Rattle.std.specs.FinMap.{get}
+use Rattle.std.specs.Int.{IsInRange}
 use Rattle.cabinet_core.specs.Register.{Register, RecordKey, LineKey, DeliveryKey}
 use Rattle.cabinet_core.specs.Stock.{IsStocked}
 use Rattle.cabinet_core.specs.Within.{IsInspectionWithin, IsOrderWithin, IsUsedLineWithin, IsDeliveryWithin}
@@ -9,8 +10,9 @@ use Rattle.cabinet_core.specs.declared.record.Order.{Order}
 use Rattle.cabinet_core.specs.declared.record.UsedLine.{UsedLine}
 use Rattle.cabinet_core.specs.declared.record.Delivery.{Delivery}
 
--- an inspection is within its limits and stands under its own number
+-- an inspection is of an intersection 1 to 9999, within its limits, and stands under its own number
 pub record IsInspectionAt (key : RecordKey) (inspection : Inspection) : Type 0 where
+  pub of : IsInRange 1 9999 key.0
   pub number : inspection.number ≡ key.1
   pub within : IsInspectionWithin inspection
 

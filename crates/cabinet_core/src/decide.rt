@@ -1,6 +1,7 @@
 //! What becomes of a command on the register, by the records under its keys. Nothing is changed.
 
 ghost use Rattle.std.specs.Prelude.{◌≡◌, ℕ, ◌+◌, ◌-◌, ◌≤◌, [], ◌∷◌, nat_lt, IfOk, if◌then◌else◌, Some, None};
+ghost use Rattle.std.specs.Int.{IsInRange};
 ghost use Rattle.cabinet_core.specs.declared.part.TheConstants.{MOST_ON_HAND};
 ghost use Rattle.cabinet_core.specs.Changes.{Makes};
 ghost use Rattle.cabinet_core.specs.declared.command.RecordCommand.{RecordCommand};
@@ -47,7 +48,8 @@ pub fn inspect(
 ) -> Result<Recorded, CabinetRefusal>
     ensures line { Records result (inspect_line there.now asked.now)
         (PutInspection asked.now ∷ []) }
-    ensures makes { (id : ℕ) → Makes id (RecordCommand.Inspect id asked.now) there.now result }
+    ensures makes { (id : ℕ) → IsInRange 1 9999 id →
+        Makes id (RecordCommand.Inspect id asked.now) there.now result }
 {
     inspection_is_within(asked);
     match there {

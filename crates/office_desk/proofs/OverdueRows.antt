@@ -1,11 +1,11 @@
 -- The intersections that were read, and what is known of their inspections, are those of the office.
-use Rattle.std.proofs.Common.{◌≡◌, ◌≤◌, ℕ, List, [], ◌∷◌, map, length, take, suc, Option, None, Some, ap, sym, subst, ◌∙◌, arith}
+use Rattle.std.proofs.Common.{◌≡◌, ◌≤◌, ℕ, List, [], ◌∷◌, map, length, take, suc, Option, None, Some, refl, ap, sym, ◌∙◌, arith}
 use Rattle.std.proofs.lemmas.List.{length-map, take_all}
 use Rattle.std.specs.{FinMap.entries, List.cons_option}
 use Rattle.cabinet_core.specs.Overdue.{Listed, lateness, latest_day, listed_of, overdue_list}
 use Rattle.cabinet_core.specs.Register.{Register}
 use Rattle.cabinet_core.specs.declared.{overdue_inspections.OverdueRow.OverdueRow, overdue_inspections.Seen.Seen}
-use Rattle.office_tables_shelf.specs.Overdue.{seen_row, IsSeen, AreSeenOf, AreSeen, ListsOverdue}
+use Rattle.office_tables_shelf.specs.Overdue.{ListsOverdue, ReadsLast, last_day_in, seen_on, seen_row}
 use Rattle.office_tables_shelf.specs.{Content.Content, declared.rows.IntersectionRow.IntersectionRow, RegisterStands.RegisterStandsSound}
 use Rattle.office_desk_cabinet.proofs.ListedRecords.{inspections_listed}
 use Rattle.office_machine.specs.{Office.Office, Office.IsSound, Step.answered, Step.overdue_on, Step.seen_of}
@@ -17,24 +17,28 @@ use Rattle.office_desk.proofs.Recorded.{register_of}
 
 -- ---- what is seen of each is what the office knows
 
-seen_entries : (tables : Content) (r : Register) → RegisterStandsSound tables r → (es : List Entry) → AreSeenOf tables (map of_entry es) (map (seen_of r) es)
-seen_entries tables r stands [] = tt
-seen_entries tables r stands (e ∷ es) = (here, seen_entries tables r stands es)
-  where
-    here : IsSeen tables (of_entry e) (seen_of r e)
-    here inspections lists =
-        ap (λ list. seen_row e.0 (row_of e.1) (latest_day list)) (sym (inspections_listed tables r e.0 inspections stands lists))
-
-pub are_seen : (tables : Content) (office : Office) → StandForSound tables office → AreSeen tables (map (seen_of office.register) (entries office.intersections))
-are_seen tables office stands rows lists =
-    let es = entries office.intersections in
-    let read : rows ≡ map of_entry es = rows_read tables office stands.stand rows lists in
-    subst (λ (list : List (ℕ × IntersectionRow)). AreSeenOf tables list (map (seen_of office.register) es)) (sym read)
-    (seen_entries tables office.register (register_of tables office stands) es)
+seen_entries : (tables : Content) (r : Register) (days : List (ℕ × ℕ)) → RegisterStandsSound tables r
+    → ((id : ℕ) → ReadsLast tables id (last_day_in days id)) → (es : List Entry)
+    → map (seen_on days) (map of_entry es) ≡ map (seen_of r) es
+seen_entries tables r days stands last [] = refl
+seen_entries tables r days stands last (e ∷ es) =
+    let read = last e.0 in
+    let here : seen_on days (of_entry e) ≡ seen_of r e =
+    ap (seen_row e.0 (row_of e.1)) (read.latest
+    ∙ ap latest_day (inspections_listed tables r e.0 read.inspections stands read.lists)) in
+    λ i. here i ∷ seen_entries tables r days stands last es i
 
 -- the first rows of the query
-pub first_overdue : (tables : Content) (office : Office) (day most : ℕ) (found : List OverdueRow) → StandForSound tables office → ListsOverdue tables day most found → map listed_of found ≡ take most (overdue_on office day)
-first_overdue tables office day most found stands lists = lists (map (seen_of office.register) (entries office.intersections)) (are_seen tables office stands)
+pub first_overdue : (tables : Content) (office : Office) (day most : ℕ) (found : List OverdueRow)
+    → StandForSound tables office → ListsOverdue tables day most found
+    → map listed_of found ≡ take most (overdue_on office day)
+first_overdue tables office day most found stands it =
+    let es = entries office.intersections in
+    let read : it.rows ≡ map of_entry es = rows_read tables office stands.stand it.rows it.lists in
+    let known = register_of tables office stands in
+    it.first ∙ ap (λ (seen : List Seen). take most (overdue_list day seen))
+    (ap (λ (rows : List (ℕ × IntersectionRow)). map (seen_on it.days) rows) read
+    ∙ seen_entries tables office.register it.days known it.last es)
 
 -- ---- all of them
 

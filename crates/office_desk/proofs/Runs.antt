@@ -15,7 +15,7 @@ use Rattle.office_desk.specs.{Changes.IsRefused, Changes.most_writes, Running.Ar
 use Rattle.office_desk_timing.specs.Decisions.{refusal_of}
 use Rattle.office_tables_decisions.specs.declared.decided.Decided.{Decided}
 use Rattle.cabinet_core.specs.declared.command.RecordCommand.{RecordCommand}
-use Rattle.office_desk_cabinet.proofs.Undamaged.{no_damaged_inspection, no_damaged_order, no_damaged_used, no_damaged_part, undamaged_record}
+use Rattle.office_desk_cabinet.proofs.Undamaged.{no_damaged_inspection, no_damaged_inspections, no_damaged_order, no_damaged_used, no_damaged_part, undamaged_record}
 use Rattle.office_machine.specs.Step.{AreSound, Step, Run, answered, cabinet_of}
 use Rattle.office_machine.specs.Office.{Office, IsSound}
 use Rattle.office_machine.specs.declared.{command.Command.Command, command.Command.TheVariants.Import, refusal.Refusal.Refusal, reply.Reply.Reply, refusal.Refusal.TheVariants.Unavailable, reply.Reply.TheVariants.Imported, reply.Reply.TheVariants.Refused}
@@ -83,7 +83,7 @@ module _ (tables : Content) (office : Office) (stands : StandForSound tables off
   damage_refuted command.Stock damage = no_damaged_part tables office.register registered damage
   damage_refuted (command.Overdue day) (inl row) = no_damaged_intersection tables row office stands
   damage_refuted (command.Overdue day) (inr inspection) =
-      no_damaged_inspection tables office.register inspection.0 registered inspection.2
+      no_damaged_inspections tables office.register registered inspection
   damage_refuted _ damage = row_refuted reach.Plan _ damage
 
 -- a fault of the shelf, answered as its refusal

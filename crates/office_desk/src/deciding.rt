@@ -26,8 +26,7 @@ pub(crate) fn shelf_refusal(fault: ShelfFault) -> Refusal
     }
 }
 
-/// Decides a command by its kind: the reply, and the rows to be written. The fault is that of the
-/// shelf.
+/// Decides a command by its kind: the reply, and the rows to be written.
 pub(crate) fn try_decide<S: Shelf>(
     shelf: &mut S,
     alloc: Global,

@@ -101,8 +101,7 @@ impl<S: Shelf> Office<S> {
     }
 
     /// Makes the changes of a decision in their order, all or none; where there are none, nothing
-    /// is done. The fault is NoMemory where a growth was refused, and Store where the database
-    /// refused; the tables of a database that is still open then stay as they were.
+    /// is done. After a fault the tables of a database that is still open are as they were.
     pub fn apply(&mut self, alloc: Global, changes: &[RowChange]) -> Result<(), ShelfFault>
         ensures clean { S.is_clean self.new → S.is_clean self.old }
         ensures honest { S.is_honest self.new → S.is_honest self.old }
@@ -188,9 +187,9 @@ impl<S: Shelf> Office<S> {
     }
 
     /// The first `most` of the intersections that are overdue for an inspection on a day, in
-    /// ascending order of their numbers: the first rows that the query Overdue shows. Rows past
-    /// those need not be read. Where memory or the shelf refuses, the error is Unavailable; where a
-    /// stored row that is read is no record, Damaged.
+    /// ascending order of their numbers: the first rows that the query Overdue shows. Where memory
+    /// or the shelf refuses, the error is Unavailable; where the row of any intersection or
+    /// inspection is no record, Damaged.
     pub fn overdue_first(
         &mut self,
         alloc: Global,

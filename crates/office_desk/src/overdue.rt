@@ -13,8 +13,7 @@ use std::alloc::Global;
 /// How many late intersections the shelf is asked for at most: more than there can be.
 const ALL: usize = usize::MAX;
 
-/// Decides the query Overdue: all intersections that are overdue for an inspection on a day. The
-/// fault is that of the shelf.
+/// Decides the query Overdue: all intersections that are overdue for an inspection on a day.
 pub(crate) fn decide_overdue<S: Shelf>(
     shelf: &mut S,
     alloc: Global,

@@ -1,5 +1,4 @@
 //! What people read of an office: queries, each answered by a type of its own.
-ghost use Rattle.std.specs.Prelude.{◌≡◌};
 ghost use Rattle.office_desk.specs.Asks.{ReadsOffice, reply_to};
 ghost use Rattle.office_desk.specs.Changes.{IsQueryCommand};
 

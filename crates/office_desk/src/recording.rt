@@ -77,7 +77,7 @@ fn answer(alloc: Global, told: Registered) -> Decided
 }
 
 /// Decides a command of the register. Where it is about an intersection that is not there, the
-/// reply is UnknownIntersection. The fault is that of the shelf.
+/// reply is UnknownIntersection.
 pub(crate) fn decide_record_command<S: Shelf>(
     shelf: &mut S,
     alloc: Global,

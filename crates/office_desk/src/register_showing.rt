@@ -13,8 +13,7 @@ use office_tables_shelf::shelf::{Shelf, ShelfFault};
 use signal_records::InterId;
 use std::alloc::Global;
 
-/// Decides the query Cabinet: all records of an intersection's cabinet, or UnknownIntersection. The
-/// fault is that of the shelf.
+/// Decides the query Cabinet: all records of an intersection's cabinet, or UnknownIntersection.
 pub(crate) fn decide_cabinet<S: Shelf>(
     shelf: &mut S,
     alloc: Global,
@@ -33,7 +32,7 @@ pub(crate) fn decide_cabinet<S: Shelf>(
 }
 
 /// Decides the query OpenOrders: the numbers of the open orders on an intersection, ascending, or
-/// UnknownIntersection. The fault is that of the shelf.
+/// UnknownIntersection.
 pub(crate) fn decide_open_orders<S: Shelf>(
     shelf: &mut S,
     alloc: Global,
@@ -52,8 +51,7 @@ pub(crate) fn decide_open_orders<S: Shelf>(
     Ok(Decided::from_reply(alloc, Reply::OpenOrders(numbers)))
 }
 
-/// Decides the query Stock: how many pieces of each part are on hand. The fault is that of the
-/// shelf.
+/// Decides the query Stock: how many pieces of each part are on hand.
 pub(crate) fn decide_stock<S: Shelf>(shelf: &mut S, alloc: Global) -> Result<Decided, ShelfFault>
     ensures decides { Decides (S.is_honest shelf.new) (S.content shelf.old) Command.Stock result }
     ensures reads { OnlyReads S.Shelf ⊤ result shelf.old shelf.new }

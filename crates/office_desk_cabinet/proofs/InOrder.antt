@@ -5,7 +5,7 @@ use Rattle.std.specs.{Cmp.tied_itself, FinMap.entries, FinMap.entries_sorted, Li
 use Rattle.cabinet_core.specs.Places.{inspection_place, order_place, line_place}
 use Rattle.cabinet_core.specs.Within.{IsInspectionWithin, IsOrderWithin, IsUsedLineWithin}
 use Rattle.cabinet_core.specs.declared.{record.Inspection.Inspection, record.Order.Order, record.UsedLine.UsedLine}
-use Rattle.office_tables_shelf.proofs.{KeyCells.record_order, KeyCells.line_order, ListLemmas.less, ListLemmas.parts, ListedRows.entry}
+use Rattle.office_tables_shelf.proofs.{KeyCells.record_order, KeyCells.line_order, ListLemmas.entry, ListLemmas.less, ListLemmas.parts}
 use Rattle.office_tables_shelf.specs.CabinetRows.{inspection_columns, inspection_key, order_columns, order_key, used_columns, used_key}
 use Rattle.office_tables_shelf.specs.{CabinetReads.ListsInspections, CabinetReads.ListsOrders, CabinetReads.ListsUsed, Content.Content, Cells.Cell, Cells.TableRows, Cells.cells_cmp, Shelf.is_of, Shelf.rows_of}
 
@@ -13,7 +13,7 @@ module _ {X : Type 0} (key columns : X → List Cell) (Within : X → Type 0) (p
     (rises : (x y : X) → Within x → Within y → cells_cmp (key x) (key y) ≡ Less
     → place x ≤ place y) where
   above : (x : X) → Within x → (ys : List X) → AllByRecursion Within ys
-      → T (below_all cells_cmp (key x) (map (entry key columns Within) ys)) → (j : ℕ) (d : X)
+      → T (below_all cells_cmp (key x) (map (entry key columns) ys)) → (j : ℕ) (d : X)
       → j < length ys → place x ≤ place (get_or ys j d)
   above x one [] each below j d low = absurd (omega arith)
   above x one (y ∷ ys) each below zero d low =
@@ -22,7 +22,7 @@ module _ {X : Type 0} (key columns : X → List Cell) (Within : X → Type 0) (p
       above x one ys each.1 (parts _ _ below).1 j d (omega arith)
 
   rising : (xs : List X) → AllByRecursion Within xs
-      → T (is_sorted cells_cmp (map (entry key columns Within) xs)) → IsNonDecreasingBy place xs
+      → T (is_sorted cells_cmp (map (entry key columns) xs)) → IsNonDecreasingBy place xs
   rising [] each sorted i j d le low = absurd (omega arith)
   rising (x ∷ xs) each sorted zero zero d le low = omega arith
   rising (x ∷ xs) each sorted zero (suc j) d le low =
@@ -32,7 +32,7 @@ module _ {X : Type 0} (key columns : X → List Cell) (Within : X → Type 0) (p
       rising xs each.1 (parts _ _ sorted).1 i j d (omega arith) (omega arith)
 
   listed_in_order : (rows : TableRows) (id : ℕ) (xs : List X)
-      → map (entry key columns Within) xs ≡ rows_of id rows → AllByRecursion Within xs
+      → map (entry key columns) xs ≡ rows_of id rows → AllByRecursion Within xs
       → IsNonDecreasingBy place xs
   listed_in_order rows id xs lists each =
       rising xs each (subst (λ es. T (is_sorted cells_cmp es)) (sym lists)

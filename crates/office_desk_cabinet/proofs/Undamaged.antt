@@ -8,7 +8,7 @@ use Rattle.cabinet_core.specs.{Register.Register, declared.record.Order.Order as
 use Rattle.cabinet_core.specs.declared.{command.RecordCommand.RecordCommand, record.Inspection.Inspection as InspectionRecord, record.UsedLine.UsedLine}
 use Rattle.cabinet_core.proofs.{KeyOrders.record_total, KeyOrders.line_total, StockList.code_on_hand, StockList.stock_has}
 use Rattle.office_tables_shelf.proofs.{CabinetLemmas.part_order, KeyCells.record_order, KeyCells.line_order, StoredMaps.stored_found}
-use Rattle.office_tables_shelf.specs.CabinetReads.{HasDamagedInspection, HasDamagedOrder, HasDamagedUsed, HasDamagedPart, IsHand}
+use Rattle.office_tables_shelf.specs.CabinetReads.{HasAnyDamagedInspection, HasDamagedInspection, HasDamagedOrder, HasDamagedUsed, HasDamagedPart, IsHand}
 use Rattle.office_tables_shelf.specs.CabinetRows.{inspection_key, inspection_columns, order_key, order_columns, used_key, used_columns, part_key, part_columns}
 use Rattle.office_tables_shelf.specs.{Cells.TableRows, Cells.number, Content.Content, Shelf.is_of}
 use Rattle.office_tables_decisions.proofs.RowsTell.{of_tells}
@@ -27,6 +27,13 @@ no_damaged_inspection tables r id stands damaged =
     let at = subst (λ (o : Option InspectionRecord). IfSome o (IsInspectionAt found.0)) found.4 (stands.sound.inspections found.0) in
     let of = of_tells id found.0.0 (number (pos found.0.1) ∷ []) (subst (λ cells. is_of id cells ≡ true) found.2 damaged.of) in
     damaged.no_row found.1 at.within (found.2 ∙ (λ i. inspection_key (sym of i) (sym at.number i))) found.3
+
+-- nor among all inspections
+pub no_damaged_inspections : (tables : Content) (r : Register) → RegisterStandsSound tables r → HasAnyDamagedInspection tables → ⊥
+no_damaged_inspections tables r stands damaged =
+    let found = stored_found record_total inspection_cells inspection_columns record_order r.inspections damaged.key damaged.columns (sym (ap (λ (rows : TableRows). get rows damaged.key) stands.stand.inspection) ∙ damaged.stored) in
+    let at = subst (λ (o : Option InspectionRecord). IfSome o (IsInspectionAt found.0)) found.4 (stands.sound.inspections found.0) in
+    damaged.no_row (found.0.0, found.1) (at.of, at.within) (found.2 ∙ (λ i. inspection_key found.0.0 (sym at.number i))) found.3
 
 pub no_damaged_order : (tables : Content) (r : Register) (id : ℕ) → RegisterStandsSound tables r → HasDamagedOrder tables id → ⊥
 no_damaged_order tables r id stands damaged =

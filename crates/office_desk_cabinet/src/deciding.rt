@@ -12,9 +12,7 @@ use office_tables_shelf::shelf::{Shelf, ShelfFault};
 use std::alloc::Global;
 
 /// Decides a command of the register, on what the shelf will hold once the pending rows are
-/// written, in their order. The caller tests that the intersection is there. The fault is `Damaged`
-/// where a stored row under a key of the command is no record, `Store` where the database refused,
-/// and `NoMemory` where a growth was refused.
+/// written, in their order. The caller tests that the intersection is there.
 pub fn decide_record<S: Shelf>(
     shelf: &mut S,
     alloc: Global,

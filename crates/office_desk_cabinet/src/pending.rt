@@ -43,8 +43,7 @@ impl Pending {
         }
     }
 
-    /// The rows to be written until now, and others after them, in order. `NoMemory` means that a
-    /// growth was refused.
+    /// The rows to be written until now, and others after them, in order.
     pub fn with(self, mut rows: Vec<RowChange>) -> Result<Pending, NoMemory>
         ensures { IfOk result (λ next. next ≡ self ++ rows.items) }
     {

@@ -30,6 +30,7 @@ pub(crate) fn decide_inspect<S: Shelf>(
     let key = RegisterKey::Inspection(id, inspection.number);
     let found = record_at(shelf, alloc, pending, &key)?;
     let there = RegisterRecord::inspection(found);
+    let _number = id.get();
     let decision = inspect(alloc, &there, inspection);
     report_record(alloc, id, decision)
 }

@@ -15,8 +15,7 @@ use signal_records::{InterId, NoMemory, RecordNo};
 use std::alloc::Global;
 
 /// All that the register holds of an intersection's cabinet: inspections and orders by their
-/// numbers, used parts by order and line. The fault is `Damaged` where one of these rows is no
-/// record, `Store` where the database refused, and `NoMemory` where a growth was refused.
+/// numbers, used parts by order and line.
 pub fn cabinet_view<S: Shelf>(
     shelf: &mut S,
     alloc: Global,
@@ -52,9 +51,8 @@ fn open_numbers(alloc: Global, orders: &[Order]) -> Result<Vec<RecordNo>, NoMemo
     Ok(numbers)
 }
 
-/// The numbers of the orders on an intersection that are open, in ascending order. The fault is
-/// `Damaged` where a row of any order on it is no record, `Store` where the database refused, and
-/// `NoMemory` where a growth was refused.
+/// The numbers of the orders on an intersection that are open, in ascending order. All orders on it
+/// are read.
 pub fn open_orders<S: Shelf>(
     shelf: &mut S,
     alloc: Global,

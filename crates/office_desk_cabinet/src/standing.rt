@@ -10,8 +10,7 @@ use office_tables_shelf::shelf::{Shelf, ShelfFault};
 use std::alloc::Global;
 
 /// The record under a key of the register once the pending rows are written, if there is one. The
-/// stored row is read only where they put none there. The fault is `Damaged` where that row is no
-/// record, `Store` where the database refused, and `NoMemory` where a growth was refused.
+/// stored row is read only where they put none there.
 pub fn record_at<S: Shelf>(
     shelf: &mut S,
     alloc: Global,

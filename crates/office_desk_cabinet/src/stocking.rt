@@ -113,8 +113,7 @@ pub(crate) fn decide_receive<S: Shelf>(
 }
 
 /// The parts that were ever delivered, with how many are on hand of each, in the order of their
-/// codes. The fault is `Damaged` where a row of a part is no record, `Store` where the database
-/// refused, and `NoMemory` where a growth was refused.
+/// codes.
 pub fn stock<S: Shelf>(shelf: &mut S, alloc: Global) -> Result<Vec<(PartCode, Hand)>, ShelfFault>
     ensures shows { Reports (S.is_honest shelf.new) result
         (λ parts. (r : Register) →

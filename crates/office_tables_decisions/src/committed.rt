@@ -9,8 +9,7 @@ use signal_records::{InterId, TimingSet};
 use std::alloc::Global;
 
 /// The plan that an intersection's controller should run: its committed set. Its draft is not
-/// looked at. The error is `Damaged` where a row of the set is no record, `Store` where the
-/// database refused, and `NoMemory` where a growth was refused.
+/// looked at.
 pub fn committed_set<S: Shelf>(
     shelf: &mut S,
     alloc: Global,

@@ -1,5 +1,5 @@
 -- A list in key order of the rows that pass a test of their keys is the list of the map's entries that pass it.
-use Rattle.std.proofs.Common.{◌≡◌, ◌⊎◌, inl, inr, ℕ, ◌+◌, suc, Bool, true, false, ◌&&◌, List, [], ◌∷◌, map, filter, find, cond, Option, None, Some, option_map, Ordering, Less, Equal, Greater, T, refl, sym, ap, subst, subst₂, ◌∙◌, arith, true≢false, slice_index_or, ◌++◌, ◌<◌, zero, length, get_or}
+use Rattle.std.proofs.Common.{◌≡◌, ◌⊎◌, inl, inr, ℕ, ◌+◌, suc, Bool, true, false, ◌&&◌, List, [], ◌∷◌, map, filter, find, cond, Option, None, Some, option_map, Ordering, Less, Equal, Greater, T, refl, sym, ap, subst, subst₂, ◌∙◌, arith, true≢false, slice_index_or, ◌++◌}
 use Rattle.std.proofs.{lemmas.Bool.cases_Bool, lemmas.List.Elements.All-head, lemmas.List.Elements.All-tail, lemmas.List.Elements.All-from_recursion, lemmas.List.Sorted.IsPermutation-sym, lemmas.List.Sorted.All-permutation}
 use Rattle.std.specs.{Cmp.alike_right, Cmp.eq_by_cmp_equiv, Cmp.tied_itself, FinMap.get, FinMap.entries, FinMap.entries_sorted, List.All, List.AllByRecursion, List.IsDistinct, List.Sorted.IsPermutation, List.Sorted.IsSorted, Ordering.is_eq}
 use Rattle.std.specs.FinMap.{get-entries, from_entries, from_sorted, entries-from_sorted, get-from_sorted, get-from_entries, same_map}
@@ -36,11 +36,6 @@ pub all_more : {X : Type 0} (P : X → Type 0) (xs : List X) (x : X) → AllByRe
     → AllByRecursion P (xs ++ x ∷ [])
 all_more P [] x all one = (one, tt)
 all_more P (y ∷ xs) x all one = (all.0, all_more P xs x all.1 one)
-
-pub in_index : {X : Type 0} (xs : List X) (k : ℕ) (d : X) → k < length xs → IsIn xs (get_or xs k d)
-in_index [] k d h = absurd (omega arith)
-in_index (x ∷ xs) zero d h = inl refl
-in_index (x ∷ xs) (suc k) d h = inr (in_index xs k d (omega arith))
 
 -- ---- a list in key order
 

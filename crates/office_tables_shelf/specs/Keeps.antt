@@ -1,6 +1,6 @@
 -- What a call that reads a shelf keeps, by the members of its trait.
 use Rattle.std.specs.Prelude.{Result}
-use Rattle.office_tables_shelf.specs.Shelf.{AnswersOpen, IsKept}
+use Rattle.office_tables_shelf.specs.Shelf.{IsKept, Looks}
 use Rattle.office_tables_shelf.specs.declared.shelf.Shelf.{Ghosts}
 use Rattle.office_tables_shelf.specs.declared.shelf.ShelfFault.{ShelfFault}
 
@@ -8,6 +8,6 @@ use Rattle.office_tables_shelf.specs.declared.shelf.ShelfFault.{ShelfFault}
 abbrev pub KeepsShelf : {S : Type 0} → Ghosts S → S → S → Type 0
 KeepsShelf g old new = IsKept g.is_honest g.content g.written g.may_leave old new
 
--- a call on a shelf that answers a value, or reports a damaged row, found it open and leaves it so, if its disk is clean
-abbrev pub AnswersShelf : {S A : Type 0} → Ghosts S → Result A ShelfFault → S → S → Type 0
-AnswersShelf g result old new = AnswersOpen g.is_clean g.is_honest result old new
+-- a call reads a shelf and writes nothing
+abbrev pub ReadsShelf : {S A : Type 0} → Ghosts S → Result A ShelfFault → S → S → Type 0
+ReadsShelf g result old new = Looks g.is_clean g.is_honest g.content g.written g.may_leave result old new

@@ -1,5 +1,5 @@
 -- The intersections that are overdue on a day, as the tables hold them.
-use Rattle.std.specs.Prelude.{◌≡◌, ◌⊎◌, ℕ, ◌==◌, List, [], ◌∷◌, map, take, Option}
+use Rattle.std.specs.Prelude.{◌≡◌, ◌⊎◌, ℕ, ◌==◌, List, map, take, Option}
 use Rattle.std.specs.List.{AllByRecursion}
 use Rattle.std.specs.Map.{lookup}
 use Rattle.cabinet_core.specs.Overdue.{latest_day, listed_of, overdue_list}
@@ -7,10 +7,10 @@ use Rattle.cabinet_core.specs.Within.{IsInspectionWithin}
 use Rattle.cabinet_core.specs.declared.overdue_inspections.OverdueRow.{OverdueRow}
 use Rattle.cabinet_core.specs.declared.overdue_inspections.Seen.{Seen}
 use Rattle.cabinet_core.specs.declared.record.Inspection.{Inspection}
-use Rattle.office_tables_shelf.specs.CabinetReads.{HasDamagedInspection, ListsInspections}
+use Rattle.office_tables_shelf.specs.CabinetReads.{HasAnyDamagedInspection, ListsInspections}
 use Rattle.office_tables_shelf.specs.Content.{Content}
 use Rattle.office_tables_shelf.specs.Damage.{HasAnyDamagedIntersection}
-use Rattle.office_tables_shelf.specs.Shelf.{IsThere, ListsIntersections}
+use Rattle.office_tables_shelf.specs.Shelf.{ListsIntersections}
 use Rattle.office_tables_shelf.specs.declared.rows.IntersectionRow.{IntersectionRow}
 
 -- each row of the intersection's inspections is an inspection within its limits, and this is the latest day of them, if there are any
@@ -34,32 +34,19 @@ seen_row id row last = record { id = id; name = row.name; interval = row.interva
 abbrev pub seen_on : List (ℕ × ℕ) → ℕ × IntersectionRow → Seen
 seen_on days e = seen_row e.0 e.1 (last_day_in days e.0)
 
--- an intersection as it is seen with the inspections that the tables hold of it, where all that they hold of them are inspections
-abbrev pub IsSeen : Content → ℕ × IntersectionRow → Seen → Type 0
-IsSeen tables e seen = (inspections : List Inspection) → ListsInspections tables e.0 inspections → seen ≡ seen_row e.0 e.1 (latest_day inspections)
-
--- there is one for each row, at the same place: the intersection of that row as it is seen
-abbrev pub AreSeenOf : Content → List (ℕ × IntersectionRow) → List Seen → Type 0
-AreSeenOf tables [] [] = Unit {0}
-AreSeenOf tables (e ∷ rows) (one ∷ seen) = IsSeen tables e one × AreSeenOf tables rows seen
-AreSeenOf tables [] (one ∷ seen) = ⊥
-AreSeenOf tables (e ∷ rows) [] = ⊥
-
--- what is known of each intersection that the tables hold, where all their rows of intersections are intersections
-abbrev pub AreSeen : Content → List Seen → Type 0
-AreSeen tables seen = (rows : List (ℕ × IntersectionRow)) → ListsIntersections tables rows → AreSeenOf tables rows seen
-
 -- ---- the list
 
--- The rows are the first so many of the intersections that are overdue on a day, whatever may be known of a row that is no record: they rest on
--- no such row.
-abbrev pub ListsOverdue : Content → ℕ → ℕ → List OverdueRow → Type 0
-ListsOverdue tables day most found = (seen : List Seen) → AreSeen tables seen → map listed_of found ≡ take most (overdue_list day seen)
+-- The rows are the first so many of the intersections that are overdue on a day, of all that the tables hold, each
+-- last inspected on the latest day of the inspections that they hold of it.
+pub record ListsOverdue (tables : Content) (day most : ℕ) (found : List OverdueRow) : Type 0 where
+  pub rows : List (ℕ × IntersectionRow)
+  pub days : List (ℕ × ℕ)
+  pub lists : ListsIntersections tables rows
+  pub last : (id : ℕ) → ReadsLast tables id (last_day_in days id)
+  pub first : map listed_of found ≡ take most (overdue_list day (map (seen_on days) rows))
 
 -- ---- damage
 
--- a row of the intersection table is no record, or a row of the inspections of an intersection that is there is none
+-- a row of the intersection table or of the inspection table is no record
 abbrev pub HasOverdueDamage : Content → Type 0
-HasOverdueDamage tables =
-    HasAnyDamagedIntersection tables
-    ⊎ ((id : ℕ) × IsThere tables id × HasDamagedInspection tables id)
+HasOverdueDamage tables = HasAnyDamagedIntersection tables ⊎ HasAnyDamagedInspection tables

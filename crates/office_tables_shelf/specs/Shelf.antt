@@ -1,6 +1,7 @@
 -- What the contracts of a shelf say: what a call that reads keeps, and which intersections and rows of plans it gives.
-use Rattle.std.specs.Prelude.{◌≡◌, ℕ, List, map, length, Option, IsSome, Result, Ok, Err, ⊤}
+use Rattle.std.specs.Prelude.{◌≡◌, ℕ, List, map, length, Option, IsSome, Result, Ok, Err, IfOk, Vec, ⊤}
 use Rattle.std.specs.Int.{IsInRange}
+use Rattle.std.specs.List.{AllByRecursion}
 use Rattle.std.specs.Option.{option_map}
 use Rattle.std.specs.FinMap.{get, entries}
 use Rattle.std.specs.FinMap.Entries.{where_key}
@@ -29,10 +30,19 @@ abbrev pub IsTold : {A : Type 0} → Result A ShelfFault → Type 0
 IsTold (Ok found) = ⊤
 IsTold (Err why) = why ≡ Damaged
 
--- Nothing makes a disk clean again. What answers, or tells a damaged row, was open and stays so; with `IsKept`, one that a failure has shut refuses each later read.
-pub record AnswersOpen {S A : Type 0} (is_clean is_honest : S → Type 0) (result : Result A ShelfFault) (old new : S) : Type 0 where
+-- A call reads and writes nothing. Nothing makes a disk clean again. What answers, or tells a damaged row, was open and stays so; one that a failure has shut
+-- refuses each later read.
+pub record Looks {S A : Type 0} (is_clean is_honest : S → Type 0) (content : S → Content) (written : S → WriteCounts) (may_leave : S → Content → Type 0)
+    (result : Result A ShelfFault) (old new : S) : Type 0 where
+  pub kept : IsKept is_honest content written may_leave old new
   pub clean_before : is_clean new → is_clean old
   pub told : is_clean new → IsTold result → is_honest new
+
+-- A read of an open database gives a list of which this is true, each item of it within its limits; or it reports a damaged row, which is one that it reads.
+pub record GivesList {X A : Type 0} (is_honest : Type 0) (Says : List X → Type 0) (Within : X → Type 0) (damage : Type 0) (result : Result (Vec X A) ShelfFault) : Type 0 where
+  pub rows : IfOk result (λ found. is_honest → Says found.items)
+  pub within : IfOk result (λ found. is_honest → AllByRecursion Within found.items)
+  pub damaged : result ≡ Err Damaged → is_honest → damage
 
 -- the cells that stand under an intersection's number are those of the row; where there is no row, none stand there
 abbrev pub ReadsIntersection : Content → ℕ → Option IntersectionRow → Type 0

@@ -22,7 +22,7 @@ fn take_orders(alloc: Global, orders: &mut BTreeMap<InterId, Vec<Order>>, id: In
 }
 
 /// Keeps an order on an intersection, if it is open, after those that the map keeps of it.
-/// `NoMemory` means that a growth was refused; the map may have lost that intersection's orders.
+/// Refused memory may lose that intersection's orders.
 pub fn add_open(
     alloc: Global,
     orders: &mut BTreeMap<InterId, Vec<Order>>,

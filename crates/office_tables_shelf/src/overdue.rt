@@ -11,7 +11,7 @@ use std::alloc::Global;
 use std::collections::BTreeMap;
 
 /// Adds the row of an intersection that was last inspected on this day, if it is overdue on a day.
-pub(crate) fn add_overdue(
+fn add_overdue(
     found: &mut Vec<OverdueRow>,
     day: Day,
     id: InterId,
@@ -34,8 +34,7 @@ pub(crate) fn add_overdue(
 }
 
 /// The first `most` of these intersections that are overdue for an inspection on a day, each last
-/// inspected on the day that the map has for it, or never. `NoMemory` means that a growth was
-/// refused.
+/// inspected on the day that the map has for it, or never.
 pub fn overdue_among(
     alloc: Global,
     rows: &[(InterId, IntersectionRow)],
@@ -57,8 +56,7 @@ pub fn overdue_among(
     Ok(found)
 }
 
-/// Keeps the day of an inspection of an intersection, where none later is kept. `NoMemory` means
-/// that a growth was refused.
+/// Keeps the day of an inspection of an intersection, where none later is kept.
 pub fn add_day(days: &mut BTreeMap<InterId, Day>, id: InterId, day: Day) -> Result<(), NoMemory>
     ensures { OnOk result ((n : ℕ) → last_day_in days.new.entries n ≡
         (if n == id then Some (greater day (last_day_in days.old.entries id))

@@ -1,13 +1,12 @@
 //! The tables of the office as a trait.
-ghost use Rattle.std.specs.Prelude.{◌≡◌, ◌≢◌, ◌<◌, ◌⊎◌, ℕ, [], IfOk, IfSome, OnOk, OnErr, vec_len};
-ghost use Rattle.std.specs.List.{AllByRecursion};
+ghost use Rattle.std.specs.Prelude.{◌≡◌, ◌≢◌, ◌⊎◌, ℕ, [], IfOk, IfSome, OnOk, OnErr};
 ghost use Rattle.cabinet_core.specs.Within.{IsInspectionWithin, IsOrderWithin, IsUsedLineWithin, IsDeliveryWithin};
 ghost use Rattle.signal_records.specs.Within.{IsRowWithin, current_limits};
 ghost use Rattle.office_tables_shelf.specs.Content.{Content};
 ghost use Rattle.office_tables_shelf.specs.Change.{changed_by};
 ghost use Rattle.office_tables_shelf.specs.Counts.{count_of, counts_after};
 ghost use Rattle.office_tables_shelf.specs.Rows.{IsIntersectionRow};
-ghost use Rattle.office_tables_shelf.specs.Shelf.{AnswersOpen, IsKept, ReadsIntersection, ListsIntersections, IsIntersectionWithin, ListsTiming, CountsTiming, ListsDraft};
+ghost use Rattle.office_tables_shelf.specs.Shelf.{GivesList, Looks, ReadsIntersection, ListsIntersections, IsIntersectionWithin, ListsTiming, CountsTiming, ListsDraft};
 ghost use Rattle.office_tables_shelf.specs.Damage.{HasDamagedIntersection, HasAnyDamagedIntersection, HasDamagedTiming, HasDamagedDraft};
 ghost use Rattle.office_tables_shelf.specs.CabinetReads.{ListsInspections, HasDamagedInspection, ListsOrders, HasDamagedOrder, HasAnyDamagedInspection, HasAnyDamagedOrder, ListsUsed, HasDamagedUsed, IsHand, ListsParts, IsPartWithin, HasDamagedPart};
 ghost use Rattle.office_tables_shelf.specs.Places as place;
@@ -16,24 +15,22 @@ ghost use Rattle.office_tables_shelf.specs.Overdue.{last_day_in, ReadsLast, List
 ghost use Rattle.office_tables_shelf.specs.OpenOrders.{orders_in, ReadsOpen};
 ghost use Rattle.office_tables_shelf.specs.declared.counts.WriteCounts.{WriteCounts};
 
-use crate::overdue::{add_overdue, overdue_among};
+use crate::overdue::overdue_among;
 use crate::register::{RegisterKey, RegisterRecord};
 use crate::rows::{IntersectionRow, RowChange, Table};
-use cabinet_core::{
-    Day, Delivery, Hand, Inspection, Order, OverdueRow, PartCode, UsedLine, latest,
-};
+use cabinet_core::{Day, Delivery, Hand, Inspection, Order, OverdueRow, PartCode, UsedLine};
 use signal_records::{Change, InterId, NoMemory, RecordNo, Row};
 use std::alloc::Global;
 use std::collections::BTreeMap;
 
-/// Why a call of a shelf failed.
+/// Why a call of a shelf failed, or one that reads or changes a shelf.
 #[derive(Clone, Copy, Debug, PartialEq, Eq)]
 pub enum ShelfFault {
     /// A growth was refused.
     NoMemory,
     /// The database refused.
     Store,
-    /// A stored row is no record.
+    /// A stored row that was read is no record.
     Damaged,
 }
 
@@ -54,10 +51,10 @@ impl From<NoMemory> for ShelfFault {
 ///
 /// Two things are told apart: the disk has returned what was written (`is_clean`), and no failure
 /// of it has shut the database besides (`is_honest`). A read that answers or tells a damaged row,
-/// and an `apply` that made a change, found the database open and left it so (`open`): what they
-/// say rests on a clean disk alone. A database that is shut stays shut, and refuses each later such
-/// call. A refusal leaves the content where the database is still open. What a crash may leave
-/// rests on the disk alone.
+/// and an `apply` that made a change, found the database open and left it so: what they say rests
+/// on a clean disk alone. A database that is shut stays shut, and refuses each later such call. A
+/// refusal leaves the content where the database is still open. What a crash may leave rests on the
+/// disk alone.
 pub trait Shelf {
     /// What is stored, whether or not it is a record.
     ghost content: { Self → Content };
@@ -76,55 +73,42 @@ pub trait Shelf {
         alloc: Global,
         id: InterId,
     ) -> Result<Option<IntersectionRow>, ShelfFault>
+        ensures read { Looks is_clean is_honest content written may_leave result self.old self.new }
         ensures row { IfOk result (λ row. is_honest self.new →
             ReadsIntersection (content self.old) id row) }
         ensures within { IfOk result (λ row. IfSome row IsIntersectionRow) }
         ensures damaged { result ≡ Err ShelfFault.Damaged → is_honest self.new →
-            HasDamagedIntersection (content self.old) id }
-        ensures kept { IsKept is_honest content written may_leave self.old self.new }
-        ensures open { AnswersOpen is_clean is_honest result self.old self.new };
+            HasDamagedIntersection (content self.old) id };
 
     /// The rows of all intersections, in the order of their numbers.
     fn intersections(
         &mut self,
         alloc: Global,
     ) -> Result<Vec<(InterId, IntersectionRow)>, ShelfFault>
-        ensures rows { IfOk result (λ rows. is_honest self.new →
-            ListsIntersections (content self.old) rows.items) }
-        ensures within { IfOk result (λ rows. is_honest self.new →
-            AllByRecursion IsIntersectionWithin rows.items) }
-        ensures damaged { result ≡ Err ShelfFault.Damaged → is_honest self.new →
-            HasAnyDamagedIntersection (content self.old) }
-        ensures kept { IsKept is_honest content written may_leave self.old self.new }
-        ensures open { AnswersOpen is_clean is_honest result self.old self.new };
+        ensures read { Looks is_clean is_honest content written may_leave result self.old self.new }
+        ensures lists { GivesList (is_honest self.new) (ListsIntersections (content self.old))
+            IsIntersectionWithin (HasAnyDamagedIntersection (content self.old)) result };
 
     /// The committed rows of an intersection, in the order of their keys.
     fn timing_rows(&mut self, alloc: Global, id: InterId) -> Result<Vec<Row>, ShelfFault>
-        ensures rows { IfOk result (λ rows. is_honest self.new →
-            ListsTiming (content self.old) id rows.items) }
-        ensures within { IfOk result (λ rows. is_honest self.new →
-            AllByRecursion (IsRowWithin current_limits) rows.items) }
-        ensures damaged { result ≡ Err ShelfFault.Damaged → is_honest self.new →
-            HasDamagedTiming (content self.old) id }
-        ensures kept { IsKept is_honest content written may_leave self.old self.new }
-        ensures open { AnswersOpen is_clean is_honest result self.old self.new };
+        ensures read { Looks is_clean is_honest content written may_leave result self.old self.new }
+        ensures lists { GivesList (is_honest self.new) (ListsTiming (content self.old) id)
+            (IsRowWithin current_limits) (HasDamagedTiming (content self.old) id) result };
 
     /// How many committed rows an intersection has, whether or not each of them is a record.
     fn committed_count(&mut self, alloc: Global, id: InterId) -> Result<usize, ShelfFault>
+        ensures read { Looks is_clean is_honest content written may_leave result self.old self.new }
         ensures count { IfOk result (λ count. is_honest self.new →
             CountsTiming (content self.old) id count) }
-        ensures undamaged { result ≢ Err ShelfFault.Damaged }
-        ensures kept { IsKept is_honest content written may_leave self.old self.new }
-        ensures open { AnswersOpen is_clean is_honest result self.old self.new };
+        ensures undamaged { result ≢ Err ShelfFault.Damaged };
 
     /// The draft rows of an intersection, in the order of their keys.
     fn draft_rows(&mut self, alloc: Global, id: InterId) -> Result<Vec<Change>, ShelfFault>
+        ensures read { Looks is_clean is_honest content written may_leave result self.old self.new }
         ensures rows { IfOk result (λ rows. is_honest self.new →
             ListsDraft (content self.old) id rows.items) }
         ensures damaged { result ≡ Err ShelfFault.Damaged → is_honest self.new →
-            HasDamagedDraft (content self.old) id }
-        ensures kept { IsKept is_honest content written may_leave self.old self.new }
-        ensures open { AnswersOpen is_clean is_honest result self.old self.new };
+            HasDamagedDraft (content self.old) id };
 
     /// The record under a key of the register, if there is one.
     fn record_at(
@@ -132,140 +116,73 @@ pub trait Shelf {
         alloc: Global,
         key: &RegisterKey<'_>,
     ) -> Result<Option<RegisterRecord>, ShelfFault>
+        ensures read { Looks is_clean is_honest content written may_leave result self.old self.new }
         ensures row { GivesAt (is_honest self.new) (content self.old) (place_of key.now) result }
         ensures within { IfOk result (λ found. IfSome found (IsOfPlace (place_of key.now))) }
         ensures damaged { BlamesAt (is_honest self.new) (content self.old)
-            (place_of key.now) result }
-        ensures kept { IsKept is_honest content written may_leave self.old self.new }
-        ensures open { AnswersOpen is_clean is_honest result self.old self.new };
+            (place_of key.now) result };
 
     /// The inspections of an intersection's cabinet, in the order of their numbers.
     fn inspections(&mut self, alloc: Global, id: InterId) -> Result<Vec<Inspection>, ShelfFault>
-        ensures rows { IfOk result (λ found. is_honest self.new →
-            ListsInspections (content self.old) id found.items) }
-        ensures within { IfOk result (λ found. is_honest self.new →
-            AllByRecursion IsInspectionWithin found.items) }
-        ensures damaged { result ≡ Err ShelfFault.Damaged → is_honest self.new →
-            HasDamagedInspection (content self.old) id }
-        ensures kept { IsKept is_honest content written may_leave self.old self.new }
-        ensures open { AnswersOpen is_clean is_honest result self.old self.new };
+        ensures read { Looks is_clean is_honest content written may_leave result self.old self.new }
+        ensures lists { GivesList (is_honest self.new) (ListsInspections (content self.old) id)
+            IsInspectionWithin (HasDamagedInspection (content self.old) id) result };
 
     /// The day of the latest inspection of each intersection that has one. It is one walk over all
     /// inspections.
     fn last_inspections(&mut self, alloc: Global) -> Result<BTreeMap<InterId, Day>, ShelfFault>
+        ensures read { Looks is_clean is_honest content written may_leave result self.old self.new }
         ensures days { IfOk result (λ days. is_honest self.new →
             (id : ℕ) → ReadsLast (content self.old) id (last_day_in days.entries id)) }
         ensures whole { IfOk result (λ _. is_honest self.new →
             ¬ HasAnyDamagedInspection (content self.old)) }
         ensures damaged { result ≡ Err ShelfFault.Damaged → is_honest self.new →
-            HasAnyDamagedInspection (content self.old) }
-        ensures kept { IsKept is_honest content written may_leave self.old self.new }
-        ensures open { AnswersOpen is_clean is_honest result self.old self.new };
-
-    /// The day of an intersection's latest inspection, if there is one.
-    fn last_inspection(&mut self, alloc: Global, id: InterId) -> Result<Option<Day>, ShelfFault>
-        ensures day { IfOk result (λ last. is_honest self.new →
-            ReadsLast (content self.old) id last) }
-        ensures damaged { result ≡ Err ShelfFault.Damaged → is_honest self.new →
-            HasDamagedInspection (content self.old) id }
-        ensures kept { IsKept is_honest content written may_leave self.old self.new }
-        ensures open { AnswersOpen is_clean is_honest result self.old self.new }
-    {
-        let inspections = self.inspections(alloc, id)?;
-        Ok(latest(inspections.as_slice()))
-    }
+            HasAnyDamagedInspection (content self.old) };
 
     /// The first `most` of the intersections that are overdue for an inspection on a day, in the
-    /// order of their numbers. The days are those of one walk over all inspections. Where one of
-    /// these is no record, which may be of no intersection, those of each intersection are read.
+    /// order of their numbers. It is one walk over all inspections and one over the intersections.
     fn overdue_rows(
         &mut self,
         alloc: Global,
         day: Day,
         most: usize,
     ) -> Result<Vec<OverdueRow>, ShelfFault>
+        ensures read { Looks is_clean is_honest content written may_leave result self.old self.new }
         ensures rows { IfOk result (λ found. is_honest self.new →
             ListsOverdue (content self.old) day most found.items) }
-        ensures whole { IfOk result (λ found. is_honest self.new →
-            vec_len found < most → ¬ HasOverdueDamage (content self.old)) }
+        ensures whole { IfOk result (λ _. is_honest self.new →
+            ¬ HasOverdueDamage (content self.old)) }
         ensures damaged { result ≡ Err ShelfFault.Damaged → is_honest self.new →
             HasOverdueDamage (content self.old) }
-        ensures kept { IsKept is_honest content written may_leave self.old self.new }
-        ensures open { AnswersOpen is_clean is_honest result self.old self.new }
     {
-        let days = match self.last_inspections(alloc) {
-            Ok(days) => days,
-            Err(ShelfFault::Damaged) => return self.overdue_of_each(alloc, day, most),
-            Err(fault) => return Err(fault),
-        };
+        let days = self.last_inspections(alloc)?;
         let rows = self.intersections(alloc)?;
         let found = overdue_among(alloc, rows.as_slice(), &days, day, most)?;
         Ok(found)
     }
 
-    /// The first `most` of the intersections that are overdue for an inspection on a day, in the
-    /// order of their numbers. The days are those of one walk over the inspections of each in turn;
-    /// those past the last that is reported are not read.
-    fn overdue_of_each(
-        &mut self,
-        alloc: Global,
-        day: Day,
-        most: usize,
-    ) -> Result<Vec<OverdueRow>, ShelfFault>
-        ensures rows { IfOk result (λ found. is_honest self.new →
-            ListsOverdue (content self.old) day most found.items) }
-        ensures whole { IfOk result (λ found. is_honest self.new →
-            vec_len found < most → ¬ HasOverdueDamage (content self.old)) }
-        ensures damaged { result ≡ Err ShelfFault.Damaged → is_honest self.new →
-            HasOverdueDamage (content self.old) }
-        ensures kept { IsKept is_honest content written may_leave self.old self.new }
-        ensures open { AnswersOpen is_clean is_honest result self.old self.new }
-    {
-        let rows = self.intersections(alloc)?;
-        let mut found = Vec::new(alloc);
-        for (id, row) in rows.as_slice() {
-            if found.len() == most {
-                break;
-            }
-            let last = self.last_inspection(alloc, *id)?;
-            add_overdue(&mut found, day, *id, row, last)?;
-        }
-        Ok(found)
-    }
-
     /// The orders on an intersection, in the order of their numbers.
     fn orders(&mut self, alloc: Global, id: InterId) -> Result<Vec<Order>, ShelfFault>
-        ensures rows { IfOk result (λ found. is_honest self.new →
-            ListsOrders (content self.old) id found.items) }
-        ensures within { IfOk result (λ found. is_honest self.new →
-            AllByRecursion IsOrderWithin found.items) }
-        ensures damaged { result ≡ Err ShelfFault.Damaged → is_honest self.new →
-            HasDamagedOrder (content self.old) id }
-        ensures kept { IsKept is_honest content written may_leave self.old self.new }
-        ensures open { AnswersOpen is_clean is_honest result self.old self.new };
+        ensures read { Looks is_clean is_honest content written may_leave result self.old self.new }
+        ensures lists { GivesList (is_honest self.new) (ListsOrders (content self.old) id)
+            IsOrderWithin (HasDamagedOrder (content self.old) id) result };
 
     /// The open orders on each intersection that has any, in the order of their numbers. It is one
     /// walk over all orders.
     fn open_orders(&mut self, alloc: Global) -> Result<BTreeMap<InterId, Vec<Order>>, ShelfFault>
+        ensures read { Looks is_clean is_honest content written may_leave result self.old self.new }
         ensures orders { IfOk result (λ orders. is_honest self.new →
             (id : ℕ) → ReadsOpen (content self.old) id (orders_in orders.entries id)) }
         ensures whole { IfOk result (λ _. is_honest self.new →
             ¬ HasAnyDamagedOrder (content self.old)) }
         ensures damaged { result ≡ Err ShelfFault.Damaged → is_honest self.new →
-            HasAnyDamagedOrder (content self.old) }
-        ensures kept { IsKept is_honest content written may_leave self.old self.new }
-        ensures open { AnswersOpen is_clean is_honest result self.old self.new };
+            HasAnyDamagedOrder (content self.old) };
 
     /// The parts used for the orders on an intersection, in the order of orders and lines.
     fn used_lines(&mut self, alloc: Global, id: InterId) -> Result<Vec<UsedLine>, ShelfFault>
-        ensures rows { IfOk result (λ found. is_honest self.new →
-            ListsUsed (content self.old) id found.items) }
-        ensures within { IfOk result (λ found. is_honest self.new →
-            AllByRecursion IsUsedLineWithin found.items) }
-        ensures damaged { result ≡ Err ShelfFault.Damaged → is_honest self.new →
-            HasDamagedUsed (content self.old) id }
-        ensures kept { IsKept is_honest content written may_leave self.old self.new }
-        ensures open { AnswersOpen is_clean is_honest result self.old self.new };
+        ensures read { Looks is_clean is_honest content written may_leave result self.old self.new }
+        ensures lists { GivesList (is_honest self.new) (ListsUsed (content self.old) id)
+            IsUsedLineWithin (HasDamagedUsed (content self.old) id) result };
 
     /// The delivery of a part with a number, if there is one.
     fn delivery(
@@ -274,13 +191,12 @@ pub trait Shelf {
         part: &PartCode,
         number: RecordNo,
     ) -> Result<Option<Delivery>, ShelfFault>
+        ensures read { Looks is_clean is_honest content written may_leave result self.old self.new }
         ensures row { IfOk result (λ found. is_honest self.new →
             ReadsAt (content self.old) (place.Delivery part.now number) found) }
         ensures within { IfOk result (λ found. IfSome found IsDeliveryWithin) }
         ensures damaged { BlamesAt (is_honest self.new) (content self.old)
             (place.Delivery part.now number) result }
-        ensures kept { IsKept is_honest content written may_leave self.old self.new }
-        ensures open { AnswersOpen is_clean is_honest result self.old self.new }
     {
         let found = self.record_at(alloc, &RegisterKey::Delivery(part, number))?;
         Ok(RegisterRecord::delivery(found))
@@ -288,13 +204,12 @@ pub trait Shelf {
 
     /// How many of a part are on hand, if there ever was a delivery of it.
     fn hand(&mut self, alloc: Global, part: &PartCode) -> Result<Option<Hand>, ShelfFault>
+        ensures read { Looks is_clean is_honest content written may_leave result self.old self.new }
         ensures row { IfOk result (λ found. is_honest self.new →
             ReadsAt (content self.old) (place.Part part.now) found) }
         ensures within { IfOk result (λ found. IfSome found IsHand) }
         ensures damaged { BlamesAt (is_honest self.new) (content self.old)
             (place.Part part.now) result }
-        ensures kept { IsKept is_honest content written may_leave self.old self.new }
-        ensures open { AnswersOpen is_clean is_honest result self.old self.new }
     {
         let found = self.record_at(alloc, &RegisterKey::Part(part))?;
         Ok(RegisterRecord::hand(found))
@@ -302,14 +217,9 @@ pub trait Shelf {
 
     /// The parts with how many are on hand, in the order of their codes.
     fn parts(&mut self, alloc: Global) -> Result<Vec<(PartCode, Hand)>, ShelfFault>
-        ensures rows { IfOk result (λ found. is_honest self.new →
-            ListsParts (content self.old) found.items) }
-        ensures within { IfOk result (λ found. is_honest self.new →
-            AllByRecursion IsPartWithin found.items) }
-        ensures damaged { result ≡ Err ShelfFault.Damaged → is_honest self.new →
-            HasDamagedPart (content self.old) }
-        ensures kept { IsKept is_honest content written may_leave self.old self.new }
-        ensures open { AnswersOpen is_clean is_honest result self.old self.new };
+        ensures read { Looks is_clean is_honest content written may_leave result self.old self.new }
+        ensures lists { GivesList (is_honest self.new) (ListsParts (content self.old))
+            IsPartWithin (HasDamagedPart (content self.old)) result };
 
     /// Makes the changes in their order, all or none. Refused, it answers NoMemory or Store.
     fn apply(&mut self, alloc: Global, changes: &[RowChange]) -> Result<(), ShelfFault>

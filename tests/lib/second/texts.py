@@ -187,8 +187,7 @@ class Trial:
         """What is wrong over a file of which a row is damaged, after each thing that is tried."""
         self.change(harm.sql())
         self.second.harm = harm
-        whole = (it for it in asking.reports(dice, self.second.office) if "--first" not in it)
-        for words in whole:
+        for words in asking.reports(dice, self.second.office):
             yield self.differs(self.over(words), None, self.told_of(harm, words))
         for words in asking.folders(dice, self.second.office):
             if told := self.told_of(harm, words):

@@ -6,4 +6,4 @@ pub returns-clause-shows : goal.returns-clause-shows
 returns-clause-shows g c = λ honest r stands.
     c.in_ok-numbers.ensures
     ∙ ap open_among (c.as_slice.ensures.value
-    ∙ orders_listed (g.S.Shelf.content c.args.shelf.now) r c.args.id c.in_ok-orders.orders.items stands (c.in_ok-orders.ensures.rows honest))
+    ∙ orders_listed (g.S.Shelf.content c.args.shelf.now) r c.args.id c.in_ok-orders.orders.items stands (c.in_ok-orders.ensures.lists.rows honest))

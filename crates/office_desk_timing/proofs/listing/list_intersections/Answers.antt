@@ -12,13 +12,13 @@ pub loop-id-init : goal.loop-id-init
 loop-id-init g c =
     let tables = g.S.Shelf.content c.args.shelf.now in
     record {
-      read = λ honest. subst (ListsIntersections tables) (sym c.as_slice-id-items.ensures.value) (c.in_ok-rows.ensures.rows honest);
+      read = λ honest. subst (ListsIntersections tables) (sym c.as_slice-id-items.ensures.value) (c.in_ok-rows.ensures.lists.rows honest);
       listed = λ honest. c.new-found.ensures.items;
       reads = record {
-        kept = c.intersections.ensures.kept;
-        clean_before = c.in_ok-rows.ensures.open.clean_before;
-        stays = λ clean told honest. c.in_ok-rows.ensures.open.told clean tt;
-        read = λ reading clean told. c.in_ok-rows.ensures.open.told clean tt;
+        kept = c.intersections.ensures.read.kept;
+        clean_before = c.in_ok-rows.ensures.read.clean_before;
+        stays = λ clean told honest. c.in_ok-rows.ensures.read.told clean tt;
+        read = λ reading clean told. c.in_ok-rows.ensures.read.told clean tt;
       };
     }
 
@@ -29,7 +29,7 @@ loop-id-preserved g c =
     let rows = c.as_slice-id-items.result.now in
     let e = c.loop-id-item.result in
     let count = c.in_ok-count.count in
-    let before = c.committed_count.ensures.kept.honest_before in
+    let before = c.committed_count.ensures.read.kept.honest_before in
     record {
       read = λ honest. c.loop-id.invariant.read (before honest);
       listed = λ honest.
@@ -39,7 +39,7 @@ loop-id-preserved g c =
           listed_more tables rows c.loop-id.id-index e count c.loop-id.found.items _ c.loop-id-test.true
           c.loop-id-item.is (ap (λ n. row_listed e.0 e.1 n) counted)
           (c.loop-id.invariant.listed (before honest)) c.in_ok-add_listed.ensures;
-      reads = reads_then shelf ⊤ ⊤ (Ok count) (Ok tt) _ _ _ c.loop-id.invariant.reads c.committed_count.ensures.kept c.in_ok-count.ensures.open (λ told. tt);
+      reads = reads_then shelf ⊤ ⊤ (Ok count) (Ok tt) _ _ _ c.loop-id.invariant.reads c.in_ok-count.ensures.read (λ told. tt);
     }
 
 pub returns-in_err-count-clause-lists : goal.returns-in_err-count-clause-lists
@@ -48,12 +48,12 @@ returns-in_err-count-clause-lists g c = handed_reports _ _ _ _ _ c.from_residual
 
 pub returns-in_err-count-clause-reads : goal.returns-in_err-count-clause-reads
 returns-in_err-count-clause-reads g c =
-    reads_then g.S.Shelf ⊤ ⊤ c.committed_count.result _ _ _ _ c.loop-id.invariant.reads c.committed_count.ensures.kept c.committed_count.ensures.open
+    reads_then g.S.Shelf ⊤ ⊤ c.committed_count.result _ _ _ _ c.loop-id.invariant.reads c.committed_count.ensures.read
     (handed_told _ c.committed_count.result _ c.in_err-count.was c.from_residual-in_err-count.ensures.1)
 
 pub returns-in_err-add_listed-clause-reads : goal.returns-in_err-add_listed-clause-reads
 returns-in_err-add_listed-clause-reads g c =
-    reads_then g.S.Shelf ⊤ ⊤ (Ok c.in_ok-count.count) _ _ _ _ c.loop-id.invariant.reads c.committed_count.ensures.kept c.in_ok-count.ensures.open (λ told. tt)
+    reads_then g.S.Shelf ⊤ ⊤ (Ok c.in_ok-count.count) _ _ _ _ c.loop-id.invariant.reads c.in_ok-count.ensures.read (λ told. tt)
 
 pub returns-clause-lists : goal.returns-clause-lists
 returns-clause-lists g c = λ honest.

@@ -13,9 +13,9 @@ returns-clause-decides g c =
     told_decides _ _ _ _ _ (c.from_reply.ensures.reply ∙ c.state_reply.ensures) (λ e. cc) (λ why e. absurd cc) c.from_reply.ensures.no_changes
     (λ honest office stands.
     let read = c.verdict_at.ensures.reads.kept.honest_before honest in
-    let first = c.committed_count.ensures.kept.honest_before read in
+    let first = c.committed_count.ensures.read.kept.honest_before read in
     let same = c.intersection_row.ensures.reads.kept.same_content first in
-    let still = c.committed_count.ensures.kept.same_content read ∙ same in
+    let still = c.committed_count.ensures.read.kept.same_content read ∙ same in
     state_shows _ office c.args.id c.in-Some.row _ _ stands (rw c.in-Some.is at (c.in_ok-row.ensures.row first))
     (rw same at (c.in_ok-rows.ensures.count read)) (rw still at (c.in_ok-verify.ensures.verdict honest)))
 
@@ -23,7 +23,7 @@ pub returns-in_err-verify-clause-decides : goal.returns-in_err-verify-clause-dec
 returns-in_err-verify-clause-decides g c =
     handed_decides _ _ _ _ _ c.from_residual-in_err-verify.ensures.1 (λ damaged honest.
     let read = c.verdict_at.ensures.reads.kept.honest_before honest in
-    let first = c.committed_count.ensures.kept.honest_before read in
-    let still = c.committed_count.ensures.kept.same_content read ∙ c.intersection_row.ensures.reads.kept.same_content first in
+    let first = c.committed_count.ensures.read.kept.honest_before read in
+    let still = c.committed_count.ensures.read.kept.same_content read ∙ c.intersection_row.ensures.reads.kept.same_content first in
     let met = c.in_err-verify.ensures.verdict damaged honest in
     inr (record { row = c.in-Some.row; read = rw c.in-Some.is at (c.in_ok-row.ensures.row first); done = met.0; damage = rw still at met.1 }))

@@ -1,10 +1,10 @@
 use Rattle.std.proofs.Common.{rules, ◌≡◌, ◌++◌, ◌∙◌, [], ◌∷◌, ap, arith, map, sym, get_or}
-use Rattle.std.proofs.lemmas.List.{length-map}
+use Rattle.std.proofs.lemmas.List.{get_or-map, length-map}
 use Rattle.std.specs.{BTreeMap.is_at, Map.lookup}
 use Rattle.cabinet_core.specs.{Overdue.listed_of, Overdue.overdue_list}
 use Rattle.office_tables_shelf.specs.Overdue.{seen_on, seen_row}
 use Rattle.office_tables_shelf.proofs.{NumberedMaps.at_number, TreeLemmas.ranged_cmp}
-use Rattle.office_tables_shelf.proofs.OverdueLemmas.{all_found, enough_found, mapped_at, overdue_more, still_short}
+use Rattle.office_tables_shelf.proofs.OverdueLemmas.{all_found, enough_found, overdue_more, still_short}
 use Rattle.office_tables_shelf.proofs.overdue.overdue_among.Goals as goal
 use Rattle.office_tables_shelf.proofs.overdue.overdue_among.Goals.{else-loop-id-test, then-loop-id-test+then-len-most}
 
@@ -20,11 +20,10 @@ loop-id-preserved c =
     let added : map listed_of new ≡ map listed_of old ++ overdue_list c.args.day (next ∷ []) =
     c.in_ok-add_overdue.ensures in
     let last : lookup (is_at (ranged_cmp e.0)) days ≡ c.copied-last.result = search rules in
-    let same : next ≡ seen_on days e =
-    ap (seen_row e.0 e.1) (sym last ∙ at_number days e.0) in
     let count = length-map rows (seen_on days) in
     let at : next ≡ get_or seen c.loop-id.id-index next =
-    same ∙ mapped_at (seen_on days) rows c.loop-id.id-index e next c.loop-id-test.true c.loop-id-item.is in (
+    ap (seen_row e.0 e.1) (sym last ∙ at_number days e.0) ∙ ap (seen_on days) c.loop-id-item.is
+    ∙ sym (get_or-map (seen_on days) rows c.loop-id.id-index e next c.loop-id-test.true) in (
       overdue_more c.args.day seen c.loop-id.id-index next old new (omega arith) at c.loop-id.invariant.0 added,
       still_short c.args.day c.args.most next old new (omega arith) added,
     )

@@ -11,9 +11,9 @@ returns-in-Ok-clause-orders g c = λ honest office stands id.
     (rw (← c.self.view_is) (c.in-Ok.ensures.orders honest id))
 
 pub returns-in-Ok-clause-shut : goal.returns-in-Ok-clause-shut
-returns-in-Ok-clause-shut g c = λ clean. inl (c.in-Ok.ensures.open.told clean tt)
+returns-in-Ok-clause-shut g c = λ clean. inl (c.in-Ok.ensures.read.told clean tt)
 
 pub returns-in-Err-clause-shut : goal.returns-in-Err-clause-shut
 returns-in-Err-clause-shut g c = λ clean.
-    refusal_shut _ c.in-Err.fault _ (λ damaged. c.in-Err.ensures.open.told clean damaged)
+    refusal_shut _ c.in-Err.fault _ (λ damaged. c.in-Err.ensures.read.told clean damaged)
     (ap (λ (why : Refusal). Err why) c.shelf_refusal.ensures)
