@@ -2,7 +2,7 @@
 
 ghost use Rattle.std.specs.Prelude.{◌≡◌, map, IfOk};
 ghost use Rattle.sqlite.specs.Held.{state};
-ghost use Rattle.office_tables_statements.specs.Calls.{IsOffice, IsQuery, Keeps, TellsOpen};
+ghost use Rattle.office_tables_statements.specs.Calls.{IsOffice, IsStatement, Keeps, TellsOpen};
 ghost use Rattle.office_tables_statements.specs.Stored.{content_now};
 ghost use Rattle.office_tables_statements.specs.Tables.{rows_at};
 ghost use Rattle.office_tables.specs.Rewritten.{former_cells, shown_cells, AreFormer, HaveFive, ShowNoFormer};
@@ -45,7 +45,7 @@ fn list<S: Alter>(
     sql: &str,
 ) -> Result<Vec<(InterId, Change)>, ShelfFault>
     requires office { IsOffice (state S.Store conn.old) }
-    requires query { IsQuery sql.now }
+    requires query { IsStatement sql.now }
     ensures rows { ListsEach result (state S.Store conn.new) sql.now
         (rows_at (content_now (state S.Store conn.old))) }
     ensures damaged { TellsNoFormerOfEach result (state S.Store conn.new) sql.now

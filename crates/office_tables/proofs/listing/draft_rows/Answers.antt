@@ -4,7 +4,7 @@ use Rattle.office_tables.specs.Listing.{lists_draft}
 use Rattle.office_tables.proofs.listing.draft_rows.Goals as goal
 
 pub list-requires-clause-query : goal.list-requires-clause-query
-list-requires-clause-query g c = lists_draft.text.query
+list-requires-clause-query g c = (_, lists_draft.text)
 
 pub returns-clause-rows : goal.returns-clause-rows
 returns-clause-rows g c = IfOk-weaker c.list.result _ _ (λ kept rows honest. rows honest Draft lists_draft) c.list.ensures.rows

@@ -4,7 +4,7 @@ use Rattle.office_tables.specs.Listing.{lists_timing}
 use Rattle.office_tables.proofs.listing.timing_rows.Goals as goal
 
 pub list-requires-clause-query : goal.list-requires-clause-query
-list-requires-clause-query g c = lists_timing.text.query
+list-requires-clause-query g c = (_, lists_timing.text)
 
 pub returns-clause-rows : goal.returns-clause-rows
 returns-clause-rows g c = IfOk-weaker c.list.result _ _ (λ kept rows honest. rows honest Timing lists_timing) c.list.ensures.rows

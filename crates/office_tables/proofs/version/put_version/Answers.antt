@@ -3,7 +3,7 @@ use Rattle.office_tables.proofs.VersionLemmas.{put_version_is, put_version}
 use Rattle.office_tables.proofs.version.put_version.Goals as goal
 
 pub write-requires : goal.write-requires
-write-requires g c = put_version_is.plain
+write-requires g c = (_, put_version_is)
 
 pub returns-clause-honest : goal.returns-clause-honest
 returns-clause-honest g c clean = let it = c.in_ok-write.ensures in (omega (arith, clean, it.stands.crash.clean), (it.ran clean).was_open)
