@@ -1,21 +1,21 @@
 -- The records of an import, one after the other.
-use Rattle.std.proofs.Common.{◌≡◌, ◌+◌, ◌≤◌, ◌<◌, ◌≢◌, ℕ, Bool, true, false, List, [], ◌∷◌, Option, Some, None, Result, length, drop, get_or, zero, suc, refl, ap, sym, subst, ◌∙◌, inl, inr, arith}
+use Rattle.std.proofs.Common.{◌≡◌, ◌+◌, ◌≤◌, ◌<◌, ◌≢◌, ℕ, Bool, true, false, List, [], ◌∷◌, Result, Err, length, drop, get_or, zero, suc, refl, ap, sym, subst, ◌∙◌, inl, inr, arith}
 use Rattle.std.proofs.{Math.Seq.drop-cons, lemmas.List.drop_all}
 use Rattle.std.specs.Prelude.{◌⊎◌}
 use Rattle.cabinet_core.specs.{Cabinet.Line, Cabinet.added as added_line, Cabinet.same as same_line, Cabinet.refused as refused_line, Register.Register, Step.line_at, Step.with_record, declared.command.RecordCommand.RecordCommand}
-use Rattle.office_tables_shelf.specs.{Change.AddNew, Change.changed_by, Content.Content, Counts.writes_in, Shelf.IsTold}
+use Rattle.office_tables_shelf.specs.{Change.AddNew, Change.changed_by, Content.Content, Counts.writes_in, RegisterStands.RegisterStandsSound, Shelf.IsTold}
 use Rattle.office_tables_shelf.proofs.KeptLemmas.{kept_on}
 use Rattle.office_tables_decisions.proofs.ReadLemmas.{HasRead}
 use Rattle.office_tables_shelf.specs.declared.{shelf.Shelf.Ghosts, shelf.ShelfFault.ShelfFault, rows.RowChange.RowChange, rows.Table.Table}
 use Rattle.office_tables_decisions.specs.{Reads.OnlyReads, RecordBounds.most_record_writes, declared.decided.Decided.Decided}
-use Rattle.office_desk.specs.Importing.{ImportsAny, LeavesAnyTiming, TakesInTurn, goes_on, register_with, taken_by}
-use Rattle.office_desk.specs.{Answers.AnswersAny, Changes.most_import_writes, Damage.MeetsCabinetDamage, Damage.MeetsImportDamage, Deciding.IsDecision, StandFor.StandForSound, declared.importing.Taken.Taken}
+use Rattle.office_desk.specs.Taking.{LeavesAnyTiming, TakesInTurn, register_with, taken_by}
+use Rattle.office_desk.specs.{Answers.AnswersAny, Changes.most_import_writes, Damage.MeetsCabinetDamage, Damage.MeetsImportDamage, Deciding.IsDecision, StandFor.StandForSound, declared.recording.Taken.Taken}
 use Rattle.office_machine.specs.Step.{answered, cabinet_of, import_by, import_from, import_step, is_known}
 use Rattle.office_machine.specs.{Office.Office, Refusal.line_of}
 use Rattle.office_machine.specs.declared.{refusal.Refusal.Refusal, refusal.Refusal.TheVariants.ImportRow}
 use Rattle.office_machine.specs.declared.reply.Reply.TheVariants.{Imported, Refused}
 use Rattle.office_machine.specs.declared.command.Command.TheVariants as command
-use Rattle.office_desk.specs.declared.importing.Taken.TheVariants as taken
+use Rattle.office_desk.specs.declared.recording.Taken.TheVariants as taken
 use Rattle.office_desk.proofs.{Recorded.register_of, Recorded.stands_after, Writes.import_writes}
 use Rattle.office_tables_decisions.proofs.Decisions.{accepted_decides, refuses_so, told_decides}
 
@@ -53,16 +53,29 @@ writes_whole table records n done all high few = omega (arith, few)
 
 -- ---- from record to record
 
--- the import goes on as the record is taken
+-- how an import goes on after the record of this number, counted from 1: a refused one ends it, and the cause is that refusal's number
+abbrev goes_on : (at : ℕ) → Taken → (new old : Result (ℕ × ℕ × Office) Refusal) → Result (ℕ × ℕ × Office) Refusal
+goes_on at taken.Added new old = new
+goes_on at taken.Same new old = old
+goes_on at (taken.Refused why) new old = Err (ImportRow at (line_of why).number)
+
 goes_by : (at : ℕ) (known : Bool) (line : Line) (new old : Result (ℕ × ℕ × Office) Refusal) → import_by at known line new old ≡ goes_on at (taken_by known line) new old
 goes_by at false line new old = refl
 goes_by at true added_line new old = refl
 goes_by at true same_line new old = refl
 goes_by at true (refused_line why) new old = refl
 
-known_same : (office : Office) (r : Register) (about : Option ℕ) → is_known (record office { register = r }) about ≡ is_known office about
-known_same office r None = refl
-known_same office r (Some id) = refl
+-- some records were taken: the pending rows make a register, and this holds of the office with it
+pub record Follows (stored : Content) (pending : List RowChange) (office : Office) (Goes : Office → Type 0) : Type 0 where
+  pub register : Register
+  pub stand : RegisterStandsSound (changed_by stored pending) register
+  pub goes : Goes (record office { register = register })
+
+-- part of an import was done, whichever sound office the stored tables stand for: the import of all records comes to what the import of the rest comes to, the next
+-- record having this number, with so many added and so many that were there
+abbrev ImportsAny : Content → (all rest : List RecordCommand) → (at added same : ℕ) → List RowChange → Type 0
+ImportsAny stored all rest at added same pending =
+    (office : Office) → StandForSound stored office → Follows stored pending office (λ now. import_from 1 0 0 office all ≡ import_from at added same now rest)
 
 -- how a record was taken, with the counts before it and after it
 abbrev pub WentOn : Taken → (added same added_now same_now : ℕ) → Type 0
@@ -105,9 +118,6 @@ counted_on added same index added_now same_now t is (inl new) = let a = new.1 in
 counted_on added same index added_now same_now t is (inr old) = let a = old.1 in let b = old.2 in omega (arith, is, a, b)
 
 -- ---- the ends of the loop
-
-pub nothing_leaves : LeavesAnyTiming []
-nothing_leaves tables = record { intersection = refl; timing = refl; draft = refl }
 
 pub nothing_written : (table : Table) (pending : List RowChange) (records : List RecordCommand) → pending ≡ [] → writes_in table pending + most_import_writes records table ≤ most_import_writes records table
 nothing_written table pending records none = let zero_writes = ap (writes_in table) none in omega (arith, zero_writes)
@@ -156,10 +166,6 @@ nothing_yet stored all = record {
   news = tt;
 }
 
--- how a record is taken, on tables that are as they were stored
-pub takes_so : {stored seen : Content} {before after : List RowChange} {c : RecordCommand} {t : Taken} → seen ≡ stored → TakesInTurn seen before c t after → TakesInTurn stored before c t after
-takes_so {before = before} {after = after} {c = c} {t = t} same takes = subst (λ (s : Content). TakesInTurn s before c t after) same takes
-
 module _ (stored : Content) (all : List RecordCommand) (index added same : ℕ) (before after : List RowChange) (c : RecordCommand) (t : Taken)
     (so_far : SoFar stored all index added same before) (next : IsNext all index c) (takes : TakesInTurn stored before c t after) where
   -- the import of all goes on as this record is taken
@@ -170,8 +176,7 @@ module _ (stored : Content) (all : List RecordCommand) (index added same : ℕ) 
       let new = if_new all index added same c office made.register in
       let old = if_old all index added same c office made.register in
       made.goes ∙ ap (import_from (index + 1) added same (record office { register = made.register })) next.left
-      ∙ ap (λ known. import_by (index + 1) known (line_at made.register c) new old) (known_same office made.register (cabinet_of c))
-      ∙ goes_by (index + 1) (is_known office (cabinet_of c)) (line_at made.register c) new old
+      ∙ goes_by (index + 1) (is_known (record office { register = made.register }) (cabinet_of c)) (line_at made.register c) new old
       ∙ ap (λ (t : Taken). goes_on (index + 1) t new old) (sym (takes.step office stands made.register made.stand).told)
 
   -- one further

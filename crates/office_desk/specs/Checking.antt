@@ -1,26 +1,21 @@
 -- Records of the register that are tried in turn, and none of them stored: what would come of each, and what the register holds where one is refused.
-use Rattle.std.specs.Prelude.{◌≡◌, ◌⊎◌, List, [], ◌∷◌, Option, Some, None}
-use Rattle.std.specs.FinMap.{get}
+use Rattle.std.specs.Prelude.{◌≡◌, List, [], ◌∷◌, Option, Some, None}
 use Rattle.cabinet_core.specs.Cabinet.{on_hand}
 use Rattle.cabinet_core.specs.Register.{Register}
-use Rattle.cabinet_core.specs.Step.{line_at}
-use Rattle.cabinet_core.specs.Stock.{hand_of}
 use Rattle.cabinet_core.specs.declared.command.RecordCommand.{RecordCommand}
 use Rattle.cabinet_core.specs.declared.command.RecordCommand.TheVariants as asks
 use Rattle.cabinet_core.specs.declared.refusal.CabinetRefusal.{CabinetRefusal}
 use Rattle.cabinet_core.specs.declared.refusal.CabinetRefusal.TheVariants as refusal
-use Rattle.office_desk.specs.Importing.{register_with, taken_by}
-use Rattle.office_desk.specs.Recording.{HasDamagedAbout}
+use Rattle.office_desk_cabinet.specs.Registers.{held_in}
+use Rattle.office_desk.specs.Taking.{TakesRecord, office_with, taken_in}
 use Rattle.office_desk.specs.declared.checking.Checked.{Checked}
 use Rattle.office_desk.specs.declared.checking.Checked.TheVariants as checked
-use Rattle.office_desk.specs.declared.importing.Taken.{Taken}
-use Rattle.office_desk.specs.declared.importing.Taken.TheVariants as taken
+use Rattle.office_desk.specs.declared.recording.Taken.{Taken}
+use Rattle.office_desk.specs.declared.recording.Taken.TheVariants as taken
 use Rattle.office_desk.specs.declared.there.There.{There}
 use Rattle.office_desk.specs.declared.there.There.TheVariants as there
-use Rattle.office_desk.specs.StandFor.{StandForSound}
-use Rattle.office_desk.specs.Damage.{MeetsRecordDamage}
+use Rattle.office_desk.specs.{Damage.MeetsRecordDamage, StandFor.StandForSound}
 use Rattle.office_machine.specs.Office.{Office}
-use Rattle.office_machine.specs.Step.{cabinet_of, is_known}
 use Rattle.office_machine.specs.declared.refusal.Refusal.{Refusal}
 use Rattle.office_machine.specs.declared.refusal.Refusal.TheVariants.{Cabinet as OfRegister}
 use Rattle.office_tables_shelf.specs.Change.{changed_by}
@@ -44,14 +39,6 @@ place_told (asks.CloseOrder id number asked) why = place.Order id number
 place_told (asks.Receive asked) refusal.DeliveryDiffers = place.Delivery asked.part asked.number
 place_told (asks.Receive asked) why = place.Part asked.part
 
--- what a register holds at a place, if it holds anything there
-abbrev pub held_in : Register → (at : Place) → Option (RecordAt at)
-held_in r (place.Inspection id n) = get r.inspections (id, n)
-held_in r (place.Order id n) = get r.orders (id, n)
-held_in r (place.Line id order line) = get r.lines (id, (order, line))
-held_in r (place.Part code) = hand_of r code
-held_in r (place.Delivery code n) = get r.deliveries (code, n)
-
 -- how what was found at a place is told: the record, or nothing; of a part, how many pieces are on hand, 0 where the register has none
 abbrev pub told_there : (at : Place) → Option (RecordAt at) → There
 told_there (place.Inspection id n) None = there.Nothing
@@ -74,6 +61,12 @@ there_in r c why = there.Nothing
 abbrev pub ReadsThere : Content → List RowChange → (at : Place) → There → Type 0
 ReadsThere stored pending at it = (found : Option (RecordAt at)) × ReadsAt (changed_by stored pending) at found × (it ≡ told_there at found)
 
+-- a refusal of the register, and a row that the record reads is no record
+pub record HasDamageThere (tables : Content) (c : RecordCommand) (refusal : Refusal) : Type 0 where
+  pub why : CabinetRefusal
+  pub told : refusal ≡ OfRegister why
+  pub damage : MeetsRecordDamage tables c
+
 -- what is told with a refused record is what the register holds, whichever sound one the stored tables stand for once the pending rows are written
 abbrev pub TellsThere : Content → List RowChange → RecordCommand → Refusal → There → Type 0
 TellsThere stored pending c why it = (r : Register) → RegisterStandsSound (changed_by stored pending) r → it ≡ there_in r c why
@@ -86,14 +79,6 @@ checked_by r c taken.Added = checked.Added
 checked_by r c taken.Same = checked.Same
 checked_by r c (taken.Refused why) = checked.Refused why (there_in r c why)
 
--- how an office takes a record: as a new one, as one that is there already, or not, with the refusal
-abbrev pub taken_in : Office → RecordCommand → Taken
-taken_in office c = taken_by (is_known office (cabinet_of c)) (line_at office.register c)
-
--- the office after a record, by how it was taken: only a new record changes it
-abbrev pub office_with : Taken → Office → RecordCommand → Office
-office_with t office c = record office { register = register_with t office.register c }
-
 -- what would come of records in turn, each on the office as those before it leave it; one that is refused leaves it as it was
 abbrev pub checked_from : Office → List RecordCommand → List Checked
 checked_from office [] = []
@@ -104,15 +89,8 @@ checked_from office (c ∷ cs) =
 abbrev pub Checks : Content → List RecordCommand → List Checked → Type 0
 Checks tables records list = (office : Office) → StandForSound tables office → list ≡ checked_from office records
 
--- what is told of a record is what would come of it in every sound office that the stored tables stand for, with the register that the rows pending before it
--- make; and the rows pending after it make the register that follows
+-- a record is taken so after the rows pending before it, and what is told of it is that, in every sound register that the tables stand for with those rows
 abbrev pub ChecksRecord : Content → (before : List RowChange) → RecordCommand → Checked → (after : List RowChange) → Type 0
 ChecksRecord stored before c it after =
-    (office : Office) → StandForSound stored office → (r : Register) → RegisterStandsSound (changed_by stored before) r
-    → let t = taken_by (is_known office (cabinet_of c)) (line_at r c) in
-    (it ≡ checked_by r c t) × RegisterStandsSound (changed_by stored after) (register_with t r c)
-
--- for one of these records, the row of its intersection, or a row of the register under its keys, is no record
-abbrev pub MeetsCheckDamage : Content → List RecordCommand → Type 0
-MeetsCheckDamage tables [] = ⊥
-MeetsCheckDamage tables (c ∷ cs) = (HasDamagedAbout tables (cabinet_of c) ⊎ MeetsRecordDamage tables c) ⊎ MeetsCheckDamage tables cs
+    (t : Taken) × TakesRecord stored before c t after
+    × ((r : Register) → RegisterStandsSound (changed_by stored before) r → it ≡ checked_by r c t)

@@ -8,5 +8,5 @@ pub use Rattle.office_tables_decisions.specs.Deciding
 pub mod Running
 pub mod Asks
 pub mod Editing
-pub mod Importing
+pub mod Taking
 pub mod Checking

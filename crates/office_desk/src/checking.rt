@@ -1,13 +1,14 @@
 //! Records of the register that are tried in turn: what would come of each is told, and none is
 //! stored.
-ghost use Rattle.std.specs.Prelude.{◌≡◌, ◌≢◌, ◌⊎◌, ◌++◌, [], ◌∷◌, IfOk, OnOk};
+ghost use Rattle.std.specs.Prelude.{◌≡◌, ◌≢◌, ◌++◌, [], ◌∷◌, IfOk, OnOk};
 ghost use Rattle.office_tables_decisions.specs.Reads.{OnlyReads, Reports};
-ghost use Rattle.office_desk.specs.Checking.{Checks, ChecksRecord, MeetsCheckDamage, TellsThere};
-ghost use Rattle.office_desk.specs.Recording.{AreFound, HasDamagedAbout};
-ghost use Rattle.office_desk.specs.Damage.{MeetsRecordDamage};
+ghost use Rattle.office_desk.specs.Checking.{Checks, ChecksRecord, HasDamageThere, TellsThere};
+ghost use Rattle.office_desk.specs.Damage.{MeetsCabinetDamage, MeetsImportDamage};
+ghost use Rattle.office_desk.specs.Recording.{AreFound};
 ghost use Rattle.office_machine.specs.Step.{cabinet_of as about_of};
 
-use crate::importing::{Taken, take_record};
+use crate::importing::take_record;
+use crate::recording::Taken;
 use crate::there::{There, what_is_there};
 use cabinet_core::RecordCommand;
 use office_desk_cabinet::Pending;
@@ -39,7 +40,7 @@ fn there_of<S: Shelf>(
 ) -> Result<There, ShelfFault>
     ensures there { Reports (S.is_honest shelf.new) result
         (TellsThere (S.content shelf.old) pending.now command.now refusal)
-        (MeetsRecordDamage (S.content shelf.old) command.now) }
+        (HasDamageThere (S.content shelf.old) command.now refusal) }
     ensures reads { OnlyReads S.Shelf ⊥ result shelf.old shelf.new }
 {
     match refusal {
@@ -62,8 +63,7 @@ fn check_record<S: Shelf>(
         AreFound (S.content shelf.old) found.new) }
     ensures checks { Reports (S.is_honest shelf.new) result
         (λ checked. ChecksRecord (S.content shelf.old) pending command.now checked.0 checked.1)
-        (HasDamagedAbout (S.content shelf.old) (about_of command.now)
-        ⊎ MeetsRecordDamage (S.content shelf.old) command.now) }
+        (MeetsCabinetDamage (S.content shelf.old) command.now (about_of command.now)) }
     ensures reads { OnlyReads S.Shelf (pending ≡ []) result shelf.old shelf.new }
 {
     let (taken, next) = take_record(shelf, alloc, found, pending, command)?;
@@ -94,7 +94,7 @@ pub(crate) fn check_records<S: Shelf>(
 ) -> Result<Vec<Checked>, ShelfFault>
     ensures checks { Reports (S.is_honest shelf.new) result
         (λ checked. Checks (S.content shelf.old) records.now checked.items)
-        (MeetsCheckDamage (S.content shelf.old) records.now) }
+        (MeetsImportDamage (S.content shelf.old) records.now) }
     ensures reads { OnlyReads S.Shelf (records.now ≢ []) result shelf.old shelf.new }
 {
     let mut found = BTreeSet::new(alloc);

@@ -1,80 +1,25 @@
-//! Imports: records of the register are decided in turn, each after those before it.
-ghost use Rattle.std.specs.Prelude.{◌≡◌, ◌++◌, IfOk, ◌≢◌, [], IsOkAnd};
+//! Imports: records of the register are taken in turn, each after those before it.
+ghost use Rattle.std.specs.Prelude.{◌≡◌, ◌≢◌, [], IfOk, IsOkAnd};
 ghost use Rattle.office_tables_decisions.specs.Reads.{OnlyReads, Reports};
-ghost use Rattle.office_desk.specs.Deciding.{AddsNothing, Decides};
 ghost use Rattle.office_desk.specs.Damage.{MeetsCabinetDamage};
-ghost use Rattle.office_desk.specs.Importing.{DecidesAfter, TakesInTurn, TakesWithin, rows_decided, taken_as};
+ghost use Rattle.office_desk.specs.Deciding.{AddsNothing, Decides};
 ghost use Rattle.office_desk.specs.Recording.{AreFound};
+ghost use Rattle.office_desk.specs.Taking.{TakesInTurn, TakesWithin};
 ghost use Rattle.office_machine.specs.Step.{cabinet_of as about_of};
 
 use crate::found::is_found;
-use crate::recording::{cabinet_of, register_refusal};
+use crate::recording::{Taken, cabinet_of, take_known};
 use cabinet_core::RecordCommand;
-use office_desk_cabinet::{Pending, Registered, decide_record};
+use office_desk_cabinet::Pending;
 use office_machine::command::Command;
 use office_machine::records::Records;
 use office_machine::refusal::Refusal;
 use office_machine::reply::Reply;
 use office_tables_decisions::decided::Decided;
 use office_tables_shelf::shelf::{Shelf, ShelfFault};
-use signal_records::{InterId, NoMemory};
+use signal_records::InterId;
 use std::alloc::Global;
 use std::collections::BTreeSet;
-
-/// What came of a record of an import.
-#[derive(Clone, Copy)]
-pub(crate) enum Taken {
-    /// The record is new: it is added.
-    Added,
-    /// An equal record is there: nothing is added.
-    Same,
-    /// The record is refused, for this reason; an import ends with it.
-    Refused(Refusal),
-}
-
-/// Decides a record after those whose rows are pending; none where its intersection is not there.
-/// The row of an intersection in `found` is not read again.
-fn decide_after<S: Shelf>(
-    shelf: &mut S,
-    alloc: Global,
-    found: &mut BTreeSet<InterId>,
-    pending: &Pending,
-    command: &RecordCommand,
-) -> Result<Option<Registered>, ShelfFault>
-    requires { S.is_honest shelf.old → AreFound (S.content shelf.old) found.old }
-    ensures found { IfOk result (λ _. S.is_honest shelf.new →
-        AreFound (S.content shelf.old) found.new) }
-    ensures decides { IfOk result (λ decided. DecidesAfter (S.is_honest shelf.new)
-        (S.content shelf.old) pending.now command.now decided) }
-    ensures damaged { result ≡ Err ShelfFault.Damaged → S.is_honest shelf.new →
-        MeetsCabinetDamage (S.content shelf.old) command.now (about_of command.now) }
-    ensures reads { OnlyReads S.Shelf (pending.now ≡ []) result shelf.old shelf.new }
-{
-    if !is_found(shelf, alloc, found, cabinet_of(command))? {
-        return Ok(None);
-    }
-    let told = decide_record(shelf, alloc, pending, command)?;
-    Ok(Some(told))
-}
-
-/// What comes of a record by the register's decision (none: its intersection is not there), and the
-/// pending rows with its own behind them.
-fn take_decided(decided: Option<Registered>, pending: Pending) -> Result<(Taken, Pending), NoMemory>
-    ensures taken { IfOk result (λ taken. taken.0 ≡ taken_as decided) }
-    ensures rows { IfOk result (λ taken. taken.1 ≡ pending ++ rows_decided decided) }
-{
-    let Some(told) = decided else {
-        return Ok((Taken::Refused(Refusal::UnknownIntersection), pending));
-    };
-    match told {
-        Registered::Added(rows) => {
-            let next = pending.with(rows)?;
-            Ok((Taken::Added, next))
-        }
-        Registered::Same => Ok((Taken::Same, pending)),
-        Registered::Refused(refusal) => Ok((Taken::Refused(register_refusal(refusal)), pending)),
-    }
-}
 
 /// Takes a record after those whose rows are pending, and gives these rows back with its own behind
 /// them; nothing is written. The row of an intersection in `found` is not read again.
@@ -91,11 +36,13 @@ pub(crate) fn take_record<S: Shelf>(
     ensures takes { Reports (S.is_honest shelf.new) result
         (λ taken. TakesInTurn (S.content shelf.old) pending command.now taken.0 taken.1)
         (MeetsCabinetDamage (S.content shelf.old) command.now (about_of command.now)) }
-    ensures within { IfOk result (λ taken. TakesWithin pending command.now taken.1) }
+    ensures within { IfOk result (λ taken. TakesWithin pending command.now taken.0 taken.1) }
     ensures reads { OnlyReads S.Shelf (pending ≡ []) result shelf.old shelf.new }
 {
-    let decided = decide_after(shelf, alloc, found, &pending, command)?;
-    let taken = take_decided(decided, pending)?;
+    if !is_found(shelf, alloc, found, cabinet_of(command))? {
+        return Ok((Taken::Refused(Refusal::UnknownIntersection), pending));
+    }
+    let taken = take_known(shelf, alloc, pending, command)?;
     Ok(taken)
 }
 

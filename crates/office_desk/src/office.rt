@@ -10,8 +10,8 @@ ghost use Rattle.office_tables_shelf.specs.Counts.{counts_after};
 ghost use Rattle.office_tables_shelf.specs.Damage.{HasAnyDamagedIntersection};
 ghost use Rattle.office_tables_shelf.specs.Keeps.{KeepsShelf};
 ghost use Rattle.office_tables_shelf.specs.OpenOrders.{orders_in};
-ghost use Rattle.office_desk.specs.Checking.{Checks, MeetsCheckDamage};
-ghost use Rattle.office_desk.specs.Damage.{MeetsDamage};
+ghost use Rattle.office_desk.specs.Checking.{Checks};
+ghost use Rattle.office_desk.specs.Damage.{MeetsDamage, MeetsImportDamage};
 ghost use Rattle.office_desk.specs.Deciding.{DecidesIdly, IsAnswered};
 ghost use Rattle.office_machine.specs.Office.{Office as OfficeState};
 ghost use Rattle.office_desk.specs.Running.{AreRun, IsRun, MakesTables, RefusesRead, RunsAny};
@@ -176,7 +176,7 @@ impl<S: Shelf> Office<S> {
             Checks (S.content self.old) records.now checked.items) }
         ensures refused { RefusesRead result }
         ensures damaged { result ≡ Err Refusal.Damaged → S.is_honest self.new →
-            MeetsCheckDamage (S.content self.old) records.now }
+            MeetsImportDamage (S.content self.old) records.now }
         ensures clean { S.is_clean self.new → S.is_clean self.old }
         ensures kept { KeepsShelf S.Shelf self.old self.new }
     {

@@ -1,10 +1,11 @@
-//! One command of the register, decided and answered.
-ghost use Rattle.std.specs.Prelude.{◌≡◌, false, IsSome, OnErr, Ok, ⊤};
+//! A record of the register is taken, after those whose rows are pending.
+ghost use Rattle.std.specs.Prelude.{◌≡◌, true, false, Ok, IfOk, IsSome, OnErr, [], ⊤};
 ghost use Rattle.office_tables_decisions.specs.Reads.{OnlyReads, Reports};
-ghost use Rattle.office_desk_cabinet.specs.Registers.{line_told, rows_told};
+ghost use Rattle.office_desk.specs.Damage.{MeetsCabinetDamage};
 ghost use Rattle.office_desk.specs.Deciding.{Decides};
 ghost use Rattle.office_desk.specs.Recording.{HasDamagedAbout, TellsIntersection};
-ghost use Rattle.office_machine.specs.Step.{cabinet_of as about_of, refusal_of_record, reply_of};
+ghost use Rattle.office_desk.specs.Taking.{TakesInTurn, TakesWithin, reply_taken};
+ghost use Rattle.office_machine.specs.Step.{cabinet_of as about_of, refusal_of_record};
 
 use cabinet_core::{CabinetRefusal, RecordCommand};
 use office_desk_cabinet::{Pending, Registered, decide_record};
@@ -16,6 +17,17 @@ use office_tables_decisions::decided::Decided;
 use office_tables_shelf::shelf::{Shelf, ShelfFault};
 use signal_records::InterId;
 use std::alloc::Global;
+
+/// What comes of a record of the register.
+#[derive(Clone, Copy)]
+pub(crate) enum Taken {
+    /// The record is new: it is added.
+    Added,
+    /// An equal record is there: nothing is added.
+    Same,
+    /// The record is refused, for this reason.
+    Refused(Refusal),
+}
 
 /// The intersection whose cabinet a command is about; a delivery is about none.
 pub(crate) fn cabinet_of(command: &RecordCommand) -> Option<InterId>
@@ -52,7 +64,7 @@ pub(crate) fn is_known<S: Shelf>(
 }
 
 /// A refusal of the register as one of the office: want of memory is Unavailable.
-pub(crate) fn register_refusal(refusal: CabinetRefusal) -> Refusal
+fn register_refusal(refusal: CabinetRefusal) -> Refusal
     ensures { result ≡ refusal_of_record refusal }
 {
     match refusal {
@@ -61,18 +73,41 @@ pub(crate) fn register_refusal(refusal: CabinetRefusal) -> Refusal
     }
 }
 
-/// The outcome of a command of the register as the office's reply, with the rows to be written.
-fn answer(alloc: Global, told: Registered) -> Decided
-    ensures reply { result.reply ≡ reply_of (line_told told) }
-    ensures changes { result.changes.items ≡ rows_told told }
+/// Takes a record after those whose rows are pending, and gives these rows back with its own behind
+/// them; nothing is written. The caller tests that the intersection is there.
+pub(crate) fn take_known<S: Shelf>(
+    shelf: &mut S,
+    alloc: Global,
+    pending: Pending,
+    command: &RecordCommand,
+) -> Result<(Taken, Pending), ShelfFault>
+    requires { S.is_honest shelf.old →
+        TellsIntersection (S.content shelf.old) (about_of command.now) true }
+    ensures takes { Reports (S.is_honest shelf.new) result
+        (λ taken. TakesInTurn (S.content shelf.old) pending command.now taken.0 taken.1)
+        (MeetsCabinetDamage (S.content shelf.old) command.now (about_of command.now)) }
+    ensures within { IfOk result (λ taken. TakesWithin pending command.now taken.0 taken.1) }
+    ensures reads { OnlyReads S.Shelf (pending ≡ []) result shelf.old shelf.new }
 {
+    let told = decide_record(shelf, alloc, &pending, command)?;
     match told {
-        Registered::Added(changes) => Decided {
-            reply: Reply::Added,
-            changes,
-        },
-        Registered::Same => Decided::from_reply(alloc, Reply::Same),
-        Registered::Refused(refusal) => Decided::from_refusal(alloc, register_refusal(refusal)),
+        Registered::Added(rows) => {
+            let next = pending.with(rows)?;
+            Ok((Taken::Added, next))
+        }
+        Registered::Same => Ok((Taken::Same, pending)),
+        Registered::Refused(refusal) => Ok((Taken::Refused(register_refusal(refusal)), pending)),
+    }
+}
+
+/// The reply to one record that was taken so.
+fn reply_to(taken: Taken) -> Reply
+    ensures { result ≡ reply_taken taken }
+{
+    match taken {
+        Taken::Added => Reply::Added,
+        Taken::Same => Reply::Same,
+        Taken::Refused(refusal) => Reply::Refused(refusal),
     }
 }
 
@@ -91,6 +126,8 @@ pub(crate) fn decide_record_command<S: Shelf>(
         return Ok(Decided::from_refusal(alloc, Refusal::UnknownIntersection));
     }
     let pending = Pending::new(alloc);
-    let told = decide_record(shelf, alloc, &pending, command)?;
-    Ok(answer(alloc, told))
+    let (taken, next) = take_known(shelf, alloc, pending, command)?;
+    let reply = reply_to(taken);
+    let changes = next.into_changes();
+    Ok(Decided { reply, changes })
 }

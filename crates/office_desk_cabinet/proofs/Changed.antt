@@ -15,7 +15,8 @@ use Rattle.office_tables_shelf.specs.declared.rows.RowChange.TheVariants.{PutOrd
 use Rattle.office_tables_shelf.proofs.{CabinetLemmas.part_order, KeyCells.record_order, KeyCells.line_order, KeyCells.delivery_order}
 use Rattle.office_tables_shelf.proofs.StoredMaps.{insert_stored}
 use Rattle.office_desk_cabinet.specs.RegisterStands.{inspection_cells, order_cells, line_cells, delivery_cells, RegisterStands}
-use Rattle.office_desk_cabinet.specs.Telling.{order_row_of, row_change_of, row_changes_of}
+use Rattle.office_desk_cabinet.specs.Telling.{order_row_of}
+use Rattle.office_desk_cabinet.proofs.Lines.{own_row, own_rows}
 
 -- ---- records
 
@@ -32,7 +33,7 @@ order_changed : (tables : Content) (id : ℕ) (order : Order) (closing : Option 
 order_changed tables id order None = refl
 order_changed tables id order (Some closing) = refl
 
-one_change : (tables : Content) (r : Register) (id : ℕ) (c : CabinetChange) → HoldRecords tables r → HoldRecords (changed tables (row_change_of id c)) (with_change id r c)
+one_change : (tables : Content) (r : Register) (id : ℕ) (c : CabinetChange) → HoldRecords tables r → HoldRecords (changed tables (own_row id c)) (with_change id r c)
 one_change tables r id (change.PutInspection x) hold = (
   ap (λ (rows : TableRows). insert rows (inspection_key id x.number) (inspection_columns x)) hold.0 ∙ sym (insert_stored record_total inspection_cells inspection_columns record_order r.inspections (id, x.number) x),
   hold.1,
@@ -60,9 +61,9 @@ one_change tables r id (change.PutDelivery x) hold = (
 )
 one_change tables r id (change.PutPart code hand) hold = hold
 
-all_changes : (tables : Content) (r : Register) (id : ℕ) (cs : List CabinetChange) → HoldRecords tables r → HoldRecords (changed_by tables (row_changes_of id cs)) (with_changes id r cs)
+all_changes : (tables : Content) (r : Register) (id : ℕ) (cs : List CabinetChange) → HoldRecords tables r → HoldRecords (changed_by tables (own_rows id cs)) (with_changes id r cs)
 all_changes tables r id [] hold = hold
-all_changes tables r id (c ∷ cs) hold = all_changes (changed tables (row_change_of id c)) (with_change id r c) id cs (one_change tables r id c hold)
+all_changes tables r id (c ∷ cs) hold = all_changes (changed tables (own_row id c)) (with_change id r c) id cs (one_change tables r id c hold)
 
 -- ---- the stock
 
@@ -79,7 +80,7 @@ all_told stock [] = stock
 all_told stock (c ∷ cs) = all_told (one_told stock c) cs
 
 told_row : (tables : Content) (stock : Stock) (id : ℕ) (c : CabinetChange) → tables.part ≡ tree_rows part_key part_columns (entries stock)
-    → (changed tables (row_change_of id c)).part ≡ tree_rows part_key part_columns (entries (one_told stock c))
+    → (changed tables (own_row id c)).part ≡ tree_rows part_key part_columns (entries (one_told stock c))
 told_row tables stock id (change.PutPart code hand) hold =
     ap (λ (rows : TableRows). insert rows (part_key code) (part_columns hand)) hold ∙ sym (insert_stored nat_list_cmp_total part_key part_columns part_order stock code hand)
 told_row tables stock id (change.PutOrder x) hold =
@@ -87,9 +88,9 @@ told_row tables stock id (change.PutOrder x) hold =
 told_row tables stock id _ hold = hold
 
 told_rows : (tables : Content) (stock : Stock) (id : ℕ) (cs : List CabinetChange) → tables.part ≡ tree_rows part_key part_columns (entries stock)
-    → (changed_by tables (row_changes_of id cs)).part ≡ tree_rows part_key part_columns (entries (all_told stock cs))
+    → (changed_by tables (own_rows id cs)).part ≡ tree_rows part_key part_columns (entries (all_told stock cs))
 told_rows tables stock id [] hold = hold
-told_rows tables stock id (c ∷ cs) hold = told_rows (changed tables (row_change_of id c)) (one_told stock c) id cs (told_row tables stock id c hold)
+told_rows tables stock id (c ∷ cs) hold = told_rows (changed tables (own_row id c)) (one_told stock c) id cs (told_row tables stock id c hold)
 
 told_hand : (stock : Stock) (code : List ℕ) (cs : List CabinetChange) → get (all_told stock cs) code ≡ hand_after code (get stock code) cs
 told_hand stock code [] = refl
@@ -104,7 +105,7 @@ told_stock r next cs hands = same_map nat_list_cmp_total (slice_cmp-IsAntisymmet
 
 -- ---- the register
 
-pub stand_changed : (tables : Content) (r next : Register) (id : ℕ) (cs : List CabinetChange) → RegisterStands tables r → ChangesMake id r cs next → RegisterStands (changed_by tables (row_changes_of id cs)) next
+pub stand_changed : (tables : Content) (r next : Register) (id : ℕ) (cs : List CabinetChange) → RegisterStands tables r → ChangesMake id r cs next → RegisterStands (changed_by tables (own_rows id cs)) next
 stand_changed tables r next id cs stand makes =
     let hold = all_changes tables r id cs (stand.inspection, stand.work_order, stand.used_part, stand.delivery) in
     record {

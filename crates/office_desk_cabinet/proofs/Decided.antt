@@ -1,7 +1,7 @@
 -- What is promised of a decision, from what was read under its command's keys.
-use Rattle.std.proofs.Common.{◌≡◌, ◌≤◌, ℕ, ◌+◌, Bool, true, false, List, Option, Some, None, Result, Ok, Err, is_some, inl, inr, refl, sym, ap, subst, ◌∙◌, arith}
+use Rattle.std.proofs.Common.{◌≡◌, ◌≤◌, ℕ, ◌+◌, Bool, true, false, List, Option, Some, None, Result, Ok, Err, is_some, inl, inr, refl, sym, subst, arith}
 use Rattle.std.specs.Prelude.{IfOk, OnErr, if◌then◌else◌, nat_lt}
-use Rattle.cabinet_core.specs.Cabinet.{Line, added, same, refused, Records, on_hand, is_opened_so, is_same_inspection, is_same_line, is_same_closing, is_same_delivery, close_order_line}
+use Rattle.cabinet_core.specs.Cabinet.{Line, added, same, refused, Records, on_hand, is_opened_so, is_same_inspection, is_same_line, is_same_closing, is_same_delivery, close_changes, close_order_line}
 use Rattle.cabinet_core.specs.{Changes.Makes, Step.Standing, Step.line_on}
 use Rattle.cabinet_core.specs.declared.{command.RecordCommand.RecordCommand, decide.Recorded.Recorded, part.TheConstants.MOST_ON_HAND, record.Order.Order, record.Closing.Closing, refusal.CabinetRefusal.CabinetRefusal}
 use Rattle.cabinet_core.specs.declared.command.RecordCommand.TheVariants as asks
@@ -13,8 +13,8 @@ use Rattle.office_tables_shelf.specs.declared.shelf.ShelfFault.TheVariants.{NoMe
 use Rattle.office_tables_shelf.specs.declared.rows.Table.TheVariants as table
 use Rattle.office_desk_cabinet.specs.Registers.{IsNamed, IsOneOf, most_record_writes, refusals_of}
 use Rattle.office_desk_cabinet.specs.{Decides.DecidesRecord, Telling.Tells, Telling.row_changes_of, declared.registered.Registered.Registered}
-use Rattle.office_desk_cabinet.proofs.Told.{registers_from, rows_few, tells_leaves, told_by}
-use Rattle.office_desk_cabinet.proofs.{Found.keys_stand, Lines.ReadsKeys, Lines.rows_added, Lines.rows_for, News.adds_new}
+use Rattle.office_desk_cabinet.proofs.Told.{registers_from, rows_few, tells_as, tells_leaves, told_by}
+use Rattle.office_desk_cabinet.proofs.{Found.keys_stand, Lines.ReadsKeys, Lines.own_rows, Lines.rows_added, News.adds_new}
 
 -- ---- the refusals of a command's line
 
@@ -83,46 +83,45 @@ few_written (asks.CloseOrder id number asked) (Some order) other = omega arith
 few_written (asks.Receive asked) (there, hand) table.Delivery = omega arith
 few_written (asks.Receive asked) (there, hand) other = omega arith
 
--- they are the rows of its changes
-rows_are : (any : ℕ) (command : RecordCommand) (there : Standing command)
-    → row_changes_of (place_or any command) (changes_on command there) ≡ rows_added command there
-rows_are any (asks.Inspect id asked) there = refl
-rows_are any (asks.OpenOrder id asked) there = refl
-rows_are any (asks.UsePart id asked) (there, order, hand) = refl
-rows_are any (asks.CloseOrder id number asked) there = refl
-rows_are any (asks.Receive asked) (there, hand) = refl
+-- an order that is closed is a row of its intersection
+pub closed_rows : (id : ℕ) (there : Option Order) (asked : Closing)
+    → row_changes_of (Some id) (close_changes there asked) ≡ own_rows id (close_changes there asked)
+closed_rows id None asked = refl
+closed_rows id (Some order) asked = refl
 
 -- ---- every decision
 
-pub decided : (any : ℕ) (honest : Type 0) (stored : Content) (pending : List RowChange)
+pub decided : (about : Option ℕ) (honest : Type 0) (stored : Content) (pending : List RowChange)
     (command : RecordCommand) (there : Standing command)
     (decision : Result Recorded CabinetRefusal) (result : Result Registered ShelfFault)
     → (honest → ReadsKeys (changed_by stored pending) command there)
     → Records decision (line_on command there) (changes_on command there)
-    → Makes (place_or any command) command there decision
-    → IfOk result (λ told. Tells (place_or any command) decision told)
+    → Makes (place_or 0 command) command there decision
+    → row_changes_of about (changes_on command there) ≡ rows_added command there
+    → IfOk result (λ told. Tells (row_changes_of about) decision told)
     → OnErr result (result ≡ Err NoMemory)
     → DecidesRecord honest stored pending command result
-decided any honest stored pending command there decision (Ok told) read says makes tells fault =
+decided about honest stored pending command there decision (Ok told) read says makes same_rows tells fault =
     let tables = changed_by stored pending in
-    let id = place_or any command in
+    let id = place_or 0 command in
     let line = line_on command there in
+    let list = changes_on command there in
     let rows = rows_added command there in
-    let is = told_by id line (changes_on command there) decision told says tells in
-    let written = is.same_rows ∙ ap (rows_for line) (rows_are any command there) in
+    let own = tells_as (row_changes_of about) (own_rows id) list line decision told same_rows says tells in
+    let is = told_by id line list decision told says own in
     record {
       step = λ h r stands.
           let same = keys_stand tables r stands command there (read h) in
-          registers_from tables r command id decision told stands (makes r stands.sound same) tells;
-      news = λ h. subst (AddNew tables) (sym written) (adds_new tables command there (read h));
-      leaves = λ (before : Content). tells_leaves before id decision told tells;
+          registers_from tables r command id decision told stands (makes r stands.sound same) own;
+      news = λ h. subst (AddNew tables) (sym is.same_rows) (adds_new tables command there (read h));
+      leaves = λ (before : Content). tells_leaves before id decision told own;
       writes = λ other.
           let most = most_record_writes command other in
-          subst (λ put. writes_in other put ≤ most) (sym written)
+          subst (λ put. writes_in other put ≤ most) (sym is.same_rows)
           (rows_few other line rows most (few_written command there other));
       named = subst (IsNamed command) (sym is.same_line) (line_named command there);
     }
-decided any honest stored pending command there decision (Err NoMemory) read says makes tells is =
+decided about honest stored pending command there decision (Err NoMemory) read says makes same_rows tells is =
     record { step = λ h. tt; news = tt; leaves = tt; writes = tt; named = tt }
-decided any honest stored pending command there decision (Err why) read says makes tells fault =
+decided about honest stored pending command there decision (Err why) read says makes same_rows tells fault =
     absurd cc

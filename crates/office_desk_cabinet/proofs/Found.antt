@@ -14,21 +14,14 @@ use Rattle.office_tables_shelf.proofs.{CabinetLemmas.part_order, KeyCells.record
 use Rattle.office_tables_shelf.proofs.StoredMaps.{get_stored}
 use Rattle.office_desk_cabinet.specs.RegisterStands.{inspection_cells, order_cells, line_cells, delivery_cells, RegisterStands, RegisterStandsSound}
 use Rattle.office_tables_shelf.specs.Places.{Place, Inspection, Order, Line, Part, Delivery, RecordAt, WithinAt, ReadsAt, key_cells, own_key, columns_at}
+use Rattle.office_desk_cabinet.specs.Registers.{held_in}
 use Rattle.office_desk_cabinet.proofs.Lines.{ReadsKeys}
 use Rattle.office_desk_cabinet.proofs.Places.{cells_at, reads_tell}
 
 -- ---- what the tables have
 
--- what a register has at a place
-abbrev pub standing_at : Register → (place : Place) → Option (RecordAt place)
-standing_at r (Inspection id n) = get r.inspections (id, n)
-standing_at r (Order id n) = get r.orders (id, n)
-standing_at r (Line id order line) = get r.lines (id, (order, line))
-standing_at r (Part code) = hand_of r code
-standing_at r (Delivery code n) = get r.deliveries (code, n)
-
 held_at : (tables : Content) (r : Register) → RegisterStands tables r → (place : Place)
-    → cells_at tables place ≡ option_map (columns_at place) (standing_at r place)
+    → cells_at tables place ≡ option_map (columns_at place) (held_in r place)
 held_at tables r stand (Inspection id n) = ap (λ (rows : TableRows). get rows (inspection_key id n)) stand.inspection
     ∙ get_stored record_total inspection_cells inspection_columns record_order r.inspections (id, n)
 held_at tables r stand (Order id n) = ap (λ (rows : TableRows). get rows (order_key id n)) stand.work_order
@@ -54,7 +47,7 @@ hand_within r code sound = go (was_delivered r code)
 
 -- what a sound register has at a place names its key, and is within its limits
 pub sound_at : (r : Register) → IsSoundRegister r → (place : Place)
-    → IfSome (standing_at r place) (λ x. (own_key place x ≡ key_cells place) × WithinAt place x)
+    → IfSome (held_in r place) (λ x. (own_key place x ≡ key_cells place) × WithinAt place x)
 sound_at r sound (Inspection id n) = IfSome_then (get r.inspections (id, n)) (sound.inspections (id, n))
     (λ x at. (ap (inspection_key id) at.number, at.within))
 sound_at r sound (Order id n) = IfSome_then (get r.orders (id, n)) (sound.orders (id, n))
@@ -68,17 +61,17 @@ sound_at r sound (Delivery code n) = IfSome_then (get r.deliveries (code, n)) (s
 -- ---- what is read
 
 module _ (tables : Content) (r : Register) (stands : RegisterStandsSound tables r) where
-  pub register_reads : (place : Place) → ReadsAt tables place (standing_at r place)
+  pub register_reads : (place : Place) → ReadsAt tables place (held_in r place)
   register_reads place = record {
     stored = held_at tables r stands.stand place;
-    keyed = IfSome_then (standing_at r place) (sound_at r stands.sound place) (λ x at. at.0);
+    keyed = IfSome_then (held_in r place) (sound_at r stands.sound place) (λ x at. at.0);
   }
 
   -- what is read at a place is the register's
   pub stands_at : (place : Place) (there : Option (RecordAt place)) → ReadsAt tables place there
-      → there ≡ standing_at r place
+      → there ≡ held_in r place
   stands_at place there reads =
-      reads_tell tables place there (standing_at r place) reads (register_reads place)
+      reads_tell tables place there (held_in r place) reads (register_reads place)
 
   -- and so is what is read under a command's keys
   pub keys_stand : (command : RecordCommand) (there : Standing command)

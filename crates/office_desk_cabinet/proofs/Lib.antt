@@ -4,7 +4,6 @@ pub mod Found
 pub mod Changed
 pub mod KeyTies
 pub mod PendingLemmas
-pub mod Stocked
 pub mod Undamaged
 pub mod Places
 pub mod Lines

@@ -8,23 +8,29 @@ use Rattle.cabinet_core.specs.declared.decide.CabinetChange.TheVariants as chang
 use Rattle.cabinet_core.specs.declared.decide.Recorded.TheVariants as recorded
 use Rattle.cabinet_core.specs.declared.refusal.CabinetRefusal.TheVariants as refusal
 use Rattle.office_tables_shelf.specs.{Change.changed, Change.changed_by, Content.Content, Counts.writes_in, declared.rows.RowChange.RowChange, declared.rows.Table.Table}
-use Rattle.office_desk_cabinet.specs.{RegisterStands.RegisterStandsSound, Registers.line_told, Registers.rows_told, Registers.RegistersFrom, Registers.LeavesTiming, Telling.order_row_of, Telling.row_change_of, Telling.row_changes_of, Telling.Tells, declared.registered.Registered.Registered}
-use Rattle.office_desk_cabinet.proofs.Lines.{rows_for}
+use Rattle.office_desk_cabinet.specs.{RegisterStands.RegisterStandsSound, Registers.line_told, Registers.rows_told, Registers.RegistersFrom, Registers.LeavesTiming, Telling.order_row_of, Telling.Tells, declared.registered.Registered.Registered}
+use Rattle.office_desk_cabinet.proofs.Lines.{own_row, own_rows, rows_for}
 use Rattle.office_desk_cabinet.proofs.Changed.{stand_changed}
 
 -- what is told is the line, with the rows of its changes
 pub record IsTold (id : ℕ) (line : Line) (list : List CabinetChange) (told : Registered) : Type 0 where
   pub same_line : line_told told ≡ line
-  pub same_rows : rows_told told ≡ rows_for line (row_changes_of id list)
+  pub same_rows : rows_told told ≡ rows_for line (own_rows id list)
 
-told_as : (id : ℕ) (line now : Line) (list : List CabinetChange) (told : Registered) → line ≡ now → line_told told ≡ now → rows_told told ≡ rows_for now (row_changes_of id list) → IsTold id line list told
+told_as : (id : ℕ) (line now : Line) (list : List CabinetChange) (told : Registered) → line ≡ now → line_told told ≡ now → rows_told told ≡ rows_for now (own_rows id list) → IsTold id line list told
 told_as id line now list told is says rows = record {
   same_line = says ∙ sym is;
-  same_rows = rows ∙ sym (ap (λ (l : Line). rows_for l (row_changes_of id list)) is);
+  same_rows = rows ∙ sym (ap (λ (l : Line). rows_for l (own_rows id list)) is);
 }
 
-pub told_by : (id : ℕ) (line : Line) (list : List CabinetChange) (decision : Result Recorded CabinetRefusal) (told : Registered) → Records decision line list → Tells id decision told → IsTold id line list told
-told_by id line list (Ok (recorded.Added changes)) told is tells = told_as id line added list told is.0 tells.0 (tells.1 ∙ ap (row_changes_of id) is.1)
+-- other rows of the same changes
+pub tells_as : (rows other : List CabinetChange → List RowChange) (list : List CabinetChange) (line : Line) (decision : Result Recorded CabinetRefusal) (told : Registered)
+    → rows list ≡ other list → Records decision line list → Tells rows decision told → Tells other decision told
+tells_as rows other list line (Ok (recorded.Added changes)) told alike is tells = (tells.0, tells.1 ∙ ap rows is.1 ∙ alike ∙ sym (ap other is.1))
+tells_as rows other list line _ told alike is tells = tells
+
+pub told_by : (id : ℕ) (line : Line) (list : List CabinetChange) (decision : Result Recorded CabinetRefusal) (told : Registered) → Records decision line list → Tells (own_rows id) decision told → IsTold id line list told
+told_by id line list (Ok (recorded.Added changes)) told is tells = told_as id line added list told is.0 tells.0 (tells.1 ∙ ap (own_rows id) is.1)
 told_by id line list (Ok recorded.Same) told is tells = told_as id line same list told is (ap line_told tells) (ap rows_told tells)
 told_by id line list (Err refusal.NoMemory) told is tells = absurd (tells.0 refl)
 told_by id line list (Err why) told is tells = told_as id line _ list told is (ap line_told tells.1) (ap rows_told tells.1)
@@ -41,7 +47,7 @@ registers_as tables r command now rows told is says rows_are stands = record {
 
 -- the rows of a decision make the tables stand for the register that the decision makes
 pub registers_from : (tables : Content) (r : Register) (command : RecordCommand) (id : ℕ) (decision : Result Recorded CabinetRefusal) (told : Registered)
-    → RegisterStandsSound tables r → MakesIn id r command decision → Tells id decision told → RegistersFrom tables command told r
+    → RegisterStandsSound tables r → MakesIn id r command decision → Tells (own_rows id) decision told → RegistersFrom tables command told r
 registers_from tables r command id (Ok (recorded.Added changes)) told stands makes tells =
     registers_as tables r command added _ told makes.0 tells.0 tells.1
     (record { stand = stand_changed tables r (with_record r command) id changes.items stands.stand makes.1; sound = makes.1.sound })
@@ -57,18 +63,18 @@ order_leaves tables id order None = record { intersection = refl; timing = refl;
 order_leaves tables id order (Some closing) =
     record { intersection = refl; timing = refl; draft = refl }
 
-row_leaves : (tables : Content) (id : ℕ) (c : CabinetChange) → LeavesTiming tables (row_change_of id c ∷ [])
+row_leaves : (tables : Content) (id : ℕ) (c : CabinetChange) → LeavesTiming tables (own_row id c ∷ [])
 row_leaves tables id (change.PutOrder order) = order_leaves tables id order order.closing
 row_leaves tables id _ = record { intersection = refl; timing = refl; draft = refl }
 
-rows_leave : (tables : Content) (id : ℕ) (list : List CabinetChange) → LeavesTiming tables (row_changes_of id list)
+rows_leave : (tables : Content) (id : ℕ) (list : List CabinetChange) → LeavesTiming tables (own_rows id list)
 rows_leave tables id [] = record { intersection = refl; timing = refl; draft = refl }
 rows_leave tables id (c ∷ list) =
     let first = row_leaves tables id c in
-    let later = rows_leave (changed tables (row_change_of id c)) id list in
+    let later = rows_leave (changed tables (own_row id c)) id list in
     record { intersection = later.intersection ∙ first.intersection; timing = later.timing ∙ first.timing; draft = later.draft ∙ first.draft }
 
-pub tells_leaves : (tables : Content) (id : ℕ) (decision : Result Recorded CabinetRefusal) (told : Registered) → Tells id decision told → LeavesTiming tables (rows_told told)
+pub tells_leaves : (tables : Content) (id : ℕ) (decision : Result Recorded CabinetRefusal) (told : Registered) → Tells (own_rows id) decision told → LeavesTiming tables (rows_told told)
 tells_leaves tables id (Ok (recorded.Added changes)) told tells = subst (LeavesTiming tables) (sym tells.1) (rows_leave tables id changes.items)
 tells_leaves tables id (Ok recorded.Same) told tells = subst (LeavesTiming tables) (sym (ap rows_told tells)) (rows_leave tables id [])
 tells_leaves tables id (Err why) told tells = subst (LeavesTiming tables) (sym (ap rows_told tells.1)) (rows_leave tables id [])

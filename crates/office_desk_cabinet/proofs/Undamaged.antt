@@ -16,8 +16,9 @@ use Rattle.office_desk_cabinet.specs.RegisterStands.{inspection_cells, order_cel
 use Rattle.cabinet_core.specs.declared.command.RecordCommand.TheVariants.{Inspect, OpenOrder, UsePart, CloseOrder, Receive}
 use Rattle.office_tables_decisions.specs.Damage.{MeetsRecordDamage}
 use Rattle.office_tables_shelf.specs.Places.{DamagedAt, Place, Inspection, Order, Line, Part, Delivery}
+use Rattle.office_desk_cabinet.specs.Registers.{held_in}
 use Rattle.office_desk_cabinet.proofs.Places.{whole_at}
-use Rattle.office_desk_cabinet.proofs.Found.{hand_within, register_reads, sound_at, standing_at}
+use Rattle.office_desk_cabinet.proofs.Found.{hand_within, register_reads, sound_at}
 
 -- ---- rows of an intersection
 
@@ -61,9 +62,9 @@ no_damaged_part tables r stands damaged =
 
 module _ (tables : Content) (r : Register) (stands : RegisterStandsSound tables r) where
   no_damaged_at : (place : Place) → DamagedAt tables place → ⊥
-  no_damaged_at place = whole_at tables place (standing_at r place)
+  no_damaged_at place = whole_at tables place (held_in r place)
       (register_reads tables r stands place)
-      (IfSome_then (standing_at r place) (sound_at r stands.sound place) (λ x at. at.1))
+      (IfSome_then (held_in r place) (sound_at r stands.sound place) (λ x at. at.1))
 
   -- no row that a command reads keeps it from being answered
   pub undamaged_record : (command : RecordCommand) → MeetsRecordDamage tables command → ⊥

@@ -2,5 +2,4 @@ pub use Rattle.office_tables_shelf.specs.RegisterStands
 pub mod Puts
 pub mod Registers
 pub mod Telling
-pub mod Stocking
 pub mod Decides

@@ -1,12 +1,15 @@
 -- What a decision on the register gives, on tables that stand for one, and what its queries show.
-use Rattle.std.specs.Prelude.{◌≡◌, ℕ, List, [], Result, Ok, Err}
-use Rattle.cabinet_core.specs.Cabinet.{Line, added, same, refused}
+use Rattle.std.specs.Prelude.{◌≡◌, ℕ, List, [], Option, Result, Ok, Err}
+use Rattle.std.specs.FinMap.{get}
+use Rattle.cabinet_core.specs.Cabinet.{Line as TableLine, added, same, refused}
 use Rattle.cabinet_core.specs.Register.{Register, records_at}
 use Rattle.cabinet_core.specs.Step.{line_at, after_record}
+use Rattle.cabinet_core.specs.Stock.{hand_of}
 use Rattle.cabinet_core.specs.declared.command.RecordCommand.{RecordCommand}
 use Rattle.cabinet_core.specs.declared.record.CabinetView.{CabinetView}
 use Rattle.office_tables_shelf.specs.Change.{changed_by}
 use Rattle.office_tables_shelf.specs.Content.{Content}
+use Rattle.office_tables_shelf.specs.Places.{Place, Inspection, Order, Line, Part, Delivery, RecordAt}
 use Rattle.office_tables_shelf.specs.declared.rows.RowChange.{RowChange}
 use Rattle.office_tables_shelf.specs.declared.shelf.ShelfFault.{ShelfFault}
 use Rattle.office_tables_shelf.specs.declared.shelf.ShelfFault.TheVariants.{NoMemory, Store, Damaged}
@@ -17,7 +20,7 @@ use Rattle.office_desk_cabinet.specs.declared.registered.Registered.{Registered}
 use Rattle.office_desk_cabinet.specs.declared.registered.Registered.TheVariants.{Added, Same, Refused}
 
 -- the line of the register's table of decisions that is told: added, the same, or a refusal
-abbrev pub line_told : Registered → Line
+abbrev pub line_told : Registered → TableLine
 line_told (Added changes) = added
 line_told Same = same
 line_told (Refused refusal) = refused refusal
@@ -45,6 +48,14 @@ pub record LeavesTiming (tables : Content) (changes : List RowChange) : Type 0 w
   pub intersection : (changed_by tables changes).intersection ≡ tables.intersection
   pub timing : (changed_by tables changes).timing ≡ tables.timing
   pub draft : (changed_by tables changes).draft ≡ tables.draft
+
+-- what a register holds at a place, if it holds anything there
+abbrev pub held_in : Register → (place : Place) → Option (RecordAt place)
+held_in r (Inspection id n) = get r.inspections (id, n)
+held_in r (Order id n) = get r.orders (id, n)
+held_in r (Line id order line) = get r.lines (id, (order, line))
+held_in r (Part code) = hand_of r code
+held_in r (Delivery code n) = get r.deliveries (code, n)
 
 -- the view has what the register holds of an intersection: its inspections, its orders and its used parts, each in the order of their keys
 pub record ShowsCabinet (r : Register) (id : ℕ) (view : CabinetView) : Type 0 where

@@ -1,5 +1,6 @@
--- How a decision of the register is told, with its changes as rows of an intersection.
-use Rattle.std.specs.Prelude.{◌≡◌, ◌≢◌, ℕ, List, map, Option, Some, None, Result, Ok, Err}
+-- How a decision of the register is told, with its changes as rows.
+use Rattle.std.specs.Prelude.{◌≡◌, ◌≢◌, ℕ, List, Option, Some, None, Result, Ok, Err}
+use Rattle.std.specs.{List.filter_map, Option.option_map}
 use Rattle.cabinet_core.specs.Cabinet.{added}
 use Rattle.cabinet_core.specs.declared.decide.CabinetChange.{CabinetChange}
 use Rattle.cabinet_core.specs.declared.decide.CabinetChange.TheVariants as change
@@ -20,17 +21,17 @@ abbrev pub order_row_of : ℕ → Order → Option Closing → RowChange
 order_row_of id order None = AddOrder id order
 order_row_of id order (Some closing) = PutOrder id order
 
--- a change of the register as a row; parts and deliveries are of no intersection
-abbrev pub row_change_of : ℕ → CabinetChange → RowChange
-row_change_of id (change.PutInspection inspection) = AddInspection id inspection
-row_change_of id (change.PutOrder order) = order_row_of id order order.closing
-row_change_of id (change.PutLine line) = AddLine id line
-row_change_of id (change.PutPart code hand) = PutPart code hand
-row_change_of id (change.PutDelivery delivery) = AddDelivery delivery
+-- a change of the register as a row; parts and deliveries are of no intersection, and any other change is no row where there is none
+abbrev pub row_change_of : Option ℕ → CabinetChange → Option RowChange
+row_change_of about (change.PutInspection inspection) = option_map (λ id. AddInspection id inspection) about
+row_change_of about (change.PutOrder order) = option_map (λ id. order_row_of id order order.closing) about
+row_change_of about (change.PutLine line) = option_map (λ id. AddLine id line) about
+row_change_of about (change.PutPart code hand) = Some (PutPart code hand)
+row_change_of about (change.PutDelivery delivery) = Some (AddDelivery delivery)
 
--- changes of the register as rows of an intersection, in their order
-abbrev pub row_changes_of : ℕ → List CabinetChange → List RowChange
-row_changes_of id = map (row_change_of id)
+-- changes of the register as rows, in their order
+abbrev pub row_changes_of : Option ℕ → List CabinetChange → List RowChange
+row_changes_of about = filter_map (row_change_of about)
 
 -- what is told of this decision may be refused memory: it adds records, or was itself refused memory
 abbrev pub WantsMemory : Result Recorded CabinetRefusal → Type 0
@@ -38,8 +39,8 @@ WantsMemory (Ok (recorded.Added changes)) = Unit {0}
 WantsMemory (Ok recorded.Same) = ⊥
 WantsMemory (Err refusal) = refusal ≡ NoMemory
 
--- how a decision is told: what it adds as rows of the intersection, and a refusal as it is, which is never for want of memory
-abbrev pub Tells : ℕ → Result Recorded CabinetRefusal → Registered → Type 0
-Tells id (Ok (recorded.Added changes)) told = (line_told told ≡ added) × (rows_told told ≡ row_changes_of id changes.items)
-Tells id (Ok recorded.Same) told = told ≡ Same
-Tells id (Err refusal) told = (refusal ≢ NoMemory) × (told ≡ Refused refusal)
+-- how a decision is told: what it adds as these rows, and a refusal as it is, which is never for want of memory
+abbrev pub Tells : (rows : List CabinetChange → List RowChange) → Result Recorded CabinetRefusal → Registered → Type 0
+Tells rows (Ok (recorded.Added changes)) told = (line_told told ≡ added) × (rows_told told ≡ rows changes.items)
+Tells rows (Ok recorded.Same) told = told ≡ Same
+Tells rows (Err refusal) told = (refusal ≢ NoMemory) × (told ≡ Refused refusal)

@@ -32,7 +32,7 @@ pub(crate) fn decide_inspect<S: Shelf>(
     let there = RegisterRecord::inspection(found);
     let _number = id.get();
     let decision = inspect(alloc, &there, inspection);
-    report_record(alloc, id, decision)
+    report_record(alloc, Some(id), decision)
 }
 
 /// Decides whether an order on an intersection is opened: `OrderDiffers` where one of its number
@@ -52,7 +52,7 @@ pub(crate) fn decide_open_order<S: Shelf>(
     let found = record_at(shelf, alloc, pending, &key)?;
     let there = RegisterRecord::order(found);
     let decision = open_order(alloc, &there, opening);
-    report_record(alloc, id, decision)
+    report_record(alloc, Some(id), decision)
 }
 
 /// Decides whether this order on an intersection is closed: the first that holds of
@@ -73,5 +73,5 @@ pub(crate) fn decide_close_order<S: Shelf>(
     let found = record_at(shelf, alloc, pending, &key)?;
     let there = RegisterRecord::order(found);
     let decision = close_order(alloc, &there, closing);
-    report_record(alloc, id, decision)
+    report_record(alloc, Some(id), decision)
 }

@@ -19,48 +19,53 @@ fn order_row(id: InterId, order: Order) -> RowChange
     }
 }
 
-/// A change of the register as a row of this intersection; parts and deliveries are of none.
-fn row_change(id: InterId, change: CabinetChange) -> RowChange
-    ensures { result ≡ row_change_of id change }
+/// A change of the register as a row. Parts and deliveries are of no intersection; any other change
+/// is of this one, and is no row where there is none.
+fn row_change(about: &Option<InterId>, change: CabinetChange) -> Option<RowChange>
+    ensures { result ≡ row_change_of about.now change }
 {
     match change {
-        CabinetChange::PutInspection(inspection) => RowChange::AddInspection(id, inspection),
-        CabinetChange::PutOrder(order) => order_row(id, order),
-        CabinetChange::PutLine(line) => RowChange::AddLine(id, line),
-        CabinetChange::PutPart(code, hand) => RowChange::PutPart(code, hand),
-        CabinetChange::PutDelivery(delivery) => RowChange::AddDelivery(delivery),
+        CabinetChange::PutInspection(inspection) => {
+            Some(RowChange::AddInspection((*about)?, inspection))
+        }
+        CabinetChange::PutOrder(order) => Some(order_row((*about)?, order)),
+        CabinetChange::PutLine(line) => Some(RowChange::AddLine((*about)?, line)),
+        CabinetChange::PutPart(code, hand) => Some(RowChange::PutPart(code, hand)),
+        CabinetChange::PutDelivery(delivery) => Some(RowChange::AddDelivery(delivery)),
     }
 }
 
-/// Changes of the register as rows of this intersection, in their order.
+/// Changes of the register as rows, in their order.
 fn row_changes(
     alloc: Global,
-    id: InterId,
+    about: &Option<InterId>,
     changes: Vec<CabinetChange>,
 ) -> Result<Vec<RowChange>, NoMemory>
-    ensures { IfOk result (λ made. made.items ≡ row_changes_of id changes.items) }
+    ensures { IfOk result (λ made. made.items ≡ row_changes_of about.now changes.items) }
 {
     let mut made = Vec::new(alloc);
     for change in changes {
-        made.push(row_change(id, change))?;
+        if let Some(row) = row_change(about, change) {
+            made.push(row)?;
+        }
     }
     Ok(made)
 }
 
-/// How a decision on an intersection's records is told, with its changes as rows. Want of memory is
-/// the fault `NoMemory`.
+/// How a decision on the records of this intersection, or of none, is told, with its changes as
+/// rows. Want of memory is the fault `NoMemory`.
 pub(crate) fn report_record(
     alloc: Global,
-    id: InterId,
+    about: Option<InterId>,
     decision: Result<Recorded, CabinetRefusal>,
 ) -> Result<Registered, ShelfFault>
-    ensures tells { IfOk result (λ told. Tells id decision told) }
+    ensures tells { IfOk result (λ told. Tells (row_changes_of about) decision told) }
     ensures fault { OnErr result (result ≡ Err ShelfFault.NoMemory) }
     ensures wants { OnErr result (WantsMemory decision) }
 {
     match decision {
         Ok(Recorded::Added(changes)) => {
-            let rows = row_changes(alloc, id, changes)?;
+            let rows = row_changes(alloc, &about, changes)?;
             Ok(Registered::Added(rows))
         }
         Ok(Recorded::Same) => Ok(Registered::Same),

@@ -1,5 +1,5 @@
 //! The stock: parts used, deliveries received, and what is on hand.
-ghost use Rattle.std.specs.Prelude.{◌≡◌, IfOk, OnErr, [], ⊤};
+ghost use Rattle.std.specs.Prelude.{◌≡◌, [], ⊤};
 ghost use Rattle.cabinet_core.specs.Register.{Register};
 ghost use Rattle.cabinet_core.specs.Stock.{stock_of};
 ghost use Rattle.cabinet_core.specs.declared.command.RecordCommand.{RecordCommand};
@@ -7,21 +7,15 @@ ghost use Rattle.office_tables_shelf.specs.CabinetReads.{HasDamagedPart};
 ghost use Rattle.office_tables_decisions.specs.Reads.{OnlyReads, Reports};
 ghost use Rattle.office_desk_cabinet.specs.RegisterStands.{RegisterStandsSound};
 ghost use Rattle.office_desk_cabinet.specs.Decides.{DecidesRecord};
-ghost use Rattle.office_desk_cabinet.specs.Stocking.{TellsStock, stock_row_of, stock_rows_of};
-ghost use Rattle.office_desk_cabinet.specs.Telling.{WantsMemory};
 
 use crate::pending::Pending;
 use crate::registered::Registered;
 use crate::rows::report_record;
 use crate::standing::record_at;
-use cabinet_core::{
-    CabinetChange, CabinetRefusal, Delivery, Hand, PartCode, RecordCommand, Recorded, UsedLine,
-    receive, use_part,
-};
+use cabinet_core::{Delivery, Hand, PartCode, RecordCommand, UsedLine, receive, use_part};
 use office_tables_shelf::register::{RegisterKey, RegisterRecord};
-use office_tables_shelf::rows::RowChange;
 use office_tables_shelf::shelf::{Shelf, ShelfFault};
-use signal_records::{InterId, NoMemory};
+use signal_records::InterId;
 use std::alloc::Global;
 
 /// Decides whether a part is used for an order on an intersection: the first that holds of
@@ -44,52 +38,7 @@ pub(crate) fn decide_use_part<S: Shelf>(
     let key = RegisterKey::Order(id, line.order);
     let order = RegisterRecord::order(record_at(shelf, alloc, pending, &key)?);
     let decision = use_part(alloc, &there, &order, hand, line);
-    report_record(alloc, id, decision)
-}
-
-/// A change of a part or a delivery as a row; none for other changes, which are of an intersection.
-fn stock_row(change: CabinetChange) -> Option<RowChange>
-    ensures { result ≡ stock_row_of change }
-{
-    match change {
-        CabinetChange::PutPart(code, hand) => Some(RowChange::PutPart(code, hand)),
-        CabinetChange::PutDelivery(delivery) => Some(RowChange::AddDelivery(delivery)),
-        _ => None,
-    }
-}
-
-/// The changes of parts and deliveries as rows, in their order; other changes are left out.
-fn stock_rows(alloc: Global, changes: Vec<CabinetChange>) -> Result<Vec<RowChange>, NoMemory>
-    ensures { IfOk result (λ made. made.items ≡ stock_rows_of changes.items) }
-{
-    let mut made = Vec::new(alloc);
-    for change in changes {
-        if let Some(row) = stock_row(change) {
-            made.push(row)?;
-        }
-    }
-    Ok(made)
-}
-
-/// How a decision on a delivery is told, with its changes as rows. Want of memory is the fault
-/// `NoMemory`.
-fn report_delivery(
-    alloc: Global,
-    decision: Result<Recorded, CabinetRefusal>,
-) -> Result<Registered, ShelfFault>
-    ensures tells { IfOk result (λ told. TellsStock decision told) }
-    ensures fault { OnErr result (result ≡ Err ShelfFault.NoMemory) }
-    ensures wants { OnErr result (WantsMemory decision) }
-{
-    match decision {
-        Ok(Recorded::Added(changes)) => {
-            let rows = stock_rows(alloc, changes)?;
-            Ok(Registered::Added(rows))
-        }
-        Ok(Recorded::Same) => Ok(Registered::Same),
-        Err(CabinetRefusal::NoMemory) => Err(ShelfFault::NoMemory),
-        Err(refusal) => Ok(Registered::Refused(refusal)),
-    }
+    report_record(alloc, Some(id), decision)
 }
 
 /// Decides whether a delivery is received: the first that holds of `DeliveryDiffers` and
@@ -109,7 +58,7 @@ pub(crate) fn decide_receive<S: Shelf>(
     let key = RegisterKey::Delivery(&delivery.part, delivery.number);
     let there = RegisterRecord::delivery(record_at(shelf, alloc, pending, &key)?);
     let decision = receive(alloc, &there, hand, delivery);
-    report_delivery(alloc, decision)
+    report_record(alloc, None, decision)
 }
 
 /// The parts that were ever delivered, with how many are on hand of each, in the order of their

@@ -1,11 +1,10 @@
-use Rattle.std.proofs.Common.{◌≡◌, ◌+◌, ◌⊎◌, arith, refl, subst, subst₂, sym}
-use Rattle.office_tables_decisions.specs.Damage.{MeetsRecordDamage}
-use Rattle.office_desk.specs.{Checking.ChecksRecord, Recording.AreFound, Recording.HasDamagedAbout}
+use Rattle.std.proofs.Common.{◌≡◌, ◌+◌, arith, refl, subst, subst₂, sym}
+use Rattle.office_desk.specs.{Checking.ChecksRecord, Damage.MeetsCabinetDamage, Recording.AreFound}
 use Rattle.office_machine.specs.Step.{cabinet_of}
 use Rattle.office_tables_shelf.specs.Content.{Content}
-use Rattle.office_desk.proofs.TriedRecords.{CheckedSoFar, checked_more, damage_in_check, none_checked}
+use Rattle.office_desk.proofs.TriedRecords.{CheckedSoFar, checked_more, none_checked}
 use Rattle.office_tables_decisions.proofs.ReadLemmas.{handed_reports, handed_told, unread}
-use Rattle.office_desk.proofs.Imports.{is_next, some_read, taken_reads}
+use Rattle.office_desk.proofs.Imports.{damage_of_record, is_next, some_read, taken_reads}
 use Rattle.office_desk.proofs.FoundAgain.{none_found}
 use Rattle.office_desk.proofs.checking.check_records.Goals as goal
 
@@ -53,8 +52,8 @@ returns-in_err-one-clause-checks g c = handed_reports _ _ _ _ _ c.from_residual.
     let item = c.command-item.result in
     let next = is_next index item refl c.loop-command-test.true c.command-item.is in
     let first = c.check_record.ensures.reads.kept.honest_before honest in
-    damage_in_check (g.S.Shelf.content c.args.shelf.now) c.args.records.now index item next
-    (subst (λ (tables : Content). HasDamagedAbout tables (cabinet_of item) ⊎ MeetsRecordDamage tables item)
+    damage_of_record (g.S.Shelf.content c.args.shelf.now) c.args.records.now index item next
+    (subst (λ (tables : Content). MeetsCabinetDamage tables item (cabinet_of item))
     (c.loop-command.invariant.reads.kept.same_content first) (c.in_err-one.ensures.checks damaged honest)))
 
 pub returns-in_err-one-clause-reads : goal.returns-in_err-one-clause-reads

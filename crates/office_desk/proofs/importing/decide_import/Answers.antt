@@ -1,9 +1,10 @@
 use Rattle.std.proofs.Common.{◌≡◌, ◌+◌, ◌≤◌, ◌∙◌, List, length, inl, inr, ap, sym, refl, subst, arith}
 use Rattle.cabinet_core.specs.declared.command.RecordCommand.{RecordCommand}
 use Rattle.office_tables_decisions.proofs.ReadLemmas.{handed_told, unread}
-use Rattle.office_desk.specs.{Damage.MeetsCabinetDamage, Recording.AreFound, Importing.LeavesAnyTiming}
+use Rattle.office_desk.specs.{Damage.MeetsCabinetDamage, Recording.AreFound, Taking.LeavesAnyTiming, Taking.TakesInTurn}
 use Rattle.office_machine.specs.{Step.cabinet_of, declared.reply.Reply.TheVariants.Imported}
-use Rattle.office_desk.proofs.Imports.{SoFar, WentOn, counted_on, damage_of_record, import_decides, is_next, none_next, nothing_leaves, nothing_written, nothing_yet, one_more, refused_all, refused_decides, some_read, taken_reads, takes_so, writes_left, writes_whole}
+use Rattle.office_desk.proofs.Imports.{SoFar, WentOn, counted_on, damage_of_record, import_decides, is_next, none_next, nothing_written, nothing_yet, one_more, refused_all, refused_decides, some_read, taken_reads, writes_left, writes_whole}
+use Rattle.office_desk.proofs.Recorded.{nothing_leaves}
 use Rattle.office_desk.proofs.FoundAgain.{none_found}
 use Rattle.office_tables_decisions.proofs.Decisions.{handed_decides}
 use Rattle.office_desk.proofs.importing.decide_import.Goals.{in-Added, in-Same}
@@ -51,7 +52,7 @@ loop-index-preserved g c =
       so_far = λ honest.
           let first = c.take_record.ensures.reads.kept.honest_before honest in
           one_more _ all index c.loop-index.added c.loop-index.same before c.in_ok-taken.next item t (c.loop-index.invariant.so_far first) next
-          (takes_so (c.loop-index.invariant.reads.kept.same_content first) (told.takes honest)) _ _ came;
+          (subst (λ tables. TakesInTurn tables before item t c.in_ok-taken.next) (c.loop-index.invariant.reads.kept.same_content first) (told.takes honest)) _ _ came;
       found = λ honest.
           let first = c.take_record.ensures.reads.kept.honest_before honest in
           subst (λ tables. AreFound tables c.take_record.new.found) (c.loop-index.invariant.reads.kept.same_content first)
@@ -88,7 +89,7 @@ returns-in-Refused g c =
     let told = c.in_ok-taken.ensures in
     let first = c.take_record.ensures.reads.kept.honest_before in
     let takes = λ (honest : shelf.is_honest c.take_record.new.shelf).
-    takes_so (inv.reads.kept.same_content (first honest)) (told.takes honest) in
+    subst (λ tables. TakesInTurn tables c.loop-index.pending item c.in_ok-taken.taken c.in_ok-taken.next) (inv.reads.kept.same_content (first honest)) (told.takes honest) in
     record {
       decides = refused_decides _ _ all (c.loop-index.index + 1) _ _
           (λ honest office stands. refused_all _ all c.loop-index.index c.loop-index.added c.loop-index.same c.loop-index.pending c.in_ok-taken.next item c.in_ok-taken.taken

@@ -1,7 +1,7 @@
 use Rattle.std.proofs.Common.{◌≡◌, ◌≢◌, ◌+◌, ◌≤◌, [], drop}
 use Rattle.office_tables_shelf.specs.{Counts.writes_in, declared.rows.Table.Table}
 use Rattle.office_tables_decisions.proofs.ReadLemmas.{HasRead}
-use Rattle.office_desk.specs.{Changes.most_import_writes, Importing.LeavesAnyTiming, Recording.AreFound}
+use Rattle.office_desk.specs.{Changes.most_import_writes, Recording.AreFound, Taking.LeavesAnyTiming}
 use Rattle.office_desk.proofs.Imports.{SoFar}
 use Rattle.office_desk.proofs.importing.decide_import.Given as goal
 

@@ -1,10 +1,43 @@
-use Rattle.office_desk.proofs.Taking.{takes_decided, within_decided}
+use Rattle.std.proofs.Common.{◌∙◌, Bool, Ok, ap, subst, sym, true}
+use Rattle.office_machine.specs.Step.{cabinet_of}
+use Rattle.office_tables_decisions.proofs.ReadLemmas.{handed_reports, handed_told, told_on}
+use Rattle.office_desk.specs.Recording.{TellsIntersection}
+use Rattle.office_desk.proofs.{FoundAgain.not_told, FoundAgain.told_there, Recorded.about_tells, Taking.takes_unknown, Taking.within_unknown}
 use Rattle.office_desk.proofs.importing.take_record.Goals as goal
 
-pub returns-clause-takes : goal.returns-clause-takes
-returns-clause-takes g c =
-    takes_decided _ _ _ _ _ _ _ c.in_ok-decided.ensures.decides c.in_ok-taken.ensures.taken c.in_ok-taken.ensures.rows
+-- ---- the intersection is not there
 
-pub returns-clause-within : goal.returns-clause-within
-returns-clause-within g c =
-    within_decided _ _ _ _ _ _ _ c.in_ok-decided.ensures.decides c.in_ok-taken.ensures.taken c.in_ok-taken.ensures.rows
+pub returns-then-not-branch-clause-takes : goal.returns-then-not-branch-clause-takes
+returns-then-not-branch-clause-takes g c = λ honest.
+    takes_unknown _ c.args.pending c.args.command.now (about_tells _ _ _ _ _ c.cabinet_of.ensures c.if-not-branch.true (c.in_ok-is_found.ensures.tells honest))
+
+pub returns-then-not-branch-clause-within : goal.returns-then-not-branch-clause-within
+returns-then-not-branch-clause-within g c = within_unknown c.args.pending c.args.command.now
+    (rw c.cabinet_of.ensures at (c.is_found.ensures.asked (c.in_ok-is_found.was ∙ ap (λ (b : Bool). Ok b) c.if-not-branch.true)))
+
+pub returns-then-not-branch-clause-reads : goal.returns-then-not-branch-clause-reads
+returns-then-not-branch-clause-reads g c =
+    told_on _ _ _ (Ok c.in_ok-is_found.field-0) _ _ _ c.in_ok-is_found.ensures.reads (not_told (Ok c.in_ok-is_found.field-0) c.if-not-branch.true) (λ told. tt)
+
+pub returns-in_err-is_found-clause-reads : goal.returns-in_err-is_found-clause-reads
+returns-in_err-is_found-clause-reads g c =
+    told_on _ _ _ _ c.from_residual.result _ _ c.is_found.ensures.reads (not_told c.is_found.result (ap told_there c.in_err-is_found.was))
+    (handed_told _ _ c.in_err-is_found.field-0.0 c.in_err-is_found.was c.from_residual.ensures.1)
+
+-- ---- it is there
+
+pub take_known-requires : goal.take_known-requires
+take_known-requires g c = λ honest.
+    subst (λ tables. TellsIntersection tables (cabinet_of c.args.command.now) true) (sym (c.is_found.ensures.reads.kept.same_content honest))
+    (about_tells _ _ _ _ _ c.cabinet_of.ensures c.if-not-branch.false (c.in_ok-is_found.ensures.tells honest))
+
+pub returns-clause-takes : goal.returns-clause-takes
+returns-clause-takes g c = λ honest.
+    rw (c.is_found.ensures.reads.kept.same_content (c.take_known.ensures.reads.kept.honest_before honest)) at (c.in_ok-taken.ensures.takes honest)
+
+pub returns-clause-found : goal.returns-clause-found
+returns-clause-found g c = λ honest. c.in_ok-is_found.ensures.found (c.take_known.ensures.reads.kept.honest_before honest)
+
+pub returns-in_err-taken-clause-takes : goal.returns-in_err-taken-clause-takes
+returns-in_err-taken-clause-takes g c = handed_reports _ _ _ _ _ c.from_residual-in_err-taken.ensures.1 (λ damaged honest.
+    rw (c.is_found.ensures.reads.kept.same_content (c.take_known.ensures.reads.kept.honest_before honest)) at (c.in_err-taken.ensures.takes damaged honest))

@@ -1,3 +1,4 @@
+use Rattle.std.proofs.Common.{Some, refl}
 use Rattle.cabinet_core.specs.declared.command.RecordCommand.TheVariants.{OpenOrder}
 use Rattle.office_tables_shelf.specs.Places as place
 use Rattle.office_desk_cabinet.proofs.{Decided.decided, PendingLemmas.taken_reads}
@@ -6,7 +7,7 @@ use Rattle.office_desk_cabinet.proofs.records.decide_open_order.Goals as goal
 pub returns-clause-decides : goal.returns-clause-decides
 returns-clause-decides g c =
     let says = c.open_order-decision.ensures in
-    decided 0 _ _ _ (OpenOrder c.args.id c.args.opening.now) c.order-there.result
+    decided (Some c.args.id) _ _ _ (OpenOrder c.args.id c.args.opening.now) c.order-there.result
     c.open_order-decision.result c.report_record.result
     (λ honest. taken_reads _ (place.Order c.args.id c.args.opening.now.number) _ _ c.order-there.ensures (c.in_ok-found.ensures.row honest))
-    says.line (says.makes c.args.id) c.report_record.ensures.tells c.report_record.ensures.fault
+    says.line (says.makes c.args.id) refl c.report_record.ensures.tells c.report_record.ensures.fault

@@ -5,4 +5,4 @@ use Rattle.office_desk_cabinet.proofs.rows.row_changes.Given as goal
 
 -- the rows so far, and those of the changes that are left
 abbrev pub invariant-loop-change : goal.invariant-loop-change
-invariant-loop-change l = l.made.items ++ row_changes_of l.id (into_iter_items l.change-iterator) ≡ row_changes_of l.id l.fn.changes.items
+invariant-loop-change l = l.made.items ++ row_changes_of l.about (into_iter_items l.change-iterator) ≡ row_changes_of l.about l.fn.changes.items

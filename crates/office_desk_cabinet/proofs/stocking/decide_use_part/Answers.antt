@@ -1,4 +1,4 @@
-use Rattle.std.proofs.Common.{subst, ◌∙◌}
+use Rattle.std.proofs.Common.{Some, refl, subst, ◌∙◌}
 use Rattle.cabinet_core.specs.declared.command.RecordCommand.TheVariants.{UsePart}
 use Rattle.office_tables_shelf.specs.{Change.changed_by, Places.Line, Places.Order, Places.Part, Places.ReadsAt}
 use Rattle.office_desk_cabinet.proofs.{Decided.decided, PendingLemmas.taken_reads}
@@ -12,7 +12,7 @@ returns-clause-decides g c =
     let order = c.order-order.result in
     let pending = c.args.pending.now in
     let says = c.use_part-decision.ensures in
-    decided 0 _ _ _ (UsePart id asked) (there, order, c.hand-hand.result)
+    decided (Some id) _ _ _ (UsePart id asked) (there, order, c.hand-hand.result)
     c.use_part-decision.result c.report_record.result
     (λ honest.
     let at_line = c.record_at-3.ensures.reads.kept.honest_before honest in
@@ -25,4 +25,4 @@ returns-clause-decides g c =
     (taken_reads _ (Order id asked.order) _ _ c.order-order.ensures (c.in_ok-record_at-2.ensures.row honest)) in
     let on = taken_reads _ (Part asked.part) _ _ c.hand-hand.ensures (c.in_ok-found.ensures.row at_hand) in
     (line, of, on))
-    says.line (says.makes id) c.report_record.ensures.tells c.report_record.ensures.fault
+    says.line (says.makes id) refl c.report_record.ensures.tells c.report_record.ensures.fault
