@@ -15,7 +15,6 @@ use Rattle.office_machine.specs.Office.{Intersection, Office}
 use Rattle.office_machine.specs.Step.{moved, moved_to, with_intersection}
 use Rattle.office_machine.specs.declared.{reply.Reply.Reply, reply.Reply.TheVariants.Same}
 use Rattle.office_tables_decisions.specs.Asking.{asking_command}
-use Rattle.office_tables_shelf.proofs.CellLemmas.{tied}
 use Rattle.office_desk_timing.specs.Revising.{all_or_none, unless_refused}
 use Rattle.office_desk_timing.proofs.{Keeps.IsSoundSide, Keeps.line_keeps, Moved.with_timing_side, Transactions.answered_at}
 
@@ -39,20 +38,6 @@ put_twice office id early late =
     ∙ last_put here late early (get office.intersections q)
     ∙ sym (get-insert nat_cmp_total office.intersections id late q)))
 
--- to put the intersection that is there changes nothing
-put_there : (office : Office) (id : ℕ) (i : Intersection) → get office.intersections id ≡ Some i
-    → with_intersection office id i ≡ office
-put_there office id i there =
-    ap (λ (rows : FinMap nat_cmp Intersection). record office { intersections = rows })
-    (same_map nat_cmp_total nat_cmp-IsAntisymmetric _ _ (λ q.
-    get-insert nat_cmp_total office.intersections id i q ∙ go q (eq_by_cmp nat_cmp q id) refl))
-  where
-    go : (q : ℕ) (here : Bool) → eq_by_cmp nat_cmp q id ≡ here
-        → cond here (Some i) (get office.intersections q) ≡ get office.intersections q
-    go q true hit = sym there
-        ∙ ap (get office.intersections) (sym (nat_cmp-IsAntisymmetric q id (tied _ hit)))
-    go q false miss = refl
-
 put_found : (office : Office) (id : ℕ) (i : Intersection)
     → get (with_intersection office id i).intersections id ≡ Some i
 put_found office id i = get-insert nat_cmp_total office.intersections id i id
@@ -61,60 +46,52 @@ put_found office id i = get-insert nat_cmp_total office.intersections id i id
 -- ---- commands in turn
 
 module _ (office : Office) (id : ℕ) (clerk : List ℕ) (i : Intersection) where
-  -- the office once the steps have led to a timing side
-  abbrev led_to : TimingSide → Office
-  led_to side = with_intersection office id (with_timing_side i side)
-
   -- what comes of the steps that are left
   abbrev ends : List Step → Office → Reply → Reply × Office
   ends steps now last = all_or_none office now last (map (asking_command id clerk) steps)
 
+  -- the steps led from the office to another one, which has this timing side in its place
+  record LedTo (now : Office) (side : TimingSide) : Type 0 where
+    there : get now.intersections id ≡ Some (with_timing_side i side)
+    rest : (next : Intersection) → with_intersection now id next ≡ with_intersection office id next
+
   abbrev GoesOn : List Step → TimingSide → Type 0
-  GoesOn steps side = ends steps (led_to side) (moved_to side)
+  GoesOn steps side =
+      ends steps (with_intersection office id (with_timing_side i side)) (moved_to side)
       ≡ moved office id i (lines_of clerk steps side)
 
-  -- the reply to the first of them, and what comes of the rest
-  one_answered : (step : Step) (steps : List Step) (side : TimingSide)
-      (l : Result TimingSide DraftRefusal) → table_line step clerk side ≡ l
-      → ends (step ∷ steps) (led_to side) (moved_to side)
-      ≡ unless_refused office (moved (led_to side) id (with_timing_side i side) l).0
-      (ends steps (moved (led_to side) id (with_timing_side i side) l).1
-      (moved (led_to side) id (with_timing_side i side) l).0)
-  one_answered step steps side l line =
+  -- one of them, and the rest
+  one_goes : (step : Step) (steps : List Step) (now : Office) (side : TimingSide) (last : Reply)
+      → LedTo now side → ((next : TimingSide) → GoesOn steps next)
+      → (l : Result TimingSide DraftRefusal) → table_line step clerk side ≡ l
+      → ends (step ∷ steps) now last ≡ moved office id i (and_then l (lines_of clerk steps))
+  one_goes step steps now side last led more l line =
       ap (λ (a : Reply × Office). unless_refused office a.0 (ends steps a.1 a.0))
-      (answered_at step (led_to side) id clerk (with_timing_side i side) l
-      (put_found office id (with_timing_side i side)) line)
-
-  one_goes : (step : Step) (steps : List Step) (side : TimingSide)
-      → ((next : TimingSide) → GoesOn steps next) → (l : Result TimingSide DraftRefusal)
-      → table_line step clerk side ≡ l
-      → ends (step ∷ steps) (led_to side) (moved_to side)
-      ≡ moved office id i (and_then l (lines_of clerk steps))
-  one_goes step steps side more (Ok next) line =
-      one_answered step steps side (Ok next) line
-      ∙ ap (λ now. ends steps now (moved_to next))
-      (put_twice office id (with_timing_side i side) (with_timing_side i next))
-      ∙ more next
-  one_goes step steps side more (Err why) line = one_answered step steps side (Err why) line
+      (answered_at step now id clerk (with_timing_side i side) l led.there line)
+      ∙ elim l as (λ (r : Result TimingSide DraftRefusal). unless_refused office (moved now id (with_timing_side i side) r).0
+      (ends steps (moved now id (with_timing_side i side) r).1 (moved now id (with_timing_side i side) r).0)
+      ≡ moved office id i (and_then r (lines_of clerk steps))) [
+        | Ok next ↦ ap (λ now. ends steps now (moved_to next)) (led.rest (with_timing_side i next)) ∙ more next
+        | Err why ↦ refl
+      ]
 
   goes_on : (steps : List Step) (side : TimingSide) → GoesOn steps side
   goes_on [] side = refl
   goes_on (step ∷ steps) side =
-      one_goes step steps side (goes_on steps) (table_line step clerk side) refl
+      let put = with_timing_side i side in
+      one_goes step steps (with_intersection office id put) side (moved_to side)
+      (record { there = put_found office id put; rest = put_twice office id put })
+      (goes_on steps) (table_line step clerk side) refl
 
-  module _ (there : get office.intersections id ≡ Some i) where
-    begins : (step : Step) (steps : List Step) → ends (step ∷ steps) office Same
-        ≡ moved office id i (lines_of clerk (step ∷ steps) i.timing)
-    begins step steps =
-        ap (λ now. ends (step ∷ steps) now (moved_to i.timing)) (sym (put_there office id i there))
-        ∙ goes_on (step ∷ steps) i.timing
-
-    -- one command at least, all or none, is the lines of the table
-    pub all_are : (before : List Step) (step : Step) (after : List Step)
-        → ends (before ++ step ∷ after) office Same
-        ≡ moved office id i (lines_of clerk (before ++ step ∷ after) i.timing)
-    all_are [] step after = begins step after
-    all_are (first ∷ before) step after = begins first (before ++ step ∷ after)
+  -- one command at least, all or none, is the lines of the table
+  pub all_are : (before : List Step) (step : Step) (after : List Step)
+      → get office.intersections id ≡ Some i → ends (before ++ step ∷ after) office Same
+      ≡ moved office id i (lines_of clerk (before ++ step ∷ after) i.timing)
+  all_are [] step after there = one_goes step after office i.timing Same
+      (record { there = there; rest = λ next. refl }) (goes_on after) (table_line step clerk i.timing) refl
+  all_are (first ∷ before) step after there = one_goes first (before ++ step ∷ after) office i.timing Same
+      (record { there = there; rest = λ next. refl }) (goes_on (before ++ step ∷ after))
+      (table_line first clerk i.timing) refl
 
 -- ---- what the lines keep
 
