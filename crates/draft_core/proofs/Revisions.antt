@@ -6,10 +6,9 @@ use Rattle.signal_rules.specs.{Violations.violations_of, declared.violation.Viol
 use Rattle.signal_records.specs.{TimingSet.Rows, TimingSet.after_changes, declared.record.Change.Change}
 use Rattle.signal_records.specs.declared.state.{Holding.Holding, Holding.TheVariants.Begun, Holding.TheVariants.Kept, Stage.Stage}
 use Rattle.signal_records.specs.declared.state.Stage.TheVariants.{Transaction, Verify, Done}
-use Rattle.draft_core.specs.{declared.step.Step.Step, declared.refusal.DraftRefusal.DraftRefusal, declared.timing.Timing.Timing, DraftRows.RowsByKey, DraftRows.Stands, Moves.next_holder}
+use Rattle.draft_core.specs.{declared.step.Step.Step, declared.refusal.DraftRefusal.DraftRefusal, declared.timing.Timing.Timing, DraftRows.RowsByKey, DraftRows.Stands, Moves.next_holder, declared.refusal.DraftRefusal.TheVariants.NotOwner}
 use Rattle.draft_core.specs.declared.timing.Reach.TheVariants as reach
 use Rattle.draft_core.specs.declared.step.Step.TheVariants as step
-use Rattle.draft_core.specs.declared.refusal.DraftRefusal.TheVariants.{NotOwner}
 use Rattle.draft_core.specs.Revising.{and_then, base_of, committing, lines_of, opening_steps, revision_steps, take_up, taking_up}
 use Rattle.draft_core.specs.Transaction.{TimingSide, Draft, committed_with, holder_of, with_draft}
 

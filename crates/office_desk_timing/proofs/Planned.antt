@@ -1,13 +1,11 @@
 -- The changes that make the plan which an edit asks for, and what they say of a timing side.
 use Rattle.std.proofs.Common.{◌≡◌, cond, List, [], ◌∷◌, length, map, Option, Some, None, refl, ap, sym, subst, ◌∙◌}
-use Rattle.std.proofs.Math.Path.{subst₂}
-use Rattle.std.proofs.lemmas.List.{length-map}
+use Rattle.std.proofs.{Math.Path.subst₂, lemmas.List.length-map}
 use Rattle.std.specs.{Cmp.tied_itself, FinMap.get, List.Sorted.IsStrictlySortedBy, Option.option_map, Ordering.is_eq}
 use Rattle.signal_plans.specs.Difference.{AreTold, Explains, change_of, difference_at, difference_changes, place_of}
 use Rattle.signal_plans.specs.declared.difference.Difference.{Difference}
 use Rattle.signal_plans.specs.declared.difference.Difference.TheVariants.{Added, Removed, Changed}
-use Rattle.signal_records.specs.{ChangedRows.changed_key, Key.key_cmp, KeyOrder.key_total, TimingSet.Rows, TimingSet.after_changes}
-use Rattle.signal_records.specs.declared.{record.Change.Change, record.Row.Row}
+use Rattle.signal_records.specs.{ChangedRows.changed_key, Key.key_cmp, KeyOrder.key_total, TimingSet.Rows, TimingSet.after_changes, declared.record.Change.Change, declared.record.Row.Row}
 use Rattle.draft_core.specs.{DraftRows.RowsByKey, DraftRows.Stands, News.AreInOrder, Revising.base_of}
 use Rattle.draft_core.specs.Transaction.{Draft, TimingSide, holder_of}
 use Rattle.draft_core.specs.declared.timing.{Reach.TheVariants.Plan, Timing.Timing}

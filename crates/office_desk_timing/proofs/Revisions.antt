@@ -3,32 +3,27 @@ use Rattle.std.proofs.Common.{◌≡◌, ◌≢◌, ◌+◌, ◌≤◌, ℕ, Lis
 use Rattle.std.proofs.Math.Path.{subst₂}
 use Rattle.std.specs.Prelude.{IfOk, IsErrAnd, OnErr}
 use Rattle.std.specs.FinMap.{get}
-use Rattle.signal_records.specs.{TimingSet.after_changes, declared.record.Change.Change, declared.state.DbState.DbState}
-use Rattle.signal_records.specs.declared.state.DbState.TheVariants.{Normal}
+use Rattle.signal_records.specs.{TimingSet.after_changes, declared.record.Change.Change, declared.state.DbState.DbState, declared.state.DbState.TheVariants.Normal}
 use Rattle.signal_rules.specs.Violations.{violations_of}
 use Rattle.signal_values.specs.Words.{AreWords}
 use Rattle.draft_core.specs.Moves.{Follows, draft_writes, drafted_in}
 use Rattle.draft_core.specs.Revising.{Revises, WritesRows, base_of, committing, lines_of, revision_steps, taking_up}
-use Rattle.draft_core.specs.{DraftRows.RowsByKey, DraftRows.Stands, Transaction.TimingSide}
-use Rattle.draft_core.specs.declared.{refusal.DraftRefusal.DraftRefusal, step.Step.TheVariants.Edit, timing.Move.Move}
-use Rattle.draft_core.specs.declared.timing.Reach.TheVariants.{Plan}
+use Rattle.draft_core.specs.{DraftRows.RowsByKey, DraftRows.Stands, Transaction.TimingSide, declared.refusal.DraftRefusal.DraftRefusal, declared.step.Step.TheVariants.Edit, declared.timing.Move.Move, declared.timing.Reach.TheVariants.Plan}
 use Rattle.draft_core.proofs.OnlyChanges.{among_within}
-use Rattle.office_machine.specs.{Office.Intersection, Office.Office, Office.side_at, Office.side_of, Step.refusal_of_draft}
+use Rattle.office_machine.specs.{Office.Intersection, Office.Office, Office.side_at, Office.side_of, declared.reply.Reply.Reply}
 use Rattle.office_machine.specs.declared.refusal.Refusal.TheVariants as refusal
-use Rattle.office_machine.specs.declared.reply.Reply.{Reply}
 use Rattle.office_machine.specs.declared.reply.Reply.TheVariants.{Moved, Refused, Same}
 use Rattle.office_tables_decisions.specs.{Damage.HasDamageIn, StandFor.StandForSound, declared.decided.Decided.Decided}
-use Rattle.office_tables_shelf.specs.{Change.changed_by, Content.Content, Counts.writes_in}
-use Rattle.office_tables_shelf.specs.declared.{rows.RowChange.RowChange, shelf.ShelfFault.ShelfFault}
+use Rattle.office_tables_shelf.specs.{Change.changed_by, Content.Content, declared.rows.RowChange.RowChange, declared.shelf.ShelfFault.ShelfFault}
 use Rattle.office_tables_shelf.specs.declared.rows.Table.TheVariants as table
 use Rattle.office_tables_shelf.specs.declared.shelf.ShelfFault.TheVariants as fault
 use Rattle.office_desk_timing.specs.{Moving.WritesDecision, declared.reading.Found.Found, declared.revising.PlanEdit.PlanEdit}
 use Rattle.office_desk_timing.specs.Reading.{FoundStands, ListsFound, drafts_at}
-use Rattle.office_desk_timing.specs.Revising.{AnswersAnyEdit, AnswersEdit, DecidesEdit, EditWrites, EditsOffice, IsCommittedAlready, IsEditDecision, IsMoved, PlansChanges}
+use Rattle.office_desk_timing.specs.Revising.{AnswersAnyEdit, AnswersEdit, DecidesEdit, EditWrites, EditsOffice, IsEditDecision, IsMoved, PlansChanges}
 use Rattle.office_desk_timing.proofs.{AddedRows.move_news, Keeps.side_sound, Shown.found_none, Shown.found_there, Shown.sound_there}
 use Rattle.office_desk_timing.proofs.Planned.{asks_idle, changes_counted, changes_in_order, edits_make, idle_asks, settled_make}
 use Rattle.office_desk_timing.proofs.Transactions.{FollowsLine, IsFound, draft_written, goes, listed_many, none_written, not_damaged, refused_line, rows_of_move, timing_written}
-use Rattle.office_desk_timing.proofs.Turns.{all_are, revising_keeps}
+use Rattle.office_desk_timing.proofs.Turns.{all_are, lines_keep, revision_within}
 
 one_and_none : (n : ℕ) → n ≡ 0 → 1 + n ≡ 1
 one_and_none n none = omega (arith, none)
@@ -148,7 +143,8 @@ module _ (is_honest : Type 0) (tables : Content) (id : ℕ) (clerk : List ℕ) (
               taken busy (Ok move) revises office stands at.0 at.1 at.2 _ _
               (goes tables office id clerk at.0 found stands at.1 at.2 move _
               (among_within (drafted_in move.changes) edits revises.writes.drafts plans.within)
-              (λ next. revising_keeps at.0.timing edits edit.commits clerk next words plans.within sound));
+              (λ next. lines_keep clerk words next (revision_steps at.0.timing edits edit.commits) at.0.timing
+              (revision_within at.0.timing.draft edits edit.commits _ plans.within) sound));
           writes = λ honest office stands.
               let at = found_there Plan tables office id found stands (finds honest).0 in
               subst (λ (o : Option Intersection). EditWrites tables id edit (side_of o)

@@ -2,18 +2,15 @@
 use Rattle.std.proofs.Common.{◌≡◌, ℕ, Bool, true, false, cond, List, [], ◌∷◌, ◌++◌, map, Option, Some, None, Result, Ok, Err, refl, ap, sym, subst, ◌∙◌}
 use Rattle.std.specs.FinMap.{FinMap, get, insert, get-insert, same_map, nat_cmp-IsAntisymmetric}
 use Rattle.std.specs.{Cmp.nat_cmp_total, Cmp.tied_itself, List.AllByRecursion, Ordering.nat_cmp, Ordering.eq_by_cmp, Ordering.is_eq}
-use Rattle.signal_records.specs.TimingSet.{after_changes}
-use Rattle.signal_records.specs.declared.{record.Change.Change, state.Stage.Stage}
+use Rattle.signal_records.specs.{declared.record.Change.Change, declared.state.Stage.Stage}
 use Rattle.signal_records.specs.declared.state.Stage.TheVariants.{Transaction, Verify, Done}
 use Rattle.signal_rules.specs.declared.violation.Violation.{Violation}
-use Rattle.signal_rules.specs.Violations.{violations_of}
 use Rattle.signal_values.specs.Words.{AreWords}
-use Rattle.draft_core.specs.Revising.{and_then, base_of, committing, lines_of, opening_steps, revision_steps, taking_up}
-use Rattle.draft_core.specs.{Steps.asked_changes, Transaction.Draft, Transaction.TimingSide, Transaction.table_line, Within.AreChangesWithin}
-use Rattle.draft_core.specs.declared.{refusal.DraftRefusal.DraftRefusal, step.Step.Step}
+use Rattle.draft_core.specs.Revising.{and_then, committing, lines_of, opening_steps, taking_up}
+use Rattle.draft_core.specs.{Steps.asked_changes, Transaction.Draft, Transaction.TimingSide, Transaction.table_line, Within.AreChangesWithin, declared.refusal.DraftRefusal.DraftRefusal, declared.step.Step.Step, declared.step.Step.TheVariants.Edit}
 use Rattle.office_machine.specs.Office.{Intersection, Office}
 use Rattle.office_machine.specs.Step.{moved, moved_to, with_intersection}
-use Rattle.office_machine.specs.declared.{reply.Reply.Reply, reply.Reply.TheVariants.Same}
+use Rattle.office_machine.specs.{declared.reply.Reply.Reply, declared.reply.Reply.TheVariants.Same}
 use Rattle.office_tables_decisions.specs.Asking.{asking_command}
 use Rattle.office_desk_timing.specs.Revising.{all_or_none, unless_refused}
 use Rattle.office_desk_timing.proofs.{Keeps.IsSoundSide, Keeps.line_keeps, Moved.with_timing_side, Transactions.answered_at}
@@ -99,20 +96,17 @@ module _ (office : Office) (id : ℕ) (clerk : List ℕ) (i : Intersection) wher
 abbrev AsksWithin : Step → Type 0
 AsksWithin step = AreChangesWithin (asked_changes step)
 
-module _ (clerk : List ℕ) (words : AreWords 40 clerk) (last : TimingSide) where
-  lines_keep : (steps : List Step) (side : TimingSide) → AllByRecursion AsksWithin steps
-      → IsSoundSide side → lines_of clerk steps side ≡ Ok last → IsSoundSide last
-  lines_keep [] side within sound is = subst IsSoundSide (let same : side ≡ last = cc in same) sound
-  lines_keep (step ∷ steps) side within sound is =
-      go (table_line step clerk side) refl is (λ next. lines_keep steps next within.1)
-    where
-      go : (l : Result TimingSide DraftRefusal) → table_line step clerk side ≡ l
-          → and_then l (lines_of clerk steps) ≡ Ok last
-          → ((next : TimingSide) → IsSoundSide next → lines_of clerk steps next ≡ Ok last → IsSoundSide last)
-          → IsSoundSide last
-      go (Ok next) line rest more =
-          more next (line_keeps step clerk side next words within.0 sound line) rest
-      go (Err why) line rest more = absurd (let f : Err why ≡ Ok last = rest in cc)
+-- a sound timing side stays sound
+pub lines_keep : (clerk : List ℕ) → AreWords 40 clerk → (last : TimingSide) (steps : List Step) (side : TimingSide)
+    → AllByRecursion AsksWithin steps → IsSoundSide side → lines_of clerk steps side ≡ Ok last → IsSoundSide last
+lines_keep clerk words last [] side within sound is = subst IsSoundSide (let same : side ≡ last = cc in same) sound
+lines_keep clerk words last (step ∷ steps) side within sound is =
+    elim (table_line step clerk side) as (λ l. table_line step clerk side ≡ l
+    → and_then l (lines_of clerk steps) ≡ Ok last → IsSoundSide last) [
+      | Ok next ↦ λ line rest. lines_keep clerk words last steps next within.1
+          (line_keeps step clerk side next words within.0 sound line) rest
+      | Err why ↦ λ line rest. absurd (let f : Err why ≡ Ok last = rest in cc)
+    ] refl is
 
 opening_within : (stage : Stage) (steps : List Step) → AllByRecursion AsksWithin steps
     → AllByRecursion AsksWithin (opening_steps stage ++ steps)
@@ -120,22 +114,14 @@ opening_within Transaction steps all = all
 opening_within Verify steps all = (tt, (tt, all))
 opening_within Done steps all = (tt, all)
 
-taking_within : (held : Option Draft) (steps : List Step) → AllByRecursion AsksWithin steps
-    → AllByRecursion AsksWithin (taking_up held ++ steps)
-taking_within None steps all = (tt, all)
-taking_within (Some draft) steps all = opening_within draft.stage steps all
-
 committing_within : (commits : Bool) (violations : List Violation)
     → AllByRecursion AsksWithin (committing commits violations)
 committing_within true [] = (tt, (tt, (tt, tt)))
 committing_within _ violations = tt
 
-pub revising_keeps : (side : TimingSide) (edits : List Change) (commits : Bool) (clerk : List ℕ)
-    (last : TimingSide) → AreWords 40 clerk → AreChangesWithin edits → IsSoundSide side
-    → lines_of clerk (revision_steps side edits commits) side ≡ Ok last → IsSoundSide last
-revising_keeps side edits commits clerk last words within =
-    lines_keep clerk words last (revision_steps side edits commits) side
-    (taking_within side.draft _ (
-      within,
-      committing_within commits (violations_of (after_changes (base_of side) edits)),
-    ))
+pub revision_within : (held : Option Draft) (edits : List Change) (commits : Bool) (violations : List Violation)
+    → AreChangesWithin edits
+    → AllByRecursion AsksWithin (taking_up held ++ Edit edits ∷ committing commits violations)
+revision_within None edits commits violations within = (tt, (within, committing_within commits violations))
+revision_within (Some draft) edits commits violations within =
+    opening_within draft.stage _ (within, committing_within commits violations)

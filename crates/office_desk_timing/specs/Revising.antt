@@ -2,36 +2,22 @@
 use Rattle.std.specs.Prelude.{◌≡◌, ◌≢◌, ◌⊎◌, ◌≤◌, ℕ, List, [], ◌∷◌, length, map, if◌then◌else◌, Option, Some, None, Result, Ok, Err}
 use Rattle.std.specs.FinMap.{empty, get}
 use Rattle.draft_core.specs.Revising.{base_of, revision_steps}
-use Rattle.draft_core.specs.Transaction.{TimingSide}
-use Rattle.draft_core.specs.Within.{AreChangesWithin}
-use Rattle.draft_core.specs.declared.step.Step.{Step}
+use Rattle.draft_core.specs.{Transaction.TimingSide, Within.AreChangesWithin, declared.step.Step.Step, declared.timing.Timing.Timing}
 use Rattle.draft_core.specs.declared.timing.Reach.TheVariants as reach
-use Rattle.draft_core.specs.declared.timing.Timing.{Timing}
 use Rattle.office_desk_timing.specs.declared.revising.PlanEdit.{PlanEdit}
 use Rattle.office_machine.specs.Office.{Intersection, Office, side_at}
-use Rattle.office_machine.specs.Step.{answered}
-use Rattle.office_machine.specs.declared.command.Command.{Command}
+use Rattle.office_machine.specs.{Step.answered, declared.command.Command.Command, declared.reply.Reply.Reply}
 use Rattle.office_machine.specs.declared.refusal.Refusal.TheVariants.{Damaged, Unavailable, UnknownIntersection}
-use Rattle.office_machine.specs.declared.reply.Reply.{Reply}
 use Rattle.office_machine.specs.declared.reply.Reply.TheVariants.{Moved, Refused, Same}
-use Rattle.office_tables_decisions.specs.Asking.{asking_command}
-use Rattle.office_tables_decisions.specs.Changes.{IsRefused}
-use Rattle.office_tables_decisions.specs.Damage.{HasDamageIn}
-use Rattle.office_tables_decisions.specs.StandFor.{StandForSound}
-use Rattle.office_tables_decisions.specs.declared.decided.Decided.{Decided}
+use Rattle.office_tables_decisions.specs.{Asking.asking_command, Changes.IsRefused, Damage.HasDamageIn, StandFor.StandForSound, declared.decided.Decided.Decided}
 use Rattle.office_tables_shelf.specs.Change.{AddNew, changed_by}
-use Rattle.office_tables_shelf.specs.Content.{Content}
-use Rattle.office_tables_shelf.specs.Counts.{writes_in}
-use Rattle.office_tables_shelf.specs.Shelf.{rows_of}
-use Rattle.office_tables_shelf.specs.declared.rows.RowChange.{RowChange}
+use Rattle.office_tables_shelf.specs.{Content.Content, Counts.writes_in, Shelf.rows_of, declared.rows.RowChange.RowChange, declared.shelf.ShelfFault.ShelfFault}
 use Rattle.office_tables_shelf.specs.declared.rows.Table.TheVariants as table
-use Rattle.office_tables_shelf.specs.declared.shelf.ShelfFault.{ShelfFault}
 use Rattle.office_tables_shelf.specs.declared.shelf.ShelfFault.TheVariants as fault
 use Rattle.signal_plans.specs.Difference.{AreTold, difference_changes}
 use Rattle.signal_plans.specs.declared.difference.Difference.{Difference}
 use Rattle.signal_records.specs.TimingSet.{Rows, after_changes}
-use Rattle.signal_records.specs.declared.record.Change.{Change}
-use Rattle.signal_records.specs.declared.state.DbState.TheVariants.{Normal}
+use Rattle.signal_records.specs.{declared.record.Change.Change, declared.state.DbState.TheVariants.Normal}
 
 -- ---- commands, all of them or none
 
