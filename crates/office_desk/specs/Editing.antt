@@ -6,14 +6,12 @@ use Rattle.office_desk.specs.Changes.{IsRefused}
 use Rattle.office_desk.specs.Damage.{HasDamageIn}
 use Rattle.office_desk.specs.Running.{MakesTables, TellsTables}
 use Rattle.office_desk.specs.StandFor.{StandForSound}
-use Rattle.office_desk_timing.specs.Revising.{AnswersAnyEdit, EditsOffice, WritesForEdit}
-pub use Rattle.office_desk_timing.specs.Revising.{IsEditDecision, IsMoved}
+use Rattle.office_desk_timing.specs.Revising.{AnswersAnyEdit, EditsOffice, IsMoved, WritesForEdit}
 use Rattle.office_desk_timing.specs.declared.revising.PlanEdit.{PlanEdit}
 use Rattle.office_machine.specs.Office.{Office}
 use Rattle.office_machine.specs.declared.refusal.Refusal.TheVariants.{Damaged, Unavailable}
 use Rattle.office_machine.specs.declared.reply.Reply.{Reply}
 use Rattle.office_machine.specs.declared.reply.Reply.TheVariants.{Refused}
-use Rattle.office_tables_decisions.specs.declared.decided.Decided.{Decided}
 use Rattle.office_tables_shelf.specs.Content.{Content}
 use Rattle.office_tables_shelf.specs.Counts.{counts_after}
 use Rattle.office_tables_shelf.specs.declared.counts.WriteCounts.{WriteCounts}
@@ -28,10 +26,6 @@ AfterEdit id clerk edit old found = (office : Office) → StandForSound old offi
 -- the counts rose by the rows that an edit writes which was answered so
 abbrev pub RiseForEdit : Content → ℕ → PlanEdit → Reply → (old new : WriteCounts) → Type 0
 RiseForEdit tables id edit reply old new = (changes : List RowChange) × WritesForEdit tables id edit reply changes × (new ≡ counts_after old changes)
-
--- Unavailable is told, and no row is written
-abbrev pub TellsUnavailable : Decided → Type 0
-TellsUnavailable decided = (decided.reply ≡ Refused Unavailable) × (decided.changes.items ≡ [])
 
 -- A PLAN WAS EDITED. On a clean disk the reply and the tables are those of an edit, all of its steps or none; a refused one leaves the tables; Damaged tells only of
 -- a row of the plan that is no record; and no more rows are written than the edit changes. A crash leaves what it could leave before, or the tables after the whole

@@ -1,6 +1,9 @@
 -- What running commands promises, of the shelf before and after them.
 use Rattle.std.specs.Prelude.{◌≡◌, ◌≢◌, ◌⊎◌, ℕ, List, [], ◌∷◌, Result, IfErr}
+use Rattle.office_tables_shelf.specs.Change.{changed_by}
 use Rattle.office_tables_shelf.specs.Content.{Content}
+use Rattle.office_tables_shelf.specs.Counts.{counts_after}
+use Rattle.office_tables_shelf.specs.declared.rows.RowChange.{RowChange}
 use Rattle.office_tables_shelf.specs.declared.shelf.Shelf.{Ghosts}
 use Rattle.office_desk.specs.Answers.{AnswersAny, EndsIn, StandsAfterStep}
 use Rattle.office_desk.specs.Changes.{IsQueryCommand, IsRefused, RiseAtMost}
@@ -33,6 +36,34 @@ TellsTables g old new Says = g.is_clean new → (tables : Content) → HoldsTabl
 -- made of them, which are those that it holds now, if it is open.
 abbrev pub MakesTables : {S : Type 0} → Ghosts S → (old new : S) → (Content → Content → Type 0) → Type 0
 MakesTables g old new Makes = TellsTables g old new (λ tables. EndsIn (g.is_honest new) (g.content new) (Makes tables))
+
+-- ---- a decision that is made
+
+-- Nothing is written for a decision: what it says is told where it has no rows; where they are refused, Unavailable.
+pub record WritesNone {S : Type 0} (g : Ghosts S) (said : Reply) (changes : List RowChange) (reply : Reply) (old new : S) : Type 0 where
+  pub why : ((reply ≡ said) × (changes ≡ []) × (new ≡ old)) ⊎ (reply ≡ Refused Unavailable)
+  pub same : g.is_honest new → g.content new ≡ g.content old
+  pub uncounted : g.written new ≡ g.written old
+
+-- The rows of a decision are written, and what it says is told: a crash leaves the tables of now alone, and on a clean disk the database is still open.
+pub record WritesAll {S : Type 0} (g : Ghosts S) (said : Reply) (changes : List RowChange) (reply : Reply) (old new : S) : Type 0 where
+  pub told : reply ≡ said
+  pub some : changes ≢ []
+  pub still_open : g.is_clean new → g.is_honest new
+  pub made : g.is_honest new → g.content new ≡ changed_by (g.content old) changes
+  pub counted : g.written new ≡ counts_after (g.written old) changes
+  pub settled : (tables : Content) → g.may_leave new tables → tables ≡ g.content new
+
+-- All rows of a decision are written, or none. A crash leaves what it could leave before, or the tables with all of them. It makes no disk clean again, and opens no
+-- database.
+pub record CarriesOut {S : Type 0} (g : Ghosts S) (said : Reply) (changes : List RowChange) (reply : Reply) (old new : S) : Type 0 where
+  pub clean : g.is_clean new → g.is_clean old
+  pub honest : g.is_honest new → g.is_honest old
+  pub ends : WritesNone g said changes reply old new ⊎ WritesAll g said changes reply old new
+  pub crash : (tables : Content) → g.may_leave new tables → g.may_leave old tables
+      ⊎ ((changes ≢ []) × g.is_honest old × (tables ≡ changed_by (g.content old) changes))
+
+-- ---- what is told of the tables
 
 -- a read that fails is refused with Unavailable, for want of memory or by the shelf, or with Damaged, for a row that is no record
 abbrev pub RefusesRead : {A : Type 0} → Result A Refusal → Type 0
