@@ -9,7 +9,7 @@ use Rattle.signal_records.specs.declared.state.Stage.TheVariants.{Transaction, V
 use Rattle.draft_core.specs.{declared.step.Step.Step, declared.refusal.DraftRefusal.DraftRefusal, declared.timing.Timing.Timing, DraftRows.RowsByKey, DraftRows.Stands, Moves.next_holder, declared.refusal.DraftRefusal.TheVariants.NotOwner}
 use Rattle.draft_core.specs.declared.timing.Reach.TheVariants as reach
 use Rattle.draft_core.specs.declared.step.Step.TheVariants as step
-use Rattle.draft_core.specs.Revising.{and_then, base_of, committing, lines_of, opening_steps, revision_steps, take_up, taking_up}
+use Rattle.draft_core.specs.Revising.{and_then, base_of, committing, lines_of, opening_steps, revision_steps, take_up}
 use Rattle.draft_core.specs.Transaction.{TimingSide, Draft, committed_with, holder_of, with_draft}
 
 -- nothing comes after the last step

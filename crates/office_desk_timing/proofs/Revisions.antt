@@ -22,7 +22,7 @@ use Rattle.office_desk_timing.specs.Reading.{FoundStands, ListsFound, drafts_at}
 use Rattle.office_desk_timing.specs.Revising.{AnswersAnyEdit, AnswersEdit, DecidesEdit, EditWrites, EditsOffice, IsEditDecision, IsMoved, PlansChanges}
 use Rattle.office_desk_timing.proofs.{AddedRows.move_news, Keeps.side_sound, Shown.found_none, Shown.found_there, Shown.sound_there}
 use Rattle.office_desk_timing.proofs.Planned.{asks_idle, changes_counted, changes_in_order, edits_make, idle_asks, settled_make}
-use Rattle.office_desk_timing.proofs.Transactions.{FollowsLine, IsFound, draft_written, goes, listed_many, none_written, not_damaged, refused_line, rows_of_move, timing_written}
+use Rattle.office_desk_timing.proofs.Transactions.{FollowsLine, IsFound, draft_written, goes, listed_many, no_more, none_written, not_damaged, refused_line, rows_of_move, timing_written}
 use Rattle.office_desk_timing.proofs.Turns.{all_are, lines_keep, revision_within}
 
 one_and_none : (n : ℕ) → n ≡ 0 → 1 + n ≡ 1
@@ -30,9 +30,6 @@ one_and_none n none = omega (arith, none)
 
 none_and : (n m : ℕ) → n ≡ m → 0 + n ≡ m
 none_and n m same = omega (arith, same)
-
-none_and_few : (n m most : ℕ) → n ≡ m → m ≤ most → 0 + n ≤ most
-none_and_few n m most same few = omega (arith, same, few)
 
 module _ (is_honest : Type 0) (tables : Content) (id : ℕ) (clerk : List ℕ) (edit : PlanEdit) where
   -- a reply for which no row is written
@@ -97,7 +94,7 @@ module _ (is_honest : Type 0) (tables : Content) (id : ℕ) (clerk : List ℕ) (
           to.told,
           one_and_none _ (none_written table.Intersection refl refl id move.changes),
           none_and _ _ (timing_written id move.changes ∙ count.0),
-          none_and_few _ _ _ (draft_written id move.changes)
+          no_more _ _ _ (draft_written id move.changes)
               (subst (λ n. draft_writes move.changes ≤ n) (changes_counted to) count.1),
         )
 

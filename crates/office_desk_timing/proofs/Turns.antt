@@ -1,6 +1,6 @@
 -- Steps of the transaction as commands in turn, all of them or none, are the lines of its table.
-use Rattle.std.proofs.Common.{◌≡◌, ℕ, Bool, true, false, cond, List, [], ◌∷◌, ◌++◌, map, Option, Some, None, Result, Ok, Err, refl, ap, sym, subst, ◌∙◌}
-use Rattle.std.specs.FinMap.{FinMap, get, insert, get-insert, same_map, nat_cmp-IsAntisymmetric}
+use Rattle.std.proofs.Common.{◌≡◌, ℕ, Bool, true, false, cond, List, [], ◌∷◌, ◌++◌, map, Option, Some, None, Result, Ok, Err, refl, ap, subst, ◌∙◌}
+use Rattle.std.specs.FinMap.{FinMap, get, get-insert, same_map, nat_cmp-IsAntisymmetric}
 use Rattle.std.specs.{Cmp.nat_cmp_total, Cmp.tied_itself, List.AllByRecursion, Ordering.nat_cmp, Ordering.eq_by_cmp, Ordering.is_eq}
 use Rattle.signal_records.specs.{declared.record.Change.Change, declared.state.Stage.Stage}
 use Rattle.signal_records.specs.declared.state.Stage.TheVariants.{Transaction, Verify, Done}
@@ -24,16 +24,10 @@ last_put false late early there = refl
 
 -- of two intersections under one number the last stands
 put_twice : (office : Office) (id : ℕ) (early late : Intersection)
-    → with_intersection (with_intersection office id early) id late
-    ≡ with_intersection office id late
-put_twice office id early late =
-    ap (λ (rows : FinMap nat_cmp Intersection). record office { intersections = rows })
-    (same_map nat_cmp_total nat_cmp-IsAntisymmetric _ _ (λ q.
-    let here = eq_by_cmp nat_cmp q id in
-    get-insert nat_cmp_total (insert office.intersections id early) id late q
-    ∙ ap (cond here (Some late)) (get-insert nat_cmp_total office.intersections id early q)
-    ∙ last_put here late early (get office.intersections q)
-    ∙ sym (get-insert nat_cmp_total office.intersections id late q)))
+    → with_intersection (with_intersection office id early) id late ≡ with_intersection office id late
+put_twice office id early late = ap (λ (rows : FinMap nat_cmp Intersection). record office { intersections = rows })
+    (same_map nat_cmp_total nat_cmp-IsAntisymmetric _ _ (λ q. simp (get-insert {X = Intersection} nat_cmp_total)
+    (last_put (eq_by_cmp nat_cmp q id) late early (get office.intersections q))))
 
 put_found : (office : Office) (id : ℕ) (i : Intersection)
     → get (with_intersection office id i).intersections id ≡ Some i
