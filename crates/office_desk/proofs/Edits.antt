@@ -2,18 +2,15 @@
 use Rattle.std.proofs.Common.{◌≡◌, ◌⊎◌, List, [], ℕ, refl, ap, sym, subst, ◌∙◌, inl, inr}
 use Rattle.std.proofs.Math.Path.{subst₂}
 use Rattle.draft_core.specs.declared.timing.Reach.TheVariants.{Plan}
-use Rattle.office_machine.specs.declared.{reply.Reply.Reply, reply.Reply.TheVariants.Refused}
+use Rattle.office_machine.specs.{declared.reply.Reply.Reply, declared.reply.Reply.TheVariants.Refused}
 use Rattle.office_machine.specs.declared.refusal.Refusal.TheVariants as refusal
-use Rattle.office_tables_shelf.specs.{Content.Content, Counts.counts_after, Keeps.KeepsShelf}
-use Rattle.office_tables_shelf.specs.declared.{rows.RowChange.RowChange, shelf.Shelf.Ghosts, shelf.ShelfFault.ShelfFault}
-use Rattle.office_tables_shelf.specs.declared.shelf.ShelfFault.TheVariants.{Damaged}
-use Rattle.office_desk_timing.specs.Decisions.{refusal_of}
+use Rattle.office_tables_shelf.specs.{Content.Content, Counts.counts_after, Keeps.KeepsShelf, declared.rows.RowChange.RowChange, declared.shelf.Shelf.Ghosts, declared.shelf.ShelfFault.ShelfFault, declared.shelf.ShelfFault.TheVariants.Damaged}
+use Rattle.office_desk_timing.specs.{Decisions.refusal_of, declared.revising.PlanEdit.PlanEdit}
 use Rattle.office_desk_timing.specs.Revising.{AnswersAnyEdit, IsEditDecision, IsMoved, WritesForEdit}
-use Rattle.office_desk_timing.specs.declared.revising.PlanEdit.{PlanEdit}
 use Rattle.office_desk_timing.proofs.{Revisions.told, Stands.no_damage}
 use Rattle.office_desk.specs.{Changes.IsRefused, Damage.HasDamageIn, Running.CarriesOut, Running.WritesAll}
 use Rattle.office_desk.specs.Editing.{AfterEdit, EditsPlan}
-use Rattle.office_desk.proofs.{Making.IsReached, Making.made_crash, Making.made_damaged, Making.made_ends, Making.made_refused, Runs.none_made}
+use Rattle.office_desk.proofs.{Making.IsReached, Making.takes_effect, Runs.none_made}
 
 unavailable_edit : (tables : Content) (id : ℕ) (clerk : List ℕ) (edit : PlanEdit)
     → AnswersAnyEdit tables id clerk edit (Refused refusal.Unavailable) tables
@@ -27,6 +24,7 @@ module _ {S : Type 0} (g : Ghosts S) (id : ℕ) (clerk : List ℕ) (edit : PlanE
     (shut : g.is_clean mid → g.is_honest mid ⊎ (said ≡ Refused refusal.Unavailable)) where
   reached : IsReached g (λ tables. AnswersAnyEdit tables id clerk edit) (λ tables. HasDamageIn Plan tables id) said changes old mid
   reached = record {
+    clean = clean_before;
     kept = kept;
     step = is.step;
     refused = is.refused;
@@ -54,11 +52,16 @@ module _ {S : Type 0} (g : Ghosts S) (id : ℕ) (clerk : List ℕ) (edit : PlanE
 
     pub made_edit : EditsPlan g id clerk edit reply old new
     made_edit = record {
-      clean = λ clean. clean_before (made.clean clean);
-      honest = λ honest. kept.honest_before (made.honest honest);
-      ends = made_ends reached made;
-      refused = made_refused reached made;
-      damaged = made_damaged reached made;
+      step = takes_effect reached (AfterEdit id clerk edit) made (λ honest accepted office stands.
+          let answer = is.step honest office stands in (
+            said,
+            answer.next,
+            elim answer.step [
+              | inl told ↦ absurd (accepted (subst IsRefused (sym told.0) tt))
+              | inr edits ↦ edits
+            ],
+            answer.stand,
+          ));
       rows = λ honest. elim made.ends [
         | inl none ↦ (
           [],
@@ -74,16 +77,6 @@ module _ {S : Type 0} (g : Ghosts S) (id : ℕ) (clerk : List ℕ) (edit : PlanE
           all.counted ∙ ap (λ counts. counts_after counts changes) kept.same_counts,
         )
       ];
-      crash = made_crash reached made (AfterEdit id clerk edit) (λ honest accepted office stands.
-          let answer = is.step honest office stands in (
-            said,
-            answer.next,
-            elim answer.step [
-              | inl told ↦ absurd (accepted (subst IsRefused (sym told.0) tt))
-              | inr edits ↦ edits
-            ],
-            answer.stand,
-          ));
       settled = λ moved. (went_on moved).settled;
       still_open = λ moved. (went_on moved).still_open;
     }

@@ -1,15 +1,14 @@
 -- A decision on what was read, and what its reply tells of the tables once it is made.
-use Rattle.std.proofs.Common.{◌≡◌, ◌≢◌, ◌⊎◌, List, [], refl, ap, sym, subst, ◌∙◌, inl, inr, ⊎_elim}
+use Rattle.std.proofs.Common.{◌≡◌, ◌≢◌, ◌⊎◌, List, [], refl, ap, sym, subst, ◌∙◌, inl, inr}
 use Rattle.std.proofs.Math.Path.{subst₂}
 use Rattle.office_machine.specs.declared.reply.{Reply.Reply, Reply.TheVariants.Refused}
 use Rattle.office_machine.specs.declared.refusal.Refusal.TheVariants.{Damaged, Unavailable}
-use Rattle.office_tables_shelf.specs.{Change.changed_by, Content.Content, Keeps.KeepsShelf}
-use Rattle.office_tables_shelf.specs.declared.{rows.RowChange.RowChange, shelf.Shelf.Ghosts}
-use Rattle.office_desk.specs.Changes.{IsRefused}
-use Rattle.office_desk.specs.Running.{HoldsTables, CarriesOut, MakesTables, TellsTables}
+use Rattle.office_tables_shelf.specs.{Change.changed_by, Content.Content, Keeps.KeepsShelf, declared.rows.RowChange.RowChange, declared.shelf.Shelf.Ghosts}
+use Rattle.office_desk.specs.{Changes.IsRefused, Running.CarriesOut, Running.TakesEffect, Running.TellsTables}
 
 -- A decision was reached by reads: it Answers what was read; Damaged tells of a row that Meets damage. Where the database was shut, it answers any tables, as Unavailable does.
 pub record IsReached {S : Type 0} (g : Ghosts S) (Answers : Content → Reply → Content → Type 0) (Meets : Content → Type 0) (said : Reply) (changes : List RowChange) (old mid : S) : Type 0 where
+  pub clean : g.is_clean mid → g.is_clean old
   pub kept : KeepsShelf g old mid
   pub step : g.is_honest mid → Answers (g.content old) said (changed_by (g.content old) changes)
   pub refused : IsRefused said → changes ≡ []
@@ -27,15 +26,13 @@ module _ {S : Type 0} {g : Ghosts S} {Answers : Content → Reply → Content �
     | inr idle ↦ idle.0 tables
   ]
 
-  module _ {new : S} {reply : Reply} (is : CarriesOut g said changes reply mid new) where
-    pub made_refused : IsRefused reply → g.is_honest new → g.content new ≡ g.content old
-    made_refused refusal honest = elim is.ends [
-      | inl none ↦ none.same honest ∙ it.kept.same_content (is.honest honest)
-      | inr all ↦ absurd (all.some (it.refused (subst IsRefused all.told refusal)))
-    ]
-
-    pub made_ends : MakesTables g old new (λ tables. Answers tables reply)
-    made_ends clean tables held = elim is.ends [
+  -- it takes effect as far as it is carried out
+  pub takes_effect : {new : S} {reply : Reply} (After : Content → Content → Type 0) → CarriesOut g said changes reply mid new
+      → (g.is_honest mid → ¬ IsRefused said → After (g.content old) (changed_by (g.content old) changes)) → TakesEffect g Answers Meets After reply old new
+  takes_effect {new} {reply} After is after = record {
+    clean = λ clean. it.clean (is.clean clean);
+    honest = λ honest. it.kept.honest_before (is.honest honest);
+    ends = λ clean tables held. elim is.ends [
       | inl none ↦ (
         tables,
         elim none.why [
@@ -53,10 +50,12 @@ module _ {S : Type 0} {g : Ghosts S} {Answers : Content → Reply → Content �
                 (sym (all.made honest ∙ ap (λ t. changed_by t changes) (it.kept.same_content before))) (it.step before)),
             λ _. refl,
           )
-    ]
-
-    pub made_damaged : reply ≡ Refused Damaged → TellsTables g old new Meets
-    made_damaged told clean tables held = elim is.ends [
+    ];
+    refused = λ refusal honest. elim is.ends [
+      | inl none ↦ none.same honest ∙ it.kept.same_content (is.honest honest)
+      | inr all ↦ absurd (all.some (it.refused (subst IsRefused all.told refusal)))
+    ];
+    damaged = λ told clean tables held. elim is.ends [
       | inl none ↦ elim none.why [
         | inl same ↦ elim (it.shut (is.clean clean)) [
           | inl honest ↦ subst Meets (held (it.kept.honest_before honest)) (it.damaged (sym same.0 ∙ told) honest)
@@ -65,14 +64,13 @@ module _ {S : Type 0} {g : Ghosts S} {Answers : Content → Reply → Content �
         | inr failed ↦ absurd (let f : Refused Unavailable ≡ Refused Damaged = sym failed ∙ told in cc)
       ]
       | inr all ↦ absurd (all.some (it.refused (subst IsRefused (sym told ∙ all.told) tt)))
-    ]
-
-    pub made_crash : (After : Content → Content → Type 0) → (g.is_honest mid → ¬ IsRefused said → After (g.content old) (changed_by (g.content old) changes))
-        → (tables : Content) → g.may_leave new tables → g.may_leave old tables ⊎ (g.is_honest old × After (g.content old) tables)
-    made_crash After after tables left = elim (is.crash tables left) [
+    ];
+    crash = λ tables left. elim (is.crash tables left) [
       | inl before ↦ inl (it.kept.same_outcomes tables before)
       | inr made ↦ inr (
         it.kept.honest_before made.1,
-        subst (After (g.content old)) (sym (made.2 ∙ ap (λ t. changed_by t changes) (it.kept.same_content made.1))) (after made.1 (λ refusal. made.0 (it.refused refusal))),
+        subst (After (g.content old)) (sym (made.2 ∙ ap (λ t. changed_by t changes) (it.kept.same_content made.1)))
+            (after made.1 (λ refusal. made.0 (it.refused refusal))),
       )
-    ]
+    ];
+  }

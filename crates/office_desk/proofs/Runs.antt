@@ -22,7 +22,7 @@ use Rattle.office_machine.specs.declared.{command.Command.Command, command.Comma
 use Rattle.office_machine.specs.declared.command.Command.TheVariants as command
 use Rattle.office_machine.specs.declared.refusal.Refusal.TheVariants as refusal
 use Rattle.office_desk_timing.proofs.{IntersectionTable.no_damaged_intersection, Stands.no_damage, Stands.no_damaged_timing}
-use Rattle.office_desk.proofs.Making.{IsReached, idle_ends, made_crash, made_damaged, made_ends, made_refused}
+use Rattle.office_desk.proofs.Making.{IsReached, idle_ends, takes_effect}
 use Rattle.office_desk.proofs.{Recorded.register_of, RegisterLaws.runs_register, Repeats.runs_repeat, Street.keeps_the_street, TimingLaw.runs_timing, Writes.no_rise, Writes.rise_at_most}
 
 -- ---- a decision
@@ -228,6 +228,7 @@ module _ {S : Type 0} (g : Ghosts S) (law : (s : S) → g.is_honest s → g.is_c
     (shut : g.is_clean mid → g.is_honest mid ⊎ DecidesIdly command decided) where
   reached : IsReached g (λ tables. AnswersAny tables command) (λ tables. MeetsDamage tables command) decided.reply decided.changes.items old mid
   reached = record {
+    clean = clean_before;
     kept = kept;
     step = λ honest. is.step (law mid honest);
     refused = is.refused;
@@ -247,9 +248,6 @@ module _ {S : Type 0} (g : Ghosts S) (law : (s : S) → g.is_honest s → g.is_c
     wrote : g.written new ≢ g.written old → WritesAll g decided.reply decided.changes.items reply mid new
     wrote more = elim made.ends [ inl none ↦ absurd (more (none.uncounted ∙ kept.same_counts)) | inr all ↦ all ]
 
-    unless : (decided.changes.items ≢ [] → ⊥) → g.written new ≡ g.written old
-    unless none = elim made.ends [ inl none ↦ none.uncounted ∙ kept.same_counts | inr all ↦ absurd (none all.some) ]
-
     told_as : (P : Reply → Type 0) → P decided.reply → P (Refused Unavailable) → P reply
     told_as P here failed = elim made.ends [
       | inl none ↦ elim none.why [ inl same ↦ subst P (sym same.0) here | inr not_made ↦ subst P (sym not_made) failed ]
@@ -258,24 +256,19 @@ module _ {S : Type 0} (g : Ghosts S) (law : (s : S) → g.is_honest s → g.is_c
 
     pub made_run : IsRun g command reply old new
     made_run = record {
-      clean = λ now. clean_before (made.clean now);
-      honest = λ now. kept.honest_before (made.honest now);
-      step = record {
-        ends = made_ends reached made;
-        shut = λ now. elim made.ends [
-          | inl none ↦
-              let stays = λ (honest : g.is_honest new). none.same honest ∙ kept.same_content (made.honest honest) in
-              elim none.why [
-                | inl same ↦ ⊎_elim (λ honest. inl (subst g.is_honest (sym same.2) honest))
-                    (λ (idle : DecidesIdly command decided). inr (subst (IsIdle command) (sym same.0) idle.idle, stays)) (shut (made.clean now))
-                | inr failed ↦ inr (inl failed, stays)
-              ]
-          | inr all ↦ inl (all.still_open now)
-        ];
-        refused = made_refused reached made;
-        named = told_as (IsNamedFor command) is.named (unavailable_named command);
-        damaged = made_damaged reached made;
-      };
+      step = takes_effect reached (λ tables. StandsAfterStep tables command) made (λ honest accepted.
+          after_step (g.content old) _ command decided (is.step (law mid honest)) accepted refl);
+      shut = λ now. elim made.ends [
+        | inl none ↦
+            let stays = λ (honest : g.is_honest new). none.same honest ∙ kept.same_content (made.honest honest) in
+            elim none.why [
+              | inl same ↦ ⊎_elim (λ honest. inl (subst g.is_honest (sym same.2) honest))
+                  (λ (idle : DecidesIdly command decided). inr (subst (IsIdle command) (sym same.0) idle.idle, stays)) (shut (made.clean now))
+              | inr failed ↦ inr (inl failed, stays)
+            ]
+        | inr all ↦ inl (all.still_open now)
+      ];
+      named = told_as (IsNamedFor command) is.named (unavailable_named command);
       rows = record {
         most = λ now. elim made.ends [
           | inl none ↦ no_rise (g.content old) command _ _ (none.uncounted ∙ kept.same_counts)
@@ -286,12 +279,13 @@ module _ {S : Type 0} (g : Ghosts S) (law : (s : S) → g.is_honest s → g.is_c
           | inl none ↦ none.uncounted ∙ kept.same_counts
           | inr all ↦ absurd (all.some (is.refused (subst IsRefused all.told refused)))
         ];
-        query = λ asks. unless (λ some. some (is.query asks));
+        query = λ asks. elim made.ends [
+          | inl none ↦ none.uncounted ∙ kept.same_counts
+          | inr all ↦ absurd (all.some (is.query asks))
+        ];
         still_open = λ answered more. (wrote more).still_open;
       };
       stop = record {
-        crash = made_crash reached made (λ old new. StandsAfterStep old command new) (λ honest accepted.
-            after_step (g.content old) _ command decided (is.step (law mid honest)) accepted refl);
         settled = λ honest answered changed. elim made.ends [
           | inl none ↦ absurd (changed (none.same honest ∙ kept.same_content (made.honest honest)))
           | inr all ↦ all.settled
@@ -341,10 +335,10 @@ module _ {S : Type 0} (g : Ghosts S) where
   first_holds P before _ _ old new all holds = absurd all
 
   pub honest_first : (commands : List Command) (replies : List Reply) (old new : S) → AreRun g commands replies old new → g.is_honest new → g.is_honest old
-  honest_first = first_holds g.is_honest (λ c r old mid run. run.honest)
+  honest_first = first_holds g.is_honest (λ c r old mid run. run.step.honest)
 
   pub clean_first : (commands : List Command) (replies : List Reply) (old new : S) → AreRun g commands replies old new → g.is_clean new → g.is_clean old
-  clean_first = first_holds g.is_clean (λ c r old mid run. run.clean)
+  clean_first = first_holds g.is_clean (λ c r old mid run. run.step.clean)
 
   -- what each command makes of the office before it is a run
   pub run_ends : (commands : List Command) (replies : List Reply) (old new : S) → AreRun g commands replies old new → MakesTables g old new (λ tables. RunsAny tables commands replies)

@@ -1,4 +1,4 @@
-use Rattle.std.proofs.Common.{ap, inl, inr, refl, subst, sym, ◌∙◌}
+use Rattle.std.proofs.Common.{inl, inr, refl, subst, sym, ◌∙◌}
 use Rattle.office_desk.specs.Running.{CarriesOut}
 use Rattle.office_desk.proofs.Runs.{none_made, none_or_some}
 use Rattle.office_desk.proofs.office.Office.make.Goals as goal
