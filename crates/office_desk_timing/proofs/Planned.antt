@@ -71,10 +71,10 @@ module _ {timing : Timing} {rows : RowsByKey} {side : TimingSide} {edit : PlanEd
 
   -- nothing is to be done
   pub idle_asks : IsCommittedAlready edit side → (timing.holder ≡ None) × (settled ≡ [])
-  idle_asks idle = (stands.same_holder ∙ ap (option_map holder_of) idle.free, changes_none settled_make idle.same)
+  idle_asks idle = (stands.same_holder ∙ ap (option_map holder_of) idle.0, changes_none settled_make idle.1)
 
   pub asks_idle : timing.holder ≡ None → settled ≡ [] → IsCommittedAlready edit side
-  asks_idle free none = record {
-    free = no_holder side.draft (sym stands.same_holder ∙ free);
-    same = sym settled_make.make ∙ ap (after_changes side.committed) none;
-  }
+  asks_idle free none = (
+    no_holder side.draft (sym stands.same_holder ∙ free),
+    sym settled_make.make ∙ ap (after_changes side.committed) none,
+  )

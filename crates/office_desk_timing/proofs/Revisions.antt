@@ -120,7 +120,8 @@ module _ (is_honest : Type 0) (tables : Content) (id : ℕ) (clerk : List ℕ) (
               inr (
                 λ idle. let none = idle_asks here.timing_stands plans idle in busy none.0 none.1,
                 edits,
-                record { within = plans.within; make = to.make },
+                plans.within,
+                to.make,
                 refl,
               ),
               all_are office id clerk i (taking_up i.timing.draft) (Edit edits)

@@ -43,21 +43,16 @@ plan_from edit rows = after_changes (if edit.replaces then empty else rows) edit
 abbrev pub plan_asked : PlanEdit → TimingSide → Rows
 plan_asked edit side = plan_from edit (base_of side)
 
--- these edits make that plan
-pub record AreEdits (edit : PlanEdit) (side : TimingSide) (edits : List Change) : Type 0 where
-  pub within : AreChangesWithin edits
-  pub make : after_changes (base_of side) edits ≡ plan_asked edit side
+-- nothing is to be done: nobody owns a draft, and the plan is the committed set
+abbrev pub IsCommittedAlready : PlanEdit → TimingSide → Type 0
+IsCommittedAlready edit side = (side.draft ≡ None) × (plan_asked edit side ≡ side.committed)
 
--- nothing is to be done: the plan is the committed set, and nobody owns a draft
-pub record IsCommittedAlready (edit : PlanEdit) (side : TimingSide) : Type 0 where
-  pub free : side.draft ≡ None
-  pub same : plan_asked edit side ≡ side.committed
-
--- THE STEPS OF AN EDIT: none where nothing is to be done, else those of a revision by edits that make the plan
+-- THE STEPS OF AN EDIT: none where nothing is to be done, else those of a revision by edits within their limits that make the plan
 abbrev pub AreStepsOf : PlanEdit → TimingSide → List Step → Type 0
 AreStepsOf edit side steps =
     (IsCommittedAlready edit side × (steps ≡ []))
-    ⊎ ((IsCommittedAlready edit side → ⊥) × (edits : List Change) × AreEdits edit side edits × (steps ≡ revision_steps side edits edit.commits))
+    ⊎ ((IsCommittedAlready edit side → ⊥) × (edits : List Change) × AreChangesWithin edits × (after_changes (base_of side) edits ≡ plan_asked edit side)
+    × (steps ≡ revision_steps side edits edit.commits))
 
 -- AN EDIT, of an intersection that is there or not: the reply and the next office are those of its steps, as commands of the clerk, all or none; Same where
 -- there is none
