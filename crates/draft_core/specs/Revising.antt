@@ -2,29 +2,17 @@
 use Rattle.std.specs.Prelude.{◌≡◌, ◌≤◌, ℕ, Bool, true, List, [], ◌∷◌, ◌++◌, length, Option, Some, None, Result, Ok, Err, IfOk, if◌then◌else◌}
 use Rattle.std.specs.Str.{bytes_eq}
 use Rattle.signal_records.specs.TimingSet.{Rows, after_changes}
-use Rattle.signal_records.specs.declared.record.Change.{Change}
-use Rattle.signal_records.specs.declared.state.DbState.{DbState}
-use Rattle.signal_records.specs.declared.state.DbState.TheVariants.{Normal}
-use Rattle.signal_records.specs.declared.state.Holder.{Holder}
-use Rattle.signal_records.specs.declared.state.Holding.{Holding}
+use Rattle.signal_records.specs.{declared.record.Change.Change, declared.state.DbState.DbState, declared.state.DbState.TheVariants.Normal, declared.state.Holder.Holder, declared.state.Holding.Holding, declared.state.Stage.Stage}
 use Rattle.signal_records.specs.declared.state.Holding.TheVariants.{Begun, Kept}
-use Rattle.signal_records.specs.declared.state.Stage.{Stage}
 use Rattle.signal_records.specs.declared.state.Stage.TheVariants.{Transaction, Verify, Done}
-use Rattle.signal_rules.specs.Violations.{violations_of}
-use Rattle.signal_rules.specs.declared.violation.Violation.{Violation}
-use Rattle.draft_core.specs.Drafting.{AreAmong}
+use Rattle.signal_rules.specs.{Violations.violations_of, declared.violation.Violation.Violation}
+use Rattle.draft_core.specs.{Drafting.AreAmong, declared.refusal.DraftRefusal.DraftRefusal, declared.refusal.DraftRefusal.TheVariants.NotOwner, declared.step.Step.Step, declared.timing.Move.Move, declared.timing.Timing.Timing, declared.timing.TimingChange.TimingChange}
 use Rattle.draft_core.specs.DraftRows.{RowsByKey, Stands}
 use Rattle.draft_core.specs.Moves.{Follows, draft_writes, drafted_in, timing_writes}
 use Rattle.draft_core.specs.News.{AreInOrder, AreNew}
 use Rattle.draft_core.specs.Transaction.{Draft, TimingSide, table_line}
-use Rattle.draft_core.specs.declared.refusal.DraftRefusal.{DraftRefusal}
-use Rattle.draft_core.specs.declared.refusal.DraftRefusal.TheVariants.{NotOwner}
-use Rattle.draft_core.specs.declared.step.Step.{Step}
 use Rattle.draft_core.specs.declared.step.Step.TheVariants as step
-use Rattle.draft_core.specs.declared.timing.Move.{Move}
 use Rattle.draft_core.specs.declared.timing.Reach.TheVariants as reach
-use Rattle.draft_core.specs.declared.timing.Timing.{Timing}
-use Rattle.draft_core.specs.declared.timing.TimingChange.{TimingChange}
 
 -- ---- the steps
 

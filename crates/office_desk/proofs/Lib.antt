@@ -13,6 +13,7 @@ pub mod FoundAgain
 pub mod OverdueRows
 pub mod Writes
 pub mod Street
+pub mod Making
 pub mod Runs
 pub mod Edits
 mod TriedRecords

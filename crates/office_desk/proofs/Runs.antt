@@ -11,7 +11,7 @@ use Rattle.office_tables_shelf.specs.RegisterStands.{RegisterStandsSound}
 use Rattle.office_desk.specs.Answers.{AnswersAny, Answers, StandsAfterStep}
 use Rattle.office_desk.specs.Deciding.{AddsNothing, DecidesIdly, IsAnswered, IsDecision, IsIdle}
 use Rattle.office_desk.specs.Damage.{HasDamageIn, MeetsAfter, MeetsCabinetDamage, MeetsImportDamage, MeetsDamage}
-use Rattle.office_desk.specs.{Changes.IsRefused, Changes.most_writes, Running.AreRun, Running.HoldsTables, Running.IsRun, Running.MakesTables, Running.RunsAny, Running.RunsTo, Running.TellsTables, Named.IsNamedFor, Named.RefusesBy, Named.numbers_of, StandFor.StandForSound}
+use Rattle.office_desk.specs.{Changes.IsRefused, Changes.most_writes, Running.AreRun, Running.CarriesOut, Running.IsRun, Running.MakesTables, Running.RunsAny, Running.RunsTo, Running.TellsTables, Running.WritesAll, Named.IsNamedFor, Named.RefusesBy, Named.numbers_of, StandFor.StandForSound}
 use Rattle.office_desk_timing.specs.Decisions.{refusal_of}
 use Rattle.office_tables_decisions.specs.declared.decided.Decided.{Decided}
 use Rattle.cabinet_core.specs.declared.command.RecordCommand.{RecordCommand}
@@ -22,6 +22,7 @@ use Rattle.office_machine.specs.declared.{command.Command.Command, command.Comma
 use Rattle.office_machine.specs.declared.command.Command.TheVariants as command
 use Rattle.office_machine.specs.declared.refusal.Refusal.TheVariants as refusal
 use Rattle.office_desk_timing.proofs.{IntersectionTable.no_damaged_intersection, Stands.no_damage, Stands.no_damaged_timing}
+use Rattle.office_desk.proofs.Making.{IsReached, idle_ends, takes_effect}
 use Rattle.office_desk.proofs.{Recorded.register_of, RegisterLaws.runs_register, Repeats.runs_repeat, Street.keeps_the_street, TimingLaw.runs_timing, Writes.no_rise, Writes.rise_at_most}
 
 -- ---- a decision
@@ -211,110 +212,90 @@ after_step tables new command decided answers accepted made office stands =
     own next (inl left) stand = absurd (accepted (subst IsRefused (sym left.0) tt))
     own next (inr is) stand = subst (StandForSound (changed_by tables decided.changes.items)) (ap (λ (p : Reply × Office). p.1) (sym is)) stand
 
+-- nothing is made where no row is to be written
+pub none_made : {S : Type 0} (g : Ghosts S) (said : Reply) (changes : List RowChange) (shelf : S) → changes ≡ [] → CarriesOut g said changes said shelf shelf
+none_made g said changes shelf none = record {
+  clean = λ clean. clean;
+  honest = λ honest. honest;
+  ends = inl (record { why = inl (refl, none, refl); same = λ honest. refl; uncounted = refl });
+  crash = λ tables left. inl left;
+}
+
 module _ {S : Type 0} (g : Ghosts S) (law : (s : S) → g.is_honest s → g.is_clean s) (command : Command) (decided : Decided) (old mid : S)
     (kept : KeepsShelf g old mid)
     (is : IsAnswered (g.is_clean mid) (g.content old) command decided)
     (clean_before : g.is_clean mid → g.is_clean old)
     (shut : g.is_clean mid → g.is_honest mid ⊎ DecidesIdly command decided) where
-  held_still : (tables : Content) → HoldsTables g old tables → HoldsTables g mid tables
-  held_still tables held honest = kept.same_content honest ∙ held (kept.honest_before honest)
+  reached : IsReached g (λ tables. AnswersAny tables command) (λ tables. MeetsDamage tables command) decided.reply decided.changes.items old mid
+  reached = record {
+    clean = clean_before;
+    kept = kept;
+    step = λ honest. is.step (law mid honest);
+    refused = is.refused;
+    damaged = λ said honest. is.damaged said (law mid honest);
+    shut = λ clean. ⊎_elim inl (λ (idle : DecidesIdly command decided). inr (
+      λ tables. idle_answers tables command decided.reply idle.idle,
+      idle_says command decided.reply idle.idle refusal.Damaged (λ e. cc),
+    )) (shut clean);
+    unavailable = λ tables. idle_answers tables command (Refused Unavailable) (inl refl);
+  }
 
   -- there was nothing to be written
   pub unwritten_step : decided.changes.items ≡ [] → TellsTables g old mid (λ tables. AnswersAny tables command decided.reply tables)
-  unwritten_step none clean tables held = ⊎_elim
-      (λ honest. subst (λ t. AnswersAny t command decided.reply t) (held (kept.honest_before honest))
-      (same_answers _ _ _ _ decided.changes.items (is.step clean) (ap (changed_by (g.content old)) (sym none))))
-      (λ (idle : DecidesIdly command decided). idle_answers tables command decided.reply idle.idle) (shut clean)
+  unwritten_step none = idle_ends reached none
+
+  module _ {new : S} {reply : Reply} (made : CarriesOut g decided.reply decided.changes.items reply mid new) where
+    wrote : g.written new ≢ g.written old → WritesAll g decided.reply decided.changes.items reply mid new
+    wrote more = elim made.ends [ inl none ↦ absurd (more (none.uncounted ∙ kept.same_counts)) | inr all ↦ all ]
+
+    told_as : (P : Reply → Type 0) → P decided.reply → P (Refused Unavailable) → P reply
+    told_as P here failed = elim made.ends [
+      | inl none ↦ elim none.why [ inl same ↦ subst P (sym same.0) here | inr not_made ↦ subst P (sym not_made) failed ]
+      | inr all ↦ subst P (sym all.told) here
+    ]
+
+    pub made_run : IsRun g command reply old new
+    made_run = record {
+      step = takes_effect reached (λ tables. StandsAfterStep tables command) made (λ honest accepted.
+          after_step (g.content old) _ command decided (is.step (law mid honest)) accepted refl);
+      shut = λ now. elim made.ends [
+        | inl none ↦
+            let stays = λ (honest : g.is_honest new). none.same honest ∙ kept.same_content (made.honest honest) in
+            elim none.why [
+              | inl same ↦ ⊎_elim (λ honest. inl (subst g.is_honest (sym same.2) honest))
+                  (λ (idle : DecidesIdly command decided). inr (subst (IsIdle command) (sym same.0) idle.idle, stays)) (shut (made.clean now))
+              | inr failed ↦ inr (inl failed, stays)
+            ]
+        | inr all ↦ inl (all.still_open now)
+      ];
+      named = told_as (IsNamedFor command) is.named (unavailable_named command);
+      rows = record {
+        most = λ now. elim made.ends [
+          | inl none ↦ no_rise (g.content old) command _ _ (none.uncounted ∙ kept.same_counts)
+          | inr all ↦ rise_at_most (g.content old) command decided.changes.items (g.written old) (g.written new) (is.writes (made.clean now))
+              (all.counted ∙ ap (λ counts. counts_after counts decided.changes.items) kept.same_counts)
+        ];
+        none = λ refused. elim made.ends [
+          | inl none ↦ none.uncounted ∙ kept.same_counts
+          | inr all ↦ absurd (all.some (is.refused (subst IsRefused all.told refused)))
+        ];
+        query = λ asks. elim made.ends [
+          | inl none ↦ none.uncounted ∙ kept.same_counts
+          | inr all ↦ absurd (all.some (is.query asks))
+        ];
+        still_open = λ answered more. (wrote more).still_open;
+      };
+      stop = record {
+        settled = λ honest answered changed. elim made.ends [
+          | inl none ↦ absurd (changed (none.same honest ∙ kept.same_content (made.honest honest)))
+          | inr all ↦ all.settled
+        ];
+        made = λ answered more. (wrote more).settled;
+      };
+    }
 
   pub unwritten_run : decided.changes.items ≡ [] → IsRun g command decided.reply old mid
-  unwritten_run none = record {
-    clean = clean_before;
-    honest = kept.honest_before;
-    step = record {
-      ends = λ clean tables held. (tables, unwritten_step none clean tables held, held_still tables held);
-      shut = λ clean. ⊎_elim inl (λ (idle : DecidesIdly command decided). inr (idle.idle, kept.same_content)) (shut clean);
-      refused = λ refused. kept.same_content;
-      named = is.named;
-      damaged = λ said clean tables held. ⊎_elim
-          (λ honest. subst (λ t. MeetsDamage t command) (held (kept.honest_before honest)) (is.damaged said clean))
-          (λ (idle : DecidesIdly command decided). absurd (idle_says command decided.reply idle.idle refusal.Damaged (λ e. cc) said)) (shut clean);
-    };
-    rows = record {
-      most = λ clean. no_rise (g.content old) command _ _ kept.same_counts;
-      none = λ refused. kept.same_counts;
-      query = λ asks. kept.same_counts;
-      still_open = λ answered wrote. absurd (wrote kept.same_counts);
-    };
-    stop = record {
-      crash = λ tables left. inl (kept.same_outcomes tables left);
-      settled = λ honest answered changed. absurd (changed (kept.same_content honest));
-      made = λ answered wrote. absurd (wrote kept.same_counts);
-    };
-  }
-
-  module _ (new : S) (some : decided.changes.items ≢ []) (clean : g.is_clean new → g.is_clean mid) (honest : g.is_honest new → g.is_honest mid)
-      (crash : (tables : Content) → g.may_leave new tables → g.may_leave mid tables ⊎ (g.is_honest mid × (tables ≡ changed_by (g.content mid) decided.changes.items))) where
-    left_by : (tables : Content) → g.may_leave new tables → g.may_leave old tables ⊎ (g.is_honest old × StandsAfterStep (g.content old) command tables)
-    left_by tables left =
-        elim (crash tables left) [
-          | inl before ↦ inl (kept.same_outcomes tables before)
-          | inr made ↦ inr (
-            kept.honest_before made.0,
-            after_step (g.content old) tables command decided (is.step (law mid made.0)) (λ refused. some (is.refused refused)) (made.1 ∙ ap (λ t. changed_by t decided.changes.items) (kept.same_content made.0)),
-          )
-        ]
-
-    -- the changes were made
-    pub applied_run : (g.is_clean new → g.is_honest new) → (g.is_honest new → g.content new ≡ changed_by (g.content mid) decided.changes.items) → g.written new ≡ counts_after (g.written mid) decided.changes.items
-        → ((tables : Content) → g.may_leave new tables → tables ≡ g.content new) → IsRun g command decided.reply old new
-    applied_run still_open made counted settled = record {
-      clean = λ now. clean_before (clean now);
-      honest = λ now. kept.honest_before (honest now);
-      step = record {
-        ends = λ now tables held. (g.content new, subst (λ t. AnswersAny t command decided.reply (g.content new)) (same_held now tables held) (answers now), λ _. refl);
-        shut = λ now. inl (still_open now);
-        refused = λ refused. absurd (some (is.refused refused));
-        named = is.named;
-        damaged = λ said now tables held. subst (λ t. MeetsDamage t command) (same_held now tables held) (is.damaged said (clean now));
-      };
-      rows = record {
-        most = λ now. rise_at_most (g.content old) command decided.changes.items (g.written old) (g.written new) (is.writes (clean now)) (counted ∙ ap (λ counts. counts_after counts decided.changes.items) kept.same_counts);
-        none = λ refused. absurd (some (is.refused refused));
-        query = λ asks. absurd (some (is.query asks));
-        still_open = λ answered wrote. still_open;
-      };
-      stop = record { crash = left_by; settled = λ now answered changed. settled; made = λ answered wrote. settled };
-    }
-      where
-        same_held : g.is_clean new → (tables : Content) → HoldsTables g old tables → g.content old ≡ tables
-        same_held now tables held = held (kept.honest_before (honest (still_open now)))
-
-        answers : g.is_clean new → AnswersAny (g.content old) command decided.reply (g.content new)
-        answers now = same_answers _ _ _ _ decided.changes.items (is.step (clean now)) (made (still_open now) ∙ ap (λ t. changed_by t decided.changes.items) (kept.same_content (honest (still_open now))))
-
-    -- they were refused
-    pub failed_run : (g.is_honest new → g.content new ≡ g.content mid) → g.written new ≡ g.written mid → IsRun g command (Refused Unavailable) old new
-    failed_run same uncounted = record {
-      clean = λ now. clean_before (clean now);
-      honest = λ now. kept.honest_before (honest now);
-      step = record {
-        ends = λ now tables held. (tables, unavailable_answers tables command (Refused Unavailable) [] refl refl, λ now. same now ∙ held_still tables held (honest now));
-        shut = λ now. inr (inl refl, stays);
-        refused = λ refused. stays;
-        named = unavailable_named command;
-        damaged = λ told. absurd (let f : Refused Unavailable ≡ Refused refusal.Damaged = told in cc);
-      };
-      rows = record {
-        most = λ now. no_rise (g.content old) command _ _ (uncounted ∙ kept.same_counts);
-        none = λ refused. uncounted ∙ kept.same_counts;
-        query = λ asks. uncounted ∙ kept.same_counts;
-        still_open = λ answered. absurd (answered refl);
-      };
-      stop = record { crash = left_by; settled = λ now answered. absurd (answered refl); made = λ answered. absurd (answered refl) };
-    }
-      where
-        stays : g.is_honest new → g.content new ≡ g.content old
-        stays now = same now ∙ kept.same_content (honest now)
+  unwritten_run none = made_run (none_made g decided.reply decided.changes.items mid none)
 
 -- ---- commands in turn
 
@@ -354,10 +335,10 @@ module _ {S : Type 0} (g : Ghosts S) where
   first_holds P before _ _ old new all holds = absurd all
 
   pub honest_first : (commands : List Command) (replies : List Reply) (old new : S) → AreRun g commands replies old new → g.is_honest new → g.is_honest old
-  honest_first = first_holds g.is_honest (λ c r old mid run. run.honest)
+  honest_first = first_holds g.is_honest (λ c r old mid run. run.step.honest)
 
   pub clean_first : (commands : List Command) (replies : List Reply) (old new : S) → AreRun g commands replies old new → g.is_clean new → g.is_clean old
-  clean_first = first_holds g.is_clean (λ c r old mid run. run.clean)
+  clean_first = first_holds g.is_clean (λ c r old mid run. run.step.clean)
 
   -- what each command makes of the office before it is a run
   pub run_ends : (commands : List Command) (replies : List Reply) (old new : S) → AreRun g commands replies old new → MakesTables g old new (λ tables. RunsAny tables commands replies)

@@ -1,6 +1,9 @@
 -- What running commands promises, of the shelf before and after them.
 use Rattle.std.specs.Prelude.{◌≡◌, ◌≢◌, ◌⊎◌, ℕ, List, [], ◌∷◌, Result, IfErr}
+use Rattle.office_tables_shelf.specs.Change.{changed_by}
 use Rattle.office_tables_shelf.specs.Content.{Content}
+use Rattle.office_tables_shelf.specs.Counts.{counts_after}
+use Rattle.office_tables_shelf.specs.declared.rows.RowChange.{RowChange}
 use Rattle.office_tables_shelf.specs.declared.shelf.Shelf.{Ghosts}
 use Rattle.office_desk.specs.Answers.{AnswersAny, EndsIn, StandsAfterStep}
 use Rattle.office_desk.specs.Changes.{IsQueryCommand, IsRefused, RiseAtMost}
@@ -34,6 +37,34 @@ TellsTables g old new Says = g.is_clean new → (tables : Content) → HoldsTabl
 abbrev pub MakesTables : {S : Type 0} → Ghosts S → (old new : S) → (Content → Content → Type 0) → Type 0
 MakesTables g old new Makes = TellsTables g old new (λ tables. EndsIn (g.is_honest new) (g.content new) (Makes tables))
 
+-- ---- a decision that is made
+
+-- Nothing is written for a decision: what it says is told where it has no rows; where they are refused, Unavailable.
+pub record WritesNone {S : Type 0} (g : Ghosts S) (said : Reply) (changes : List RowChange) (reply : Reply) (old new : S) : Type 0 where
+  pub why : ((reply ≡ said) × (changes ≡ []) × (new ≡ old)) ⊎ (reply ≡ Refused Unavailable)
+  pub same : g.is_honest new → g.content new ≡ g.content old
+  pub uncounted : g.written new ≡ g.written old
+
+-- The rows of a decision are written, and what it says is told: a crash leaves the tables of now alone, and on a clean disk the database is still open.
+pub record WritesAll {S : Type 0} (g : Ghosts S) (said : Reply) (changes : List RowChange) (reply : Reply) (old new : S) : Type 0 where
+  pub told : reply ≡ said
+  pub some : changes ≢ []
+  pub still_open : g.is_clean new → g.is_honest new
+  pub made : g.is_honest new → g.content new ≡ changed_by (g.content old) changes
+  pub counted : g.written new ≡ counts_after (g.written old) changes
+  pub settled : (tables : Content) → g.may_leave new tables → tables ≡ g.content new
+
+-- All rows of a decision are written, or none. A crash leaves what it could leave before, or the tables with all of them. It makes no disk clean again, and opens no
+-- database.
+pub record CarriesOut {S : Type 0} (g : Ghosts S) (said : Reply) (changes : List RowChange) (reply : Reply) (old new : S) : Type 0 where
+  pub clean : g.is_clean new → g.is_clean old
+  pub honest : g.is_honest new → g.is_honest old
+  pub ends : WritesNone g said changes reply old new ⊎ WritesAll g said changes reply old new
+  pub crash : (tables : Content) → g.may_leave new tables → g.may_leave old tables
+      ⊎ ((changes ≢ []) × g.is_honest old × (tables ≡ changed_by (g.content old) changes))
+
+-- ---- what is told of the tables
+
 -- a read that fails is refused with Unavailable, for want of memory or by the shelf, or with Damaged, for a row that is no record
 abbrev pub RefusesRead : {A : Type 0} → Result A Refusal → Type 0
 RefusesRead result = IfErr result (λ why. (why ≡ Unavailable) ⊎ (why ≡ Damaged))
@@ -42,14 +73,15 @@ RefusesRead result = IfErr result (λ why. (why ≡ Unavailable) ⊎ (why ≡ Da
 abbrev pub WasIdle : Type 0 → (old new : Content) → Command → Reply → Type 0
 WasIdle is_honest old new command reply = IsIdle command reply × (is_honest → new ≡ old)
 
--- The reply and the tables are one step of the office, and a refusal leaves the tables. A refusal is one that is named for the command, Unavailable or Damaged;
--- and Damaged reports only a row that is no record. Where a failure has shut the database, nothing was done, and the reply is still that of a step.
-pub record IsStepped {S : Type 0} (g : Ghosts S) (command : Command) (reply : Reply) (old new : S) : Type 0 where
-  pub ends : MakesTables g old new (λ tables. AnswersAny tables command reply)
-  pub shut : g.is_clean new → g.is_honest new ⊎ WasIdle (g.is_honest new) (g.content old) (g.content new) command reply
+-- WHAT WAS ASKED TAKES EFFECT, all of it or none. On a clean disk the reply Answers the tables of before and of now; a refusal leaves them, and Damaged tells only of a row
+-- that Meets damage. A crash leaves what it could leave before, or tables After what was asked. It makes no disk clean again, and opens no database.
+pub record TakesEffect {S : Type 0} (g : Ghosts S) (Answers : Content → Reply → Content → Type 0) (Meets : Content → Type 0) (After : Content → Content → Type 0) (reply : Reply) (old new : S) : Type 0 where
+  pub clean : g.is_clean new → g.is_clean old
+  pub honest : g.is_honest new → g.is_honest old
+  pub ends : MakesTables g old new (λ tables. Answers tables reply)
   pub refused : IsRefused reply → g.is_honest new → g.content new ≡ g.content old
-  pub named : IsNamedFor command reply
-  pub damaged : reply ≡ Refused Damaged → TellsTables g old new (λ tables. MeetsDamage tables command)
+  pub damaged : reply ≡ Refused Damaged → TellsTables g old new Meets
+  pub crash : (tables : Content) → g.may_leave new tables → g.may_leave old tables ⊎ (g.is_honest old × After (g.content old) tables)
 
 -- The rows written are at most those that the command may write, and none where it is refused or is a query; where some were, and the reply is not
 -- Unavailable, the database is still open.
@@ -59,20 +91,19 @@ pub record IsWritten {S : Type 0} (g : Ghosts S) (command : Command) (reply : Re
   pub query : IsQueryCommand command → g.written new ≡ g.written old
   pub still_open : reply ≢ Refused Unavailable → g.written new ≢ g.written old → g.is_clean new → g.is_honest new
 
--- A crash leaves what it could leave before the command, or the office after the command's own step. It leaves the tables of now alone, where the command
--- changed them (and the database is still open) or wrote rows, and the reply is not Unavailable.
-pub record IsStopped {S : Type 0} (g : Ghosts S) (command : Command) (reply : Reply) (old new : S) : Type 0 where
-  pub crash : (tables : Content) → g.may_leave new tables → g.may_leave old tables ⊎ (g.is_honest old × StandsAfterStep (g.content old) command tables)
+-- A crash leaves the tables of now alone, where the command changed them (and the database is still open) or wrote rows, and the reply is not Unavailable.
+pub record IsStopped {S : Type 0} (g : Ghosts S) (reply : Reply) (old new : S) : Type 0 where
   pub settled : g.is_honest new → reply ≢ Refused Unavailable → g.content new ≢ g.content old → (tables : Content) → g.may_leave new tables → tables ≡ g.content new
   pub made : reply ≢ Refused Unavailable → g.written new ≢ g.written old → (tables : Content) → g.may_leave new tables → tables ≡ g.content new
 
--- A command was run: the step that it took, the rows that were written, and what a crash may leave. It makes no disk clean again, and opens no database.
+-- A command was run: one step of the office, the rows that were written, and what a crash may leave. A refusal is one that is named for the command, Unavailable or
+-- Damaged. Where a failure has shut the database, nothing was done, and the reply is still that of a step.
 pub record IsRun {S : Type 0} (g : Ghosts S) (command : Command) (reply : Reply) (old new : S) : Type 0 where
-  pub clean : g.is_clean new → g.is_clean old
-  pub honest : g.is_honest new → g.is_honest old
-  pub step : IsStepped g command reply old new
+  pub step : TakesEffect g (λ tables. AnswersAny tables command) (λ tables. MeetsDamage tables command) (λ tables. StandsAfterStep tables command) reply old new
+  pub shut : g.is_clean new → g.is_honest new ⊎ WasIdle (g.is_honest new) (g.content old) (g.content new) command reply
+  pub named : IsNamedFor command reply
   pub rows : IsWritten g command reply old new
-  pub stop : IsStopped g command reply old new
+  pub stop : IsStopped g reply old new
 
 -- these replies are those of commands that were run in turn, each on the shelf as those before it left it
 abbrev pub AreRun : {S : Type 0} → Ghosts S → List Command → List Reply → (old new : S) → Type 0

@@ -1,39 +1,15 @@
 //! A clerk's edit of a plan, run on an office.
-ghost use Rattle.std.specs.Prelude.{◌⊎◌};
-ghost use Rattle.office_desk.specs.Editing.{EditsPlan, IsEditDecision, TellsUnavailable};
-ghost use Rattle.office_tables_shelf.specs.Keeps.{KeepsShelf};
+ghost use Rattle.office_desk.specs.Editing.{EditsPlan};
 
 use crate::deciding::shelf_refusal;
 use crate::office::Office;
 use office_desk_timing::{PlanEdit, decide_revision};
-use office_machine::refusal::Refusal;
 use office_machine::reply::Reply;
-use office_tables_decisions::decided::Decided;
 use office_tables_shelf::shelf::Shelf;
 use signal_records::{InterId, Words};
 use std::alloc::Global;
 
 impl<S: Shelf> Office<S> {
-    /// The reply to an edit of a plan, and what is to be written for it. Nothing is written yet.
-    fn decide_edit(
-        &mut self,
-        alloc: Global,
-        id: InterId,
-        clerk: &Words<40>,
-        edit: &PlanEdit,
-    ) -> Decided
-        ensures answers { IsEditDecision (S.is_honest self.new) (S.content self.old) id clerk.now
-            edit.now result }
-        ensures clean { S.is_clean self.new → S.is_clean self.old }
-        ensures shut { S.is_clean self.new → S.is_honest self.new ⊎ TellsUnavailable result }
-        ensures kept { KeepsShelf S.Shelf self.old self.new }
-    {
-        match decide_revision(&mut self.shelf, alloc, id, clerk, edit) {
-            Ok(decided) => return decided,
-            Err(fault) => return Decided::from_refusal(alloc, shelf_refusal(fault)),
-        }
-    }
-
     /// Edits the plan of an intersection for a clerk, in one step: its draft is taken up, or begun
     /// where nobody holds one, changed, and committed where that is asked for and it breaks no
     /// rule; all of that or none. `Same` where the plan is the committed set and nobody holds a
@@ -50,10 +26,9 @@ impl<S: Shelf> Office<S> {
     ) -> Reply
         ensures { EditsPlan S.Shelf id clerk.now edit.now result self.old self.new }
     {
-        let decided = self.decide_edit(alloc, id, clerk, edit);
-        match self.apply(alloc, decided.changes.as_slice()) {
-            Ok(()) => decided.reply,
-            Err(_fault) => Reply::Refused(Refusal::Unavailable),
+        match decide_revision(&mut self.shelf, alloc, id, clerk, edit) {
+            Ok(decided) => self.make(alloc, decided),
+            Err(fault) => Reply::Refused(shelf_refusal(fault)),
         }
     }
 }

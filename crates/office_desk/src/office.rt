@@ -14,7 +14,7 @@ ghost use Rattle.office_desk.specs.Checking.{Checks};
 ghost use Rattle.office_desk.specs.Damage.{MeetsDamage, MeetsImportDamage};
 ghost use Rattle.office_desk.specs.Deciding.{DecidesIdly, IsAnswered};
 ghost use Rattle.office_machine.specs.Office.{Office as OfficeState};
-ghost use Rattle.office_desk.specs.Running.{AreRun, IsRun, MakesTables, RefusesRead, RunsAny};
+ghost use Rattle.office_desk.specs.Running.{AreRun, CarriesOut, IsRun, MakesTables, RefusesRead, RunsAny};
 ghost use Rattle.office_desk.specs.StandFor.{StandForSound};
 ghost use Rattle.office_desk_timing.specs.Listing.{ListsEachIntersection};
 ghost use Rattle.office_machine.specs.Listed.{intersections_of};
@@ -130,6 +130,16 @@ impl<S: Shelf> Office<S> {
         self.shelf.apply(alloc, changes)
     }
 
+    /// Makes the changes of a decision, and gives its reply; Unavailable where they are refused.
+    pub(crate) fn make(&mut self, alloc: Global, decided: Decided) -> Reply
+        ensures { CarriesOut S.Shelf decided.reply decided.changes.items result self.old self.new }
+    {
+        match self.apply(alloc, decided.changes.as_slice()) {
+            Ok(()) => decided.reply,
+            Err(_fault) => Reply::Refused(Refusal::Unavailable),
+        }
+    }
+
     /// Runs one command: decides it, and makes its changes. Where memory or the shelf refuses, the
     /// reply is Unavailable; where a stored row that the command reads is no record, Damaged. A
     /// refusal changes nothing, unless a failure has shut the database: opened again, that may hold
@@ -138,10 +148,7 @@ impl<S: Shelf> Office<S> {
         ensures ran { IsRun S.Shelf command.now result self.old self.new }
     {
         let decided = self.decide(alloc, command);
-        match self.apply(alloc, decided.changes.as_slice()) {
-            Ok(()) => decided.reply,
-            Err(_fault) => Reply::Refused(Refusal::Unavailable),
-        }
+        self.make(alloc, decided)
     }
 
     /// Runs commands in turn, and gives a reply for each, in their order; a refused command stops

@@ -145,7 +145,7 @@ intersection_bound : (id : ℕ) (clerk : List ℕ) (step : Step) → most_inters
 intersection_bound id clerk Begin = refl
 intersection_bound id clerk _ = refl
 
-no_more : (written n most : ℕ) → written ≡ n → n ≤ most → 0 + written ≤ most
+pub no_more : (written n most : ℕ) → written ≡ n → n ≤ most → 0 + written ≤ most
 no_more written n most same bound = omega arith
 
 one_more : (written : ℕ) → written ≡ 0 → 1 + written ≤ 1

@@ -1,21 +1,17 @@
 -- Steps of the transaction as commands in turn, all of them or none, are the lines of its table.
-use Rattle.std.proofs.Common.{◌≡◌, ℕ, Bool, true, false, cond, List, [], ◌∷◌, ◌++◌, map, Option, Some, None, Result, Ok, Err, refl, ap, sym, subst, ◌∙◌}
-use Rattle.std.specs.FinMap.{FinMap, get, insert, get-insert, same_map, nat_cmp-IsAntisymmetric}
+use Rattle.std.proofs.Common.{◌≡◌, ℕ, Bool, true, false, cond, List, [], ◌∷◌, ◌++◌, map, Option, Some, None, Result, Ok, Err, refl, ap, subst, ◌∙◌}
+use Rattle.std.specs.FinMap.{FinMap, get, get-insert, same_map, nat_cmp-IsAntisymmetric}
 use Rattle.std.specs.{Cmp.nat_cmp_total, Cmp.tied_itself, List.AllByRecursion, Ordering.nat_cmp, Ordering.eq_by_cmp, Ordering.is_eq}
-use Rattle.signal_records.specs.TimingSet.{after_changes}
-use Rattle.signal_records.specs.declared.{record.Change.Change, state.Stage.Stage}
+use Rattle.signal_records.specs.{declared.record.Change.Change, declared.state.Stage.Stage}
 use Rattle.signal_records.specs.declared.state.Stage.TheVariants.{Transaction, Verify, Done}
 use Rattle.signal_rules.specs.declared.violation.Violation.{Violation}
-use Rattle.signal_rules.specs.Violations.{violations_of}
 use Rattle.signal_values.specs.Words.{AreWords}
-use Rattle.draft_core.specs.Revising.{and_then, base_of, committing, lines_of, opening_steps, revision_steps, taking_up}
-use Rattle.draft_core.specs.{Steps.asked_changes, Transaction.Draft, Transaction.TimingSide, Transaction.table_line, Within.AreChangesWithin}
-use Rattle.draft_core.specs.declared.{refusal.DraftRefusal.DraftRefusal, step.Step.Step}
+use Rattle.draft_core.specs.Revising.{and_then, committing, lines_of, opening_steps, taking_up}
+use Rattle.draft_core.specs.{Steps.asked_changes, Transaction.Draft, Transaction.TimingSide, Transaction.table_line, Within.AreChangesWithin, declared.refusal.DraftRefusal.DraftRefusal, declared.step.Step.Step, declared.step.Step.TheVariants.Edit}
 use Rattle.office_machine.specs.Office.{Intersection, Office}
 use Rattle.office_machine.specs.Step.{moved, moved_to, with_intersection}
-use Rattle.office_machine.specs.declared.{reply.Reply.Reply, reply.Reply.TheVariants.Same}
+use Rattle.office_machine.specs.{declared.reply.Reply.Reply, declared.reply.Reply.TheVariants.Same}
 use Rattle.office_tables_decisions.specs.Asking.{asking_command}
-use Rattle.office_tables_shelf.proofs.CellLemmas.{tied}
 use Rattle.office_desk_timing.specs.Revising.{all_or_none, unless_refused}
 use Rattle.office_desk_timing.proofs.{Keeps.IsSoundSide, Keeps.line_keeps, Moved.with_timing_side, Transactions.answered_at}
 
@@ -28,30 +24,10 @@ last_put false late early there = refl
 
 -- of two intersections under one number the last stands
 put_twice : (office : Office) (id : ℕ) (early late : Intersection)
-    → with_intersection (with_intersection office id early) id late
-    ≡ with_intersection office id late
-put_twice office id early late =
-    ap (λ (rows : FinMap nat_cmp Intersection). record office { intersections = rows })
-    (same_map nat_cmp_total nat_cmp-IsAntisymmetric _ _ (λ q.
-    let here = eq_by_cmp nat_cmp q id in
-    get-insert nat_cmp_total (insert office.intersections id early) id late q
-    ∙ ap (cond here (Some late)) (get-insert nat_cmp_total office.intersections id early q)
-    ∙ last_put here late early (get office.intersections q)
-    ∙ sym (get-insert nat_cmp_total office.intersections id late q)))
-
--- to put the intersection that is there changes nothing
-put_there : (office : Office) (id : ℕ) (i : Intersection) → get office.intersections id ≡ Some i
-    → with_intersection office id i ≡ office
-put_there office id i there =
-    ap (λ (rows : FinMap nat_cmp Intersection). record office { intersections = rows })
-    (same_map nat_cmp_total nat_cmp-IsAntisymmetric _ _ (λ q.
-    get-insert nat_cmp_total office.intersections id i q ∙ go q (eq_by_cmp nat_cmp q id) refl))
-  where
-    go : (q : ℕ) (here : Bool) → eq_by_cmp nat_cmp q id ≡ here
-        → cond here (Some i) (get office.intersections q) ≡ get office.intersections q
-    go q true hit = sym there
-        ∙ ap (get office.intersections) (sym (nat_cmp-IsAntisymmetric q id (tied _ hit)))
-    go q false miss = refl
+    → with_intersection (with_intersection office id early) id late ≡ with_intersection office id late
+put_twice office id early late = ap (λ (rows : FinMap nat_cmp Intersection). record office { intersections = rows })
+    (same_map nat_cmp_total nat_cmp-IsAntisymmetric _ _ (λ q. simp (get-insert {X = Intersection} nat_cmp_total)
+    (last_put (eq_by_cmp nat_cmp q id) late early (get office.intersections q))))
 
 put_found : (office : Office) (id : ℕ) (i : Intersection)
     → get (with_intersection office id i).intersections id ≡ Some i
@@ -61,60 +37,52 @@ put_found office id i = get-insert nat_cmp_total office.intersections id i id
 -- ---- commands in turn
 
 module _ (office : Office) (id : ℕ) (clerk : List ℕ) (i : Intersection) where
-  -- the office once the steps have led to a timing side
-  abbrev led_to : TimingSide → Office
-  led_to side = with_intersection office id (with_timing_side i side)
-
   -- what comes of the steps that are left
   abbrev ends : List Step → Office → Reply → Reply × Office
   ends steps now last = all_or_none office now last (map (asking_command id clerk) steps)
 
+  -- the steps led from the office to another one, which has this timing side in its place
+  record LedTo (now : Office) (side : TimingSide) : Type 0 where
+    there : get now.intersections id ≡ Some (with_timing_side i side)
+    rest : (next : Intersection) → with_intersection now id next ≡ with_intersection office id next
+
   abbrev GoesOn : List Step → TimingSide → Type 0
-  GoesOn steps side = ends steps (led_to side) (moved_to side)
+  GoesOn steps side =
+      ends steps (with_intersection office id (with_timing_side i side)) (moved_to side)
       ≡ moved office id i (lines_of clerk steps side)
 
-  -- the reply to the first of them, and what comes of the rest
-  one_answered : (step : Step) (steps : List Step) (side : TimingSide)
-      (l : Result TimingSide DraftRefusal) → table_line step clerk side ≡ l
-      → ends (step ∷ steps) (led_to side) (moved_to side)
-      ≡ unless_refused office (moved (led_to side) id (with_timing_side i side) l).0
-      (ends steps (moved (led_to side) id (with_timing_side i side) l).1
-      (moved (led_to side) id (with_timing_side i side) l).0)
-  one_answered step steps side l line =
+  -- one of them, and the rest
+  one_goes : (step : Step) (steps : List Step) (now : Office) (side : TimingSide) (last : Reply)
+      → LedTo now side → ((next : TimingSide) → GoesOn steps next)
+      → (l : Result TimingSide DraftRefusal) → table_line step clerk side ≡ l
+      → ends (step ∷ steps) now last ≡ moved office id i (and_then l (lines_of clerk steps))
+  one_goes step steps now side last led more l line =
       ap (λ (a : Reply × Office). unless_refused office a.0 (ends steps a.1 a.0))
-      (answered_at step (led_to side) id clerk (with_timing_side i side) l
-      (put_found office id (with_timing_side i side)) line)
-
-  one_goes : (step : Step) (steps : List Step) (side : TimingSide)
-      → ((next : TimingSide) → GoesOn steps next) → (l : Result TimingSide DraftRefusal)
-      → table_line step clerk side ≡ l
-      → ends (step ∷ steps) (led_to side) (moved_to side)
-      ≡ moved office id i (and_then l (lines_of clerk steps))
-  one_goes step steps side more (Ok next) line =
-      one_answered step steps side (Ok next) line
-      ∙ ap (λ now. ends steps now (moved_to next))
-      (put_twice office id (with_timing_side i side) (with_timing_side i next))
-      ∙ more next
-  one_goes step steps side more (Err why) line = one_answered step steps side (Err why) line
+      (answered_at step now id clerk (with_timing_side i side) l led.there line)
+      ∙ elim l as (λ (r : Result TimingSide DraftRefusal). unless_refused office (moved now id (with_timing_side i side) r).0
+      (ends steps (moved now id (with_timing_side i side) r).1 (moved now id (with_timing_side i side) r).0)
+      ≡ moved office id i (and_then r (lines_of clerk steps))) [
+        | Ok next ↦ ap (λ now. ends steps now (moved_to next)) (led.rest (with_timing_side i next)) ∙ more next
+        | Err why ↦ refl
+      ]
 
   goes_on : (steps : List Step) (side : TimingSide) → GoesOn steps side
   goes_on [] side = refl
   goes_on (step ∷ steps) side =
-      one_goes step steps side (goes_on steps) (table_line step clerk side) refl
+      let put = with_timing_side i side in
+      one_goes step steps (with_intersection office id put) side (moved_to side)
+      (record { there = put_found office id put; rest = put_twice office id put })
+      (goes_on steps) (table_line step clerk side) refl
 
-  module _ (there : get office.intersections id ≡ Some i) where
-    begins : (step : Step) (steps : List Step) → ends (step ∷ steps) office Same
-        ≡ moved office id i (lines_of clerk (step ∷ steps) i.timing)
-    begins step steps =
-        ap (λ now. ends (step ∷ steps) now (moved_to i.timing)) (sym (put_there office id i there))
-        ∙ goes_on (step ∷ steps) i.timing
-
-    -- one command at least, all or none, is the lines of the table
-    pub all_are : (before : List Step) (step : Step) (after : List Step)
-        → ends (before ++ step ∷ after) office Same
-        ≡ moved office id i (lines_of clerk (before ++ step ∷ after) i.timing)
-    all_are [] step after = begins step after
-    all_are (first ∷ before) step after = begins first (before ++ step ∷ after)
+  -- one command at least, all or none, is the lines of the table
+  pub all_are : (before : List Step) (step : Step) (after : List Step)
+      → get office.intersections id ≡ Some i → ends (before ++ step ∷ after) office Same
+      ≡ moved office id i (lines_of clerk (before ++ step ∷ after) i.timing)
+  all_are [] step after there = one_goes step after office i.timing Same
+      (record { there = there; rest = λ next. refl }) (goes_on after) (table_line step clerk i.timing) refl
+  all_are (first ∷ before) step after there = one_goes first (before ++ step ∷ after) office i.timing Same
+      (record { there = there; rest = λ next. refl }) (goes_on (before ++ step ∷ after))
+      (table_line first clerk i.timing) refl
 
 -- ---- what the lines keep
 
@@ -122,20 +90,17 @@ module _ (office : Office) (id : ℕ) (clerk : List ℕ) (i : Intersection) wher
 abbrev AsksWithin : Step → Type 0
 AsksWithin step = AreChangesWithin (asked_changes step)
 
-module _ (clerk : List ℕ) (words : AreWords 40 clerk) (last : TimingSide) where
-  lines_keep : (steps : List Step) (side : TimingSide) → AllByRecursion AsksWithin steps
-      → IsSoundSide side → lines_of clerk steps side ≡ Ok last → IsSoundSide last
-  lines_keep [] side within sound is = subst IsSoundSide (let same : side ≡ last = cc in same) sound
-  lines_keep (step ∷ steps) side within sound is =
-      go (table_line step clerk side) refl is (λ next. lines_keep steps next within.1)
-    where
-      go : (l : Result TimingSide DraftRefusal) → table_line step clerk side ≡ l
-          → and_then l (lines_of clerk steps) ≡ Ok last
-          → ((next : TimingSide) → IsSoundSide next → lines_of clerk steps next ≡ Ok last → IsSoundSide last)
-          → IsSoundSide last
-      go (Ok next) line rest more =
-          more next (line_keeps step clerk side next words within.0 sound line) rest
-      go (Err why) line rest more = absurd (let f : Err why ≡ Ok last = rest in cc)
+-- a sound timing side stays sound
+pub lines_keep : (clerk : List ℕ) → AreWords 40 clerk → (last : TimingSide) (steps : List Step) (side : TimingSide)
+    → AllByRecursion AsksWithin steps → IsSoundSide side → lines_of clerk steps side ≡ Ok last → IsSoundSide last
+lines_keep clerk words last [] side within sound is = subst IsSoundSide (let same : side ≡ last = cc in same) sound
+lines_keep clerk words last (step ∷ steps) side within sound is =
+    elim (table_line step clerk side) as (λ l. table_line step clerk side ≡ l
+    → and_then l (lines_of clerk steps) ≡ Ok last → IsSoundSide last) [
+      | Ok next ↦ λ line rest. lines_keep clerk words last steps next within.1
+          (line_keeps step clerk side next words within.0 sound line) rest
+      | Err why ↦ λ line rest. absurd (let f : Err why ≡ Ok last = rest in cc)
+    ] refl is
 
 opening_within : (stage : Stage) (steps : List Step) → AllByRecursion AsksWithin steps
     → AllByRecursion AsksWithin (opening_steps stage ++ steps)
@@ -143,22 +108,14 @@ opening_within Transaction steps all = all
 opening_within Verify steps all = (tt, (tt, all))
 opening_within Done steps all = (tt, all)
 
-taking_within : (held : Option Draft) (steps : List Step) → AllByRecursion AsksWithin steps
-    → AllByRecursion AsksWithin (taking_up held ++ steps)
-taking_within None steps all = (tt, all)
-taking_within (Some draft) steps all = opening_within draft.stage steps all
-
 committing_within : (commits : Bool) (violations : List Violation)
     → AllByRecursion AsksWithin (committing commits violations)
 committing_within true [] = (tt, (tt, (tt, tt)))
 committing_within _ violations = tt
 
-pub revising_keeps : (side : TimingSide) (edits : List Change) (commits : Bool) (clerk : List ℕ)
-    (last : TimingSide) → AreWords 40 clerk → AreChangesWithin edits → IsSoundSide side
-    → lines_of clerk (revision_steps side edits commits) side ≡ Ok last → IsSoundSide last
-revising_keeps side edits commits clerk last words within =
-    lines_keep clerk words last (revision_steps side edits commits) side
-    (taking_within side.draft _ (
-      within,
-      committing_within commits (violations_of (after_changes (base_of side) edits)),
-    ))
+pub revision_within : (held : Option Draft) (edits : List Change) (commits : Bool) (violations : List Violation)
+    → AreChangesWithin edits
+    → AllByRecursion AsksWithin (taking_up held ++ Edit edits ∷ committing commits violations)
+revision_within None edits commits violations within = (tt, (within, committing_within commits violations))
+revision_within (Some draft) edits commits violations within =
+    opening_within draft.stage _ (within, committing_within commits violations)

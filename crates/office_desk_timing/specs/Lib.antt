@@ -4,4 +4,3 @@ pub mod Moving
 pub mod Decisions
 pub mod Listing
 pub mod Revising
-pub mod Planning

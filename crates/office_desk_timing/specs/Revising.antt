@@ -2,35 +2,22 @@
 use Rattle.std.specs.Prelude.{◌≡◌, ◌≢◌, ◌⊎◌, ◌≤◌, ℕ, List, [], ◌∷◌, length, map, if◌then◌else◌, Option, Some, None, Result, Ok, Err}
 use Rattle.std.specs.FinMap.{empty, get}
 use Rattle.draft_core.specs.Revising.{base_of, revision_steps}
-use Rattle.draft_core.specs.Transaction.{TimingSide}
-use Rattle.draft_core.specs.Within.{AreChangesWithin}
-use Rattle.draft_core.specs.declared.step.Step.{Step}
+use Rattle.draft_core.specs.{Transaction.TimingSide, Within.AreChangesWithin, declared.step.Step.Step, declared.timing.Timing.Timing}
 use Rattle.draft_core.specs.declared.timing.Reach.TheVariants as reach
 use Rattle.office_desk_timing.specs.declared.revising.PlanEdit.{PlanEdit}
 use Rattle.office_machine.specs.Office.{Intersection, Office, side_at}
-use Rattle.office_machine.specs.Step.{answered}
-use Rattle.office_machine.specs.declared.command.Command.{Command}
+use Rattle.office_machine.specs.{Step.answered, declared.command.Command.Command, declared.reply.Reply.Reply}
 use Rattle.office_machine.specs.declared.refusal.Refusal.TheVariants.{Damaged, Unavailable, UnknownIntersection}
-use Rattle.office_machine.specs.declared.reply.Reply.{Reply}
 use Rattle.office_machine.specs.declared.reply.Reply.TheVariants.{Moved, Refused, Same}
-use Rattle.office_tables_decisions.specs.Asking.{asking_command}
-use Rattle.office_tables_decisions.specs.Changes.{IsRefused}
-use Rattle.office_tables_decisions.specs.Damage.{HasDamageIn}
-use Rattle.office_tables_decisions.specs.StandFor.{StandForSound}
-use Rattle.office_tables_decisions.specs.declared.decided.Decided.{Decided}
+use Rattle.office_tables_decisions.specs.{Asking.asking_command, Changes.IsRefused, Damage.HasDamageIn, StandFor.StandForSound, declared.decided.Decided.Decided}
 use Rattle.office_tables_shelf.specs.Change.{AddNew, changed_by}
-use Rattle.office_tables_shelf.specs.Content.{Content}
-use Rattle.office_tables_shelf.specs.Counts.{writes_in}
-use Rattle.office_tables_shelf.specs.Shelf.{rows_of}
-use Rattle.office_tables_shelf.specs.declared.rows.RowChange.{RowChange}
+use Rattle.office_tables_shelf.specs.{Content.Content, Counts.writes_in, Shelf.rows_of, declared.rows.RowChange.RowChange, declared.shelf.ShelfFault.ShelfFault}
 use Rattle.office_tables_shelf.specs.declared.rows.Table.TheVariants as table
-use Rattle.office_tables_shelf.specs.declared.shelf.ShelfFault.{ShelfFault}
 use Rattle.office_tables_shelf.specs.declared.shelf.ShelfFault.TheVariants as fault
-use Rattle.signal_plans.specs.Difference.{AreTold}
+use Rattle.signal_plans.specs.Difference.{AreTold, difference_changes}
 use Rattle.signal_plans.specs.declared.difference.Difference.{Difference}
 use Rattle.signal_records.specs.TimingSet.{Rows, after_changes}
-use Rattle.signal_records.specs.declared.record.Change.{Change}
-use Rattle.signal_records.specs.declared.state.DbState.TheVariants.{Normal}
+use Rattle.signal_records.specs.{declared.record.Change.Change, declared.state.DbState.TheVariants.Normal}
 
 -- ---- commands, all of them or none
 
@@ -56,21 +43,16 @@ plan_from edit rows = after_changes (if edit.replaces then empty else rows) edit
 abbrev pub plan_asked : PlanEdit → TimingSide → Rows
 plan_asked edit side = plan_from edit (base_of side)
 
--- these edits make that plan
-pub record AreEdits (edit : PlanEdit) (side : TimingSide) (edits : List Change) : Type 0 where
-  pub within : AreChangesWithin edits
-  pub make : after_changes (base_of side) edits ≡ plan_asked edit side
+-- nothing is to be done: nobody owns a draft, and the plan is the committed set
+abbrev pub IsCommittedAlready : PlanEdit → TimingSide → Type 0
+IsCommittedAlready edit side = (side.draft ≡ None) × (plan_asked edit side ≡ side.committed)
 
--- nothing is to be done: the plan is the committed set, and nobody owns a draft
-pub record IsCommittedAlready (edit : PlanEdit) (side : TimingSide) : Type 0 where
-  pub free : side.draft ≡ None
-  pub same : plan_asked edit side ≡ side.committed
-
--- THE STEPS OF AN EDIT: none where nothing is to be done, else those of a revision by edits that make the plan
+-- THE STEPS OF AN EDIT: none where nothing is to be done, else those of a revision by edits within their limits that make the plan
 abbrev pub AreStepsOf : PlanEdit → TimingSide → List Step → Type 0
 AreStepsOf edit side steps =
     (IsCommittedAlready edit side × (steps ≡ []))
-    ⊎ ((IsCommittedAlready edit side → ⊥) × (edits : List Change) × AreEdits edit side edits × (steps ≡ revision_steps side edits edit.commits))
+    ⊎ ((IsCommittedAlready edit side → ⊥) × (edits : List Change) × AreChangesWithin edits × (after_changes (base_of side) edits ≡ plan_asked edit side)
+    × (steps ≡ revision_steps side edits edit.commits))
 
 -- AN EDIT, of an intersection that is there or not: the reply and the next office are those of its steps, as commands of the clerk, all or none; Same where
 -- there is none
@@ -117,15 +99,34 @@ IsMoved reply = ⊥
 
 -- The reply and what the rows make of the tables are one edit; where a row is added, none stands under its key; some are written where the transaction went on,
 -- and none where the edit is refused; and Damaged is told only where the intersection's row or a row of its plan is no record.
-pub record IsEditDecision (is_honest : Type 0) (tables : Content) (id : ℕ) (clerk : List ℕ) (edit : PlanEdit) (decided : Decided) : Type 0 where
-  pub step : is_honest → AnswersAnyEdit tables id clerk edit decided.reply (changed_by tables decided.changes.items)
-  pub writes : is_honest → WritesForEdit tables id edit decided.reply decided.changes.items
-  pub news : is_honest → AddNew tables decided.changes.items
-  pub made : IsMoved decided.reply → decided.changes.items ≢ []
-  pub refused : IsRefused decided.reply → decided.changes.items ≡ []
-  pub damaged : decided.reply ≡ Refused Damaged → is_honest → HasDamageIn reach.Plan tables id
+pub record IsEditDecision (is_honest : Type 0) (tables : Content) (id : ℕ) (clerk : List ℕ) (edit : PlanEdit) (reply : Reply) (changes : List RowChange) : Type 0 where
+  pub step : is_honest → AnswersAnyEdit tables id clerk edit reply (changed_by tables changes)
+  pub writes : is_honest → WritesForEdit tables id edit reply changes
+  pub news : is_honest → AddNew tables changes
+  pub made : IsMoved reply → changes ≢ []
+  pub refused : IsRefused reply → changes ≡ []
+  pub damaged : reply ≡ Refused Damaged → is_honest → HasDamageIn reach.Plan tables id
 
 -- The edit is decided, or a fault is reported: Damaged only where the intersection's row or a row of its plan is no record.
 abbrev pub DecidesEdit : Type 0 → Content → ℕ → (clerk : List ℕ) → PlanEdit → Result Decided ShelfFault → Type 0
-DecidesEdit is_honest tables id clerk edit (Ok decided) = IsEditDecision is_honest tables id clerk edit decided
+DecidesEdit is_honest tables id clerk edit (Ok decided) = IsEditDecision is_honest tables id clerk edit decided.reply decided.changes.items
 DecidesEdit is_honest tables id clerk edit (Err why) = why ≡ fault.Damaged → is_honest → HasDamageIn reach.Plan tables id
+
+-- ---- by what was read
+
+-- the changes that make the second set of the first: one for each of their differences, in the order of the keys
+pub record AreChangesTo (first second : Rows) (changes : List Change) : Type 0 where
+  pub found : List Difference
+  pub told : AreTold first second found
+  pub are : changes ≡ difference_changes found
+  pub make : after_changes first changes ≡ second
+
+-- the plan that an edit asks for, of the committed set with the draft rows over it
+abbrev pub plan_read : PlanEdit → Timing → Rows
+plan_read edit timing = plan_from edit (after_changes timing.committed timing.delta)
+
+-- the changes that make that plan: of the rows that a revision goes on with, and of the committed set
+pub record PlansChanges (timing : Timing) (edit : PlanEdit) (edits settled : List Change) : Type 0 where
+  pub of_base : AreChangesTo (after_changes timing.committed timing.delta) (plan_read edit timing) edits
+  pub within : AreChangesWithin edits
+  pub of_committed : AreChangesTo timing.committed (plan_read edit timing) settled

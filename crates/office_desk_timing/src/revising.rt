@@ -1,11 +1,10 @@
 //! A clerk's edit of a plan, decided in one step.
-ghost use Rattle.std.specs.Prelude.{◌≡◌, IfOk, OnErr, ⊤};
-ghost use Rattle.office_desk_timing.specs.Planning.{AreChangesTo, PlansChanges, WritesRevision, asks_nothing};
-ghost use Rattle.office_desk_timing.specs.Revising.{DecidesEdit, plan_from};
+ghost use Rattle.std.specs.Prelude.{◌≡◌, [], None, IfOk, IsTrue, ⊤};
+ghost use Rattle.office_desk_timing.specs.Revising.{AreChangesTo, DecidesEdit, PlansChanges, plan_from};
 ghost use Rattle.office_tables_decisions.specs.Reads.{OnlyReads};
 
 use crate::moving::answer;
-use crate::reading::{Found, find};
+use crate::reading::find;
 use draft_core::changes::Changes;
 use draft_core::timing::{Reach, Timing};
 use draft_core::{overlay, revise};
@@ -28,16 +27,6 @@ pub struct PlanEdit {
     pub commits: bool,
 }
 
-/// The changes that make the plan which an edit asks for.
-#[derive(Drop)]
-struct PlanChanges {
-    /// Of the rows that the clerk goes on with: the draft, or the committed set where there is
-    /// none.
-    edits: Changes,
-    /// Of the committed set.
-    settled: Vec<Change>,
-}
-
 /// The plan that an edit asks for, by the rows that the clerk goes on with.
 fn plan_of(alloc: Global, base: &TimingSet, edit: &PlanEdit) -> Result<TimingSet, NoMemory>
     ensures { IfOk result (λ plan. plan ≡ plan_from edit.now base.now) }
@@ -56,45 +45,29 @@ fn changes_to(alloc: Global, first: &TimingSet, second: &TimingSet) -> Result<Ve
     changes(alloc, differences.as_slice())
 }
 
-/// The changes that make the plan which an edit asks for, of what was read of an intersection.
-fn plan_changes(alloc: Global, timing: &Timing, edit: &PlanEdit) -> Result<PlanChanges, NoMemory>
-    ensures { IfOk result (λ planned. PlansChanges timing.now edit.now planned) }
+/// The changes that make the plan which an edit asks for: of the rows that the clerk goes on with,
+/// which are the draft, or the committed set where there is none; and of the committed set.
+fn plan_changes(
+    alloc: Global,
+    timing: &Timing,
+    edit: &PlanEdit,
+) -> Result<(Changes, Vec<Change>), NoMemory>
+    ensures { IfOk result (λ planned.
+        PlansChanges timing.now edit.now planned.0 planned.1.items) }
 {
     let base = overlay(alloc, &timing.committed, timing.delta.as_slice())?;
     let plan = plan_of(alloc, &base, edit)?;
     let edits = Changes::new(changes_to(alloc, &base, &plan)?);
     let settled = changes_to(alloc, &timing.committed, &plan)?;
-    Ok(PlanChanges { edits, settled })
+    Ok((edits, settled))
 }
 
 /// Nothing is to be done: nobody holds a draft, and the plan is the committed set.
-fn asks_nothing(timing: &Timing, planned: &PlanChanges) -> bool
-    ensures { result ≡ asks_nothing timing.now planned.now }
+fn asks_nothing(timing: &Timing, settled: &[Change]) -> bool
+    ensures is { IsTrue result → (timing.now.holder ≡ None) × (settled.now ≡ []) }
+    ensures other { timing.now.holder ≡ None → settled.now ≡ [] → IsTrue result }
 {
-    timing.holder.is_none() && planned.settled.is_empty()
-}
-
-/// The answer to an edit of an intersection that was found. The fault is `NoMemory`.
-fn revise_found(
-    alloc: Global,
-    id: InterId,
-    clerk: &Words<40>,
-    found: Found,
-    edit: &PlanEdit,
-) -> Result<Decided, ShelfFault>
-    ensures writes { IfOk result (λ decided.
-        WritesRevision id clerk.now found edit.now decided.reply decided.changes.items) }
-    ensures fault { OnErr result (result ≡ Err ShelfFault.NoMemory) }
-{
-    let _name = clerk.as_str();
-    let planned = plan_changes(alloc, &found.timing, edit)?;
-    if asks_nothing(&found.timing, &planned) {
-        return Ok(Decided::from_reply(alloc, Reply::Same));
-    }
-    let edits = planned.edits.as_slice();
-    let settled = planned.settled.as_slice();
-    let decision = revise(alloc, &found.timing, clerk, edits, settled, edit.commits);
-    answer(alloc, id, clerk, found, decision)
+    timing.holder.is_none() && settled.is_empty()
 }
 
 /// Decides an edit of a clerk's plan as one step: the draft is taken up, or begun where nobody
@@ -115,8 +88,16 @@ pub fn decide_revision<S: Shelf>(
         edit.now result }
     ensures reads { OnlyReads S.Shelf ⊤ result shelf.old shelf.new }
 {
+    let _name = clerk.as_str();
     let Some(found) = find(shelf, alloc, id, Reach::Plan)? else {
         return Ok(Decided::from_refusal(alloc, Refusal::UnknownIntersection));
     };
-    revise_found(alloc, id, clerk, found, edit)
+    let (drafted, committed) = plan_changes(alloc, &found.timing, edit)?;
+    let edits = drafted.as_slice();
+    let settled = committed.as_slice();
+    if asks_nothing(&found.timing, settled) {
+        return Ok(Decided::from_reply(alloc, Reply::Same));
+    }
+    let decision = revise(alloc, &found.timing, clerk, edits, settled, edit.commits);
+    answer(alloc, id, clerk, found, decision)
 }

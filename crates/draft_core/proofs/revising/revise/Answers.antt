@@ -2,40 +2,34 @@ use Rattle.std.proofs.Common.{◌≡◌, ◌==◌, [], List, Ok, ap, false, leng
 use Rattle.signal_rules.specs.{Violations.violations_of, declared.violation.Violation.Violation}
 use Rattle.signal_records.specs.{TimingSet.after_changes, declared.state.Stage.TheVariants.Done}
 use Rattle.draft_core.specs.Moves.{Follows}
-use Rattle.draft_core.specs.Revising.{RevisionWrites, WritesRows, base_of, committing, take_up}
+use Rattle.draft_core.specs.Revising.{RevisionWrites, WritesRows, base_of, committing}
 use Rattle.draft_core.proofs.{Lines.none_found, Makes.edit_makes, News.revision_settles}
-use Rattle.draft_core.proofs.Revisions.{breaks_stay, found_after, open_lines, settled_lines, takes_up}
+use Rattle.draft_core.proofs.Revisions.{breaks_stay, ends_with, found_after, takes_up}
 use Rattle.draft_core.proofs.revising.revise.Goals.{else-commit-via-then-commit+in_ok-violations_after+else-is_empty, else-commit-via-else-commit}
 use Rattle.draft_core.proofs.revising.revise.Goals as goal
 
 pub returns-then-is_empty : goal.returns-then-is_empty
 returns-then-is_empty c =
-    let timing = c.args.timing.now in
-    let clerk = c.args.clerk.now in
     let edits = c.args.edits.now in
     let settled = c.args.settled.now in
     let found = c.in_ok-violations_after.field-0.items in
     let none : (length found == 0) ≡ true = cc in
     record {
       line = λ rows side stands sound same.
-          let takes = takes_up side clerk c.in_ok-holder.holder
-          (ap (λ h. take_up h clerk) (sym stands.same_holder) ∙ sym c.in_ok-holder.ensures.takes) in
-          let after = after_changes (base_of side) edits in
-          subst (Follows rows side clerk c.commit_settled.result)
-          (sym (settled_lines takes edits c.args.commit c.if-commit.true
-          (sym (found_after stands edits settled sound same found c.in_ok-violations_after.ensures)
-          ∙ none_found found none)))
+          let takes = takes_up stands c.args.clerk.now c.in_ok-holder.holder c.in_ok-holder.ensures.takes in
+          let keeps = sym (found_after stands edits settled sound same found c.in_ok-violations_after.ensures)
+          ∙ none_found found none in
+          rw (takes.lines edits c.args.commit, c.if-commit.true, keeps)
           (c.commit_settled.ensures.line rows side
-          (record { stage = Done; owner = takes.owner; set = after }) clerk stands
-          (ap (λ set. after_changes set settled) stands.read.1 ∙ sym same));
-      writes = revision_settles timing settled edits c.commit_settled.result
+          (record { stage = Done; owner = takes.owner; set = after_changes (base_of side) edits })
+          c.args.clerk.now stands (ap (λ set. after_changes set settled) stands.read.1 ∙ sym same));
+      writes = revision_settles c.args.timing.now settled edits c.commit_settled.result
           c.commit_settled.ensures.state c.commit_settled.ensures.writes;
     }
 
 pub returns : goal.returns
 returns c =
     let timing = c.args.timing.now in
-    let clerk = c.args.clerk.now in
     let edits = c.args.edits.now in
     let settled = c.args.settled.now in
     let holder = c.in_ok-holder.holder in
@@ -43,8 +37,7 @@ returns c =
     let opens = c.in_ok-holder.ensures.opens in
     record {
       line = λ rows side stands sound same.
-          let takes = takes_up side clerk holder
-          (ap (λ h. take_up h clerk) (sym stands.same_holder) ∙ sym c.in_ok-holder.ensures.takes) in
+          let takes = takes_up stands c.args.clerk.now holder c.in_ok-holder.ensures.takes in
           let after = after_changes (base_of side) edits in
           let stays : committing c.args.commit (violations_of after) ≡ [] =
           elim c.else-commit.branch [
@@ -58,9 +51,9 @@ returns c =
             | else-commit-via-else-commit w ↦
                 ap (λ b. committing b (violations_of after)) w.if-commit.false
           ] in
-          subst (Follows rows side clerk (Ok c.moves_to.result))
-          (sym (open_lines takes edits c.args.commit stays))
-          (edit_makes stands (base_of side) takes.owner holder clerk _ edits c.in_ok-rows.rows refl
+          subst (Follows rows side c.args.clerk.now (Ok c.moves_to.result))
+          (sym (takes.lines edits c.args.commit ∙ ap (ends_with side takes.owner after) stays))
+          (edit_makes stands (base_of side) takes.owner holder c.args.clerk.now _ edits c.in_ok-rows.rows refl
           opens takes.holds did c.moves_to.ensures);
       writes = subst (RevisionWrites timing edits settled) (sym c.moves_to.ensures) (record {
         news = λ old order. did.news;
