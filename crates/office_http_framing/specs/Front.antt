@@ -1,4 +1,4 @@
--- What stands at the front of the bytes of a stream: a whole request, a part of one, or a fault.
+-- What the bytes of a stream begin with: a whole request, a part of one, or a fault.
 use Rattle.std.specs.Prelude.{◌≡◌, ℕ, ◌+◌, ◌<◌, ◌≤◌, ◌⊎◌, Bool, ◌||◌, List, map, length, take, slice_range, Result, Ok, Err, ◌==◌}
 use Rattle.std.specs.List.{before_first}
 use Rattle.httparse.specs.Grammar.{RequestHead, print_request, ReadsRequest, HasNoRequest, MayBecomeRequest}
@@ -67,7 +67,7 @@ pub record BeginsWithRequest (bytes : List ℕ) (request : PlainRequest) (len : 
   pub whole : len ≤ length bytes
   pub request_is : request ≡ request_of head (slice_range bytes (head_length head) len)
 
--- a head is there, and its body has not come whole
+-- a whole head has come, and its body has not come whole
 pub record AwaitsBody (bytes : List ℕ) : Type 0 where
   pub head : RequestHead
   pub size : ℕ
@@ -102,7 +102,7 @@ IsFaulty bytes fault.Coded = HasFaultyFields bytes fault.Coded
 abbrev pub plain : Request → PlainRequest
 plain r = record { method = r.method.now; path = r.path.now; body = r.body.now; last = r.last }
 
--- this is what stands at the front of the bytes
+-- this is what the bytes begin with
 abbrev pub IsFrontOf : List ℕ → Front → Type 0
 IsFrontOf bytes (front.Whole r len) = BeginsWithRequest bytes (plain r) len
 IsFrontOf bytes front.More = IsIncomplete bytes
