@@ -157,7 +157,7 @@ fn looked_up(alloc: Global, set: &TimingSet) -> Result<(usize, bool, bool), Fail
     Ok((rows.len(), found.0, found.1))
 }
 
-/// Whether fields are read as a row and as a change, and the row is written so again.
+/// Whether fields are read as a row and as a change, and the row is written as these fields again.
 fn is_spelled(alloc: Global, fields: &[&[u8]]) -> Result<bool, Fail> {
     let row: Result<Row, RowFault> = read_row(alloc, fields);
     let row = row?;
