@@ -43,7 +43,7 @@ pub struct ConnectionReader {
     listener: RawFd,
     /// The turn in which the connection is served.
     asking: Asking,
-    /// The next step, as the last `wait` was told.
+    /// The next step, as the last `wait` got it.
     next: NextStep,
     /// For how many milliseconds it has waited for the next bytes.
     waited: i32,

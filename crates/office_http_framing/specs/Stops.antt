@@ -5,11 +5,9 @@ use Rattle.office_http_framing.specs.declared.machine.Unavailable.{Unavailable}
 use Rattle.office_http_framing.specs.Front.{PlainRequest}
 use Rattle.office_http_framing.specs.Protocol.{Protocol, bytes_of}
 
--- How a machine stores its state: whether it is honest (what was written has come back, and no
--- failure has shut it), what it holds, what a crash at this moment may leave of that (while what
--- was written has come back, whether or not a failure shut it), and the states for which either
--- stands; how often it has written; and what the step of a request, from a state, may make of what
--- is stored and of that count.
+-- How a machine stores its state: whether it is honest (what was written has come back, and no failure has shut it), what it holds, what a crash at
+-- this moment may leave of that (while what was written has come back, whether or not a failure shut it), and the states that either stands for; how
+-- often it has written; and what the step of a request, from a state, may make of what is stored and of that count.
 pub record Storage (Machine State Stored : Type 0) : Type 1 where
   pub is_honest : Machine → Type 0
   pub holds : Machine → Stored

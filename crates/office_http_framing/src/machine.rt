@@ -48,8 +48,8 @@ pub trait Machine<Tools> {
     // What the machine can store of a state.
     ghost Stored: { Type 0 };
 
-    // What the machine holds now, what a crash may leave of that, the states for which either
-    // stands, and whether the machine is honest: what it keeps its state on has returned what was
+    // What the machine holds now, what a crash may leave of that, the states that either stands
+    // for, and whether the machine is honest: what it keeps its state on has returned what was
     // written, and no failure has shut it. How often it has written, and what a request may write.
     ghost storage: { Storage Self State Stored };
 

@@ -151,7 +151,7 @@ fn tell<E: Sink>(
 }
 
 /// Whether a request makes the file of an office if there is none. Only adding an intersection
-/// does, so that no other command takes a mistyped name for an office.
+/// does, so that no other request makes an office by a mistyped name.
 fn makes_file(request: &Request<'_>) -> bool {
     matches!(request, Request::Add { .. })
 }

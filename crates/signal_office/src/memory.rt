@@ -1,4 +1,4 @@
-//! The office over new tables in memory. Nothing has to be assumed of these.
+//! The office over new tables in memory. Nothing has to be assumed about them.
 
 ghost use Rattle.std.specs.Prelude.{◌≡◌, ◌≤◌, ◌+◌, ◌*◌, IfErr};
 ghost use Rattle.office_machine.specs.Office.{Office as OfficeState};

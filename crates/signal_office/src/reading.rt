@@ -47,9 +47,9 @@ fn read_input<R: Source>(
     }
 }
 
-/// The bytes of a CSV file, or of the input of the run where the path is `-`. The fault is Read
-/// where the input failed, Memory, or, after a note, File where the system refuses the file, or it
-/// has too many bytes or records or too long a record.
+/// The bytes of a CSV file, or of the input of the run where the path is `-`. The fault is Read if
+/// the input failed, Memory, or, after a note, File if the system refuses the file, or it has too
+/// many bytes or records, or too long a record.
 fn read_bytes<R: Source>(
     rt: &HostRuntime,
     alloc: Global,

@@ -78,8 +78,7 @@ fn note_owner(rt: &HostRuntime, clerk: &str, id: InterId) {
     }
 }
 
-/// Says for which intersection, pattern or draft a request ended with this fault, if it was one of
-/// these.
+/// Says which intersection, pattern or draft a request was refused for, if the fault is about one.
 pub(crate) fn note_refused(rt: &HostRuntime, path: &str, request: &Request<'_>, fault: &Fault) {
     match (fault, request) {
         (Fault::UnknownPattern, Request::Show(Shown::Diagram { id, pattern })) => {

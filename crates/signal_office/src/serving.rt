@@ -106,7 +106,7 @@ impl Serving {
         }
     }
 
-    /// The listener; if there is none yet, a new one on the port, and that is printed.
+    /// The listener; if there is none yet, listens on the port, and prints that.
     fn take_listener<W: Sink>(
         &mut self,
         rt: &HostRuntime,

@@ -15,7 +15,7 @@ use std::alloc::Global;
 /// The status where a record would be refused.
 const HAS_REFUSED: u8 = 1;
 
-/// Prints each record that would be refused, and the counts. The status is 1 if any would be
+/// Reports each record that would be refused, and the counts. The status is 1 if any would be
 /// refused, else 0.
 fn tell_checked(alloc: Global, lines: &[usize], all: &[Checked]) -> Result<Done, Fault> {
     let refused = all
@@ -28,8 +28,8 @@ fn tell_checked(alloc: Global, lines: &[usize], all: &[Checked]) -> Result<Done,
 }
 
 /// Tries the records of a CSV file in turn, each after those before it that would be taken, and
-/// prints each that would be refused, with the line on which it begins, from `lines`. The status is
-/// 1 if there is one, else 0. Nothing is taken.
+/// reports each that would be refused, with the line on which it begins, from `lines`. The status
+/// is 1 if there is one, else 0. Nothing is taken.
 pub fn check<S: Shelf>(
     alloc: Global,
     office: &mut Office<S>,

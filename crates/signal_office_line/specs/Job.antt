@@ -197,8 +197,7 @@ compare_at rows = do
   db ← any_db_at rows
   compare_of db rows
 
--- `diagram --db FILE ID PATTERN`, or `diagram --file CSV [--padded] PATTERN`, a pattern from 1 to 48, which with `--file` stands in the
--- argument ID
+-- `diagram --db FILE ID PATTERN`, or `diagram --file CSV [--padded] PATTERN`, a pattern from 1 to 48, which with `--file` is in the argument ID
 abbrev pub diagram_of : Option CsvFile → List Row → Stated Job
 diagram_of (Some file) rows = do
   pattern ← number_within 1 48 (codes "ID") rows

@@ -39,8 +39,8 @@ pub(crate) enum Given {
     InsteadOf(&'static str),
 }
 
-/// An argument of a command: its name, how it is written, the range of its number, if it is to be
-/// one, and whether it has to be given.
+/// An argument of a command: its name, how it is written, the range of its number, if it has one,
+/// and whether it has to be given.
 #[derive(Clone, Copy)]
 pub(crate) struct Argument(pub &'static str, pub Form, pub Option<Range>, pub Given);
 
