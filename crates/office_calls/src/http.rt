@@ -23,7 +23,7 @@ const STREAM: &[u8] = b"GET /stock HTTP/1.1\r\n\r\nGET /x HTTP/1.0\r\n\r\n";
 /// How many bytes its first request takes.
 const FIRST: usize = 23;
 
-/// A source that a caller may write, by one call.
+/// A caller's own source: it needs one function.
 #[derive(Drop)]
 struct Given<'a> {
     bytes: &'a [u8],
@@ -40,7 +40,7 @@ impl Source for Given<'_> {
     }
 }
 
-/// A sink that a caller may write, which keeps only its counts.
+/// A caller's own sink, which keeps only its counts.
 #[derive(Drop)]
 struct Counting {
     counts: Counts,

@@ -40,7 +40,8 @@ asked_in (request ∷ requests) = asked_of request ++ asked_in requests
 
 -- ---- their replies, and the answers
 
--- the answer has the reply in the form that was asked for; or the reply is Unavailable, and the answer is that of 503
+-- the answer has the reply in the form that was asked for; or the reply is Unavailable, and the answer is
+-- that of 503
 abbrev pub TellsReply : Asked → Reply → List ℕ → Type 0
 TellsReply asked reply answer =
     (answer ≡ answer_bytes reply asked.form)
@@ -64,10 +65,11 @@ TellsReplies _ _ _ = ⊥
 
 -- ---- the laws
 
--- The office machine ran over the commands that the requests ask, and the answers tell its replies. Each office on the way is sound, so that no
--- committed set breaks a rule. Each committed set of the last keeps the laws of the street, and is the draft as it was just before its last accepted
--- commit, or what it was at the start. Orders and stock are what the accepted commands of the register made of them; and an import that was accepted
--- and is sent again adds nothing.
+-- The office machine ran over the commands that the requests ask, and the answers tell its replies. Each
+-- office on the way is sound, so that no committed set breaks a rule. Each committed set of the last keeps
+-- the laws of the street, and is the draft as it was just before its last accepted commit, or what it was
+-- at the start. Orders and stock are what the accepted commands of the register made of them; and an import
+-- that was accepted and is sent again adds nothing.
 pub record KeepsLaws
     (before : Office) (requests : List PlainRequest) (answers : List (List ℕ))
     (after : Office) : Type 0 where

@@ -148,7 +148,8 @@ pub record Listening : Type 0 where
   pub returned : Option (List Ends)
   pub kept : Option ConnectionState
 
--- What a listener of the system tells: its counts, and the connection that it keeps. What a connection gives and takes is not known.
+-- What a listener of the system tells: its counts, and the connection that it keeps. What a
+-- connection gives and takes is not known.
 abbrev pub system_listening : ListenCounts → Option ConnectionState → Listening
 system_listening counts kept =
     record { counts = counts; given = None; returned = None; kept = kept }
@@ -205,7 +206,8 @@ EndsTurn left old new served (Err stop.NoMemory) =
     (0 < left) × (middle : Listening) × Exchanges old middle served
     × (same : ConnectionState) × Exchanges middle new (connection_between false same same ∷ [])
 
--- Of `count` connections `left` are left after these parts, since each that was given back is served; and why the turn ended.
+-- Of `count` connections `left` are left after these parts, since each that was given back is
+-- served; and why the turn ended.
 abbrev pub EndsListening : (count left : ℕ) → (old new : Listening) → List Connected
     → Result TurnEnd ServeStop → Type 0
 EndsListening count left old new served result =
@@ -256,8 +258,9 @@ pub record AsksConnection (limit : ℕ) (held rest : List ℕ) (start end : Told
   pub reads : end.counts.calls + length held
       ≤ start.counts.calls + longest_request * limit + length rest + 1
 
--- A part of a connection was served, between these two states of it, as `serve_buffered` says, and `runs` holds of its requests and their answers. A
--- fault of the ends is reported by them. It goes on if the part paused, with as many requests fewer as were answered.
+-- A part of a connection was served, between these two states of it, as `serve_buffered` says, and
+-- `runs` holds of its requests and their answers. A fault of the ends is reported by them. It goes
+-- on if the part paused, with as many requests fewer as were answered.
 pub record ServesConnection
     {Machine State Stored : Type 0} (protocol : Protocol State)
     (runs : RunsBetween Machine State Stored) (first : Machine) (held : Stored) (before : State)

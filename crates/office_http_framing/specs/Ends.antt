@@ -69,11 +69,12 @@ abbrev pub StopsAtOnce : {T E : Type 0} → Result T E → Counts → Counts →
 StopsAtOnce result old new =
     MatchResult result (λ _. NoneStops old new) (λ _. OneFails old new ⊎ OneIsEmpty old new)
 
--- a call between these counts failed, or answered 0 bytes, as far as a count at its largest value can show
+-- a call between these counts failed, or answered 0 bytes, as far as a count at its largest value
+-- can show
 abbrev pub FailsOrGivesNone : Counts → Counts → Type 0
 FailsOrGivesNone old new = Rose old.failures new.failures ⊎ Rose old.empties new.empties
 
--- the sink took the first of the bytes, or none, or all
+-- the sink took a front part of the bytes, which may be none or all
 pub record AppendsPart (old new : Option (List ℕ)) (bytes : List ℕ) : Type 0 where
   pub part : List ℕ
   pub rest : List ℕ

@@ -1,5 +1,5 @@
--- How far the definitions of requests and faults fix what a stream's bytes begin with, and the list of its requests; and what two parts of a stream
--- make together.
+-- How far the definitions of requests and faults fix what a stream's bytes begin with, and the list
+-- of its requests; and what two parts of a stream make together.
 use Rattle.std.specs.Prelude.{◌≡◌, ℕ, ◌+◌, ◌-◌, ◌⊎◌, List, ◌++◌, Result, Ok, Err}
 use Rattle.office_http_framing.specs.declared.engine.Part.{Part}
 use Rattle.office_http_framing.specs.declared.engine.PartEnd.TheVariants as part
@@ -17,8 +17,8 @@ pub record IsLeftOpen (bytes : List ℕ) : Type 0 where
   pub hopeless : IsHopeless (window bytes)
   pub unfinished : IsUnfinished (window bytes)
 
--- these bytes begin with one thing: one request, or a part of one, or one fault; only where httparse leaves it open may they begin with a fault and
--- also with a part or another fault
+-- these bytes begin with one thing: one request, or a part of one, or one fault; only where
+-- httparse leaves it open may they begin with a fault and also with a part or another fault
 pub record HasOneFront (bytes : List ℕ) : Type 0 where
   pub requests : (r s : PlainRequest) (m n : ℕ)
       → BeginsWithRequest bytes r m → BeginsWithRequest bytes s n → (r ≡ s) × (m ≡ n)
@@ -36,7 +36,8 @@ HasOneList limit bytes =
     → AreRequests limit bytes requests ending → AreRequests limit bytes others other
     → requests ≡ others
 
--- if some requests ran as `first` says, and then more as `second` says, all of them ran as `whole` says
+-- if some requests ran as `first` says, and then more as `second` says, all of them ran as `whole`
+-- says
 abbrev pub RunsJoin : (first second whole : Runs) → Type 0
 RunsJoin first second whole =
     (requests more : List PlainRequest) (answers others : List (List ℕ))

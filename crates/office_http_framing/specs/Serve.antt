@@ -56,8 +56,8 @@ told_requests (Err (stop.Read requests)) = requests
 told_requests (Err (stop.Write requests)) = requests
 told_requests (Err stop.NoMemory) = 0
 
--- How the stream ended: all was answered; or the source failed; or the sink failed at the answer to the last request or to a fault; or nothing was
--- begun, since memory was refused.
+-- How the stream ended: all was answered; or the source failed; or the sink failed at the answer to
+-- the last request or to a fault; or nothing was begun, since memory was refused.
 abbrev pub EndsBy : {State : Type 0} →
     Protocol State → Result Served ServeFault → Tail → Ends → Ends → Type 0
 EndsBy protocol (Ok served) tail start end =
@@ -128,8 +128,8 @@ MayBeLeft part.Ended is_empty = ⊥
 MayBeLeft part.GaveWay is_empty = is_empty ≡ true
 MayBeLeft part.Paused is_empty = ⊤
 
--- how a part of a stream ended without a fault: with the stream; or the stream was left, and if it gave way to another client, between two requests,
--- so that none is cut
+-- how a part of a stream ended without a fault: with the stream; or the stream was left, and if it
+-- gave way to another client, between two requests, so that none is cut
 abbrev pub EndsPart : {State : Type 0} →
     PartEnd → Protocol State → ℕ → (kept : List ℕ) → Tail → Ends → Ends → Type 0
 EndsPart part.Ended protocol requests kept tail start end =
@@ -150,7 +150,8 @@ abbrev pub as_served : Result Part ServeFault → Result Served ServeFault
 as_served (Ok it) = Ok (record { requests = it.requests })
 as_served (Err why) = Err why
 
--- a part of a stream was served: the bytes `come` had come before it, and the bytes `kept` are kept after it
+-- a part of a stream was served: the bytes `come` had come before it, and the bytes `kept` are kept
+-- after it
 abbrev pub DidPart : {State : Type 0} → Protocol State → Runs → ℕ → (come kept : List ℕ)
     → Ends → Ends → Result Part ServeFault → Type 0
 DidPart protocol runs limit come kept start end result =
@@ -162,8 +163,8 @@ pub record Untouched {Machine : Type 0} (start end : Ends) (old new : Machine) :
   pub ends_are : end ≡ start
   pub machine_is : new ≡ old
 
--- How the calls of the two ends went, by their own counts: at most one failed or moved no byte, and the outcome says which. Nothing is said if memory
--- was refused before the first call.
+-- How the calls of the two ends went, by their own counts: at most one failed or moved no byte, and
+-- the outcome says which. Nothing is said if memory was refused before the first call.
 abbrev pub TellsFault : Ends → Ends → Result Served ServeFault → Type 0
 TellsFault start end (Ok served) =
     (NoneStops start.source.counts end.source.counts
@@ -176,7 +177,8 @@ TellsFault start end (Err (stop.Write requests)) =
     × (OneFails start.sink.counts end.sink.counts ⊎ OneIsEmpty start.sink.counts end.sink.counts)
 TellsFault start end (Err stop.NoMemory) = ⊤
 
--- How the calls of the two ends went in a part of a stream that was served without a fault: if the stream was left, none failed or moved no byte.
+-- How the calls of the two ends went in a part of a stream that was served without a fault: if the
+-- stream was left, none failed or moved no byte.
 abbrev pub TellsEnd : PartEnd → Ends → Ends → Type 0
 TellsEnd part.Ended start end = TellsFault start end (Ok (record { requests = 0 }))
 TellsEnd part.GaveWay start end =
@@ -184,7 +186,8 @@ TellsEnd part.GaveWay start end =
 TellsEnd part.Paused start end =
     NoneStops start.source.counts end.source.counts × NoneStops start.sink.counts end.sink.counts
 
--- how the calls of the two ends went in a part of a stream, whose buffer exists already and is not refused
+-- how the calls of the two ends went in a part of a stream, whose buffer exists already and is not
+-- refused
 abbrev pub TellsPart : Ends → Ends → Result Part ServeFault → Type 0
 TellsPart start end (Ok it) = TellsEnd it.end start end
 TellsPart start end (Err stop.NoMemory) = ⊥

@@ -5,9 +5,11 @@ use Rattle.office_http_framing.specs.declared.machine.Unavailable.{Unavailable}
 use Rattle.office_http_framing.specs.Front.{PlainRequest}
 use Rattle.office_http_framing.specs.Protocol.{Protocol, bytes_of}
 
--- How a machine stores its state: whether it is honest (what was written has come back, and no failure has shut it), what it holds, what a crash at
--- this moment may leave of that (while what was written has come back, whether or not a failure shut it), and the states that either stands for; how
--- often it has written; and what the step of a request, from a state, may make of what is stored and of that count.
+-- How a machine stores its state: whether it is honest (what was written has come back, and no
+-- failure has shut it), what it holds, what a crash at this moment may leave of that (while what
+-- was written has come back, whether or not a failure shut it), and the states that either stands
+-- for; how often it has written; and what the step of a request, from a state, may make of what is
+-- stored and of that count.
 pub record Storage (Machine State Stored : Type 0) : Type 1 where
   pub is_honest : Machine → Type 0
   pub holds : Machine → Stored
@@ -58,8 +60,9 @@ module _
       (answer : List ℕ) × (after : State) × protocol.step before request answer after
       × storage.stands stored after
 
-  -- What a crash may leave after a request, if it could leave `may` before. If the request took its step: what is kept, and nothing else once that
-  -- has changed. If it was answered unavailable: what it could before, or the request's step.
+  -- What a crash may leave after a request, if it could leave `may` before. If the request took its
+  -- step: what is kept, and nothing else once that has changed. If it was answered unavailable:
+  -- what it could before, or the request's step.
   abbrev pub LeavesOne :
       How → PlainRequest → (may : Stored → Type 0) → (old new : Moment storage) → Stored → Type 0
   LeavesOne stepped request may old new left =
@@ -87,9 +90,10 @@ module _
       Deals unavailable request protocol.unavailable_text before after old
       (moment_of storage after old.kept old.state)
 
-  -- THE STOP. The requests were dealt with in turn, from one moment to the last; and a crash leaves no more than each lets it: `may` before the first
-  -- one, and `at_end` after the last. So it leaves the state after the last request that took its step and changed what is kept, or after a later
-  -- one.
+  -- THE STOP. The requests were dealt with in turn, from one moment to the last; and a crash leaves
+  -- no more than each lets it: `may` before the first one, and `at_end` after the last. So it
+  -- leaves the state after the last request that took its step and changed what is kept, or after a
+  -- later one.
   abbrev pub Leaves : (may : Stored → Type 0) → Moment storage → List PlainRequest
       → List (List ℕ) → (at_end : Stored → Type 0) → Moment storage → Type 0
   Leaves may first [] [] at_end last = ((left : Stored) → at_end left → may left) × (last ≡ first)
@@ -98,8 +102,9 @@ module _
       × Leaves (LeavesOne how request may first next) next requests answers at_end last
   Leaves may first _ _ at_end last = ⊥
 
-  -- The machine ran over the requests and gave these answers, from this moment on, when a crash could leave `may`: what it keeps at the end stands
-  -- for the state, and a crash leaves no more than `Leaves` says.
+  -- The machine ran over the requests and gave these answers, from this moment on, when a crash
+  -- could leave `may`: what it keeps at the end stands for the state, and a crash leaves no more
+  -- than `Leaves` says.
   pub record Ran
       (may : Stored → Type 0) (first : Moment storage) (machine : Machine) (kept : Stored)
       (state : State) (requests : List PlainRequest) (answers : List (List ℕ)) : Type 0 where

@@ -37,8 +37,8 @@ verdict_name DoneWithNoError = codes "doneWithNoError"
 abbrev pub error_tree : RefusalLine → Data
 error_tree line = keys ((codes "error", text line.name) ∷ (codes "number", count line.number) ∷ [])
 
--- the tree of a refusal: its name and its number; for VerifyFailed also how often the draft breaks rules; for ImportRow also which record was
--- refused, counted from 1, and the number of its refusal
+-- the tree of a refusal: its name and its number; for VerifyFailed also how often the draft breaks rules;
+-- for ImportRow also which record was refused, counted from 1, and the number of its refusal
 abbrev pub refusal_tree : Refusal → Data
 refusal_tree (refusal.Draft (VerifyFailed violations)) =
     keys (

@@ -1,4 +1,5 @@
--- The answer 503: memory or the database was refused, and no later answer of the run shows an effect of the request.
+-- The answer 503: memory or the database was refused, and no later answer of the run shows an effect of
+-- the request.
 use Rattle.std.specs.Prelude.{ℕ, List}
 use Rattle.office_machine.specs.declared.refusal.Refusal.TheVariants.{Unavailable}
 use Rattle.office_machine.specs.declared.reply.Reply.TheVariants.{Refused}

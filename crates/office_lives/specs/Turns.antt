@@ -26,7 +26,7 @@ use Rattle.signal_office_file.specs.Task.{Effect}
 -- ---- a task in turns
 
 module _ {T Given : Type 0} (effect : T → T → Effect Given) where
-  -- the turns of a task, from what it was before them, as runs over a file: each turn is what the task is after it, and what it gave
+  -- the turns of a task, from what it was before them, as runs over a file, each by what the task is after it and what it gave
   abbrev pub turns_of : T → List (T × Result Given Fault) → List Lived
   turns_of first [] = []
   turns_of first (it ∷ turns) = command (λ found made. (effect first it.0).does found it.1 made) ∷ turns_of it.0 turns

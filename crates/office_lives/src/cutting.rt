@@ -30,8 +30,8 @@ pub struct CutShort<D: Disk, Given> {
 }
 
 /// Does a command, stops, and serves a stream of at most `MOST` requests over what a stop leaves of
-/// the files. This covers a stop at any moment of the command: it is a disk that does nothing more
-/// from then on. `None` says that the files were refused, or not closed after the stream.
+/// the files. This covers a stop at any moment of the command, seen as a disk that does nothing
+/// more from then on. `None` says that the files were refused, or not closed after the stream.
 pub fn served_after_a_command<
     D: Crash + Drop,
     Given: Drop,

@@ -85,9 +85,9 @@ pub fn served_twice<D: Disk + Drop, R: Source, W: Sink>(
 }
 
 /// Serves a first stream, stops, and serves a second one over what a stop leaves of the files, each
-/// of at most `MOST` requests. This covers a stop at any moment of the first run: it is a disk that
-/// does nothing more from then on. `None` says that the files were refused, or not closed after the
-/// second stream.
+/// of at most `MOST` requests. This covers a stop at any moment of the first run, seen as a disk
+/// that does nothing more from then on. `None` says that the files were refused, or not closed
+/// after the second stream.
 pub fn served_after_a_stop<D: Crash + Drop, R: Source, W: Sink>(
     alloc: Global,
     files: Files<D>,

@@ -31,7 +31,7 @@ const TWO_LENGTHS: &[u8] =
     POST /intersections HTTP/1.1\r\nContent-Length: 41\r\n\r\n\
     {\"id\":12,\"interval\":365,\"name\":\"Main St\"}";
 
-/// The one answer to these two, and the answer if there is no such intersection.
+/// The one answer to `TWO_LENGTHS`, and the answer if there is no such intersection.
 static REFUSED: [&str; 1] = [r#"400 Bad Request|{"error":"Length","number":3}"#];
 
 static UNKNOWN: [&str; 1] = [r#"404 Not Found|{"error":"UnknownIntersection","number":10}"#];

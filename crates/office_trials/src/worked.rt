@@ -19,10 +19,10 @@ const STREAMED: usize = 7;
 const LISTED: usize = 19;
 
 /// How many committed rows (the first two digits) and draft rows (the last two) are written before
-/// the requests that come one by one, and by each of these. First a plan has eleven rows, then a
-/// draft two, which is abandoned, and then a draft six, of which four are changed; in the last
-/// draft a row is removed, put back twice as it is committed, and removed. A draft that is dropped
-/// counts each of its rows.
+/// the requests that come one by one, and by each of these. First come a plan of eleven rows and a
+/// draft of two, which is abandoned; then a draft of six, four of them changed; in the last draft a
+/// row is removed, put back twice as it is committed, and removed. A draft that is dropped counts
+/// each of its rows.
 static WRITES: [u64; 14] = [11_26, 0, 4, 0, 0, 4_04, 0, 1, 1, 0, 1, 0, 0, 1_01];
 
 /// A command; one of the register is made again from its record.

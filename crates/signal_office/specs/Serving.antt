@@ -33,8 +33,8 @@ ended_as (Err why) = Err (fault_of_stop why)
 abbrev pub IsUnheard : Result ⊤ Fault → Type 0
 IsUnheard result = (result ≡ Err fault.Bind) ⊎ (result ≡ Err fault.Memory) ⊎ (result ≡ Err fault.Write)
 
--- In a turn these parts of connections were served, from the state of the listener before it to that after it, with `count` connections left at its
--- start; and the result says how it ended.
+-- In a turn these parts of connections were served, from the state of the listener before it to that after it, with `count` connections left at its start; and
+-- the result says how it ended.
 abbrev pub ServesListener : Listening → ℕ → Serving → List Connected → Result ⊤ Fault → Type 0
 ServesListener listening count new served result =
     (after : Listening) × (new.listener ≡ Some after)
@@ -62,8 +62,8 @@ InTurn before (it ∷ parts) after =
     × DidPart office_protocol (λ requests answers. KeepsLaws before requests answers middle) it.start.left it.start.held it.end.held it.start.ends it.end.ends outcome
     × InTurn middle parts after
 
--- A turn of serving the port, whose result says how it ended. From whichever office the tables stood for, its parts of connections were served one
--- after the other, and the tables stand for the office after them.
+-- A turn of serving the port, whose result says how it ended. From whichever office the tables stood for, its parts of connections were served one after the
+-- other, and the tables stand for the office after them.
 pub record ServesAs (old new : Serving) (held : Content) (result : Result ⊤ Fault) (kept : Content) : Type 0 where
   pub served : List Connected
   pub ended : ServesPort old new served result

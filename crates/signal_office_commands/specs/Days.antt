@@ -25,8 +25,8 @@ is_late until c = option_map_or (nat_lt until) (record_day c) false
 abbrev pub first_late : (until : ℕ) → List RecordCommand → Option ℕ
 first_late until records = option_map (λ index. index + 1) (position (is_late until) records)
 
--- If a day is given, no record of the file has a later one; or the fault has the number of the first that has, or says why the file is not read.
--- Without a day, nothing is read.
+-- If a day is given, no record of the file has a later one; or the fault has the number of the first that has, or says why the file is not read. Without a day,
+-- nothing is read.
 abbrev pub AreInTime : (until : Option ℕ) → (csv : List ℕ) → Result ⊤ Fault → Type 0
 AreInTime None csv result = result ≡ Ok tt
 AreInTime (Some until) csv (Ok tt) = (records : List RecordCommand) × (commands_of csv ≡ Ok records) × (first_late until records ≡ None)

@@ -46,16 +46,16 @@ abbrev pub open_draft : Result OpenDraft Refusal → Result Revised Fault
 open_draft (Ok draft) = Ok (Open draft)
 open_draft (Err why) = Err (fault_of why)
 
--- the report on a transaction that moved to this state: in Normal, and only there, that the plan was committed; else the open draft as the office
--- shows it, or the fault of that read
+-- the report on a transaction that moved to this state: in Normal, and only there, that the plan was committed; else the open draft as the office shows it, or
+-- the fault of that read
 abbrev pub TellsMove : (id : ℕ) → DbState → Content → Result Revised Fault → Type 0
 TellsMove id Normal tables result =
     (running : Option RunningTiming) × (result ≡ Ok (Committed running)) × ShowsRunning tables id running
 TellsMove id state tables result =
     (read : Result OpenDraft Refusal) × IsReply tables (command.Draft id) (reply_to (λ it. reply.Draft it) read) × (result ≡ open_draft read)
 
--- THE REPORT ON AN EDIT, by its reply: what became of the plan, if the transaction moved; that nothing changed, exactly if the office says so; and
--- for a refusal its fault
+-- THE REPORT ON AN EDIT, by its reply: what became of the plan, if the transaction moved; that nothing changed, exactly if the office says so; and for a
+-- refusal its fault
 abbrev pub TellsEdit : (id : ℕ) → Reply → Content → Result Revised Fault → Type 0
 TellsEdit id reply.Same tables result = result ≡ Ok Same
 TellsEdit id (reply.Moved revision state verdict) tables result = TellsMove id state tables result
@@ -101,8 +101,7 @@ abbrev pub ShowsBefore : Edit → Content → Result RunningTiming Fault → Typ
 ShowsBefore edit tables result =
     (read : Result RunningTiming Refusal) × IsReply tables (command.Timing edit.id) (reply_to (λ it. reply.Timing it) read) × (result ≡ before_edit edit.revision read)
 
--- A PLAN IS EDITED ONLY IF THE COMMITTED REVISION IS THE ONE ASKED FOR, or none is; else, or if it can't be read, the fault says so, and nothing is
--- changed
+-- A PLAN IS EDITED ONLY IF THE COMMITTED REVISION IS THE ONE ASKED FOR, or none is; else, or if it can't be read, the fault says so, and nothing is changed
 abbrev pub EditsFound : PlanEdit → Edit → Content → Content → Result Edited Fault → Type 0
 EditsFound asked edit old new result =
     ((before : RunningTiming) × ShowsBefore edit old (Ok before) × EditsFrom asked edit old new result)

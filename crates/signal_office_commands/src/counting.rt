@@ -34,8 +34,8 @@ pub(crate) fn count_rows(differences: &[Difference]) -> RowCounts {
     }
 }
 
-/// Appends how many rows were added, changed and removed, without counts of zero, as `4 rows
-/// changed, 1 removed`; `no row changed` if all are zero.
+/// Appends how many rows were added, changed and removed, without counts of zero, as
+/// `4 rows changed, 1 removed`; `no row changed` if all are zero.
 pub(crate) fn push_counts(text: &mut String, differences: &[Difference]) -> Result<(), AllocError> {
     let RowCounts {
         added,

@@ -23,8 +23,8 @@ const COMMITTED: &str = "no violations\ncommitted\n";
 /// As `COMMITTED`, if warnings were asked for.
 const UNREAD_WARNINGS: &str = "no violations\ncommitted\nits warnings could not be read\n";
 
-/// The line on how many records of an import were new, and how many were there already: `added 5,
-/// same 2`.
+/// The line on how many records of an import were new, and how many were there already:
+/// `added 5, same 2`.
 fn imported_line(added: usize, same: usize) -> ArrayString<LINE_ROOM> {
     let mut line = ArrayString::new();
     let _ = writeln!(line, "added {added}, same {same}"); // there is room

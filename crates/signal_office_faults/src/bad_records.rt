@@ -76,10 +76,10 @@ fn push_all(
     Ok(count)
 }
 
-/// A line for each of the first hundred bad records of a CSV file, as `line 7, offset: "300"; 0 to
-/// 255 seconds`, and a line with the number of the others; empty for a good file. `lines` has the
-/// line on which each record begins. For a workbook or a file in UTF-16 it is one line that says
-/// so. `other` says that the file is the second of two.
+/// A line for each of the first hundred bad records of a CSV file, as
+/// `line 7, offset: "300"; 0 to 255 seconds`, and a line with the number of the others; empty for a
+/// good file. `lines` has the line on which each record begins. For a workbook or a file in UTF-16
+/// it is one line that says so. `other` says that the file is the second of two.
 pub fn bad_records_text(
     alloc: Global,
     csv: &[u8],

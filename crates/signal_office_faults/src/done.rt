@@ -69,7 +69,7 @@ pub fn print_text<W: Sink>(text: &[u8], status: u8, out: &mut W) -> Result<u8, F
 }
 
 /// Prints what a job came to, and gives its status. If the job ended with a fault, nothing is
-/// printed and the fault is the same. It is `Write` where the output failed or took no byte.
+/// printed, and that fault is given. It is `Write` if the output failed or took no byte.
 pub fn print_done<W: Sink>(done: Result<Done, Fault>, out: &mut W) -> Result<u8, Fault> {
     match done {
         Ok(done) => print_text(done.as_bytes(), done.status(), out),

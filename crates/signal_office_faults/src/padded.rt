@@ -1,5 +1,5 @@
-//! Files whose records a spreadsheet has padded with empty fields. The padding of a record is all
-//! after the fields that its kind has, if all of that is empty.
+//! Files whose records a spreadsheet has padded with empty fields. The padding of a record is what
+//! follows the fields of its kind, if all of that is empty.
 
 ghost use Rattle.std.specs.Prelude.{◌≡◌, map, IfOk, List, Ok};
 ghost use Rattle.csv.specs.Records.{fields_of};
@@ -41,8 +41,8 @@ fn unpadded_records(alloc: Global, records: &[ByteRecord]) -> Result<Vec<ByteRec
     Ok(rows)
 }
 
-/// The file of these records after a byte order mark. A reader drops that mark, and then none of
-/// the first field, even if that begins with one.
+/// The file of these records after a byte order mark. A reader drops that mark, and no other one
+/// with which the first field may begin.
 pub(crate) fn marked_file(alloc: Global, records: &[ByteRecord]) -> Result<Vec<u8>, NoMemory>
     ensures { IfOk result (λ text. text.items ≡ marked_text (map fields_of records.now)) }
 {

@@ -80,8 +80,8 @@ pub record RunsOver (new : Content) (before after : Office) (requests : List Pla
 abbrev pub ServesStoredOffice : ℕ → Ends → Ends → Content → Result Served ServeFault → Content → Type 0
 ServesStoredOffice limit start end old outcome new = (before : Office) → StandForSound old before → (after : Office) × Did office_protocol (RunsOver new before after) limit start end outcome
 
--- the work of answering at most `limit` requests of a stream between these moments of its ends; the outcome is Read or Write only if a call of that
--- end failed, or the sink took no byte
+-- the work of answering at most `limit` requests of a stream between these moments of its ends; the outcome is Read or Write only if a call of that end
+-- failed, or the sink took no byte
 abbrev pub stream_work : ℕ → Ends → Ends → (untouched : Type 0) → Work (Result Served ServeFault)
 stream_work limit start end untouched = record {
   does = ServesStoredOffice limit start end;

@@ -26,9 +26,9 @@ use Rattle.signal_office_file.specs.declared.ended.Ended.{Ended}
 use Rattle.signal_office_file.specs.declared.ended.Ended.TheVariants.{Refused, Closed, Unclosed}
 use Rattle.signal_office_file.specs.declared.left.FileLeft.{FileLeft}
 
--- What a migration of a database did, as far as it is known on a clean disk. If done, it brought the committed tables to today's version; if refused,
--- it left them in an open database as they were. Version and Damaged are true of what was stored. A stop leaves what was committed before, or what
--- becomes of it.
+-- What a migration of a database did, as far as it is known on a clean disk. If done, it brought the
+-- committed tables to today's version; if refused, it left them in an open database as they were. Version and
+-- Damaged are true of what was stored. A stop leaves what was committed before, or what becomes of it.
 pub record MigratesOnDisk
     {S : Type 0} (g : Ghosts S) (outcome : Result Migrated OpenFault)
     (old new : Held S) : Type 0 where

@@ -137,8 +137,8 @@ fn after_failure<T>(fault: Fault, is_done: bool) -> TurnEnd<T> {
     TurnEnd::Last(Err(fault))
 }
 
-/// Has a task whose file was refused answer that it is unavailable, and waits a second. The first
-/// time, a note says why. Gives whether the task is to go on.
+/// Has a task whose file was refused answer that the office is unavailable, and waits a second. The
+/// first time, a note says why. Gives whether the task is to go on.
 fn stays<T: TakesTurns>(
     rt: &HostRuntime,
     alloc: Global,

@@ -197,7 +197,8 @@ compare_at rows = do
   db ← any_db_at rows
   compare_of db rows
 
--- `diagram --db FILE ID PATTERN`, or `diagram --file CSV [--padded] PATTERN`, a pattern from 1 to 48, which with `--file` is in the argument ID
+-- `diagram --db FILE ID PATTERN`, or `diagram --file CSV [--padded] PATTERN`, a pattern from 1 to 48, which with `--file` is in the
+-- argument ID
 abbrev pub diagram_of : Option CsvFile → List Row → Stated Job
 diagram_of (Some file) rows = do
   pattern ← number_within 1 48 (codes "ID") rows
@@ -233,7 +234,7 @@ jobs =
     ∷ (codes "verify-file", verify_file_at) ∷ (codes "sheet", sheet_at) ∷ (codes "overdue", overdue_at)
     ∷ (codes "serve", serve_at) ∷ (codes "compare", compare_at) ∷ (codes "diagram", diagram_at) ∷ (codes "page", page_at) ∷ []
 
--- the job that the named command states by its values, or why they state none; a name that is not among `jobs` is one of `requests`, or states
--- nothing
+-- the job that the named command states by its values, or why they state none; a name that is not among `jobs` is one of `requests`, or
+-- states nothing
 abbrev pub job_at : Text → List Row → Stated Job
 job_at name rows = option_map_or (λ what. what rows) (under name jobs) (office_of (request_at name rows) rows)

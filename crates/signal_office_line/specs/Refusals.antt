@@ -38,8 +38,8 @@ abbrev pub IsFaultOf : Result Error AllocError → JobFault → Type 0
 IsFaultOf (Ok error) told = IsToldAs error told
 IsFaultOf (Err no_memory) told = told ≡ fault.NoMemory
 
--- what is found is the job that a command and its values state; for a bad word, the job that reports it; for values that state nothing, their
--- refusal, or NoMemory
+-- what is found is the job that a command and its values state; for a bad word, the job that reports it; for values that state nothing, their refusal, or
+-- NoMemory
 abbrev pub IsJobFound : Stated Job → Result Job JobFault → Type 0
 IsJobFound (Ok stated) (Ok found) = found ≡ stated
 IsJobFound (Err (Bad bad)) (Ok found) = found ≡ job.ReportBadWord bad
@@ -59,7 +59,7 @@ IsFound (Some named) result = (answer : Result ArgMatches Error) × IsAnswer (ap
 IsFound None (Err told) = ⊤
 IsFound None (Ok found) = ⊥
 
--- WHAT IS FOUND IN WORDS: the first after the program's name names a command, and `clap` finds the values of its arguments in the others. The job is
--- the one that this command and these values state. There is none where `clap` refuses the words, or where they name no command.
+-- WHAT IS FOUND IN WORDS: the first after the program's name names a command, and `clap` finds the values of its arguments in the others. The job is the one
+-- that this command and these values state. There is none where `clap` refuses the words, or where they name no command.
 abbrev pub IsFoundInWords : List Text → Result Job JobFault → Type 0
 IsFoundInWords words result = IsFound (named_in words) result

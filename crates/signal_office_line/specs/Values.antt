@@ -113,8 +113,8 @@ list_form_at rows = list_form_of (flag_at (codes "csv") rows) (flag_at (codes "h
 abbrev pub csv_at : Text → List Row → Option CsvFile
 csv_at id rows = option_map (λ path. record { path = path; padded = flag_at (codes "padded") rows; explain = flag_at (codes "explain") rows }) (first_of id rows)
 
--- `[--db FILE [--wait SECONDS]]`: the file of an office, if one is given, and for how many seconds, 0 to 3600, a run waits while another one has it
--- open: ten if no number is given
+-- `[--db FILE [--wait SECONDS]]`: the file of an office, if one is given, and for how many seconds, 0 to 3600, a run waits while
+-- another one has it open: ten if no number is given
 abbrev pub any_db_of : Option Text → List Row → Stated (Option OfficeFile)
 any_db_of None rows = Ok None
 any_db_of (Some path) rows = do
