@@ -117,7 +117,7 @@ fn pattern(at: Numbers) -> Option<Pattern> {
     })
 }
 
-/// A row of each kind is put, and the last one removed.
+/// Puts a row of each kind, and removes the pattern.
 pub(crate) fn changes(alloc: Global) -> Result<Vec<Change>, Fail> {
     let at = numbers_of_plan().ok_or("numbers")?;
     let last = pattern(at).ok_or("a pattern")?;

@@ -47,7 +47,7 @@ request_of head body = record {
   last = is_last head;
 }
 
--- the window begins with this whole head, of at most as many fields as there is room for
+-- the window begins with this whole head, which has at most `field_limit` fields
 pub record HasHead (bytes : List ℕ) (head : RequestHead) : Type 0 where
   pub rest : List ℕ
   pub reads : ReadsRequest (window bytes) head rest
@@ -74,7 +74,7 @@ pub record AwaitsBody (bytes : List ℕ) : Type 0 where
   pub framed : IsFramed bytes head (Ok size)
   pub short : length bytes < head_length head + size
 
--- no bytes can follow that make a head of at most as many fields as there is room for
+-- no bytes that follow can make a head of at most `field_limit` fields
 abbrev pub IsHopeless : List ℕ → Type 0
 IsHopeless bytes = RequestOverflows field_limit bytes
 
@@ -98,7 +98,7 @@ IsFaulty bytes fault.Length = HasFaultyFields bytes fault.Length
 IsFaulty bytes fault.BodyTooLarge = HasFaultyFields bytes fault.BodyTooLarge
 IsFaulty bytes fault.Coded = HasFaultyFields bytes fault.Coded
 
--- the request that a borrowed one shows
+-- a borrowed request as plain bytes
 abbrev pub plain : Request → PlainRequest
 plain r = record { method = r.method.now; path = r.path.now; body = r.body.now; last = r.last }
 

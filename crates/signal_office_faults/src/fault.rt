@@ -17,7 +17,7 @@ pub enum Fault {
     Write,
     /// Memory was refused.
     Memory,
-    /// The database refused.
+    /// The database, or the system for a file of an office, refused.
     Store,
     /// The tables have another version than the program's, or a file to be migrated has none.
     Version,

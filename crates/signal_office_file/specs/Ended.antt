@@ -29,11 +29,11 @@ use Rattle.signal_office_file.specs.declared.ended.Ended.TheVariants.{Refused, C
 pub record Work (T : Type 0) : Type 1 where
   -- from the first tables the work gave this and made the second ones, which are kept
   pub does : Content → T → Content → Type 0
-  -- begun over these tables the work gave this, and `leaves Such` holds, which says that a stop leaves only tables that are such
+  -- begun over these tables the work gave this; `leaves Such` says that a stop leaves only tables for which `Such` holds
   pub stops : Content → T → (leaves : (Content → Type 0) → Type 0) → Type 0
   -- nothing was done
   pub untouched : Type 0
-  -- what holds of what the work gave, whatever the disk did
+  -- what is true of what the work gave, whatever the disk did
   pub begun : T → Type 0
   -- the fault that is reported if the work gave this and the file was not closed
   pub unclosed : T → Fault → Type 0

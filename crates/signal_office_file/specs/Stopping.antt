@@ -57,7 +57,7 @@ pub record MayBeFound (old : Content) (before after : Office) (requests : List P
 
 -- From whichever sound office the old tables stood for, a stream of at most `limit` requests was served between these moments of its ends, by the laws of
 -- the office and with this outcome, and a stop leaves only tables that may be found after its requests. `leaves Such` says that a stop leaves only tables
--- that are such.
+-- for which `Such` holds.
 abbrev pub ServesToAStop : ℕ → Ends → Ends → Content → Result Served ServeFault → (leaves : (Content → Type 0) → Type 0) → Type 0
 ServesToAStop limit start end old outcome leaves =
     (before : Office) → StandForSound old before → (after : Office)

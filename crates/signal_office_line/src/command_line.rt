@@ -201,7 +201,7 @@ fn commands() -> &'static [Usage]
     COMMANDS
 }
 
-/// The command of a name with its arguments, if the program has it.
+/// The command of this name, with its arguments, if the program has it.
 fn usage_of(name: &str) -> Option<Usage>
     ensures { option_map usage_as result ≡ find (λ command. bytes_eq command.0 name.now) commands }
 {

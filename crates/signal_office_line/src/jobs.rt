@@ -274,7 +274,7 @@ fn page<'a>(matches: &ArgMatches<'a>) -> Result<Job<'a>, NoJob>
     Ok(Job::Office { db, request })
 }
 
-/// The job that the command of a name states by its values, or why they state none.
+/// The job that the named command states by its values, or why they state none.
 pub(crate) fn job_at<'a>(command: &str, matches: &ArgMatches<'a>) -> Result<Job<'a>, NoJob>
     ensures { result ≡ job_at command.now (rows_of (found_of matches.now)) }
 {
