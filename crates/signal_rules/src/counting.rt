@@ -48,7 +48,7 @@ pub trait Judge {
     ghost seconds_within: { (judge : Self) → seconds judge ≤ greatest };
 }
 
-/// A judge that answers the subject's part of the violations.
+/// A judge that answers the violations of the subject.
 #[derive(Clone, Copy)]
 pub struct Tally {
     calls: u64,
@@ -95,8 +95,8 @@ impl Judge for Tally {
 
     ghost seconds_within = { λ tally. tally.within.1 };
 
-    /// The violations of the subject. The call is counted first, so that one to which memory is
-    /// refused is counted too.
+    /// The violations of the subject. The call is counted first, so that one that ends in
+    /// `NoMemory` is counted too.
     fn judge(
         &mut self,
         alloc: Global,
@@ -121,8 +121,8 @@ impl Judge for Tally {
 }
 
 /// The judge's answers on the subjects of the draft that a key reaches, in their order. They are
-/// the violations of the draft, where the base has none, the sets differ at most at the keys, and
-/// the judge answers for these subjects what they violate.
+/// the violations of the draft if the base has none, the sets differ at most at the keys, and the
+/// judge answers with the violations of each of these subjects.
 ///
 /// A refusal of memory may leave the judge's counts raised, by no more than the answers raise them.
 pub fn violations_touched<J: Judge>(

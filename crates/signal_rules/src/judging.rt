@@ -65,8 +65,6 @@ impl Finding for Explained {
 
 /// The violations of a set: phases, sequences, split rows and patterns, each by ascending number,
 /// and for each the rules that it breaks in their order, each once.
-///
-/// `NoMemory` means that a growth was really refused.
 #[tactic(auto, unfolding(crate::specs::Violations::violations_of))]
 pub fn violations(alloc: Global, set: &TimingSet) -> Result<Vec<Violation>, NoMemory>
     ensures { IfOk result (λ found. found.items ≡ violations_of set.now) }
@@ -193,8 +191,8 @@ fn judge_sequence<F: Finding>(
     Ok(())
 }
 
-/// Adds the rules of a pattern that it breaks, of V9 to V13 in order. Each second of the cycle at
-/// which V13 compares the phases of two rings is counted as a tick.
+/// Adds those of V9 to V13 that a pattern breaks, in order. Each second of the cycle at which V13
+/// compares the phases of two rings is counted as a tick.
 fn judge_pattern<F: Finding>(
     alloc: Global,
     set: &TimingSet,
@@ -221,8 +219,8 @@ fn judge_pattern<F: Finding>(
     Ok(())
 }
 
-/// Adds the rule on the lanes of a pattern that it breaks: V12, or V13, which is judged only where
-/// the lanes fill the cycle. The phases are those of the set.
+/// Adds V12 if the lanes of a pattern break it; else they fill the cycle, and it adds V13 if they
+/// break that. The phases are those of the set.
 fn judge_lanes<F: Finding>(
     alloc: Global,
     set: &TimingSet,

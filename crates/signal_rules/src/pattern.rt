@@ -13,8 +13,8 @@ use crate::reason::{PatternReason, Reason};
 use crate::sequence::has_sequence;
 use signal_records::{Cycle, NoMemory, Pattern, PhaseNo, RingNo, Split, SplitNo, TimingSet};
 
-/// The reason that breaks V9, if any: `patternSequenceNumber` has no row, or `patternSplitNumber`
-/// has none for a phase, and then for the first. The phases are those of the set.
+/// The reason that breaks V9, if any: `patternSequenceNumber` has no row, or else the first phase
+/// for which `patternSplitNumber` has none. The phases are those of the set.
 pub(crate) fn rows_reason(set: &TimingSet, phases: &[PhaseNo], pattern: &Pattern) -> Option<Reason>
     requires { phases.now ≡ set_has.phases set.now }
     ensures { result ≡ first_true (rows_cases set.now pattern.now) }
@@ -39,7 +39,7 @@ fn splits_reason(set: &TimingSet, phases: &[PhaseNo], split: SplitNo) -> Option<
     None
 }
 
-/// V10, of `patternOffsetTime` and `patternCycleTime`.
+/// The reason that breaks V10, if any: `patternOffsetTime` is not less than `patternCycleTime`.
 pub(crate) fn offset_reason(pattern: &Pattern) -> Option<Reason>
     ensures { result ≡ first_true (offset_cases pattern.now) }
 {
@@ -81,7 +81,7 @@ pub fn is_coordinated(split: Option<Split>) -> bool
 }
 
 /// The reason that breaks V12, if any: the first of the rings whose splits do not sum up to the
-/// cycle. Where there is none, the slots of the rings' rows are added.
+/// cycle. If there is none, the slots of the rings' rows are added.
 pub(crate) fn sum_reason<'s>(
     set: &'s TimingSet,
     pattern: &Pattern,
@@ -107,8 +107,8 @@ pub(crate) fn sum_reason<'s>(
     Ok(None)
 }
 
-/// Whether V13 holds of rings that fill the cycle: their phases list each other at each second at
-/// which one of them starts a phase, and so at each second. Each comparison is a tick: where V13
+/// Whether V13 holds for rings that fill the cycle: their phases list each other at each second at
+/// which one of them starts a phase, and so at each second. Each comparison is a tick: if V13
 /// holds, one for each slot.
 pub(crate) fn rings_agree(slots: &[Slot<'_>], ticks: &mut u64) -> bool
     ensures agree { result ≡ agree_where_begun slots.now slots.now }
