@@ -64,8 +64,8 @@ pub enum Advice {
         time: u8,
         besides: u32,
     },
-    /// Of a pattern: every phase is coordinated, so many, and two of them have no second of the
-    /// cycle in common.
+    /// Of a pattern: every phase is coordinated, and so many there are, but two of them have no
+    /// second of the cycle in common.
     AllCoordinated {
         phases: usize,
     },
@@ -86,8 +86,7 @@ pub enum Advice {
     NoPattern {
         phases: usize,
     },
-    /// Of a plan: each phase may time with every phase of the other rings, which are so many in
-    /// all.
+    /// Of a plan with so many rings: each phase may time with every phase of the other rings.
     NoConflict {
         rings: usize,
     },
