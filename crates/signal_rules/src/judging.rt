@@ -219,8 +219,8 @@ fn judge_pattern<F: Finding>(
     Ok(())
 }
 
-/// Adds V12 if the lanes of a pattern break it; else they fill the cycle, and it adds V13 if they
-/// break that. The phases are those of the set.
+/// Adds V12 if the lanes of a pattern break it, else V13 if they break that: V13 is judged only if
+/// the lanes fill the cycle. The phases are those of the set.
 fn judge_lanes<F: Finding>(
     alloc: Global,
     set: &TimingSet,
