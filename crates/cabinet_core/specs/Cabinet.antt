@@ -81,7 +81,7 @@ abbrev pub close_order_line : Order → Option Closing → Closing → Line
 close_order_line order (Some there) asked = if is_same_closing there asked then same else refused CloseDiffers
 close_order_line order None asked = if nat_lt asked.day order.opened then refused DayBeforeOpening else added
 
--- the line of a command that closes an order, by the order, if it exists
+-- the line of a command that closes an order, by the order that is there
 abbrev pub close_line : Option Order → Closing → Line
 close_line None asked = refused UnknownOrder
 close_line (Some order) asked = close_order_line order order.closing asked

@@ -39,7 +39,7 @@ fn splits_reason(set: &TimingSet, phases: &[PhaseNo], split: SplitNo) -> Option<
     None
 }
 
-/// The reason that breaks V10, if any: `patternOffsetTime` is not less than `patternCycleTime`.
+/// V10, of `patternOffsetTime` and `patternCycleTime`.
 pub(crate) fn offset_reason(pattern: &Pattern) -> Option<Reason>
     ensures { result ≡ first_true (offset_cases pattern.now) }
 {
