@@ -48,7 +48,7 @@ pub trait Judge {
     ghost seconds_within: { (judge : Self) → seconds judge ≤ greatest };
 }
 
-/// A judge that answers the violations of the subject.
+/// A judge that answers the subject's part of the violations.
 #[derive(Clone, Copy)]
 pub struct Tally {
     calls: u64,
