@@ -199,7 +199,7 @@ pub fn used_rings(alloc: Global, set: &TimingSet) -> Result<Vec<RingNo>, NoMemor
     rings_of(alloc, set, &phases)
 }
 
-/// The rings that have one of the phases, which are those of the set, in ascending order.
+/// The rings that have a phase of the set, in ascending order. The phases are those of the set.
 pub(crate) fn rings_of(
     alloc: Global,
     set: &TimingSet,
