@@ -14,8 +14,8 @@ ped_columns (Some ped) =
     number_column ped.walk ++ number_column ped.clear ++ tenths_column ped.width ++ tenths_column ped.setback ++ flag_column ped.short
     ++ number_column ped.lead
 
--- the columns of a phase before those of its pedestrian part: its number, its ring, minimum green, passage, maximum green, yellow and red;
--- the greens are seconds; passage, yellow and red are tenths of a second with a point
+-- the columns of a phase before its pedestrian part's: its number, its ring, minimum green, passage, maximum green,
+-- yellow and red; the greens are seconds; passage, yellow and red are tenths of a second with a point
 abbrev pub interval_columns : ℕ → Phase → List ℕ
 interval_columns p phase =
     number_column p ++ number_column phase.ring ++ number_column phase.min_green ++ tenths_column phase.passage

@@ -25,7 +25,7 @@ fn push_ped(text: &mut String, ped: &Option<Ped>) -> Result<(), NoMemory>
     push_number(text, ped.lead.get())
 }
 
-/// Appends the columns of a phase before those of its pedestrian part. Tenths have a point.
+/// Appends the columns of a phase before its pedestrian part's. Tenths have a point.
 fn push_intervals(text: &mut String, p: PhaseNo, phase: &Phase) -> Result<(), NoMemory>
     ensures { OnOk result (string_bytes text.new ≡ string_bytes text.old
         ++ interval_columns p phase.now) }

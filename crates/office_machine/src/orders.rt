@@ -51,8 +51,8 @@ fn order_named(name: &Words<120>, id: InterId, order: &Order) -> Result<NamedOrd
     })
 }
 
-/// Appends those of an intersection's orders that are open, in their order, each with the number
-/// and the name of the intersection. After `NoMemory` some may be appended.
+/// Appends the open ones among an intersection's orders, in their order, each with the number and
+/// the name of the intersection. After `NoMemory` some may be appended.
 pub fn add_named(
     found: &mut Vec<NamedOrder>,
     name: &Words<120>,

@@ -79,7 +79,7 @@ fn warn(
     }
 }
 
-/// Adds the warnings of a phase, and those of its crossing.
+/// Adds the warnings of a phase, and then of its crossing.
 fn warn_phase(
     set: &TimingSet,
     parts: &PlanParts,

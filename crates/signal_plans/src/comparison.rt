@@ -18,7 +18,7 @@ fn field_names(row: &Row) -> &'static [&'static str] {
     }
 }
 
-/// The field at a place, counted from 0; a dash where it is empty or there is none.
+/// The field at a place, counted from 0; a dash if it is empty or missing.
 fn field_or_dash(fields: &[String], place: usize) -> &str {
     match fields.get(place) {
         Some(field) if !field.is_empty() => field.as_str(),

@@ -42,7 +42,7 @@ fn or_all(is_all: bool, phases: usize, apart: Option<Advice>) -> Option<Advice>
     }
 }
 
-/// Those of the phases that a split number coordinates, in order. The phases are those of the set.
+/// The phases of the set that a split number coordinates, in order.
 fn coordinated_phases(
     alloc: Global,
     set: &TimingSet,

@@ -61,7 +61,7 @@ fn is_alone(phase: &Phase, rings: usize) -> bool
     phase.mates.as_slice().is_empty() && 1 < rings
 }
 
-/// Whether there are patterns, which are those of the set, and none of them serves a phase.
+/// Whether the set has patterns, but none that serves a phase.
 fn is_never_served(set: &TimingSet, patterns: &[Pattern], p: PhaseNo) -> bool
     requires { patterns.now ≡ plan_has.patterns set.now }
     ensures { result ≡ is_never_served set.now p }
@@ -69,7 +69,7 @@ fn is_never_served(set: &TimingSet, patterns: &[Pattern], p: PhaseNo) -> bool
     !patterns.is_empty() && !is_served(set, patterns, p)
 }
 
-/// Whether one of the patterns, which are those of the set, serves a phase.
+/// Whether a pattern of the set serves a phase.
 fn is_served(set: &TimingSet, patterns: &[Pattern], p: PhaseNo) -> bool
     requires { patterns.now ≡ plan_has.patterns set.now }
     ensures { result ≡ is_served set.now p }

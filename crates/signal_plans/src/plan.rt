@@ -78,8 +78,7 @@ fn lacks_pattern(phases: &[PhaseNo], patterns: &[Pattern]) -> bool
     !phases.is_empty() && patterns.is_empty()
 }
 
-/// Whether there is more than one ring, and none of the phases, which are those of the set,
-/// conflicts with one of another ring.
+/// Whether there is more than one ring, and no phase of the set conflicts with one of another ring.
 fn lacks_conflict(set: &TimingSet, phases: &[PhaseNo], rings: usize) -> bool
     requires { phases.now ≡ set_has.phases set.now }
     ensures { result ≡ lacks_conflict set.now rings }
@@ -87,7 +86,7 @@ fn lacks_conflict(set: &TimingSet, phases: &[PhaseNo], rings: usize) -> bool
     1 < rings && has_no_conflict(set, phases)
 }
 
-/// Whether none of the phases, which are those of the set, conflicts with one of another ring.
+/// Whether no phase of the set conflicts with one of another ring.
 fn has_no_conflict(set: &TimingSet, phases: &[PhaseNo]) -> bool
     requires { phases.now ≡ set_has.phases set.now }
     ensures { result ≡ has_no_conflict set.now }

@@ -64,8 +64,8 @@ pub enum Advice {
         time: u8,
         besides: u32,
     },
-    /// Of a pattern: every phase is coordinated, and so many there are, but two of them have no
-    /// second of the cycle in common.
+    /// Of a pattern: all phases, so many, are coordinated, and two of them have no second of the
+    /// cycle in common.
     AllCoordinated {
         phases: usize,
     },

@@ -1,5 +1,5 @@
 -- How far counts rise (none passes `u64::MAX`), and at how many seconds of a cycle judging the rules compares phases
--- at most.
+-- at most. A second counts once for each phase that starts there.
 use Rattle.std.specs.Prelude.{◌≡◌, ℕ, ◌+◌, ◌-◌, ◌^◌, ◌<◌, ◌≤◌, List, [], ◌∷◌, length, Option, Some, None}
 use Rattle.signal_records.specs.declared.record.Pattern.{Pattern}
 use Rattle.signal_records.specs.TimingSet.{Rows}

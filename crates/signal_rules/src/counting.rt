@@ -17,7 +17,8 @@ use signal_records::{Key, NoMemory, TimingSet};
 use std::alloc::Global;
 
 /// Answers for a subject of a set, and keeps two counts: of its calls, and of the seconds at which
-/// it compared phases. A count never falls and never passes `u64::MAX`.
+/// it compared phases, once for each phase that starts there. A count never falls and never passes
+/// `u64::MAX`.
 pub trait Judge {
     /// The answer for a subject of a set.
     ghost answers: { Rows → SubjectOf → List ViolationOf };
@@ -69,14 +70,14 @@ impl Tally {
         }
     }
 
-    /// How many calls there were so far, or `u64::MAX` where there were more.
+    /// How many calls there were so far; `u64::MAX` if there were more.
     pub fn count(&self) -> u64
         ensures { result ≡ ⟦<Tally as Judge>⟧.calls self.now }
     {
         self.calls
     }
 
-    /// At how many seconds phases were compared so far, or `u64::MAX` where there were more.
+    /// At how many seconds phases were compared so far; `u64::MAX` if there were more.
     pub fn seconds(&self) -> u64
         ensures { result ≡ ⟦<Tally as Judge>⟧.seconds self.now }
     {

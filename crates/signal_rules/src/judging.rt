@@ -77,8 +77,8 @@ pub fn violations(alloc: Global, set: &TimingSet) -> Result<Vec<Violation>, NoMe
     Ok(found)
 }
 
-/// Adds the rules that the subject breaks: none where the set does not have the subject. Each
-/// second of the cycle at which V13 compares the phases of two rings is counted as a tick.
+/// Adds the rules that the subject breaks; none if the set does not have the subject. Each
+/// comparison that V13 makes, at a second where a ring starts a phase, is counted as a tick.
 pub(crate) fn judge<F: Finding>(
     alloc: Global,
     set: &TimingSet,
@@ -191,8 +191,8 @@ fn judge_sequence<F: Finding>(
     Ok(())
 }
 
-/// Adds those of V9 to V13 that a pattern breaks, in order. Each second of the cycle at which V13
-/// compares the phases of two rings is counted as a tick.
+/// Adds those of V9 to V13 that a pattern breaks, in order. Each comparison that V13 makes, at a
+/// second where a ring starts a phase, is counted as a tick.
 fn judge_pattern<F: Finding>(
     alloc: Global,
     set: &TimingSet,
@@ -246,8 +246,8 @@ fn judge_lanes<F: Finding>(
     Ok(())
 }
 
-/// Adds V13, if slots that fill the cycle conflict. Each second at which the phases of two rings
-/// are compared is counted as a tick.
+/// Adds V13, if slots that fill the cycle conflict. Each comparison, at a second where a ring
+/// starts a phase, is counted as a tick.
 fn judge_slots<F: Finding>(
     slots: &[Slot<'_>],
     cycle: Cycle,

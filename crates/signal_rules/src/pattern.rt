@@ -50,8 +50,8 @@ pub(crate) fn offset_reason(pattern: &Pattern) -> Option<Reason>
     Some(Reason::Pattern(PatternReason::LateOffset { offset, cycle }))
 }
 
-/// The reason that breaks V11, if any: in `patternSplitNumber`, `splitCoordPhase` marks none of the
-/// phases, which are those of the set.
+/// The reason that breaks V11, if any: in `patternSplitNumber`, `splitCoordPhase` marks no phase of
+/// the set. The phases are those of the set.
 pub(crate) fn coordination_reason(
     set: &TimingSet,
     phases: &[PhaseNo],
@@ -138,8 +138,8 @@ pub(crate) fn conflict_reason(slots: &[Slot<'_>], cycle: Cycle) -> Option<Reason
 }
 
 /// The first second before `end` at which one of some slots begins and two phases time together
-/// that do not list each other; `end` where there is none. The first second of a conflict is the
-/// one at which the later of its two phases begins.
+/// that do not list each other; `end` if there is none. The first second of a conflict is the one
+/// at which the later of its two phases begins.
 fn first_conflict<'s>(slots: &[Slot<'s>], begun: &[Slot<'s>], end: u32) -> u32
     ensures { IsFirstConflict slots.now begun.now end result }
 {

@@ -24,8 +24,8 @@ pub fn has_sequence(set: &TimingSet, n: SeqNo) -> bool
 }
 
 /// The reason that breaks V7, if any: the first phase in the row of a ring, ring by ring, that is
-/// not in the set or not in that ring; else the first of the phases, which are those of the set,
-/// that is not exactly once in the row of its ring.
+/// not in the set or not in that ring; else the first phase of the set that is not exactly once in
+/// the row of its ring. The phases are those of the set.
 #[tactic(auto, using(crate::proofs::Cases::first_past, crate::proofs::Cases::first_here))]
 pub(crate) fn sequence_reason(set: &TimingSet, phases: &[PhaseNo], n: SeqNo) -> Option<Reason>
     requires { phases.now ≡ set_has.phases set.now }

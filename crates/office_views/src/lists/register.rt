@@ -64,7 +64,7 @@ const USED_COLUMNS: [Column; 3] = [
 
 const CLOSING_COLUMNS: [Column; 2] = [Column::Left(0, 0), Column::Left(1, 0)];
 
-/// Appends the lines of an order: its opening, its parts among those of its cabinet, and its
+/// Appends the lines of an order: its opening, its parts from the lines of the cabinet, and its
 /// closing.
 fn push_order(
     alloc: Global,
