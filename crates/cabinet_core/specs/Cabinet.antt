@@ -68,7 +68,7 @@ open_line None asked = added
 open_line (Some there) asked = if is_opened_so there asked then same else refused OrderDiffers
 
 -- the line of a command that uses a part, by the recorded line with its order and line number, the order, and how
--- many of the part are on hand, if there are any of them
+-- many of the part are on hand; each may be missing
 abbrev pub use_line : Option UsedLine → Option Order → Option ℕ → UsedLine → Line
 use_line (Some there) order hand asked = if is_same_line there asked then same else refused LineDiffers
 use_line None None hand asked = refused UnknownOrder
@@ -87,7 +87,7 @@ close_line None asked = refused UnknownOrder
 close_line (Some order) asked = close_order_line order order.closing asked
 
 -- the line of a command that receives a delivery, by the recorded delivery with its part and number, and how many of
--- the part are on hand, if there are any of them
+-- the part are on hand; each may be missing
 abbrev pub receive_line : Option Delivery → Option ℕ → Delivery → Line
 receive_line (Some there) hand asked = if is_same_delivery there asked then same else refused DeliveryDiffers
 receive_line None hand asked = if nat_lt MOST_ON_HAND (on_hand hand + asked.count) then refused StockFull else added

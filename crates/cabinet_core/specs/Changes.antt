@@ -29,12 +29,13 @@ abbrev pub with_changes : ℕ → Register → List CabinetChange → Register
 with_changes id r [] = r
 with_changes id r (change ∷ changes) = with_changes id (with_change id r change) changes
 
--- how many of a part are on hand after a change: the change's count, if it puts a count of this part
+-- how many of a part are on hand after a change: the count of this part that it puts, else as before
 abbrev pub hand_told : List ℕ → Option ℕ → CabinetChange → Option ℕ
 hand_told code before (PutPart part hand) = if bytes_eq part code then Some hand else before
 hand_told code before _ = before
 
--- how many of a part are on hand after changes, in their order: the last count that they put of this part
+-- how many of a part are on hand after changes, in their order: the last count of this part that they put, else as
+-- before
 abbrev pub hand_after : List ℕ → Option ℕ → List CabinetChange → Option ℕ
 hand_after code before [] = before
 hand_after code before (change ∷ changes) = hand_after code (hand_told code before change) changes

@@ -85,7 +85,7 @@ impl PartCode {
     }
 }
 
-/// Whether a part's code may have a byte: `A` to `Z`, `0` to `9` or `-`.
+/// Whether a byte may occur in a part's code: `A` to `Z`, `0` to `9` or `-`.
 fn is_code_byte(b: u8) -> bool
     ensures { result ≡ is_code_byte b }
 {
