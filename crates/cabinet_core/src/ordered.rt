@@ -17,8 +17,7 @@ pub trait Placed {
         ensures { result ≡ place self.now };
 }
 
-/// Records in the ascending order of their places, as the register has an intersection's. They are
-/// seen as a list.
+/// Records of one kind in the ascending order of their places. They are seen as a list.
 #[derive(Drop)]
 pub struct Ordered<T: Placed> {
     list: Vec<T>,
