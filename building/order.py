@@ -1,5 +1,5 @@
 """In which order crates are proved, and by how many jobs each: what `./office` does, and what
-`bench/first_build.py --simulate` tries in a second, without proving anything.
+`bench/first_build.py --simulate` tries in a minute, without proving anything.
 
 All seconds are those of a crate that is proved alone on an idle machine of the table of the gate
 (docs/MEASUREMENTS.md).

@@ -118,12 +118,12 @@ def main():
         sys.exit(__doc__)
     texts, tally = rows(*map(int, words))
     print("\n".join(tally.lines()))
+    if tally.missing():
+        sys.exit(f"draw_rows.py: {', '.join(tally.missing())} did not come; nothing was written")
     for path, text in texts.items():
         print(f"{len(text.encode()):7} bytes: {path.name}")
         if "--write" in sys.argv:
             path.write_text(text)
-    if tally.missing():
-        sys.exit(f"draw_rows.py: {', '.join(tally.missing())} did not come")
 
 
 if __name__ == "__main__":

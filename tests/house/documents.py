@@ -82,6 +82,11 @@ def missing_names(document, known):
     for name in (it for found in re.findall(FILE, text) for it in spread(found)):
         if not file_named(name).exists():
             yield f"{document}: there is no file {name}"
+    for crate, files in re.findall(r"`(\w+)`\s+\(([^)]*\.rt`[^)]*)\)", text):
+        for name in re.findall(r"`([\w/]+\.rt)`", files):
+            source = TOP / "crates" / crate / "src"
+            if source.exists() and not [*source.rglob(name)]:
+                yield f"{document}: there is no file {name} in {crate}"
     for names, file in re.findall(rf"((?:`\w+`(?: and )?)+)\s+in\s+{FILE}", text):
         files = [file_named(it) for it in spread(file)]
         there = re.findall(r"\w+", "".join(it.read_text() for it in files if it.exists()))

@@ -14,7 +14,7 @@ LAYERS = {
     "wire": (1, 1, "requests (1, 2), answers (4, 6)", "machine, no rows"),
     "texts": (0, 2, "CSV, lists, pictures, pages", "plans and replies"),
     "desk": (1, 2, "reads, decides, gives changes (3)", "machine and tables"),
-    "tables": (1, 3, "eight maps: memory or SQL (5)", "rows and records"),
+    "tables": (1, 3, "eight tables: memory or SQL (5)", "rows and records"),
     "machine": (1, 4, "what each command means", "no storage"),
     "transaction": (0, 5, "draft, owner, commit", "rules"),
     "register": (2, 5, "inspections, orders, parts", "its records"),
